@@ -1,0 +1,3 @@
+mod Histories
+mod Searches
+mod WholeMeshes

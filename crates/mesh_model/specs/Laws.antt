@@ -1,0 +1,119 @@
+-- What follows from the definitions, and is proved of them.
+use Rattle.std.specs.Prelude.{◌≡◌, ◌↔◌, ℕ, zero, suc, ◌+◌, ◌-◌, ◌*◌, ◌<◌, ◌≤◌, ◌/◌, ◌%◌, min, Bool, true, false, if◌then◌else◌, nat_eq, length, slice_index_or, List, [], ◌∷◌, ◌++◌, Option, Some, Result, Ok, Err}
+use Rattle.mesh_model.specs.Memory.{Memory}
+use Rattle.mesh_model.specs.Mesh.{any_mesh, begin, do_overlap, first_mesh, is_protected, mesh_whole, step}
+use Rattle.mesh_model.specs.Search.{Pairing, split_search, tries}
+use Rattle.mesh_model.specs.Plain.{plain, PlainStep, IsVacantRange, IsLegal, Runs, Entry}
+use Rattle.mesh_model.specs.Words.{◌>>=◌}
+use Rattle.mesh_model.specs.Classes.{pages_of}
+use Rattle.mesh_model.specs.declared.refusals.Refusal.TheVariants.{NoAddresses}
+use Rattle.mesh_model.specs.Table.{Counted, Table, group_of, room_for_span, Group, Progress, Made, Unwinding}
+use Rattle.mesh_model.specs.declared.commands.Command.{Command}
+use Rattle.mesh_model.specs.declared.commands.Command.TheVariants.{New, Put, Get, Free, Alias, Addr, Peek, Poke}
+use Rattle.mesh_model.specs.declared.commands.Reply.{Reply}
+use Rattle.mesh_model.specs.declared.commands.Reply.TheVariants.{Refused}
+use Rattle.mesh_model.specs.declared.refusals.Refusal.{Refusal}
+
+-- the address suits the command: a new object's range is vacant, and no other command looks at it
+abbrev pub IsFitting : Memory → ℕ → Command → Type 0
+IsFitting m address (New cell len word) = IsVacantRange m address len
+IsFitting m address command = Unit {0}
+
+-- what the plain function answers and leaves is a plain step
+abbrev pub PlainIsStep : Type 0
+PlainIsStep = (m : Memory) (address : ℕ) (command : Command) (reply : Reply) (n : Memory)
+    → IsFitting m address command → plain m address command ≡ Ok (reply, n) → PlainStep m command reply n
+
+-- where the plain function refuses, the refusal is a plain step that leaves the memory
+abbrev pub PlainRefusalIsStep : Type 0
+PlainRefusalIsStep = (m : Memory) (address : ℕ) (command : Command) (refusal : Refusal)
+    → plain m address command ≡ Err refusal → PlainStep m command (Refused refusal) m
+
+-- command and reply determine what a plain step leaves; of a reply only a new object's address is open
+abbrev pub StepDetermined : Type 0
+StepDetermined = (m : Memory) (command : Command) (reply : Reply) (n n' : Memory)
+    → PlainStep m command reply n → PlainStep m command reply n' → n ≡ n'
+
+-- a legal history goes on by one step
+abbrev pub LegalGoesOn : Type 0
+LegalGoesOn = (entries : List Entry) (m n : Memory) (entry : Entry)
+    → IsLegal entries m → PlainStep m entry.command entry.reply n → IsLegal (entries ++ entry ∷ []) n
+
+-- a legal history has one end
+abbrev pub LegalHasOneEnd : Type 0
+LegalHasOneEnd = (entries : List Entry) (m n : Memory) → IsLegal entries m → IsLegal entries n → m ≡ n
+
+-- the page that the step after d steps changes: the d-th to be protected, or the one to be unprotected
+abbrev pub ProtectsNext : Type 0
+ProtectsNext = (mp s d j : ℕ) → d < mp → is_protected mp s (Made (d + 1)) j ≡ (if nat_eq j d then true else is_protected mp s (Made d) j)
+
+-- copies and remaps change no page's protection
+abbrev pub HoldsWhileCopying : Type 0
+HoldsWhileCopying = (mp s d j : ℕ) → mp ≤ d → d < 2 * mp + s → is_protected mp s (Made (d + 1)) j ≡ is_protected mp s (Made d) j
+
+-- an unprotect lets one page be written, in the order of the protects
+abbrev pub UnprotectsNext : Type 0
+UnprotectsNext = (mp s d j : ℕ) → 2 * mp + s ≤ d → d < 3 * mp + s
+    → is_protected mp s (Made (d + 1)) j ≡ (if nat_eq j (d - (2 * mp + s)) then false else is_protected mp s (Made d) j)
+
+-- a cancel changes no page's protection
+abbrev pub CancelHolds : Type 0
+CancelHolds = (mp s d j : ℕ) → d ≤ mp + s → is_protected mp s (Unwinding (min d mp) 0) j ≡ is_protected mp s (Made d) j
+
+-- an unprotect of a cancelled mesh lets one page be written, in the order of the protects
+abbrev pub UnwindsNext : Type 0
+UnwindsNext = (mp s q u j : ℕ) → u < q
+    → is_protected mp s (Unwinding q (u + 1)) j ≡ (if nat_eq j u then false else is_protected mp s (Unwinding q u) j)
+
+-- no slot number is occupied in both groups of any pair
+abbrev pub AreAllMeshable : List Pairing → Type 0
+AreAllMeshable [] = Unit {0}
+AreAllMeshable (pair ∷ pairs) = (do_overlap pair.source.slots pair.destination.slots ≡ false) × AreAllMeshable pairs
+
+-- the pairs of a search are meshable
+abbrev pub PairsAreMeshable : Type 0
+PairsAreMeshable = (order : List Group) (t : ℕ) → AreAllMeshable (split_search order t).pairs
+
+-- how many of the groups have the number
+abbrev pub times : ℕ → List Group → ℕ
+times n [] = 0
+times n (group ∷ groups) = (if nat_eq group.number n then 1 else 0) + times n groups
+
+-- how many of the pairs' groups have the number
+abbrev pub times_paired : ℕ → List Pairing → ℕ
+times_paired n [] = 0
+times_paired n (pair ∷ pairs) =
+    (if nat_eq pair.source.number n then 1 else 0) + (if nat_eq pair.destination.number n then 1 else 0) + times_paired n pairs
+
+-- no group is in two pairs: a number is paired at most as often as it is in the order
+abbrev pub GroupsPairOnce : Type 0
+GroupsPairOnce = (order : List Group) (t n : ℕ) → times_paired n (split_search order t).pairs ≤ times n order
+
+-- at most one probe a round for each group of the first half
+abbrev pub ProbesAreFew : Type 0
+ProbesAreFew = (order : List Group) (t : ℕ) → (split_search order t).probes ≤ t * (length order / 2)
+
+-- round i tries the j-th of the first list with the ((j + i) mod length)-th of the second
+abbrev pub TriesAreIndexed : Type 0
+TriesAreIndexed = (i j : ℕ) (left right : List Group) (d : Group) → length right ≡ length left → j < length left
+    → slice_index_or (tries i left right) j (d, d) ≡ (slice_index_or left j d, slice_index_or right ((j + i) % length right) d)
+
+-- the table after so many steps of its first mesh, or the refusal
+abbrev pub steps_made : ℕ → Table → Result Table Refusal
+steps_made zero t = Ok t
+steps_made (suc n) t = step t (first_mesh t) >>= λ stepped. steps_made n stepped.table
+
+-- the group of the number is of a class with a page, as every one of a sound table
+abbrev pub HasPages : Table → ℕ → Type 0
+HasPages t n = (group : Group) → group_of t n ≡ Some group → 1 ≤ pages_of group.class
+
+-- a whole mesh is `begin` and all its steps
+abbrev pub WholeIsAllSteps : Type 0
+WholeIsAllSteps = (t : Table) (source destination : ℕ) (whole begun : Counted) → HasPages t source
+    → mesh_whole any_mesh t source destination ≡ Ok whole → begin any_mesh t source destination ≡ Ok begun
+    → steps_made begun.count begun.table ≡ Ok whole.table
+
+-- a new span is refused for want of addresses exactly where its last page would be above the last virtual page
+abbrev pub RefusedByAddresses : Type 0
+RefusedByAddresses = (t : Table) (class : ℕ) → 1 ≤ pages_of class → 1 ≤ t.next_page
+    → (room_for_span t class ≡ Err NoAddresses) ↔ ((pages_of class ≤ t.free_pages) × (65535 < t.next_page + (pages_of class - 1)))

@@ -1,0 +1,15 @@
+pub mod Classes
+pub mod Commands
+pub mod Faults
+pub mod Files
+pub mod Jobs
+pub mod Laws
+pub mod Memory
+pub mod Mesh
+pub mod Plain
+pub mod Refusals
+pub mod Search
+pub mod Sound
+pub mod Table
+pub mod Texts
+pub mod Words

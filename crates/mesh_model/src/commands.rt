@@ -1,0 +1,61 @@
+//! The eight commands of mutators, their replies, and the kinds of step of a mesh.
+use crate::Refusal;
+use arrayvec::ArrayVec;
+
+/// The most bytes that one command stores or loads.
+pub const MAX_BYTES: usize = 32;
+
+/// What a mutator asks of the heap. A cell is one of the 256 root cells, which all workers share.
+///
+/// An offset counts bytes from the object's start. Of `Put` and `Get` 1 to 32 bytes are stored or loaded.
+#[derive(Clone, Debug, Drop, PartialEq, Eq)]
+pub enum Command {
+    /// `New(cell, len, word)`: make an object of `len` zero bytes, and store its reference in `cell`. The word picks the slot.
+    New(u8, u32, u64),
+    /// `Put(cell, off, bytes)`: store the bytes at offset `off` of the object that `cell` names.
+    Put(u8, u32, ArrayVec<u8, MAX_BYTES>),
+    /// `Get(cell, off, len)`: load `len` bytes from offset `off` of the object that `cell` names.
+    Get(u8, u32, u32),
+    /// `Free(cell)`: free the object that `cell` names. The cell keeps its reference, which is stale from then on.
+    Free(u8),
+    /// `Alias(to, from)`: store in `to` the reference that `from` holds.
+    Alias(u8, u8),
+    /// `Addr(cell)`: the address of the object that `cell` names.
+    Addr(u8),
+    /// `Peek(addr)`: load the byte at an address.
+    Peek(u32),
+    /// `Poke(addr, byte)`: store a byte at an address.
+    Poke(u32, u8),
+}
+
+/// What a mutator is answered.
+#[derive(Clone, Debug, Drop, PartialEq, Eq)]
+pub enum Reply {
+    /// `Object(serial, addr)`: the object was made.
+    Object(u32, u32),
+    /// The command was done and answers nothing more.
+    Done,
+    /// The bytes that were loaded.
+    Bytes(ArrayVec<u8, MAX_BYTES>),
+    /// The address of the object.
+    At(u32),
+    /// The byte at the address.
+    Byte(u8),
+    /// The command was refused and changed nothing.
+    Refused(Refusal),
+}
+
+/// The kinds of step of a running mesh, in their order. The order is this project's own choice.
+#[derive(Clone, Copy, Debug, PartialEq, Eq)]
+pub enum StepKind {
+    /// One virtual page of the source becomes read-only.
+    Protect,
+    /// One slot's object is copied to the destination's physical pages.
+    Copy,
+    /// One virtual page of the source is mapped to the destination's physical page of the same index.
+    Remap,
+    /// One virtual page becomes writable.
+    Unprotect,
+    /// One physical page of the source goes back to the arena.
+    Release,
+}

@@ -1,0 +1,50 @@
+//! Laws of the definitions. Each is the contract of a function that does nothing: a theorem that other crates may rely on.
+ghost use Rattle.mesh_model.specs.Laws.{PlainIsStep, PlainRefusalIsStep, StepDetermined, LegalGoesOn, LegalHasOneEnd, ProtectsNext, HoldsWhileCopying, UnprotectsNext, CancelHolds, UnwindsNext, TriesAreIndexed, ProbesAreFew, PairsAreMeshable, GroupsPairOnce, WholeIsAllSteps, RefusedByAddresses};
+
+/// What the plain function answers and leaves is a plain step, and so is its refusal.
+pub fn plain_is_step()
+    ensures done { PlainIsStep }
+    ensures refused { PlainRefusalIsStep }
+{}
+
+/// Command and reply determine what a plain step leaves.
+pub fn step_is_determined()
+    ensures { StepDetermined }
+{}
+
+/// A legal history goes on by one step, and has one end.
+pub fn legal_histories()
+    ensures goes_on { LegalGoesOn }
+    ensures one_end { LegalHasOneEnd }
+{}
+
+/// The read-only pages are what the steps do, one after another.
+pub fn read_only_by_steps()
+    ensures protects { ProtectsNext }
+    ensures holds { HoldsWhileCopying }
+    ensures unprotects { UnprotectsNext }
+    ensures cancel { CancelHolds }
+    ensures unwinds { UnwindsNext }
+{}
+
+/// The tries of a round are those of the index formula, and a search makes at most `t * floor(n / 2)` of them.
+pub fn search_tries()
+    ensures indexed { TriesAreIndexed }
+    ensures few { ProbesAreFew }
+{}
+
+/// The pairs of a search are meshable, and no group is in two of them.
+pub fn search_pairs()
+    ensures meshable { PairsAreMeshable }
+    ensures once { GroupsPairOnce }
+{}
+
+/// A whole mesh is `begin` and all its steps.
+pub fn whole_mesh_is_all_steps()
+    ensures { WholeIsAllSteps }
+{}
+
+/// A new span is refused for want of addresses exactly where its last page would be above the last virtual page.
+pub fn refused_by_addresses()
+    ensures { RefusedByAddresses }
+{}
