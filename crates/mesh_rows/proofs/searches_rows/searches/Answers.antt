@@ -1,0 +1,20 @@
+use Rattle.std.proofs.Common.{refl}
+use Rattle.std.specs.Fmt.{digits}
+use Rattle.mesh_model.specs.Classes.{pages_of, slots_of}
+use Rattle.mesh_rows.proofs.searches_rows.searches.Goals as goal
+
+pub returns-clause-fewer_objects_is_source : goal.returns-clause-fewer_objects_is_source
+unfolding pages_of slots_of digits
+returns-clause-fewer_objects_is_source c = refl
+
+pub returns-clause-pair_overtaken : goal.returns-clause-pair_overtaken
+unfolding pages_of slots_of digits
+returns-clause-pair_overtaken c = refl
+
+pub returns-clause-search_in_order : goal.returns-clause-search_in_order
+unfolding pages_of slots_of digits
+returns-clause-search_in_order c = refl
+
+pub returns-clause-split_search : goal.returns-clause-split_search
+unfolding pages_of slots_of digits
+returns-clause-split_search c = refl

@@ -1,0 +1,57 @@
+-- Worked rows: mutators. Written by tools/write_rows.py from jobs/rows/mutators.
+use Rattle.std.specs.Prelude.{ℕ, List, Result, Ok, codes}
+use Rattle.mesh_model.specs.declared.faults.TextFault.{TextFault}
+
+abbrev pub first_bytes_file : List ℕ
+first_bytes_file = codes "mesh 1\npages 16\nhistory 64\nworkers 1\nworker 0\nnew 0 2048 0\nput 0 0 6869\nget 0 0 2\nplan\nrun 0\nrun 0\nrun 0\nend\n"
+
+abbrev pub first_bytes_answer : Result (List ℕ) TextFault
+first_bytes_answer = Ok (codes "object 0 at 1000\ndone\nbytes 6869\n")
+
+abbrev pub history_full_file : List ℕ
+history_full_file = codes "mesh 1\npages 16\nhistory 1\nworkers 1\nworker 0\nnew 0 2048 0\nget 0 0 1\nplan\nrun 0\nrun 0\nend\n"
+
+abbrev pub history_full_answer : Result (List ℕ) TextFault
+history_full_answer = Ok (codes "object 0 at 1000\nhistory full\n")
+
+abbrev pub last_bytes_file : List ℕ
+last_bytes_file = codes "mesh 1\npages 16\nhistory 64\nworkers 1\nworker 0\nnew 0 2048 0\nget 0 2040 8\nget 0 2041 8\nplan\nrun 0\nrun 0\nrun 0\nend\n"
+
+abbrev pub last_bytes_answer : Result (List ℕ) TextFault
+last_bytes_answer = Ok (codes "object 0 at 1000\nbytes 0000000000000000\nrefused 7 OUTSIDE\n")
+
+abbrev pub lengths_and_words_file : List ℕ
+lengths_and_words_file = codes "mesh 1\npages 16\nhistory 64\nworkers 1\nworker 0\nnew 0 0 0\nnew 0 2049 0\nnew 0 2048 7\nplan\nrun 0\nrun 0\nrun 0\nend\n"
+
+abbrev pub lengths_and_words_answer : Result (List ℕ) TextFault
+lengths_and_words_answer = Ok (codes "refused 1 ZERO\nrefused 2 TOO_LARGE\nobject 0 at 1800\n")
+
+abbrev pub load_across_pages_file : List ℕ
+load_across_pages_file = codes "mesh 1\npages 16\nhistory 64\nworkers 1\nworker 0\nnew 0 1500 0\nnew 1 1500 0\nnew 2 1500 0\nnew 3 1500 0\nnew 4 1500 0\nnew 5 1500 0\nnew 6 1500 0\nnew 7 1500 0\nnew 8 1500 0\nnew 9 1500 0\nnew 10 1500 0\nput 10 1020 0102030405060708\nfree 2\nfree 8\nfree 9\nget 10 1020 8\nplan\nrun 0\nrun 0\nrun 0\nrun 0\nrun 0\nrun 0\nrun 0\nrun 0\nrun 0\nrun 0\nrun 0\nrun 0\nrun 0\nrun 0\nrun 0\nrun 0\nend\n"
+
+abbrev pub load_across_pages_answer : Result (List ℕ) TextFault
+load_across_pages_answer = Ok (codes "object 0 at 1000\nobject 1 at 1600\nobject 2 at 1c00\nobject 3 at 2200\nobject 4 at 2800\nobject 5 at 2e00\nobject 6 at 3400\nobject 7 at 3a00\nobject 8 at 4000\nobject 9 at 4600\nobject 10 at 4c00\ndone\ndone\ndone\ndone\nbytes 0102030405060708\n")
+
+abbrev pub one_page_file : List ℕ
+one_page_file = codes "mesh 1\npages 1\nhistory 64\nworkers 1\nworker 0\nnew 0 2048 0\nnew 1 2048 0\nnew 2 2048 0\nget 2 0 1\nplan\nrun 0\nrun 0\nrun 0\nrun 0\nend\n"
+
+abbrev pub one_page_answer : Result (List ℕ) TextFault
+one_page_answer = Ok (codes "object 0 at 1000\nobject 1 at 1800\nrefused 3 NO_PAGES\nrefused 5 EMPTY\n")
+
+abbrev pub script_over_file : List ℕ
+script_over_file = codes "mesh 1\npages 16\nhistory 64\nworkers 1\nworker 0\nplan\nrun 0\nend\n"
+
+abbrev pub script_over_answer : Result (List ℕ) TextFault
+script_over_answer = Ok (codes "over\n")
+
+abbrev pub stale_cells_file : List ℕ
+stale_cells_file = codes "mesh 1\npages 16\nhistory 64\nworkers 1\nworker 0\nnew 0 16 5\nalias 1 0\nfree 0\nfree 1\nget 2 0 1\nnew 3 16 5\nget 1 0 1\npoke 1050 7f\npeek 1050\npeek 1060\nplan\nrun 0\nrun 0\nrun 0\nrun 0\nrun 0\nrun 0\nrun 0\nrun 0\nrun 0\nrun 0\nend\n"
+
+abbrev pub stale_cells_answer : Result (List ℕ) TextFault
+stale_cells_answer = Ok (codes "object 0 at 1050\ndone\ndone\nrefused 6 FREED\nrefused 5 EMPTY\nobject 1 at 1050\nrefused 6 FREED\ndone\nbyte 7f\nrefused 8 STRAY\n")
+
+abbrev pub store_across_pages_file : List ℕ
+store_across_pages_file = codes "mesh 1\npages 16\nhistory 64\nworkers 1\nworker 0\nnew 0 300 10\nput 0 252 aabbccddeeff0011\nget 0 252 8\nget 0 299 2\nplan\nrun 0\nrun 0\nrun 0\nrun 0\nend\n"
+
+abbrev pub store_across_pages_answer : Result (List ℕ) TextFault
+store_across_pages_answer = Ok (codes "object 0 at 1f00\ndone\nbytes aabbccddeeff0011\nrefused 7 OUTSIDE\n")

@@ -1,0 +1,19 @@
+//! Worked rows: small steps. Written by `tools/write_rows.py`.
+ghost use Rattle.std.specs.Prelude.{◌≡◌};
+ghost use Rattle.mesh_model.specs.Files.{replayed};
+ghost use Rattle.mesh_rows.specs.SmallSteps.{addresses_after_meshing_file, addresses_after_meshing_answer, begin_refusals_file, begin_refusals_answer, busy_before_overlap_file, busy_before_overlap_answer, free_while_meshing_file, free_while_meshing_answer, objects_across_pages_file, objects_across_pages_answer, one_mesh_at_a_time_file, one_mesh_at_a_time_answer, poke_while_meshing_file, poke_while_meshing_answer, reads_while_meshing_file, reads_while_meshing_answer, reuse_after_meshing_file, reuse_after_meshing_answer, source_of_two_members_file, source_of_two_members_answer, stores_while_meshing_file, stores_while_meshing_answer};
+
+/// Worked rows: small steps.
+pub fn small_steps()
+    ensures addresses_after_meshing { replayed addresses_after_meshing_file ≡ addresses_after_meshing_answer }
+    ensures begin_refusals { replayed begin_refusals_file ≡ begin_refusals_answer }
+    ensures busy_before_overlap { replayed busy_before_overlap_file ≡ busy_before_overlap_answer }
+    ensures free_while_meshing { replayed free_while_meshing_file ≡ free_while_meshing_answer }
+    ensures objects_across_pages { replayed objects_across_pages_file ≡ objects_across_pages_answer }
+    ensures one_mesh_at_a_time { replayed one_mesh_at_a_time_file ≡ one_mesh_at_a_time_answer }
+    ensures poke_while_meshing { replayed poke_while_meshing_file ≡ poke_while_meshing_answer }
+    ensures reads_while_meshing { replayed reads_while_meshing_file ≡ reads_while_meshing_answer }
+    ensures reuse_after_meshing { replayed reuse_after_meshing_file ≡ reuse_after_meshing_answer }
+    ensures source_of_two_members { replayed source_of_two_members_file ≡ source_of_two_members_answer }
+    ensures stores_while_meshing { replayed stores_while_meshing_file ≡ stores_while_meshing_answer }
+{}

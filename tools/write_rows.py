@@ -1,0 +1,102 @@
+#!/usr/bin/env python3
+"""Writes the crate mesh_rows from the files under jobs/rows.
+
+Each folder there is a subject, and each NAME.job in it a row: NAME.out has the lines that the job is answered, or NAME.err the fault of a file
+that is no job. A subject becomes a spec file, a function whose clauses are its rows, and that function's proof. Run it from the top of the
+repository after a row was added or changed; what it writes is committed.
+"""
+import pathlib
+import shutil
+
+ROWS = pathlib.Path("jobs/rows")
+CRATE = pathlib.Path("crates/mesh_rows")
+KINDS = {
+    "TOO_LONG": "TooLong", "TRAILING": "Trailing", "LONG_LINE": "LongLine", "CUT": "Cut",
+    "BYTE": "Byte", "WORD": "Word", "NUMBER": "Number", "HEX": "Hex",
+}
+
+
+def text(content):
+    """The text as an antt term: a string, or a run where it is one byte again and again."""
+    if not content:
+        return "[]"
+    body = content.rstrip("\n")
+    if len(body) > 100 and len(set(body)) == 1:
+        end = " ++ 10 ∷ []" * (len(content) - len(body))
+        return f"replicate {len(body)} {ord(body[0])}{end}"
+    escaped = content.replace("\\", "\\\\").replace('"', '\\"').replace("\n", "\\n").replace("\r", "\\r")
+    return f'codes "{escaped}"'
+
+
+def expected(row):
+    """What the row's file is replayed to, as an antt term."""
+    fault = row.with_suffix(".err")
+    if not fault.exists():
+        return f"Ok ({text(row.with_suffix('.out').read_text())})"
+    line, kind = fault.read_text().split(" ", 1)[1].strip().split(": ")
+    return f"Err (record {{ line = {line}; kind = {KINDS[kind]} }})"
+
+
+def camel(name):
+    return "".join(part.capitalize() for part in name.split("_"))
+
+
+def write_subject(folder):
+    name, rows = folder.name, sorted(folder.glob("*.job"))
+    faults = any(row.with_suffix(".err").exists() for row in rows)
+    words = ["ℕ", "List", "Result", "Err"] if faults else ["ℕ", "List", "Result", "Ok"]
+    contents = "".join(row.read_bytes().decode() for row in rows)
+    words += ["codes"]
+    if faults:
+        words += ["[]", "◌∷◌", "◌++◌", "replicate"]
+    spec = [f"-- Worked rows: {name.replace('_', ' ')}. Written by tools/write_rows.py from jobs/rows/{name}.",
+            f"use Rattle.std.specs.Prelude.{{{', '.join(words)}}}",
+            "use Rattle.mesh_model.specs.declared.faults.TextFault.{TextFault}"]
+    if faults:
+        used = sorted({KINDS[row.with_suffix(".err").read_text().strip().split(": ")[1]] for row in rows})
+        spec.append(f"use Rattle.mesh_model.specs.declared.faults.FaultKind.TheVariants.{{{', '.join(used)}}}")
+    for row in rows:
+        spec += ["", f"abbrev pub {row.stem}_file : List ℕ", f"{row.stem}_file = {text(row.read_bytes().decode())}",
+                 "", f"abbrev pub {row.stem}_answer : Result (List ℕ) TextFault", f"{row.stem}_answer = {expected(row)}"]
+    (CRATE / "specs" / f"{camel(name)}.antt").write_text("\n".join(spec) + "\n")
+    names = [word for row in rows for word in (f"{row.stem}_file", f"{row.stem}_answer")]
+    ghost = f"ghost use Rattle.mesh_rows.specs.{camel(name)}.{{{', '.join(names)}}};"
+    clauses = "\n".join(f"    ensures {row.stem} {{ replayed {row.stem}_file ≡ {row.stem}_answer }}" for row in rows)
+    if len(rows) == 1:
+        clauses = f"    ensures {{ replayed {rows[0].stem}_file ≡ {rows[0].stem}_answer }}"
+    function = f"/// Worked rows: {name.replace('_', ' ')}.\npub fn {name}()\n{clauses}\n{{}}\n"
+    (CRATE / "src" / f"{name}_rows.rt").write_text(
+        f"//! Worked rows: {name.replace('_', ' ')}. Written by `tools/write_rows.py`.\n"
+        "ghost use Rattle.std.specs.Prelude.{◌≡◌};\n"
+        "ghost use Rattle.mesh_model.specs.Files.{replayed};\n" + ghost + "\n\n" + function)
+    proof = CRATE / "proofs" / f"{name}_rows" / name
+    proof.mkdir(parents=True)
+    goals = [f"returns-clause-{row.stem}" for row in rows] if len(rows) > 1 else ["returns"]
+    answers = "\n".join(f"\npub {goal} : goal.{goal}\nunfolding pages_of slots_of digits\n{goal} c = refl" for goal in goals)
+    (proof / "Answers.antt").write_text(
+        "use Rattle.std.proofs.Common.{refl}\n"
+        "use Rattle.std.specs.Fmt.{digits}\n"
+        "use Rattle.mesh_model.specs.Classes.{pages_of, slots_of}\n"
+        f"use Rattle.mesh_rows.proofs.{name}_rows.{name}.Goals as goal\n" + answers + "\n")
+
+
+def main():
+    for part in ("src", "specs", "proofs"):
+        shutil.rmtree(CRATE / part, ignore_errors=True)
+        (CRATE / part).mkdir(parents=True)
+    subjects = sorted(folder for folder in ROWS.iterdir() if folder.is_dir())
+    for folder in subjects:
+        write_subject(folder)
+    modules = "\n".join(f"mod {folder.name}_rows;" for folder in subjects)
+    exports = "\n".join(f"pub use {folder.name}_rows::{folder.name};" for folder in subjects)
+    (CRATE / "src" / "lib.rt").write_text(
+        "//! The worked rows as theorems: what the definitions of `mesh_model` give for each file under `jobs/rows`.\n//!\n"
+        "//! Each function does nothing; its clauses say that a file is replayed to the lines that were worked out by hand.\n"
+        "//! Written by `tools/write_rows.py`.\n"
+        f"#![tactic(auto)]\n\n{modules}\n\n{exports}\n")
+    libs = "\n".join(["pub use Rattle.mesh_model.specs.Files"] + [f"pub mod {camel(folder.name)}" for folder in subjects])
+    (CRATE / "specs" / "Lib.antt").write_text(libs + "\n")
+
+
+if __name__ == "__main__":
+    main()
