@@ -1,0 +1,2 @@
+pub mod BitsLemmas
+pub mod TwoSets

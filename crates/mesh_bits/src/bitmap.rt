@@ -1,0 +1,209 @@
+//! `Bits`, a set of numbers below a width.
+ghost use Rattle.std.specs.Prelude.{◌≡◌, ◌<◌, ◌≤◌, ◌+◌, ◌||◌, ◌↔◌, true, false, length, replicate, slice_index, slice_set, take, IsTrue, IfSome, IfNone, ℕ, ◌^◌};
+ghost use Rattle.mesh_bits.specs.Bits.{is_member, member_count, clear_count, are_meshable, AreApart, union_of, has, members, ones_of, PutsBit, HaveNoBitInBoth, HasBitsOfEither};
+
+use std::marker::Model;
+
+// The bits of a word.
+const WORD_BITS: u32 = 64;
+
+// The words of a set.
+const WORDS: usize = 4;
+
+/// A set of numbers below a width of 1 to 256.
+#[derive(Debug, Drop)]
+pub struct Bits {
+    // Number `i` is in the set where bit `i % 64` of word `i / 64` is set. No bit is set from the width on.
+    words: [u64; WORDS],
+    width: u32,
+}
+
+impl Model for Bits {
+    ghost use Rattle.std.specs.Prelude.{List, Bool};
+    ghost use Rattle.mesh_bits.specs.Bits.{members, IsBitmap};
+
+    ghost Value = { List Bool };
+
+    ghost view = { λ b. members b.words b.width };
+
+    ghost invariant = { λ b. IsBitmap b.words b.width };
+}
+
+impl Bits {
+    /// The empty set below `width`.
+    pub fn new(width: u32) -> Bits
+        requires some { 1 ≤ width }
+        requires most { width ≤ 256 }
+        ensures { result ≡ replicate width false }
+    {
+        Bits {
+            words: [0; WORDS],
+            width,
+        }
+    }
+
+    /// The width, 1 to 256.
+    pub fn width(&self) -> u32
+        ensures value { result ≡ length self.now }
+        ensures some { 1 ≤ result }
+        ensures most { result ≤ 256 }
+    {
+        self.width
+    }
+
+    /// Whether `i` is in the set.
+    pub fn get(&self, i: u32) -> bool
+        requires { i < length self.now }
+        ensures { result ≡ is_member self.now i }
+    {
+        has_bit(&self.words, i)
+    }
+
+    /// Adds `i` to the set.
+    pub fn set(&mut self, i: u32)
+        requires { i < length self.old }
+        ensures { self.new ≡ slice_set self.old i true }
+    {
+        set_bit(&mut self.words, i);
+    }
+
+    /// Takes `i` out of the set.
+    pub fn clear(&mut self, i: u32)
+        requires { i < length self.old }
+        ensures { self.new ≡ slice_set self.old i false }
+    {
+        clear_bit(&mut self.words, i);
+    }
+
+    /// The number at place `place`, from 0, among those that are not in the set, ascending. None where there are too few.
+    pub fn nth_clear(&self, place: u32) -> Option<u32>
+        ensures clear { IfSome result (λ i. (i < length self.now) × (is_member self.now i ≡ false)) }
+        ensures place { IfSome result (λ i. clear_count (take i self.now) ≡ place) }
+        ensures none { IfNone result (clear_count self.now ≤ place) }
+    {
+        nth_clear_bit(&self.words, self.width, place)
+    }
+
+    /// How many numbers are in the set.
+    pub fn count(&self) -> u32
+        ensures { result ≡ member_count self.now }
+    {
+        count_bits(&self.words)
+    }
+
+    /// Whether no number is in both sets, which are below one width.
+    pub fn disjoint(&self, other: &Bits) -> bool
+        requires { length self.now ≡ length other.now }
+        ensures meshable { result ≡ are_meshable self.now other.now }
+        ensures apart { IsTrue result ↔ AreApart self.now other.now }
+    {
+        share_no_bit(&self.words, &other.words)
+    }
+
+    /// The numbers that are in either set, where both are below one width.
+    pub fn union(&self, other: &Bits) -> Bits
+        requires { length self.now ≡ length other.now }
+        ensures union { result ≡ union_of self.now other.now }
+        ensures length { length result ≡ length self.now }
+        ensures members { (i : ℕ)
+            → is_member result i ≡ (is_member self.now i || is_member other.now i) }
+    {
+        Bits {
+            words: either_bits(&self.words, &other.words),
+            width: self.width,
+        }
+    }
+}
+
+// Whether the words have bit `i`.
+fn has_bit(words: &[u64; WORDS], i: u32) -> bool
+    requires { i < 256 }
+    ensures { result ≡ has words.now i }
+{
+    (words[(i / WORD_BITS) as usize] >> (i % WORD_BITS)) & 1 == 1
+}
+
+// Sets bit `i` of the words.
+fn set_bit(words: &mut [u64; WORDS], i: u32)
+    requires { i < 256 }
+    ensures { PutsBit words.old words.new i true }
+{
+    let at = (i / WORD_BITS) as usize;
+    words[at] |= 1 << (i % WORD_BITS);
+}
+
+// Clears bit `i` of the words.
+fn clear_bit(words: &mut [u64; WORDS], i: u32)
+    requires { i < 256 }
+    ensures { PutsBit words.old words.new i false }
+{
+    let at = (i / WORD_BITS) as usize;
+    words[at] &= !(1 << (i % WORD_BITS));
+}
+
+// The bit at place `place` among the clear bits below the width.
+fn nth_clear_bit(words: &[u64; WORDS], width: u32, place: u32) -> Option<u32>
+    requires { width ≤ 256 }
+    ensures clear { IfSome result (λ i. (i < width) × (has words.now i ≡ false)) }
+    ensures place { IfSome result (λ i. clear_count (members words.now i) ≡ place) }
+    ensures none { IfNone result (clear_count (members words.now width) ≤ place) }
+{
+    let (first, mut left) = skip_words(words, width, place);
+    for i in first..width {
+        if has_bit(words, i) {
+            continue;
+        }
+        if left == 0 {
+            return Some(i);
+        }
+        left -= 1;
+    }
+    None
+}
+
+// Where to begin to look for the clear bit at place `place`, and its place from there on. Each word that ends
+// before that bit is passed by the count of its clear bits.
+fn skip_words(words: &[u64; WORDS], width: u32, place: u32) -> (u32, u32)
+    requires { width ≤ 256 }
+    ensures within { result.0 ≤ width }
+    ensures place { result.1 + clear_count (members words.now result.0) ≡ place }
+{
+    let mut first = 0;
+    let mut left = place;
+    while first + WORD_BITS <= width {
+        let clear = WORD_BITS - words[(first / WORD_BITS) as usize].count_ones();
+        if left < clear {
+            break;
+        }
+        left -= clear;
+        first += WORD_BITS;
+    }
+    (first, left)
+}
+
+// How many bits of the words are set.
+fn count_bits(words: &[u64; WORDS]) -> u32
+    ensures count { result ≡ ones_of words.now }
+    ensures words { (j : ℕ) → slice_index words.now j < 2 ^ 64 }
+{
+    let [a, b, c, d] = *words;
+    a.count_ones() + b.count_ones() + c.count_ones() + d.count_ones()
+}
+
+// Whether no bit is set in both.
+fn share_no_bit(words: &[u64; WORDS], others: &[u64; WORDS]) -> bool
+    ensures { IsTrue result ↔ HaveNoBitInBoth words.now others.now }
+{
+    let [a, b, c, d] = *words;
+    let [e, f, g, h] = *others;
+    (a & e) | (b & f) | (c & g) | (d & h) == 0
+}
+
+// The bits that are set in either.
+fn either_bits(words: &[u64; WORDS], others: &[u64; WORDS]) -> [u64; WORDS]
+    ensures { HasBitsOfEither words.now others.now result }
+{
+    let [a, b, c, d] = *words;
+    let [e, f, g, h] = *others;
+    [a | e, b | f, c | g, d | h]
+}

@@ -1,0 +1,9 @@
+//! The ten size classes: which one a request takes, and what a span of each looks like.
+//!
+//! A contract sees a `Class` as its size in bytes; the table itself is `mesh_model`'s definition.
+#![tactic(auto)]
+
+mod classes;
+
+pub use classes::{Class, class_of};
+pub use mesh_model::Refusal;
