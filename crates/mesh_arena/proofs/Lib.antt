@@ -1,0 +1,4 @@
+pub mod Changes
+pub mod Counts
+pub mod Taken
+pub mod Ties

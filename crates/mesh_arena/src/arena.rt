@@ -1,0 +1,218 @@
+//! The arena: its frames, and how many of them are free.
+ghost use Rattle.std.specs.Prelude.{◌≡◌, ◌≢◌, ℕ, ◌+◌, ◌<◌, ◌≤◌, length, replicate, IfOk, IfSome, IfNone, IsSome, false, slice_set, slice_range, unwrap_or, []};
+ghost use Rattle.mesh_arena.specs.Pages.{IsTaken, is_taken, byte_at, free_count, lowest_free, content, bytes_of, blank_page, with_run, with_copy, run_of, Takes, Gives, Writes};
+
+use crate::frame::Frame;
+use crate::page::Page;
+use std::alloc::{AllocError, Global};
+use std::marker::Model;
+
+/// How many pages an arena has at most: 16 MiB. This project's own choice.
+pub const MAX_PAGES: u32 = 4096;
+
+/// An arena of physical pages, each free or taken.
+#[derive(Drop)]
+pub struct Arena {
+    /// A frame for each page, in the order of their numbers.
+    frames: Vec<Frame>,
+    /// How many frames are free.
+    free: u32,
+    /// No frame below this place is free, so the search for one starts here.
+    all_taken_below: usize,
+}
+
+impl Model for Arena {
+    ghost use Rattle.std.specs.Prelude.{ℕ, List, Option};
+
+    ghost Value = { List (Option (List ℕ)) };
+
+    ghost use Rattle.mesh_arena.specs.Tied.{IsTied};
+
+    ghost view = { λ arena. arena.frames.items };
+
+    ghost invariant = { λ arena. IsTied arena.frames.items arena.free arena.all_taken_below };
+}
+
+/// The first place of a free frame from `from` on, or how many frames there are.
+fn first_free(frames: &[Frame], from: usize) -> usize
+    requires { from ≤ length frames.now }
+    ensures from { from ≤ result }
+    ensures within { result ≤ length frames.now }
+    ensures passed { (k : ℕ) → from ≤ k → k < result → IsTaken frames.now k }
+    ensures found { result < length frames.now → is_taken frames.now result ≡ false }
+{
+    let mut place = from;
+    while place < frames.len() && frames[place].is_taken() {
+        place += 1;
+    }
+    place
+}
+
+/// Copies `len` bytes from one taken frame into another.
+fn copy_frame(from: &Frame, from_off: usize, to: &mut Frame, to_off: usize, len: usize)
+    requires from_taken { IsSome from.now }
+    requires to_taken { IsSome to.old }
+    requires from_fits { from_off + len ≤ 4096 }
+    requires to_fits { to_off + len ≤ 4096 }
+    ensures copied { to.new ≡ Some
+        (with_copy (unwrap_or to.old []) to_off (unwrap_or from.now []) from_off len) }
+    ensures from_sized { length (unwrap_or from.now []) ≡ 4096 }
+    ensures to_sized { length (unwrap_or to.old []) ≡ 4096 }
+{
+    let bytes = from.bytes();
+    let end = from_off + len;
+    to.write(to_off, &bytes[from_off..end]);
+}
+
+/// Copies `len` bytes from one of the frames to another, both taken.
+fn copy_between(
+    frames: &mut [Frame],
+    from: usize,
+    from_off: usize,
+    to: usize,
+    to_off: usize,
+    len: usize,
+)
+    requires from_below { from < length frames.old }
+    requires to_below { to < length frames.old }
+    requires from_taken { IsSome (content frames.old from) }
+    requires to_taken { IsSome (content frames.old to) }
+    requires apart { from ≢ to }
+    requires from_fits { from_off + len ≤ 4096 }
+    requires to_fits { to_off + len ≤ 4096 }
+    ensures copied { frames.new ≡ slice_set frames.old to (Some
+        (with_copy (bytes_of frames.old to) to_off (bytes_of frames.old from) from_off len)) }
+    ensures from_sized { length (bytes_of frames.old from) ≡ 4096 }
+    ensures to_sized { length (bytes_of frames.old to) ≡ 4096 }
+{
+    if from < to {
+        let (low, high) = frames.split_at_mut(to);
+        copy_frame(&low[from], from_off, &mut high[0], to_off, len);
+    } else {
+        let (low, high) = frames.split_at_mut(from);
+        copy_frame(&high[0], from_off, &mut low[to], to_off, len);
+    }
+}
+
+impl Arena {
+    /// An arena of `pages` free pages, from 1 to 4,096.
+    ///
+    /// It takes all the memory that it will ever use.
+    pub fn new(alloc: Global, pages: u32) -> Result<Arena, AllocError>
+        requires some { 1 ≤ pages }
+        requires few { pages ≤ 4096 }
+        ensures pages { IfOk result (λ arena. arena ≡ replicate pages None) }
+        ensures length { IfOk result (λ arena. length arena ≡ pages) }
+        ensures free { IfOk result (λ arena. free_count arena ≡ pages) }
+        ensures untaken { IfOk result (λ arena. (p : ℕ) → is_taken arena p ≡ false) }
+    {
+        let mut frames = Vec::with_capacity(alloc, pages as usize)?;
+        for _ in 0..pages {
+            frames.push(Frame::new(alloc)?)?;
+        }
+        Ok(Arena {
+            frames,
+            free: pages,
+            all_taken_below: 0,
+        })
+    }
+
+    /// Takes the free page with the lowest number, and clears its bytes to zeros.
+    ///
+    /// `None` exactly where no page is free; nothing changes then.
+    pub fn take(&mut self) -> Option<Page>
+        ensures page { result ≡ lowest_free self.old }
+        ensures taken { IfSome result (λ page.
+            self.new ≡ slice_set self.old page (Some blank_page)) }
+        ensures takes { IfSome result (Takes self.old self.new) }
+        ensures none { IfNone result (self.new ≡ self.old) }
+        ensures full { IfNone result (free_count self.old ≡ 0) }
+        ensures some { 0 < free_count self.old → IsSome result }
+    {
+        if self.free == 0 {
+            return None;
+        }
+        let place = first_free(self.frames.as_slice(), self.all_taken_below);
+        self.frames[place].take();
+        self.free -= 1;
+        self.all_taken_below = place + 1;
+        Some(Page::numbered(place as u16))
+    }
+
+    /// Frees a taken page.
+    pub fn give(&mut self, page: Page)
+        requires { IsTaken self.old page }
+        ensures free { self.new ≡ slice_set self.old page None }
+        ensures gives { Gives self.old self.new page }
+    {
+        let place = page.index();
+        self.frames[place].give();
+        self.free += 1;
+        self.all_taken_below = self.all_taken_below.min(place);
+    }
+
+    /// Reads the bytes of a taken page from an offset on, as many as `out` has.
+    pub fn read(&self, page: Page, off: u32, out: &mut [u8])
+        requires taken { IsTaken self.now page }
+        requires fits { off + length out.old ≤ 4096 }
+        ensures bytes { out.new
+            ≡ slice_range (bytes_of self.now page) off (off + length out.old) }
+        ensures run { out.new ≡ run_of (byte_at self.now page) off (length out.old) }
+        ensures sized { length (bytes_of self.now page) ≡ 4096 }
+    {
+        let start = off as usize;
+        let bytes = self.frames[page.index()].bytes();
+        out.copy_from_slice(&bytes[start..start + out.len()]);
+    }
+
+    /// Writes bytes into a taken page from an offset on.
+    pub fn write(&mut self, page: Page, off: u32, bytes: &[u8])
+        requires taken { IsTaken self.old page }
+        requires fits { off + length bytes.now ≤ 4096 }
+        ensures bytes { self.new ≡ slice_set self.old page (Some
+            (with_run (bytes_of self.old page) off bytes.now)) }
+        ensures writes { Writes self.old self.new page off bytes.now }
+    {
+        let place = page.index();
+        self.frames[place].write(off as usize, bytes);
+    }
+
+    /// Copies `len` bytes from one taken page to another.
+    pub fn copy(&mut self, from: Page, from_off: u32, to: Page, to_off: u32, len: u32)
+        requires from_taken { IsTaken self.old from }
+        requires to_taken { IsTaken self.old to }
+        requires apart { from ≢ to }
+        requires from_fits { from_off + len ≤ 4096 }
+        requires to_fits { to_off + len ≤ 4096 }
+        ensures bytes { self.new ≡ slice_set self.old to (Some
+            (with_copy (bytes_of self.old to) to_off (bytes_of self.old from) from_off len)) }
+        ensures writes { Writes self.old self.new to to_off
+            (run_of (byte_at self.old from) from_off len) }
+    {
+        copy_between(
+            self.frames.as_mut_slice(),
+            from.index(),
+            from_off as usize,
+            to.index(),
+            to_off as usize,
+            len as usize,
+        );
+    }
+
+    /// How many pages are free.
+    pub fn free_pages(&self) -> u32
+        ensures { result ≡ free_count self.now }
+    {
+        self.free
+    }
+}
+
+#[cfg(test)]
+mod tests {
+    use super::*;
+
+    #[test]
+    fn takes_memory(rt: HostRuntime) {
+        assert!(rt; Arena::new(rt.alloc(), 2).is_ok());
+    }
+}

@@ -1,0 +1,131 @@
+//! The page map: a table with an entry for each virtual page.
+ghost use Rattle.std.specs.Prelude.{◌≡◌, ℕ, ◌≤◌, false, IfOk, IfSome, is_some};
+ghost use Rattle.std.specs.FinMap as map;
+ghost use Rattle.mesh_pagemap.specs.Entries.{is_mapped, IsMapped, AreInRange, page_of, is_read_only, reads_only, page_in, prot_in, Maps, Unmaps, Remaps, Protects};
+
+use crate::prot::Prot;
+use mesh_arena::Page;
+use std::alloc::{AllocError, Global};
+use std::marker::Model;
+
+/// The last virtual page that can be mapped; the first is 1, so that no address is 0.
+///
+/// Both are this project's own choice.
+pub const LAST_VIRTUAL_PAGE: u32 = 65535;
+
+/// How many places the table has; the one of virtual page 0 is never used.
+const TABLE_PLACES: usize = 65536;
+
+/// Which physical page each virtual page leads to, and with which protection.
+#[derive(Drop)]
+pub struct PageMap {
+    /// The entry of each virtual page, at the place of its number. Place 0 stays empty.
+    table: Vec<Option<(Page, Prot)>>,
+}
+
+impl Model for PageMap {
+    ghost use Rattle.std.specs.Prelude.{ℕ};
+    ghost use Rattle.std.specs.Ordering.{nat_cmp};
+    ghost use Rattle.std.specs.FinMap as map;
+    ghost use Rattle.std.specs.Coded.{coded_ℕ};
+    ghost use Rattle.mesh_pagemap.specs.declared.prot.Prot.{Prot};
+    ghost use Rattle.mesh_pagemap.specs.Entries.{entry_code};
+
+    ghost Value = { map.FinMap nat_cmp (ℕ × Prot) };
+
+    ghost coded = { map.code coded_ℕ entry_code };
+
+    ghost use Rattle.mesh_pagemap.specs.Table.{mapping, IsTable};
+
+    ghost view = { λ a. mapping a.table.items };
+
+    ghost invariant = { λ a. IsTable a.table.items };
+}
+
+impl PageMap {
+    /// The empty map. It takes all the memory that it will ever use.
+    pub fn new(alloc: Global) -> Result<PageMap, AllocError>
+        ensures empty { IfOk result (λ m. m ≡ map.empty) }
+        ensures unmapped { IfOk result (λ m. (v : ℕ) → is_mapped m v ≡ false) }
+    {
+        let table = vec![in alloc; None; TABLE_PLACES]?;
+        Ok(PageMap { table })
+    }
+
+    /// Maps a virtual page that is not mapped.
+    pub fn map(&mut self, vpage: u32, page: Page, prot: Prot)
+        requires first { 1 ≤ vpage }
+        requires last { vpage ≤ 65535 }
+        requires unmapped { is_mapped self.old vpage ≡ false }
+        ensures entry { self.new ≡ map.insert self.old vpage (page, prot) }
+        ensures maps { Maps self.old self.new vpage page prot }
+    {
+        self.table[vpage as usize] = Some((page, prot));
+    }
+
+    /// Takes a mapped virtual page's entry out.
+    pub fn unmap(&mut self, vpage: u32)
+        requires first { 1 ≤ vpage }
+        requires last { vpage ≤ 65535 }
+        requires mapped { IsMapped self.old vpage }
+        ensures entry { self.new ≡ map.remove self.old vpage }
+        ensures unmaps { Unmaps self.old self.new vpage }
+    {
+        self.table[vpage as usize] = None;
+    }
+
+    /// Lets a mapped virtual page lead to another physical page, under the same protection.
+    pub fn remap(&mut self, vpage: u32, page: Page)
+        requires first { 1 ≤ vpage }
+        requires last { vpage ≤ 65535 }
+        requires mapped { IsMapped self.old vpage }
+        ensures entry { self.new
+            ≡ map.insert self.old vpage (page, prot_in (map.get self.old vpage)) }
+        ensures remaps { Remaps self.old self.new vpage page }
+    {
+        let place = &mut self.table[vpage as usize];
+        if let Some((_, prot)) = *place {
+            *place = Some((page, prot));
+        }
+    }
+
+    /// Gives a mapped virtual page another protection; it leads to the same physical page.
+    pub fn protect(&mut self, vpage: u32, prot: Prot)
+        requires first { 1 ≤ vpage }
+        requires last { vpage ≤ 65535 }
+        requires mapped { IsMapped self.old vpage }
+        ensures entry { self.new
+            ≡ map.insert self.old vpage (page_in (map.get self.old vpage), prot) }
+        ensures protects { Protects self.old self.new vpage prot }
+    {
+        let place = &mut self.table[vpage as usize];
+        if let Some((page, _)) = *place {
+            *place = Some((page, prot));
+        }
+    }
+
+    /// The physical page and the protection of a virtual page, `None` where it is not mapped.
+    pub fn lookup(&self, vpage: u32) -> Option<(Page, Prot)>
+        requires first { 1 ≤ vpage }
+        requires last { vpage ≤ 65535 }
+        ensures entry { result ≡ map.get self.now vpage }
+        ensures mapped { is_some result ≡ is_mapped self.now vpage }
+        ensures page { IfSome result (λ entry. entry.0 ≡ page_of self.now vpage) }
+        ensures read_only { IfSome result (λ entry.
+            reads_only entry.1 ≡ is_read_only self.now vpage) }
+        ensures range { AreInRange self.now }
+    {
+        let place = vpage as usize;
+        self.table[place]
+    }
+}
+
+#[cfg(test)]
+mod tests {
+    use super::*;
+
+    #[test]
+    fn takes_memory(rt: HostRuntime) {
+        assert!(rt; PageMap::new(rt.alloc()).is_ok());
+    }
+}

@@ -1,0 +1,169 @@
+//! Loads and stores of ranges of addresses, in one run of bytes for each page that a range touches.
+ghost use Rattle.std.specs.Prelude.{◌≡◌, ℕ, ◌+◌, ◌<◌, ◌≤◌, ◌/◌, ◌%◌, ◌↔◌, false, length, replicate, slice_index, IfOk, IsTrue, None};
+ghost use Rattle.std.specs.Bool.{OnFalse};
+ghost use Rattle.std.specs.FinMap as map;
+ghost use Rattle.mesh_arena.specs.Pages.{is_taken, free_count, run_of};
+ghost use Rattle.mesh_pagemap.specs.Entries.{is_mapped, IsMapped, page_of, is_read_only};
+ghost use Rattle.mesh_store.specs.Places.{byte_of, AreBacked, IsBlocked, IsOpen, Saves};
+
+use mesh_arena::{Arena, PAGE_BYTES, Page};
+use mesh_pagemap::{PageMap, Prot};
+use std::alloc::{AllocError, Global};
+
+/// Physical memory and the page map over it.
+#[derive(Drop)]
+pub struct Store {
+    /// The physical pages.
+    pub arena: Arena,
+    /// Which physical page each virtual page leads to.
+    pub map: PageMap,
+}
+
+/// The virtual page of an address.
+fn vpage_of(addr: u32) -> u32
+    ensures { result ≡ addr / 4096 }
+{
+    addr / PAGE_BYTES as u32
+}
+
+/// An address's offset in its virtual page.
+fn offset_of(addr: u32) -> u32
+    ensures { result ≡ addr % 4096 }
+{
+    addr % PAGE_BYTES as u32
+}
+
+/// How many of `len` bytes from an address on are in the address's page.
+fn len_in_page(addr: u32, len: usize) -> usize
+    ensures short { result ≤ len }
+    ensures inside { addr % 4096 + result ≤ 4096 }
+    ensures whole { result < len → addr % 4096 + result ≡ 4096 }
+    ensures some { 0 < len → 0 < result }
+{
+    len.min(PAGE_BYTES - offset_of(addr) as usize)
+}
+
+/// The physical page of a mapped virtual page.
+fn page_at(map: &PageMap, vpage: u32) -> Page
+    requires first { 1 ≤ vpage }
+    requires last { vpage ≤ 65535 }
+    requires mapped { IsMapped map.now vpage }
+    ensures { result ≡ page_of map.now vpage }
+{
+    match map.lookup(vpage) {
+        Some((page, _)) => page,
+        None => unreachable!(),
+    }
+}
+
+/// Whether a mapped virtual page lets no store through.
+fn is_page_read_only(map: &PageMap, vpage: u32) -> bool
+    requires first { 1 ≤ vpage }
+    requires last { vpage ≤ 65535 }
+    requires mapped { IsMapped map.now vpage }
+    ensures { result ≡ is_read_only map.now vpage }
+{
+    match map.lookup(vpage) {
+        Some((_, prot)) => prot == Prot::ReadOnly,
+        None => unreachable!(),
+    }
+}
+
+/// Reads bytes that are all in one page.
+fn load_run(arena: &Arena, map: &PageMap, addr: u32, out: &mut [u8])
+    requires some { 0 < length out.old }
+    requires inside { addr % 4096 + length out.old ≤ 4096 }
+    requires backed { AreBacked arena.now map.now addr (length out.old) }
+    ensures { (k : ℕ) → k < length out.old
+        → slice_index out.new k ≡ byte_of arena.now map.now (addr + k) }
+{
+    let page = page_at(map, vpage_of(addr));
+    arena.read(page, offset_of(addr), out);
+}
+
+/// Writes bytes that are all in one page.
+fn save_run(arena: &mut Arena, map: &PageMap, addr: u32, bytes: &[u8])
+    requires some { 0 < length bytes.now }
+    requires inside { addr % 4096 + length bytes.now ≤ 4096 }
+    requires backed { AreBacked arena.old map.now addr (length bytes.now) }
+    ensures { Saves arena.old arena.new map.now addr bytes.now }
+{
+    let page = page_at(map, vpage_of(addr));
+    arena.write(page, offset_of(addr), bytes);
+}
+
+impl Store {
+    /// A store of `pages` free physical pages, from 1 to 4,096, where no virtual page is mapped.
+    ///
+    /// It takes all the memory that it will ever use.
+    pub fn open(alloc: Global, pages: u32) -> Result<Store, AllocError>
+        requires some { 1 ≤ pages }
+        requires few { pages ≤ 4096 }
+        ensures arena { IfOk result (λ store. store.arena ≡ replicate pages None) }
+        ensures pages { IfOk result (λ store. length store.arena ≡ pages) }
+        ensures free { IfOk result (λ store. free_count store.arena ≡ pages) }
+        ensures untaken { IfOk result (λ store. (p : ℕ) → is_taken store.arena p ≡ false) }
+        ensures map { IfOk result (λ store. store.map ≡ map.empty) }
+        ensures unmapped { IfOk result (λ store. (v : ℕ) → is_mapped store.map v ≡ false) }
+    {
+        let arena = Arena::new(alloc, pages)?;
+        let map = PageMap::new(alloc)?;
+        Ok(Store { arena, map })
+    }
+
+    /// Reads the bytes from an address on, as many as `out` has: from 1 to 2,048.
+    pub fn load(&self, addr: u32, out: &mut [u8])
+        requires some { 1 ≤ length out.old }
+        requires few { length out.old ≤ 2048 }
+        requires backed { AreBacked self.now.arena self.now.map addr (length out.old) }
+        ensures each { (k : ℕ) → k < length out.old
+            → slice_index out.new k ≡ byte_of self.now.arena self.now.map (addr + k) }
+        ensures run { out.new ≡ run_of (byte_of self.now.arena self.now.map) addr (length out.old) }
+    {
+        let first = len_in_page(addr, out.len());
+        let (head, tail) = out.split_at_mut(first);
+        load_run(&self.arena, &self.map, addr, head);
+        if !tail.is_empty() {
+            load_run(&self.arena, &self.map, addr + first as u32, tail);
+        }
+    }
+
+    /// Whether a store to the range is blocked, since one of its virtual pages is read-only.
+    pub fn blocked(&self, addr: u32, len: u32) -> bool
+        requires some { 1 ≤ len }
+        requires few { len ≤ 2048 }
+        requires backed { AreBacked self.now.arena self.now.map addr len }
+        ensures blocked { IsTrue result ↔ IsBlocked self.now.map addr len }
+        ensures open { OnFalse result (IsOpen self.now.map addr len) }
+    {
+        let last = addr + (len - 1);
+        is_page_read_only(&self.map, vpage_of(addr)) || is_page_read_only(&self.map, vpage_of(last))
+    }
+
+    /// Writes from 1 to 2,048 bytes from an address on, where a store is not blocked.
+    pub fn save(&mut self, addr: u32, bytes: &[u8])
+        requires some { 1 ≤ length bytes.now }
+        requires few { length bytes.now ≤ 2048 }
+        requires backed { AreBacked self.old.arena self.old.map addr (length bytes.now) }
+        requires open { IsOpen self.old.map addr (length bytes.now) }
+        ensures map { self.new.map ≡ self.old.map }
+        ensures saves { Saves self.old.arena self.new.arena self.old.map addr bytes.now }
+    {
+        let first = len_in_page(addr, bytes.len());
+        let (head, tail) = bytes.split_at(first);
+        save_run(&mut self.arena, &self.map, addr, head);
+        if !tail.is_empty() {
+            save_run(&mut self.arena, &self.map, addr + first as u32, tail);
+        }
+    }
+}
+
+#[cfg(test)]
+mod tests {
+    use super::*;
+
+    #[test]
+    fn takes_memory(rt: HostRuntime) {
+        assert!(rt; Store::open(rt.alloc(), 2).is_ok());
+    }
+}
