@@ -1,0 +1,3 @@
+pub use Rattle.mesh_class.specs.Classes
+pub use Rattle.mesh_bits.specs.Bits
+pub mod Index

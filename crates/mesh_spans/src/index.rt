@@ -1,0 +1,205 @@
+//! `Spans`, the index of all spans and groups.
+ghost use Rattle.std.specs.Prelude.{◌≡◌, ℕ, ◌+◌, ◌<◌, ◌≤◌, Some, None, [], ◌∷◌, ◌++◌, true, false, length, slice_set, IfOk, IfSome, OnErr, position, option_copied};
+ghost use Rattle.mesh_class.specs.Classes.{pages_of, slots_of};
+ghost use Rattle.mesh_bits.specs.Bits.{is_member};
+ghost use Rattle.mesh_spans.specs.Index.{span_at, group_at, record_at, slot_address, new_span, new_group, with_record, with_mark, is_open, IsIndex, IsSpan, IsVacant, IsOccupied, AreUnused, HaveSameShape};
+
+use crate::groups::Group;
+use crate::records::SpanRecords;
+use crate::{Slot, Span};
+use mesh_arena::Page;
+use mesh_class::Class;
+use std::alloc::{AllocError, Global};
+use std::marker::Model;
+
+// The bytes of a page.
+const PAGE_BYTES: u32 = 4096;
+
+// How many numbers of virtual pages there are, the unused 0 among them.
+const VIRTUAL_PAGES: usize = 65_536;
+
+/// The index of all spans and groups.
+///
+/// Spans and groups are numbered in the order of their making, and no number is used again.
+#[derive(Debug, Drop)]
+pub struct Spans {
+    alloc: Global,
+    // By number.
+    spans: Vec<SpanRecords>,
+    // By number; None where the number is no group any more.
+    groups: Vec<Option<Group>>,
+    // By virtual page the span that has it.
+    owners: Vec<Option<Span>>,
+}
+
+impl Model for Spans {
+    ghost use Rattle.std.specs.Prelude.{◌≡◌, length};
+    ghost use Rattle.mesh_spans.specs.Index.{Index, IsIndex};
+
+    ghost Value = { Index };
+
+    ghost view = { λ s. record { spans = s.spans.items; groups = s.groups.items } };
+
+    ghost invariant = { λ s. IsIndex s.spans.items s.groups.items × (length s.owners.items ≡ 65536) };
+}
+
+impl Spans {
+    /// An index with no span. Its table of virtual pages is made here.
+    pub fn new(alloc: Global) -> Result<Spans, AllocError>
+        ensures spans { IfOk result (λ s. s.spans ≡ []) }
+        ensures groups { IfOk result (λ s. s.groups ≡ []) }
+    {
+        let owners = vec![in alloc; None; VIRTUAL_PAGES]?;
+        Ok(Spans {
+            alloc,
+            spans: Vec::new(alloc),
+            groups: Vec::new(alloc),
+            owners,
+        })
+    }
+
+    /// Adds a span of these virtual and physical pages, with a group of its own. Nothing changes where memory is refused.
+    pub fn add_span(&mut self, class: Class, first: u32, pages: &[Page]) -> Result<Span, AllocError>
+        requires first { 1 ≤ first }
+        requires last { first + pages_of class ≤ 65536 }
+        requires unused { AreUnused self.old first }
+        requires pages { length pages.now ≡ pages_of class }
+        ensures number { IfOk result (λ span. span ≡ length self.old.spans) }
+        ensures spans { IfOk result (λ span. self.new.spans ≡ self.old.spans ++ new_span first class span ∷ []) }
+        ensures groups { IfOk result (λ span.
+            self.new.groups ≡ self.old.groups ++ Some (new_group class span pages.now) ∷ []) }
+        ensures vacant { IfOk result (λ span. (slot : ℕ) → slot < slots_of class → IsVacant self.new class span slot) }
+        ensures err { OnErr result (self.new ≡ self.old) }
+    {
+        let number = self.spans.len() as u32;
+        let records = SpanRecords::new(self.alloc, class, first, number)?;
+        self.spans.reserve(1)?;
+        self.groups.reserve(1)?;
+        let span = Span::numbered(number);
+        let group = Group::new(self.alloc, class, span, pages);
+        self.spans.push_reserved(records);
+        self.groups.push_reserved(Some(group));
+        own(&mut self.owners, first, class.pages(), span);
+        Ok(span)
+    }
+
+    /// The slot that the next object of the class takes: in the lowest group of the class that is in no mesh and has a free slot, the
+    /// free slot at place `word mod count` among its free ones, ascending, of its first member. None where there is no such group.
+    pub fn open_slot(&self, class: Class, word: u64) -> Option<(Span, Slot)>
+        ensures { IfSome result (λ r. IsVacant self.now class r.0 r.1) }
+    {
+        let open = lowest_open(self.groups.as_slice(), class)?;
+        let group = self.groups[open].as_ref()?;
+        let slot = group.free_slot(word)?;
+        Some((group.first_member(), slot))
+    }
+
+    /// Records an object of `len` bytes in a slot.
+    pub fn occupy(&mut self, span: Span, slot: Slot, serial: u32, len: u32)
+        requires vacant { IsVacant self.old (span_at self.old.spans span).class span slot }
+        requires some { 1 ≤ len }
+        requires fits { len ≤ (span_at self.old.spans span).class }
+        ensures spans { self.new.spans ≡ with_record self.old.spans span slot (Some (serial, len)) }
+        ensures shape { HaveSameShape self.old.spans self.new.spans }
+        ensures groups { self.new.groups
+            ≡ with_mark self.old.groups (span_at self.old.spans span).group slot true }
+    {
+        let records = &mut self.spans[span.index()];
+        records.put(slot, Some((serial, len)));
+        let group = records.group();
+        mark(&mut self.groups, group, slot, true);
+    }
+
+    /// Takes the record of a slot out.
+    pub fn vacate(&mut self, span: Span, slot: Slot)
+        requires { IsOccupied self.old span slot }
+        ensures spans { self.new.spans ≡ with_record self.old.spans span slot None }
+        ensures shape { HaveSameShape self.old.spans self.new.spans }
+        ensures groups { self.new.groups
+            ≡ with_mark self.old.groups (span_at self.old.spans span).group slot false }
+    {
+        let records = &mut self.spans[span.index()];
+        records.put(slot, None);
+        let group = records.group();
+        mark(&mut self.groups, group, slot, false);
+    }
+
+    /// Serial and length of the object that stands in a slot. None where none does, or there is no such slot.
+    pub fn record(&self, span: Span, slot: Slot) -> Option<(u32, u32)>
+        ensures value { result ≡ record_at (span_at self.now.spans span) slot }
+        ensures some { IfSome result (λ r. 1 ≤ r.1) }
+        ensures fits { IfSome result (λ r. r.1 ≤ (span_at self.now.spans span).class) }
+    {
+        self.spans.get(span.index())?.record(slot)
+    }
+
+    /// The span, the slot and the offset in the slot of an address. None only where the address is in no span.
+    pub fn find(&self, addr: u32) -> Option<(Span, Slot, u32)>
+        ensures span { IfSome result (λ r. r.0 < length self.now.spans) }
+        ensures sound { IfSome result (λ r. IsSpan (span_at self.now.spans r.0)) }
+        ensures slot { IfSome result (λ r. r.1 < slots_of (span_at self.now.spans r.0).class) }
+        ensures offset { IfSome result (λ r. r.2 < (span_at self.now.spans r.0).class) }
+        ensures address { IfSome result (λ r. slot_address (span_at self.now.spans r.0) r.1 + r.2 ≡ addr) }
+    {
+        let page = (addr / PAGE_BYTES) as usize;
+        let span = (*self.owners.get(page)?)?;
+        let (slot, offset) = self.spans.get(span.index())?.find(addr)?;
+        Some((span, slot, offset))
+    }
+
+    /// The address of a slot of a span.
+    pub fn address(&self, span: Span, slot: Slot) -> u32
+        requires span { span < length self.now.spans }
+        requires slot { slot < slots_of (span_at self.now.spans span).class }
+        ensures value { result ≡ slot_address (span_at self.now.spans span) slot }
+        ensures sound { IsSpan (span_at self.now.spans span) }
+    {
+        self.spans[span.index()].address(slot)
+    }
+
+    /// The group of a number. None only where the number is no group now.
+    pub fn group(&self, number: u32) -> Option<&Group>
+        ensures { option_copied result ≡ group_at self.now.groups number }
+    {
+        self.groups.get(number as usize)?.as_ref()
+    }
+}
+
+// The number of the lowest group of the class that is in no mesh and has a free slot.
+fn lowest_open(groups: &[Option<Group>], class: Class) -> Option<usize>
+    ensures { result ≡ position (λ g. is_open g class) groups.now }
+{
+    groups.iter().position(|group| is_open(group, class))
+}
+
+// Whether a place of the list of groups has one of this class that is in no mesh and has a free slot.
+fn is_open(group: &Option<Group>, class: Class) -> bool
+    ensures { result ≡ is_open group.now class }
+{
+    match group {
+        Some(group) => group.class() == class && !group.in_mesh() && group.has_room(),
+        None => false,
+    }
+}
+
+// Marks a slot of a group as occupied, or as free.
+fn mark(groups: &mut Vec<Option<Group>>, number: u32, slot: Slot, occupied: bool)
+    requires group { number < length groups.old.items }
+    requires slot { IfSome (group_at groups.old.items number) (λ g. slot < slots_of g.class) }
+    ensures { groups.new.items ≡ with_mark groups.old.items number slot occupied }
+{
+    if let Some(group) = &mut groups[number as usize] {
+        group.mark(slot, occupied);
+    }
+}
+
+// Notes for each page of a span that the span has it.
+fn own(owners: &mut Vec<Option<Span>>, first: u32, pages: u32, span: Span)
+    requires long { length owners.old.items ≡ 65536 }
+    requires last { first + pages ≤ 65536 }
+    ensures long { length owners.new.items ≡ 65536 }
+{
+    for page in first..first + pages {
+        owners[page as usize] = Some(span);
+    }
+}

@@ -1,0 +1,14 @@
+//! The span index: which virtual spans there are, which group each belongs to, and the record of every object.
+//!
+//! A span is a run of virtual pages of one size class, cut into slots. A group is one physical span with the virtual spans that are
+//! mapped to it, its members. A contract sees the index as two lists: the spans with their slot records, and the groups.
+#![tactic(auto)]
+
+mod groups;
+mod index;
+mod names;
+mod records;
+
+pub use groups::{Group, MAX_MEMBERS, MAX_SPAN_PAGES};
+pub use index::Spans;
+pub use names::{Slot, Span};
