@@ -1,0 +1,130 @@
+-- One page more taken, given or mapped.
+use Rattle.std.proofs.Common.{◌≡◌, ◌≢◌, ℕ, ◌+◌, ◌<◌, ◌≤◌, true, false, List, [], ◌∷◌, ◌++◌, length, slice_index, ap, subst, refl, sym, ◌∙◌, arith, rules, ◌⊎◌, inl, inr}
+use Rattle.std.proofs.Math.ListN.{get_or-append, length-append}
+use Rattle.std.proofs.Math.Seq.{get_or-append_seam}
+use Rattle.std.proofs.lemmas.Bool.Decides.{eqb_tells, leb_tells}
+use Rattle.mesh_arena.specs.Pages.{Pages, is_taken, IsTaken, byte_at, free_count, Takes, Gives}
+use Rattle.mesh_pagemap.specs.Entries.{Entries, is_mapped, IsMapped, page_of, is_read_only, reads_only, Maps}
+use Rattle.mesh_pagemap.specs.declared.prot.Prot.{Prot}
+use Rattle.mesh_pagemap.specs.declared.prot.Prot.TheVariants.{ReadWrite}
+use Rattle.mesh_steps.specs.Growth.{TakesAll, GivesFirst, MapsFirst, AreTaken, AreApart, AreUnmapped}
+
+-- no page taken
+pub TakesAll_none : (a : Pages) → TakesAll a a []
+TakesAll_none a = record {
+  were_free = λ k h. absurd (omega (arith, h));
+  taken = λ k h. absurd (omega (arith, h));
+  apart = λ k l h. absurd (omega (arith, h));
+  kept = λ p h. h;
+  same_bytes = λ p o h. refl;
+  fewer = omega arith;
+  same_length = refl;
+}
+
+different : (a : Pages) (p q : ℕ) → IsTaken a p → is_taken a q ≡ false → p ≢ q
+different a p q taken free same = let at : is_taken a p ≡ false = ap (λ (n : ℕ). is_taken a n) same ∙ free in cc
+
+-- one page more taken
+pub TakesAll_more : (old mid new : Pages) (pages : List ℕ) (page : ℕ) → TakesAll old mid pages → Takes mid new page
+    → TakesAll old new (pages ++ page ∷ [])
+TakesAll_more old mid new pages page were takes = record {
+  were_free = λ k h. elim (leb_tells (length pages) k) [
+    | inr before ↦ rw (at_old k before.1) (were.were_free k before.1)
+    | inl last ↦ rw (at_new k h last.1) page_free
+  ];
+  taken = λ k h. elim (leb_tells (length pages) k) [
+    | inr before ↦ rw (at_old k before.1) (takes.other_pages (slice_index pages k)
+        (different mid (slice_index pages k) page (were.taken k before.1) takes.was_free) ∙ were.taken k before.1)
+    | inl last ↦ rw (at_new k h last.1) takes.taken
+  ];
+  apart = λ k l h h' other. elim (leb_tells (length pages) k) [
+    | inr before ↦ elim (leb_tells (length pages) l) [
+      | inr before' ↦ rw (at_old k before.1, at_old l before'.1) (were.apart k l before.1 before'.1 other)
+      | inl last' ↦ rw (at_old k before.1, at_new l h' last'.1) (different mid (slice_index pages k) page (were.taken k before.1) takes.was_free)
+    ]
+    | inl last ↦ elim (leb_tells (length pages) l) [
+      | inr before' ↦ rw (at_new k h last.1, at_old l before'.1)
+          (λ e. different mid (slice_index pages l) page (were.taken l before'.1) takes.was_free (sym e))
+      | inl last' ↦ absurd (other (omega (arith, is_last k h last.1, is_last l h' last'.1)))
+    ]
+  ];
+  kept = λ p h. takes.other_pages p (different mid p page (were.kept p h) takes.was_free) ∙ were.kept p h;
+  same_bytes = λ p o h. takes.other_bytes p o (different mid p page (were.kept p h) takes.was_free) ∙ were.same_bytes p o h;
+  fewer = rw (length-append pages (page ∷ [])) (omega (arith, were.fewer, takes.fewer));
+  same_length = takes.same_length ∙ were.same_length;
+}
+  where
+    at_old : (k : ℕ) → k < length pages → slice_index (pages ++ page ∷ []) k ≡ slice_index pages k
+    at_old k h = get_or-append pages (page ∷ []) 0 k h
+
+    is_last : (k : ℕ) → k < length (pages ++ page ∷ []) → length pages ≤ k → k ≡ length pages
+    is_last k h last = omega (arith, h, last, length-append pages (page ∷ []))
+
+    at_new : (k : ℕ) → k < length (pages ++ page ∷ []) → length pages ≤ k → slice_index (pages ++ page ∷ []) k ≡ page
+    at_new k h last = rw (is_last k h last) (get_or-append_seam pages page [] 0)
+
+    page_free : is_taken old page ≡ false
+    page_free = elim (is_taken old page) as (λ b. is_taken old page ≡ b → b ≡ false) [
+      | true ↦ λ e. let clash : true ≡ false = sym (were.kept page e) ∙ takes.was_free in clash
+      | false ↦ λ e. refl
+    ] refl
+
+-- no page given
+pub GivesFirst_none : (a : Pages) (pages : List ℕ) → GivesFirst a a pages 0
+GivesFirst_none a pages = record { kept = λ p h. refl; same_bytes = λ p o h. refl; more = omega arith; same_length = refl }
+
+-- one page more given
+pub GivesFirst_more : (old mid new : Pages) (pages : List ℕ) (n page : ℕ) → slice_index pages n ≡ page → GivesFirst old mid pages n
+    → Gives mid new page → GivesFirst old new pages (n + 1)
+GivesFirst_more old mid new pages n page at were gives = record {
+  kept = λ p h. gives.other_pages p (λ e. h n (omega arith) (at ∙ sym e)) ∙ were.kept p (λ k below. h k (omega (arith, below)));
+  same_bytes = λ p o h. gives.other_bytes p o (λ e. h n (omega arith) (at ∙ sym e)) ∙ were.same_bytes p o (λ k below. h k (omega (arith, below)));
+  more = omega (arith, were.more, gives.more);
+  same_length = gives.same_length ∙ were.same_length;
+}
+
+-- the next page to give is taken still
+pub next_taken : (old mid : Pages) (pages : List ℕ) (n page : ℕ) → slice_index pages n ≡ page → n < length pages → AreTaken old pages
+    → GivesFirst old mid pages n → IsTaken mid page
+next_taken old mid pages n page at below taken were =
+    were.kept page (λ k h e. taken.apart k n (omega (arith, h, below)) below (λ same. absurd (omega (arith, same, h))) (e ∙ sym at))
+    ∙ subst (λ (p : ℕ). IsTaken old p) at (taken.each n below)
+
+-- no page mapped
+pub MapsFirst_none : (m : Entries) (first : ℕ) (pages : List ℕ) → AreUnmapped m first → MapsFirst m m first pages 0
+MapsFirst_none m first pages unmapped = record {
+  mapped = λ k v h. absurd (omega (arith, h));
+  page = λ k v h. absurd (omega (arith, h));
+  writable = λ k v h. absurd (omega (arith, h));
+  above = λ v h. unmapped v (omega (arith, h));
+  above_writable = λ v h. refl;
+  below = λ v h. refl;
+  below_page = λ v h. refl;
+  below_writable = λ v h. refl;
+}
+
+-- one page more mapped
+pub MapsFirst_more : (old mid new : Entries) (first : ℕ) (pages : List ℕ) (n vpage page : ℕ) → slice_index pages n ≡ page → first + n ≡ vpage
+    → MapsFirst old mid first pages n → Maps mid new vpage page ReadWrite → MapsFirst old new first pages (n + 1)
+MapsFirst_more old mid new first pages n vpage page at here were maps = record {
+  mapped = λ k v h e. elim (eqb_tells v vpage) [
+    | inl same ↦ rw same.1 maps.mapped
+    | inr other ↦ let o = other.1 in maps.other_mapped v o ∙ were.mapped k v (earlier k v h e o) e
+  ];
+  page = λ k v h e. elim (eqb_tells v vpage) [
+    | inl same ↦ let last : k ≡ n = omega (arith, same.1, e, here) in rw (same.1, last) (maps.page ∙ sym at)
+    | inr other ↦ let o = other.1 in maps.other_pages v o ∙ were.page k v (earlier k v h e o) e
+  ];
+  writable = λ k v h e. elim (eqb_tells v vpage) [
+    | inl same ↦ rw same.1 maps.read_only
+    | inr other ↦ let o = other.1 in maps.other_read_only v o ∙ were.writable k v (earlier k v h e o) e
+  ];
+  above = λ v h. let o : v ≢ vpage = omega (arith, h, here) in maps.other_mapped v o ∙ were.above v (omega (arith, h));
+  above_writable = λ v h. let o : v ≢ vpage = omega (arith, h, here) in maps.other_read_only v o ∙ were.above_writable v (omega (arith, h));
+  below = λ v h. let o : v ≢ vpage = omega (arith, h, here) in maps.other_mapped v o ∙ were.below v h;
+  below_page = λ v h. let o : v ≢ vpage = omega (arith, h, here) in maps.other_pages v o ∙ were.below_page v h;
+  below_writable = λ v h. let o : v ≢ vpage = omega (arith, h, here) in maps.other_read_only v o ∙ were.below_writable v h;
+}
+  where
+    earlier : (k v : ℕ) → k < n + 1 → first + k ≡ v → v ≢ vpage → k < n
+    earlier k v h e o = omega (arith, h, e, o, here)

@@ -1,0 +1,2 @@
+pub mod GrowthLemmas
+pub mod HeapLemmas

@@ -1,0 +1,6 @@
+use Rattle.std.proofs.Common.{◌≡◌, length}
+use Rattle.mesh_steps.specs.Growth.{TakesAll}
+use Rattle.mesh_steps.proofs.growth.take_pages.Given as goal
+
+abbrev pub invariant-pages : goal.invariant-pages
+invariant-pages l = (length l.pages.items ≡ l._taken) × TakesAll l.initial.arena l.arena l.pages.items

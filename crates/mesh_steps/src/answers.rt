@@ -1,0 +1,42 @@
+//! What the heap's calls answer.
+use mesh_model::Refusal;
+
+/// A reference to an object: its serial and its address. It is stale once the record at that address hasn't that serial.
+#[derive(Clone, Copy, Debug, PartialEq, Eq)]
+pub struct Ref {
+    /// The object's serial: objects are numbered in the order of their making.
+    pub serial: u32,
+    /// The address of the object's first byte.
+    pub addr: u32,
+}
+
+/// What a store is answered.
+#[derive(Clone, Copy, Debug, PartialEq, Eq)]
+pub enum Stored {
+    /// The bytes were stored.
+    Done,
+    /// No refusal holds and a page that the store touches is read-only. No byte was stored.
+    Blocked,
+    /// The store was refused. No byte was stored.
+    Refused(Refusal),
+}
+
+/// Why no object was made. Nothing has changed.
+#[derive(Clone, Copy, Debug, PartialEq, Eq)]
+pub enum NewFault {
+    /// The call was refused.
+    Refused(Refusal),
+    /// The memory for a new span was refused.
+    Memory,
+}
+
+impl From<Refusal> for NewFault {
+    ghost use Rattle.std.specs.Prelude.{◌≡◌};
+    ghost use Rattle.mesh_steps.specs.declared.answers.NewFault.TheVariants.{Refused};
+
+    ghost from_gives = { λ refusal fault. fault ≡ Refused refusal };
+
+    fn from(refusal: Refusal) -> NewFault {
+        NewFault::Refused(refusal)
+    }
+}
