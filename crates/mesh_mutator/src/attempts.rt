@@ -1,0 +1,141 @@
+//! What each command does to heap and roots, and what it is answered.
+ghost use Rattle.std.specs.Prelude.{◌≡◌, ◌+◌, ◌-◌, ◌^◌, ◌<◌, ◌≤◌, length};
+ghost use Rattle.mesh_model.specs.Commands.{IsInRange};
+ghost use Rattle.mesh_mutator.specs.Attempts.{IsUnrecorded};
+
+use crate::roots::Roots;
+use crate::{Command, Refusal, Reply};
+use mesh_steps::{Heap, NewFault, Ref, Stored};
+
+/// What an attempt at a command comes to.
+#[derive(Debug, Drop, PartialEq, Eq)]
+pub enum Attempt {
+    /// The command was answered, and its answer stands in the journal.
+    Done(Reply),
+    /// A page that the store touches is read-only. Nothing changed.
+    Blocked,
+    /// The journal is at its reserved length. Nothing changed.
+    HistoryFull,
+    /// The memory for a new span was refused. Nothing changed.
+    OutOfMemory,
+}
+
+// One attempt at a command, on heap and roots.
+pub fn perform(heap: &mut Heap, roots: &mut Roots, command: &Command) -> Attempt
+    requires range { IsInRange command.now }
+    requires serials { heap.old.next_serial < 2 ^ 32 - 1 }
+    ensures serials { heap.new.next_serial ≤ heap.old.next_serial + 1 }
+    ensures same { IsUnrecorded result → heap.new.next_serial ≡ heap.old.next_serial }
+{
+    match command {
+        Command::New(cell, len, word) => make(heap, roots, *cell, *len, *word),
+        Command::Put(cell, off, bytes) => put(heap, roots, *cell, *off, bytes.as_slice()),
+        Command::Get(cell, off, len) => Attempt::Done(get(heap, roots, *cell, *off, *len)),
+        Command::Free(cell) => Attempt::Done(free(heap, roots, *cell)),
+        Command::Alias(to, from) => Attempt::Done(alias(heap, roots, *to, *from)),
+        Command::Addr(cell) => Attempt::Done(address(heap, roots, *cell)),
+        Command::Peek(addr) => Attempt::Done(peek(heap, *addr)),
+        Command::Poke(addr, byte) => stored(heap.poke(*addr, *byte)),
+    }
+}
+
+// Makes an object and stores its reference in a cell. A refused one leaves the cell.
+fn make(heap: &mut Heap, roots: &mut Roots, cell: u8, len: u32, word: u64) -> Attempt
+    requires { heap.old.next_serial < 2 ^ 32 - 1 }
+    ensures serials { heap.new.next_serial ≤ heap.old.next_serial + 1 }
+    ensures same { IsUnrecorded result → heap.new.next_serial ≡ heap.old.next_serial }
+{
+    match heap.new(len, word) {
+        Ok(object) => {
+            roots.set(cell, object);
+            Attempt::Done(Reply::Object(object.serial, object.addr))
+        }
+        Err(NewFault::Refused(refusal)) => Attempt::Done(Reply::Refused(refusal)),
+        Err(NewFault::Memory) => Attempt::OutOfMemory,
+    }
+}
+
+// Stores bytes in the object that a cell names.
+fn put(heap: &mut Heap, roots: &Roots, cell: u8, off: u32, bytes: &[u8]) -> Attempt
+    requires some { 1 ≤ length bytes.now }
+    requires few { length bytes.now ≤ 32 }
+    ensures { heap.new.next_serial ≡ heap.old.next_serial }
+{
+    match roots.get(cell) {
+        Some(object) => stored(heap.write(object, off, bytes)),
+        None => Attempt::Done(Reply::Refused(Refusal::Empty)),
+    }
+}
+
+// What a store's answer is to its worker.
+fn stored(stored: Stored) -> Attempt {
+    match stored {
+        Stored::Done => Attempt::Done(Reply::Done),
+        Stored::Blocked => Attempt::Blocked,
+        Stored::Refused(refusal) => Attempt::Done(Reply::Refused(refusal)),
+    }
+}
+
+// Loads bytes from the object that a cell names.
+pub fn get(heap: &Heap, roots: &Roots, cell: u8, off: u32, len: u32) -> Reply
+    requires some { 1 ≤ len }
+    requires few { len ≤ 32 }
+{
+    match roots.get(cell) {
+        Some(object) => match heap.read(object, off, len) {
+            Ok(bytes) => Reply::Bytes(bytes),
+            Err(refusal) => Reply::Refused(refusal),
+        },
+        None => Reply::Refused(Refusal::Empty),
+    }
+}
+
+// Frees the object that a cell names. The cell keeps its reference.
+fn free(heap: &mut Heap, roots: &Roots, cell: u8) -> Reply
+    ensures { heap.new.next_serial ≡ heap.old.next_serial }
+{
+    match roots.get(cell) {
+        Some(object) => match heap.free(object) {
+            Ok(()) => Reply::Done,
+            Err(refusal) => Reply::Refused(refusal),
+        },
+        None => Reply::Refused(Refusal::Empty),
+    }
+}
+
+// Stores in one cell the reference of another, where it names a live object.
+fn alias(heap: &Heap, roots: &mut Roots, to: u8, from: u8) -> Reply {
+    match live(heap, roots, from) {
+        Ok(object) => {
+            roots.set(to, object);
+            Reply::Done
+        }
+        Err(refusal) => Reply::Refused(refusal),
+    }
+}
+
+// The address of the object that a cell names.
+pub fn address(heap: &Heap, roots: &Roots, cell: u8) -> Reply {
+    match live(heap, roots, cell) {
+        Ok(object) => Reply::At(object.addr),
+        Err(refusal) => Reply::Refused(refusal),
+    }
+}
+
+// The byte at an address.
+pub fn peek(heap: &Heap, addr: u32) -> Reply {
+    match heap.peek(addr) {
+        Ok(byte) => Reply::Byte(byte),
+        Err(refusal) => Reply::Refused(refusal),
+    }
+}
+
+// The live object that a cell names: EMPTY where the cell holds no reference, FREED where its object isn't live.
+fn live(heap: &Heap, roots: &Roots, cell: u8) -> Result<Ref, Refusal> {
+    let object = roots.get(cell).ok_or(Refusal::Empty)?;
+    if heap.is_live(object) {
+        Ok(object)
+    } else {
+        Err(Refusal::Freed)
+    }
+}

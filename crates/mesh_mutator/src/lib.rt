@@ -1,0 +1,12 @@
+//! Commands of mutators on a heap with 256 root cells, and the journal of what they were answered.
+//!
+//! The `Book` is what a caller drives: each attempt is one call, and every command that was answered stands in its journal.
+#![tactic(auto)]
+
+mod attempts;
+mod journal;
+mod roots;
+
+pub use attempts::Attempt;
+pub use journal::{Book, Entry};
+pub use mesh_model::{Command, Refusal, Reply};
