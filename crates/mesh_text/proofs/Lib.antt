@@ -1,0 +1,2 @@
+pub mod HexText
+pub mod Parts

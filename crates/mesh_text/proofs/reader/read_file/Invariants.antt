@@ -1,0 +1,14 @@
+use Rattle.std.proofs.Common.{◌+◌, ◌≤◌, length}
+use Rattle.mesh_text.specs.Draft.{IsDraft}
+use Rattle.mesh_text.proofs.reader.read_file.Given as goal
+
+-- each line took a byte at least, so that the number of the next line fits
+abbrev pub invariant-loop-draft : goal.invariant-loop-draft
+invariant-loop-draft l = record {
+  draft : IsDraft l.draft;
+  first : 1 ≤ l.number;
+  counted : l.number + length l.rest ≤ length l.bytes + 1;
+}
+
+abbrev pub decreases-loop-draft : goal.decreases-loop-draft
+decreases-loop-draft l = length l.rest

@@ -1,0 +1,119 @@
+//! The answer lines.
+ghost use Rattle.std.specs.Prelude.{◌≡◌, ◌<◌, [], ◌∷◌, ◌++◌, decimal, OnOk};
+ghost use Rattle.mesh_text.specs.Hex.{hex_digit, hex_text};
+
+use itoa::Buffer;
+use mesh_model::{Refusal, Reply};
+use std::alloc::AllocError;
+
+/// The answer to one line of a plan.
+#[derive(Drop)]
+pub(crate) enum Answer {
+    /// The command was attempted and answered.
+    Replied(Reply),
+    /// The command's store was held back by a page that is read-only.
+    Blocked,
+    /// The journal has no room for another entry.
+    HistoryFull,
+    /// The worker's script is passed.
+    Over,
+}
+
+impl Answer {
+    /// Adds the answer's line, with its line end.
+    pub(crate) fn add_to(&self, text: &mut Vec<u8>) -> Result<(), AllocError> {
+        match self {
+            Answer::Replied(reply) => add_reply(text, reply)?,
+            Answer::Blocked => text.extend_from_slice(b"blocked")?,
+            Answer::HistoryFull => text.extend_from_slice(b"history full")?,
+            Answer::Over => text.extend_from_slice(b"over")?,
+        }
+        text.push(b'\n')?;
+        Ok(())
+    }
+}
+
+/// Adds what a reply's line says.
+fn add_reply(text: &mut Vec<u8>, reply: &Reply) -> Result<(), AllocError> {
+    match reply {
+        Reply::Object(serial, address) => add_object(text, *serial, *address),
+        Reply::Done => text.extend_from_slice(b"done"),
+        Reply::Bytes(bytes) => {
+            text.extend_from_slice(b"bytes ")?;
+            add_bytes(text, bytes.as_slice())
+        }
+        Reply::At(address) => {
+            text.extend_from_slice(b"at ")?;
+            add_address(text, *address)
+        }
+        Reply::Byte(byte) => {
+            text.extend_from_slice(b"byte ")?;
+            add_byte(text, *byte)
+        }
+        Reply::Refused(refusal) => add_refusal(text, *refusal),
+    }
+}
+
+/// Adds `object SERIAL at ADDR`.
+fn add_object(text: &mut Vec<u8>, serial: u32, address: u32) -> Result<(), AllocError> {
+    text.extend_from_slice(b"object ")?;
+    add_decimal(text, u64::from(serial))?;
+    text.extend_from_slice(b" at ")?;
+    add_address(text, address)
+}
+
+/// Adds `refused NUMBER NAME`.
+fn add_refusal(text: &mut Vec<u8>, refusal: Refusal) -> Result<(), AllocError> {
+    text.extend_from_slice(b"refused ")?;
+    add_decimal(text, u64::from(refusal.number()))?;
+    text.push(b' ')?;
+    text.extend_from_slice(refusal.name().as_bytes())
+}
+
+/// Adds a number in decimal digits without a leading zero.
+fn add_decimal(text: &mut Vec<u8>, number: u64) -> Result<(), AllocError>
+    ensures { OnOk result (text.new.items ≡ text.old.items ++ decimal number) }
+{
+    let mut digits = Buffer::new();
+    text.extend_from_slice(digits.format(number).as_bytes())
+}
+
+/// Adds an address in hexadecimal digits without a leading zero.
+fn add_address(text: &mut Vec<u8>, address: u32) -> Result<(), AllocError> {
+    if address >= 16 {
+        add_address(text, address / 16)?;
+    }
+    text.push(digit((address % 16) as u8))?;
+    Ok(())
+}
+
+/// Adds bytes, two hexadecimal digits each.
+fn add_bytes(text: &mut Vec<u8>, bytes: &[u8]) -> Result<(), AllocError>
+    ensures { OnOk result (text.new.items ≡ text.old.items ++ hex_text bytes.now) }
+{
+    for byte in bytes {
+        add_byte(text, *byte)?;
+    }
+    Ok(())
+}
+
+/// Adds a byte in two hexadecimal digits.
+fn add_byte(text: &mut Vec<u8>, byte: u8) -> Result<(), AllocError>
+    ensures { OnOk result (text.new.items ≡ text.old.items ++ hex_text (byte ∷ [])) }
+{
+    text.push(digit(byte / 16))?;
+    text.push(digit(byte % 16))?;
+    Ok(())
+}
+
+/// The hexadecimal digit of a value below 16, in lower case.
+fn digit(value: u8) -> u8
+    requires { value < 16 }
+    ensures { result ≡ hex_digit value }
+{
+    if value < 10 {
+        b'0' + value
+    } else {
+        b'a' + (value - 10)
+    }
+}
