@@ -1,0 +1,16 @@
+//! What the program `meshrun` does, over any devices: its command line, and its runs with their exit statuses.
+//!
+//! Nothing here opens a file or prints by itself. The program hands in the words of its command line, a source for the file and
+//! sinks for standard output and standard error, and ends with the status that it is given.
+#![tactic(auto)]
+
+mod command_line;
+mod runs;
+mod status;
+
+pub use command_line::{Args, Stop, arguments, unread_words};
+pub use mesh_text::{DeviceFault, Input, Output, Sink, Source};
+pub use runs::{replay_run, stop_run, unopened_run};
+
+#[cfg(test)]
+mod tests;

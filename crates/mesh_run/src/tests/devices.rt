@@ -1,0 +1,168 @@
+//! Devices that give or take one byte a call, and fail at some call.
+ghost use Rattle.std.specs.Prelude.{◌≡◌, None, false};
+
+use crate::tests::FILE;
+use crate::{DeviceFault, Input, Output, Sink, Source, replay_run};
+use std::alloc::Global;
+
+/// The answers of the job file.
+const ANSWERS: &str = "object 0 at 1000\ndone\nbytes 6869\n";
+
+/// More calls than any run makes.
+const ENOUGH: usize = 1000;
+
+/// A source that gives one byte a call, and fails once its calls are used up.
+#[derive(Drop)]
+struct SlowSource<'a> {
+    bytes: &'a [u8],
+    calls: usize,
+    failed: bool,
+}
+
+impl Source for SlowSource<'_> {
+    ghost remaining = { λ _. None };
+
+    ghost has_failed = { λ source. source.failed };
+
+    fn read(&mut self, buf: &mut [u8]) -> Result<usize, DeviceFault> {
+        if self.calls == 0 {
+            self.failed = true;
+            return Err(DeviceFault);
+        }
+        self.calls -= 1;
+        if buf.is_empty() {
+            return Ok(0);
+        }
+        let Some((first, rest)) = self.bytes.split_first() else {
+            return Ok(0);
+        };
+        buf[0] = *first;
+        self.bytes = rest;
+        Ok(1)
+    }
+}
+
+/// What a sink does once its calls are used up.
+#[derive(Clone, Copy)]
+enum End {
+    Fails,
+    TakesNothing,
+}
+
+/// A sink that takes one byte a call, until its calls are used up.
+#[derive(Drop)]
+struct SlowSink {
+    taken: Vec<u8>,
+    calls: usize,
+    end: End,
+    failed: bool,
+}
+
+impl SlowSink {
+    fn new(alloc: Global, calls: usize, end: End) -> SlowSink
+        ensures { result.failed ≡ false }
+    {
+        SlowSink {
+            taken: Vec::new(alloc),
+            calls,
+            end,
+            failed: false,
+        }
+    }
+}
+
+impl Sink for SlowSink {
+    ghost written = { λ _. None };
+
+    ghost has_failed = { λ sink. sink.failed };
+
+    fn write(&mut self, bytes: &[u8]) -> Result<usize, DeviceFault> {
+        if bytes.is_empty() {
+            return Ok(0);
+        }
+        if self.calls == 0 {
+            self.failed = true;
+            return match self.end {
+                End::Fails => Err(DeviceFault),
+                End::TakesNothing => Ok(0),
+            };
+        }
+        self.calls -= 1;
+        match self.taken.push(bytes[0]) {
+            Ok(()) => Ok(1),
+            Err(_) => {
+                self.failed = true;
+                Err(DeviceFault)
+            }
+        }
+    }
+}
+
+/// Replays the file from a slow source.
+fn read_slowly(alloc: Global, calls: usize) -> (u8, Vec<u8>, Vec<u8>) {
+    let mut input = SlowSource {
+        bytes: FILE.as_bytes(),
+        calls,
+        failed: false,
+    };
+    let mut output = Output::new(Vec::new(alloc));
+    let mut errors = Output::new(Vec::new(alloc));
+    let status = replay_run(alloc, &mut input, &mut output, &mut errors);
+    (status, output.into_inner(), errors.into_inner())
+}
+
+/// Replays the file to a slow sink.
+fn write_slowly(alloc: Global, calls: usize, end: End) -> (u8, Vec<u8>, Vec<u8>) {
+    let mut input = Input::new(FILE.as_bytes());
+    let mut output = SlowSink::new(alloc, calls, end);
+    let mut errors = Output::new(Vec::new(alloc));
+    let status = replay_run(alloc, &mut input, &mut output, &mut errors);
+    let SlowSink { taken, .. } = output;
+    (status, taken, errors.into_inner())
+}
+
+#[test]
+fn works_byte_by_byte(rt: HostRuntime) {
+    let (status, output, errors) = read_slowly(rt.alloc(), ENOUGH);
+    assert_eq!(rt; output.as_slice(), ANSWERS.as_bytes());
+    assert_eq!(rt; errors.as_slice(), b"".as_slice());
+    assert_eq!(rt; status, 0);
+    let (status, output, errors) = write_slowly(rt.alloc(), ENOUGH, End::Fails);
+    assert_eq!(rt; output.as_slice(), ANSWERS.as_bytes());
+    assert_eq!(rt; errors.as_slice(), b"".as_slice());
+    assert_eq!(rt; status, 0);
+}
+
+#[test]
+fn fails_at_each_read(rt: HostRuntime) {
+    for calls in 0..FILE.len() + 1 {
+        let (status, output, errors) = read_slowly(rt.alloc(), calls);
+        assert_eq!(rt; output.as_slice(), b"".as_slice(), "after {calls}");
+        assert_eq!(rt;
+            errors.as_slice(),
+            b"read fault\n".as_slice(),
+            "after {calls}"
+        );
+        assert_eq!(rt; status, 1, "after {calls}");
+    }
+}
+
+#[test]
+fn fails_at_each_write(rt: HostRuntime) {
+    for calls in 0..ANSWERS.len() {
+        for end in [End::Fails, End::TakesNothing] {
+            let (status, output, errors) = write_slowly(rt.alloc(), calls, end);
+            assert_eq!(rt;
+                output.as_slice(),
+                &ANSWERS.as_bytes()[..calls],
+                "after {calls}"
+            );
+            assert_eq!(rt;
+                errors.as_slice(),
+                b"write fault\n".as_slice(),
+                "after {calls}"
+            );
+            assert_eq!(rt; status, 1, "after {calls}");
+        }
+    }
+}

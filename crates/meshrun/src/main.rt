@@ -1,0 +1,34 @@
+//! The program `meshrun`: a modelled heap that is compacted by meshing.
+//!
+//! `meshrun replay FILE` runs the plan of a job file and prints one answer line for each of its lines.
+#![tactic(auto)]
+
+use mesh_run::{Args, Input, Output, arguments, replay_run, stop_run, unopened_run, unread_words};
+use std::fs::File;
+use std::process::ExitCode;
+use std::{env, io};
+
+fn main(rt: HostRuntime) -> ExitCode {
+    let mut output = Output::new(rt.stdout());
+    let mut errors = Output::new(rt.stderr());
+    let status = match words(&rt) {
+        Ok(words) => match arguments(rt.alloc(), words.as_slice()) {
+            Ok(Args::Replay(path)) => match File::open(&rt, path) {
+                Ok(file) => {
+                    let mut input = Input::new(file);
+                    replay_run(rt.alloc(), &mut input, &mut output, &mut errors)
+                }
+                Err(_) => unopened_run(&mut errors),
+            },
+            Err(stop) => stop_run(&stop, &mut output, &mut errors),
+        },
+        Err(error) => stop_run(&unread_words(&error), &mut output, &mut errors),
+    };
+    ExitCode::from(status)
+}
+
+/// The words of the command line, the program's name first.
+fn words(rt: &HostRuntime) -> io::Result<Vec<String>> {
+    let words = env::args(rt)?.collect(rt.alloc())?;
+    Ok(words)
+}
