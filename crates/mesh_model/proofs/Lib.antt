@@ -1,3 +1,10 @@
+mod Apart
+mod Chains
+mod GroupLists
 mod Histories
+mod MeshLists
+mod NewApart
+mod NewObjects
 mod Searches
+mod TableChanges
 mod WholeMeshes

@@ -11,5 +11,6 @@ pub mod Refusals
 pub mod Search
 pub mod Sound
 pub mod Table
+pub mod TableLaws
 pub mod Texts
 pub mod Words

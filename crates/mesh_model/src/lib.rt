@@ -1,12 +1,14 @@
 //! The words that every layer of Mesh speaks: what a mutator may ask, what it may be answered, and why it may be refused.
 //!
-//! This is the base crate. It has the plain enums alone; what they mean is said by the contracts of the crates above.
+//! This is the base crate: the plain enums that every layer speaks, the definitions that contracts cite (`specs/`), and what is
+//! proved of the definitions alone (`laws`, `table_laws`). It has no other code.
 #![tactic(auto)]
 
 mod commands;
 mod faults;
 pub mod laws;
 mod refusals;
+pub mod table_laws;
 
 pub use commands::{Command, MAX_BYTES, Reply, StepKind};
 pub use faults::{FaultKind, PlanLine, TextFault};

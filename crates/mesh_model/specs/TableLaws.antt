@@ -1,0 +1,75 @@
+-- The table's transitions keep a sound table sound.
+use Rattle.std.specs.Prelude.{◌≡◌, ℕ, ◌+◌, ◌≤◌, ◌⊎◌, Bool, false, Some, Ok, slice_get}
+use Rattle.mesh_model.specs.Memory.{Memory}
+use Rattle.mesh_model.specs.Mesh.{any_mesh, begin, cancel, first_mesh, mesh_in, mesh_of_class, mesh_whole, step, Stepped}
+use Rattle.mesh_model.specs.Plain.{IsVacantRange}
+use Rattle.mesh_model.specs.Sound.{IsSound, IsTied, meshes_of}
+use Rattle.mesh_model.specs.Table.{Counted, Group, Placed, Slot, Table, empty_table, group_of, place_new, slot_address, sweep, without_object}
+
+-- the table with no span is sound
+abbrev pub EmptyIsSound : Type 0
+EmptyIsSound = (pages : ℕ) → IsSound (empty_table pages)
+
+-- an object taken out keeps the table sound
+abbrev pub FreeKeepsSound : Type 0
+FreeKeepsSound = (t : Table) (serial : ℕ) → IsSound t → IsSound (without_object t serial)
+
+-- an empty group taken out keeps the table sound
+abbrev pub SweepKeepsSound : Type 0
+SweepKeepsSound = (t : Table) (n : ℕ) (swept : Counted) → IsSound t → sweep t n ≡ Ok swept → IsSound swept.table
+
+-- where no class is busy, no mesh of it is running
+abbrev pub IsBusyTest : (Table → ℕ → Bool) → Table → Type 0
+IsBusyTest busy t = (class : ℕ) → busy t class ≡ false → meshes_of class t.meshes ≡ 0
+
+-- a mesh begun keeps the table sound
+abbrev pub BeginKeepsSound : Type 0
+BeginKeepsSound = (busy : Table → ℕ → Bool) (t : Table) (source destination : ℕ) (begun : Counted) → IsBusyTest busy t → IsSound t
+    → begin busy t source destination ≡ Ok begun → IsSound begun.table
+
+-- a whole mesh keeps the table sound
+abbrev pub WholeKeepsSound : Type 0
+WholeKeepsSound = (busy : Table → ℕ → Bool) (t : Table) (source destination : ℕ) (whole : Counted) → IsBusyTest busy t → IsSound t
+    → mesh_whole busy t source destination ≡ Ok whole → IsSound whole.table
+
+-- a cancel of the mesh of a class keeps the table sound
+abbrev pub CancelInKeepsSound : Type 0
+CancelInKeepsSound = (t : Table) (class : ℕ) (cancelled : Counted) → IsSound t → cancel t (mesh_in t class) ≡ Ok cancelled → IsSound cancelled.table
+
+-- a cancel of the first mesh keeps the table sound
+abbrev pub CancelFirstKeepsSound : Type 0
+CancelFirstKeepsSound = (t : Table) (cancelled : Counted) → IsSound t → cancel t (first_mesh t) ≡ Ok cancelled → IsSound cancelled.table
+
+-- a step of the mesh of a class keeps the table sound
+abbrev pub StepInKeepsSound : Type 0
+StepInKeepsSound = (t : Table) (class : ℕ) (stepped : Stepped) → IsSound t → step t (mesh_in t class) ≡ Ok stepped → IsSound stepped.table
+
+-- a step of the first mesh keeps the table sound
+abbrev pub StepFirstKeepsSound : Type 0
+StepFirstKeepsSound = (t : Table) (stepped : Stepped) → IsSound t → step t (first_mesh t) ≡ Ok stepped → IsSound stepped.table
+
+-- a new object keeps the table sound
+abbrev pub NewKeepsSound : Type 0
+NewKeepsSound = (t : Table) (len word serial : ℕ) (placed : Placed) → IsSound t → place_new t len word serial ≡ Ok placed → IsSound placed.table
+
+-- the ranges of `m` addresses from `a` on and of `n` addresses from `b` on have none in common
+abbrev pub AreApart : ℕ → ℕ → ℕ → ℕ → Type 0
+AreApart a m b n = (a + m ≤ b) ⊎ (b + n ≤ a)
+
+-- the range of a new object is apart from that of each object of the table
+abbrev pub NewIsApart : Type 0
+NewIsApart = (t : Table) (len word serial : ℕ) (placed : Placed) (number k : ℕ) (group : Group) (slot : Slot) → IsSound t
+    → place_new t len word serial ≡ Ok placed → group_of t number ≡ Some group → slice_get group.slots k ≡ Some (Some slot)
+    → AreApart placed.address len (slot_address slot.member group.class k) slot.len
+
+-- where table and memory are tied, the range of a new object is vacant
+abbrev pub NewIsVacant : Type 0
+NewIsVacant = (m : Memory) (t : Table) (len word serial : ℕ) (placed : Placed) → IsSound t → IsTied m t → place_new t len word serial ≡ Ok placed
+    → IsVacantRange m placed.address len
+
+-- the tests of whether any mesh runs, and of whether one of the class does, tell where no mesh of a class is running
+abbrev pub AnyTellsBusy : Type 0
+AnyTellsBusy = (t : Table) → IsBusyTest any_mesh t
+
+abbrev pub ClassTellsBusy : Type 0
+ClassTellsBusy = (t : Table) → IsBusyTest mesh_of_class t

@@ -1,0 +1,52 @@
+//! Laws of the table: its transitions keep a sound table sound. Each is the contract of a function that does nothing.
+ghost use Rattle.mesh_model.specs.TableLaws.{EmptyIsSound, FreeKeepsSound, SweepKeepsSound, BeginKeepsSound, WholeKeepsSound, CancelInKeepsSound, CancelFirstKeepsSound, StepInKeepsSound, StepFirstKeepsSound, NewKeepsSound, NewIsApart, NewIsVacant, AnyTellsBusy, ClassTellsBusy};
+
+/// The table with no span is sound.
+pub fn empty_is_sound()
+    ensures { EmptyIsSound }
+{}
+
+/// An object taken out keeps the table sound.
+pub fn free_keeps_sound()
+    ensures { FreeKeepsSound }
+{}
+
+/// An empty group taken out keeps the table sound.
+pub fn sweep_keeps_sound()
+    ensures { SweepKeepsSound }
+{}
+
+/// A mesh begun keeps the table sound, and so does a whole mesh.
+pub fn begin_keeps_sound()
+    ensures begun { BeginKeepsSound }
+    ensures whole { WholeKeepsSound }
+{}
+
+/// A cancel keeps the table sound, of the mesh of a class and of the first one.
+pub fn cancel_keeps_sound()
+    ensures of_class { CancelInKeepsSound }
+    ensures of_first { CancelFirstKeepsSound }
+{}
+
+/// A step keeps the table sound, of the mesh of a class and of the first one.
+pub fn step_keeps_sound()
+    ensures of_class { StepInKeepsSound }
+    ensures of_first { StepFirstKeepsSound }
+{}
+
+/// A new object keeps the table sound.
+pub fn new_keeps_sound()
+    ensures { NewKeepsSound }
+{}
+
+/// A new object is apart from each object of the table, and where table and memory are tied, its range is vacant.
+pub fn new_is_apart()
+    ensures slots { NewIsApart }
+    ensures vacant { NewIsVacant }
+{}
+
+/// The two tests of a running mesh tell where no mesh of a class is running.
+pub fn busy_tests()
+    ensures any { AnyTellsBusy }
+    ensures of_class { ClassTellsBusy }
+{}
