@@ -1,10 +1,14 @@
 mod Apart
 mod Chains
+mod CommandLines
+mod Fields
 mod GroupLists
 mod Histories
 mod MeshLists
 mod NewApart
 mod NewObjects
+mod Readings
 mod Searches
+mod Spelling
 mod TableChanges
 mod WholeMeshes

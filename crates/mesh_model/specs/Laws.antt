@@ -1,13 +1,14 @@
 -- What follows from the definitions, and is proved of them.
 use Rattle.std.specs.Prelude.{◌≡◌, ◌↔◌, ℕ, zero, suc, ◌+◌, ◌-◌, ◌*◌, ◌<◌, ◌≤◌, ◌/◌, ◌%◌, min, Bool, true, false, if◌then◌else◌, nat_eq, length, slice_index_or, List, [], ◌∷◌, ◌++◌, Option, Some, Result, Ok, Err}
 use Rattle.mesh_model.specs.Memory.{Memory}
-use Rattle.mesh_model.specs.Mesh.{any_mesh, begin, do_overlap, first_mesh, is_protected, mesh_whole, step}
+use Rattle.mesh_model.specs.Mesh.{any_mesh, begin, cancelled, step_count, table_after, table_unwound, do_overlap, first_mesh, is_protected, mesh_whole, step}
 use Rattle.mesh_model.specs.Search.{Pairing, split_search, tries}
+use Rattle.mesh_model.specs.Places.{Target, place_of, with_protection}
 use Rattle.mesh_model.specs.Plain.{plain, PlainStep, IsVacantRange, IsLegal, Runs, Entry}
 use Rattle.mesh_model.specs.Words.{◌>>=◌}
 use Rattle.mesh_model.specs.Classes.{pages_of}
 use Rattle.mesh_model.specs.declared.refusals.Refusal.TheVariants.{NoAddresses}
-use Rattle.mesh_model.specs.Table.{Counted, Table, group_of, room_for_span, Group, Progress, Made, Unwinding}
+use Rattle.mesh_model.specs.Table.{Counted, Mesh, Table, group_of, room_for_span, Group, Progress, Made, Unwinding}
 use Rattle.mesh_model.specs.declared.commands.Command.{Command}
 use Rattle.mesh_model.specs.declared.commands.Command.TheVariants.{New, Put, Get, Free, Alias, Addr, Peek, Poke}
 use Rattle.mesh_model.specs.declared.commands.Reply.{Reply}
@@ -117,3 +118,23 @@ WholeIsAllSteps = (t : Table) (source destination : ℕ) (whole begun : Counted)
 abbrev pub RefusedByAddresses : Type 0
 RefusedByAddresses = (t : Table) (class : ℕ) → 1 ≤ pages_of class → 1 ≤ t.next_page
     → (room_for_span t class ≡ Err NoAddresses) ↔ ((pages_of class ≤ t.free_pages) × (65535 < t.next_page + (pages_of class - 1)))
+
+-- every step but the last leaves each group, and so the address and the slot of every object
+abbrev pub StepsLeaveGroups : Type 0
+StepsLeaveGroups = (t : Table) (mesh : Mesh) (source : Group) (d : ℕ) → d + 1 < step_count source
+    → (table_after t mesh source d).groups ≡ t.groups
+
+-- so do the unprotects of a cancelled mesh, with the free pages
+abbrev pub UnwindingLeavesGroups : Type 0
+UnwindingLeavesGroups = (t : Table) (mesh : Mesh) (q u : ℕ)
+    → ((table_unwound t mesh q u).groups ≡ t.groups) × ((table_unwound t mesh q u).free_pages ≡ t.free_pages)
+
+-- so does a cancel
+abbrev pub CancelLeavesGroups : Type 0
+CancelLeavesGroups = (t : Table) (mesh : Mesh) (source : Group) (progress : Progress) (x : Counted) → cancelled t mesh source progress ≡ Ok x
+    → (x.table.groups ≡ t.groups) × (x.table.free_pages ≡ t.free_pages)
+
+-- protecting a page, or letting it be written, leaves the place of every address
+abbrev pub ProtectionLeavesPlaces : Type 0
+ProtectionLeavesPlaces = (targets : ℕ → Target) (v : ℕ) (read_only : Bool) (address : ℕ)
+    → place_of (with_protection targets v read_only) address ≡ place_of targets address

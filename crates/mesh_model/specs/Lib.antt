@@ -6,11 +6,13 @@ pub mod Jobs
 pub mod Laws
 pub mod Memory
 pub mod Mesh
+pub mod Places
 pub mod Plain
 pub mod Refusals
 pub mod Search
 pub mod Sound
 pub mod Table
 pub mod TableLaws
+pub mod TextLaws
 pub mod Texts
 pub mod Words

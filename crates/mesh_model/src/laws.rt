@@ -1,5 +1,5 @@
 //! Laws of the definitions. Each is the contract of a function that does nothing: a theorem that other crates may rely on.
-ghost use Rattle.mesh_model.specs.Laws.{PlainIsStep, PlainRefusalIsStep, StepDetermined, LegalGoesOn, LegalHasOneEnd, ProtectsNext, HoldsWhileCopying, UnprotectsNext, CancelHolds, UnwindsNext, TriesAreIndexed, ProbesAreFew, PairsAreMeshable, GroupsPairOnce, WholeIsAllSteps, RefusedByAddresses};
+ghost use Rattle.mesh_model.specs.Laws.{PlainIsStep, PlainRefusalIsStep, StepDetermined, LegalGoesOn, LegalHasOneEnd, ProtectsNext, HoldsWhileCopying, UnprotectsNext, CancelHolds, UnwindsNext, TriesAreIndexed, ProbesAreFew, PairsAreMeshable, GroupsPairOnce, WholeIsAllSteps, RefusedByAddresses, StepsLeaveGroups, UnwindingLeavesGroups, CancelLeavesGroups, ProtectionLeavesPlaces};
 
 /// What the plain function answers and leaves is a plain step, and so is its refusal.
 pub fn plain_is_step()
@@ -47,4 +47,16 @@ pub fn whole_mesh_is_all_steps()
 /// A new span is refused for want of addresses exactly where its last page would be above the last virtual page.
 pub fn refused_by_addresses()
     ensures { RefusedByAddresses }
+{}
+
+/// Until the last release a mesh leaves each group, and so the address and the slot of every object; a cancelled one does to its end.
+pub fn meshing_leaves_groups()
+    ensures steps { StepsLeaveGroups }
+    ensures unwinding { UnwindingLeavesGroups }
+    ensures cancel { CancelLeavesGroups }
+{}
+
+/// A page's protection changes the place of no address.
+pub fn protection_leaves_places()
+    ensures { ProtectionLeavesPlaces }
 {}

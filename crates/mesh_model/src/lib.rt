@@ -1,7 +1,7 @@
 //! The words that every layer of Mesh speaks: what a mutator may ask, what it may be answered, and why it may be refused.
 //!
 //! This is the base crate: the plain enums that every layer speaks, the definitions that contracts cite (`specs/`), and what is
-//! proved of the definitions alone (`laws`, `table_laws`). It has no other code.
+//! proved of the definitions alone (`laws`, `table_laws`, `text_laws`). It has no other code.
 #![tactic(auto)]
 
 mod commands;
@@ -9,6 +9,7 @@ mod faults;
 pub mod laws;
 mod refusals;
 pub mod table_laws;
+pub mod text_laws;
 
 pub use commands::{Command, MAX_BYTES, Reply, StepKind};
 pub use faults::{FaultKind, PlanLine, TextFault};

@@ -5,15 +5,12 @@ ghost use Rattle.mesh_bits.specs.Bits.{is_member};
 ghost use Rattle.mesh_spans.specs.Index.{span_at, group_at, record_at, slot_address, new_span, new_group, with_record, with_mark, is_open, IsIndex, IsSpan, IsVacant, IsOccupied, AreUnused, HaveSameShape};
 
 use crate::groups::Group;
-use crate::records::SpanRecords;
+use crate::records::{PAGE_BYTES, SpanRecords};
 use crate::{Slot, Span};
 use mesh_arena::Page;
 use mesh_class::Class;
 use std::alloc::{AllocError, Global};
 use std::marker::Model;
-
-// The bytes of a page.
-const PAGE_BYTES: u32 = 4096;
 
 // How many numbers of virtual pages there are, the unused 0 among them.
 const VIRTUAL_PAGES: usize = 65_536;

@@ -8,8 +8,8 @@ use mesh_class::Class;
 use std::alloc::{AllocError, Global};
 use std::marker::Model;
 
-// The bytes of a page.
-const PAGE_BYTES: u32 = 4096;
+// The bytes of a page, as a part of addresses.
+pub(crate) const PAGE_BYTES: u32 = 4096;
 
 /// One virtual span: where it lies, which group it belongs to, and what stands in each of its slots.
 #[derive(Debug, Drop)]
