@@ -29,7 +29,7 @@ row_full class (r ∷ rows) full h = elim (eqb_tells r.size class) [
 ]
 
 -- the slots of a class of the table fill its pages
-class_full : (class : ℕ) → IsSome (row_of class) → slots_of class * class ≡ pages_of class * 4096
+pub class_full : (class : ℕ) → IsSome (row_of class) → slots_of class * class ≡ pages_of class * 4096
 unfolding slots_of pages_of
 class_full class h = row_full class table (refl, (refl, (refl, (refl, (refl, (refl, (refl, (refl, (refl, (refl, tt)))))))))) h
 

@@ -92,7 +92,7 @@ fresh_pages : (v number class page : ℕ) → times_in v (virtual_pages (fresh_g
 fresh_pages v number class page = let parts = times_in-append v (range_with_len page (pages_of class)) [] in omega (arith, parts)
 
 -- no place of a fresh group has an object
-fresh_none : (n k : ℕ) (slot : Slot) → slice_get {X = Option Slot} (replicate n None) k ≡ Some (Some slot) → ⊥
+pub fresh_none : (n k : ℕ) (slot : Slot) → slice_get {X = Option Slot} (replicate n None) k ≡ Some (Some slot) → ⊥
 fresh_none zero k slot h = cc
 fresh_none (suc n) zero slot h = cc
 fresh_none (suc n) (suc k) slot h = fresh_none n k slot h
@@ -138,7 +138,7 @@ span_sound t class sound row room =
     }
 
 -- no group has a number from the second bound on
-none_from : (low high n : ℕ) (gs : List Group) → AscendBetween low gs high → high ≤ n → find (has_number n) gs ≡ None
+pub none_from : (low high n : ℕ) (gs : List Group) → AscendBetween low gs high → high ≤ n → find (has_number n) gs ≡ None
 none_from low high n [] ascend from = refl
 none_from low high n (x ∷ xs) ascend from = elim (eqb_tells x.number n) [
   | inl same ↦ let is : find (has_number x.number) (x ∷ xs) ≡ Some x = head_found x.number x xs refl in
@@ -147,7 +147,7 @@ none_from low high n (x ∷ xs) ascend from = elim (eqb_tells x.number n) [
 ]
 
 -- the group of a new number is found last
-last_found : (n : ℕ) (gs : List Group) (g : Group) → find (has_number n) gs ≡ None → g.number ≡ n → find (has_number n) (gs ++ g ∷ []) ≡ Some g
+pub last_found : (n : ℕ) (gs : List Group) (g : Group) → find (has_number n) gs ≡ None → g.number ≡ n → find (has_number n) (gs ++ g ∷ []) ≡ Some g
 last_found n [] g none is = head_found n g [] is
 last_found n (x ∷ xs) g none is = elim (eqb_tells x.number n) [
   | inl same ↦ let clash : Some x ≡ None = rw same.0 at none in absurd (cc)
@@ -174,7 +174,7 @@ spanned_sound t class word serial len sound row room some fits =
     (last_found t.next_span t.groups (fresh_group t.next_span class t.next_page) none refl) (not_meshing t t.next_span t.meshes none sound.meshes) some fits
 
 -- both tests hold
-both_hold : (a b : Bool) → (a && b) ≡ true → (a ≡ true) × (b ≡ true)
+pub both_hold : (a b : Bool) → (a && b) ≡ true → (a ≡ true) × (b ≡ true)
 both_hold true b h = (refl, h)
 both_hold false b h = absurd (cc)
 
@@ -247,7 +247,7 @@ placed_in_sound t None class word serial len placed sound row some fits found h 
     some fits)
 
 -- not zero, and so positive
-positive : (len : ℕ) → nat_eq len 0 ≡ false → 1 ≤ len
+pub positive : (len : ℕ) → nat_eq len 0 ≡ false → 1 ≤ len
 positive len h = elim (eqb_tells len 0) [
   | inl none ↦ let clash : true ≡ false = rw none.0 at h in absurd (cc)
   | inr some ↦ let apart = some.1 in omega (arith, apart)

@@ -43,7 +43,7 @@ table_sound t u sound page fewer groups numbers meshes of_class = record {
 }
 
 -- a slot that is filled once emptied of an object was filled so before
-emptied_kept : (serial : ℕ) (slots : List (Option Slot)) (k : ℕ) (slot : Slot) → slice_get (map (emptied_of serial) slots) k ≡ Some (Some slot)
+pub emptied_kept : (serial : ℕ) (slots : List (Option Slot)) (k : ℕ) (slot : Slot) → slice_get (map (emptied_of serial) slots) k ≡ Some (Some slot)
     → slice_get slots k ≡ Some (Some slot)
 emptied_kept serial [] k slot h = h
 emptied_kept serial (None ∷ slots) zero slot h = h
@@ -213,7 +213,7 @@ united_length (x ∷ xs) [] h = refl
 united_length (x ∷ xs) (y ∷ ys) h = let rest = united_length xs ys (omega (arith, h)) in omega (arith, rest)
 
 -- an object of two lists of slots united is of one of them
-united_at : (xs ys : List (Option Slot)) (k : ℕ) (slot : Slot) → slice_get (united xs ys) k ≡ Some (Some slot)
+pub united_at : (xs ys : List (Option Slot)) (k : ℕ) (slot : Slot) → slice_get (united xs ys) k ≡ Some (Some slot)
     → (slice_get xs k ≡ Some (Some slot)) ⊎ (slice_get ys k ≡ Some (Some slot))
 united_at [] ys k slot h = inr h
 united_at (x ∷ xs) [] k slot h = inl h
@@ -301,7 +301,7 @@ merged_sound t free ms a b source destination sound is is' two class few meshes 
     other_class n b m g is at e = ap (λ (x : Group). x.class) (one_group t m g b (ap (λ (k : ℕ). group_of t k) (sym e) ∙ at) is)
 
 -- different by the test, and so different
-differ : (m n : ℕ) → nat_eq m n ≡ false → m ≢ n
+pub differ : (m n : ℕ) → nat_eq m n ≡ false → m ≢ n
 differ m n h = elim (eqb_tells m n) [ inl same ↦ let clash : true ≡ false = rw same.0 at h in absurd (cc) | inr other ↦ other.1 ]
 
 -- a whole mesh keeps the table sound

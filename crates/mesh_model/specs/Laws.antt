@@ -1,8 +1,9 @@
 -- What follows from the definitions, and is proved of them.
-use Rattle.std.specs.Prelude.{◌≡◌, ◌↔◌, ℕ, zero, suc, ◌+◌, ◌-◌, ◌*◌, ◌<◌, ◌≤◌, ◌/◌, ◌%◌, min, Bool, true, false, if◌then◌else◌, nat_eq, length, slice_index_or, List, [], ◌∷◌, ◌++◌, Option, Some, Result, Ok, Err}
+use Rattle.std.specs.Prelude.{◌≡◌, ◌↔◌, ℕ, zero, suc, ◌+◌, ◌-◌, ◌*◌, ◌<◌, ◌≤◌, ◌/◌, ◌%◌, min, Bool, true, false, if◌then◌else◌, nat_eq, length, slice_index_or, List, [], ◌∷◌, ◌++◌, Option, Some, None, slice_get, Result, Ok, Err}
 use Rattle.mesh_model.specs.Memory.{Memory}
 use Rattle.mesh_model.specs.Mesh.{any_mesh, begin, cancelled, step_count, table_after, table_unwound, do_overlap, first_mesh, is_protected, mesh_whole, step}
 use Rattle.mesh_model.specs.Search.{Pairing, split_search, tries}
+use Rattle.mesh_model.specs.Seats.{Call, DifferFirstAt, has_stranger, missing_seat}
 use Rattle.mesh_model.specs.Places.{Target, place_of, with_protection}
 use Rattle.mesh_model.specs.Plain.{plain, PlainStep, IsVacantRange, IsLegal, Runs, Entry}
 use Rattle.mesh_model.specs.Words.{◌>>=◌}
@@ -138,3 +139,20 @@ CancelLeavesGroups = (t : Table) (mesh : Mesh) (source : Group) (progress : Prog
 abbrev pub ProtectionLeavesPlaces : Type 0
 ProtectionLeavesPlaces = (targets : ℕ → Target) (v : ℕ) (read_only : Bool) (address : ℕ)
     → place_of (with_protection targets v read_only) address ≡ place_of targets address
+
+-- where no seat is missing each place below the count has its own seat, and no entry is of another worker
+abbrev pub SeatsAreAll : Type 0
+SeatsAreAll = (count : ℕ) (numbers : List ℕ) (entries : List Entry) → missing_seat count numbers entries ≡ None
+    → ((k : ℕ) → k < count → slice_get numbers k ≡ Some k) × (has_stranger count numbers entries ≡ false)
+
+-- the least place is told where seats are out of their order, or too few
+abbrev pub SwappedSeatsAreMissing : Type 0
+SwappedSeatsAreMissing = (missing_seat 2 (1 ∷ 0 ∷ []) [] ≡ Some 0) × (missing_seat 2 (0 ∷ []) [] ≡ Some 1)
+
+-- the count is told where seats are too many
+abbrev pub StrangersAreMissing : Type 0
+StrangersAreMissing = (entries : List Entry) → missing_seat 2 (0 ∷ 1 ∷ 0 ∷ []) entries ≡ Some 2
+
+-- two lists of calls have one first difference
+abbrev pub FirstDifferenceIsOne : Type 0
+FirstDifferenceIsOne = (theirs ours : List Call) (i j : ℕ) → DifferFirstAt theirs ours i → DifferFirstAt theirs ours j → i ≡ j

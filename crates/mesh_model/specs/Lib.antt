@@ -2,6 +2,7 @@ pub mod Classes
 pub mod Commands
 pub mod Faults
 pub mod Files
+pub mod HistoryLaws
 pub mod Jobs
 pub mod Laws
 pub mod Memory
@@ -10,6 +11,7 @@ pub mod Places
 pub mod Plain
 pub mod Refusals
 pub mod Search
+pub mod Seats
 pub mod Sound
 pub mod Table
 pub mod TableLaws

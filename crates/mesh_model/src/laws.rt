@@ -1,5 +1,5 @@
 //! Laws of the definitions. Each is the contract of a function that does nothing: a theorem that other crates may rely on.
-ghost use Rattle.mesh_model.specs.Laws.{PlainIsStep, PlainRefusalIsStep, StepDetermined, LegalGoesOn, LegalHasOneEnd, ProtectsNext, HoldsWhileCopying, UnprotectsNext, CancelHolds, UnwindsNext, TriesAreIndexed, ProbesAreFew, PairsAreMeshable, GroupsPairOnce, WholeIsAllSteps, RefusedByAddresses, StepsLeaveGroups, UnwindingLeavesGroups, CancelLeavesGroups, ProtectionLeavesPlaces};
+ghost use Rattle.mesh_model.specs.Laws.{PlainIsStep, PlainRefusalIsStep, StepDetermined, LegalGoesOn, LegalHasOneEnd, ProtectsNext, HoldsWhileCopying, UnprotectsNext, CancelHolds, UnwindsNext, TriesAreIndexed, ProbesAreFew, PairsAreMeshable, GroupsPairOnce, WholeIsAllSteps, RefusedByAddresses, StepsLeaveGroups, UnwindingLeavesGroups, CancelLeavesGroups, ProtectionLeavesPlaces, SeatsAreAll, SwappedSeatsAreMissing, StrangersAreMissing, FirstDifferenceIsOne};
 
 /// What the plain function answers and leaves is a plain step, and so is its refusal.
 pub fn plain_is_step()
@@ -59,4 +59,16 @@ pub fn meshing_leaves_groups()
 /// A page's protection changes the place of no address.
 pub fn protection_leaves_places()
     ensures { ProtectionLeavesPlaces }
+{}
+
+/// The seat that is missing is told: the least place that is not its own seat's, else the count where there are strangers.
+pub fn missing_seats_are_told()
+    ensures all { SeatsAreAll }
+    ensures swapped { SwappedSeatsAreMissing }
+    ensures strangers { StrangersAreMissing }
+{}
+
+/// A seat's calls and its worker's entries differ first at one place.
+pub fn first_difference_is_one()
+    ensures { FirstDifferenceIsOne }
 {}

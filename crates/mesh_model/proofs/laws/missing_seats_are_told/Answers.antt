@@ -1,0 +1,12 @@
+use Rattle.std.proofs.Common.{refl}
+use Rattle.mesh_model.proofs.Seating.{all_seated}
+use Rattle.mesh_model.proofs.laws.missing_seats_are_told.Goals as goal
+
+pub returns-clause-all : goal.returns-clause-all
+returns-clause-all c count numbers entries h = all_seated count numbers entries h
+
+pub returns-clause-swapped : goal.returns-clause-swapped
+returns-clause-swapped c = (refl, refl)
+
+pub returns-clause-strangers : goal.returns-clause-strangers
+returns-clause-strangers c entries = refl

@@ -1,0 +1,63 @@
+//! Laws of a job's walk: table and memory stay tied, and so every history is legal. Each is the contract of a function that does nothing.
+ghost use Rattle.mesh_model.specs.HistoryLaws.{SweepKeepsTied, BeginKeepsTied, WholeKeepsTied, CancelInKeepsTied, CancelFirstKeepsTied, StepInKeepsTied, StepFirstKeepsTied, StoreKeepsTied, RootKeepsTied, FreeKeepsTied, NewKeepsTied, AnsweredIsStep, OpeningIsRunning, AnswerKeepsRunning, LinesKeepRunning, HistoryIsLegal, EntriesBeginScripts};
+
+/// A sweep keeps table and memory tied.
+pub fn sweep_keeps_tied()
+    ensures { SweepKeepsTied }
+{}
+
+/// A mesh begun keeps table and memory tied, and so does a whole mesh.
+pub fn begin_keeps_tied()
+    ensures begun { BeginKeepsTied }
+    ensures whole { WholeKeepsTied }
+{}
+
+/// A cancel keeps table and memory tied, of the mesh of a class and of the first one.
+pub fn cancel_keeps_tied()
+    ensures of_class { CancelInKeepsTied }
+    ensures of_first { CancelFirstKeepsTied }
+{}
+
+/// A step keeps the memory tied to a sound table, of the mesh of a class and of the first one.
+pub fn step_keeps_tied()
+    ensures of_class { StepInKeepsTied }
+    ensures of_first { StepFirstKeepsTied }
+{}
+
+/// A store within an object keeps table and memory tied, and so does another serial in a cell.
+pub fn store_keeps_tied()
+    ensures bytes { StoreKeepsTied }
+    ensures root { RootKeepsTied }
+{}
+
+/// An object freed keeps table and memory tied.
+pub fn free_keeps_tied()
+    ensures { FreeKeepsTied }
+{}
+
+/// A new object keeps the memory tied to a sound table.
+pub fn new_keeps_tied()
+    ensures { NewKeepsTied }
+{}
+
+/// Where table and memory are sound and tied, a command is answered as the plain memory may answer it.
+pub fn answered_is_step()
+    ensures { AnsweredIsStep }
+{}
+
+/// A job's table and memory stay sound and tied, and its history legal.
+pub fn jobs_keep_running()
+    ensures opening { OpeningIsRunning }
+    ensures answer { AnswerKeepsRunning }
+    ensures lines { LinesKeepRunning }
+{}
+
+/// The history of a job is legal after any lines of a plan.
+pub fn history_is_legal()
+    ensures { HistoryIsLegal }
+{}
+
+/// What a worker was answered is the beginning of its script.
+pub fn entries_begin_scripts()
+    ensures { EntriesBeginScripts }
+{}
