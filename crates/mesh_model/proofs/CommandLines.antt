@@ -58,7 +58,7 @@ bytes_field bytes some most all =
     let hex = bytes_within bytes (within_from_all 255 bytes all) in ((hex.0, omega (arith, hex.1, some)), omega (arith, hex.1, most))
 
 -- a command's text is its word and its fields
-command_spelt : (command : Command) → command_text command ≡ word_of command ++ flat_map field (fields_of command)
+pub command_spelt : (command : Command) → command_text command ≡ word_of command ++ flat_map field (fields_of command)
 command_spelt (New cell len word) = simp (append_assoc, append-nil) refl
 command_spelt (Put cell off bytes) = simp (append_assoc, append-nil) refl
 command_spelt (Get cell off len) = simp (append_assoc, append-nil) refl
@@ -181,7 +181,7 @@ words_spelt [] = refl
 words_spelt (w ∷ ws) = rw (words_spelt ws) refl
 
 -- a line's text is its word and its fields
-line_spelt : (line : Line) → line_text line ≡ line_word line ++ flat_map field (line_fields line)
+pub line_spelt : (line : Line) → line_text line ≡ line_word line ++ flat_map field (line_fields line)
 line_spelt (RunWorker worker) = rw append-nil refl
 line_spelt (PairClass class t words) = rw (words_spelt words)
     (ap (λ (x : List ℕ). codes "pair" ++ 32 ∷ x) (append_assoc (decimal class) (number_field t) (flat_map field (map decimal words))))

@@ -2,10 +2,12 @@ mod AnsweredCommands
 mod Apart
 mod Chains
 mod CommandLines
+mod FieldReadings
 mod Fields
 mod GroupLists
 mod Histories
 mod JobHistories
+mod LineReadings
 mod MeshLists
 mod NewApart
 mod NewObjects
@@ -14,6 +16,7 @@ mod Searches
 mod Seating
 mod Spelling
 mod TableChanges
+mod TextReadings
 mod TiedMemories
 mod TiedNewObjects
 mod TiedTables

@@ -1,9 +1,10 @@
 -- Which seat is missing, and where calls first differ.
-use Rattle.std.proofs.Common.{◌≡◌, ℕ, zero, suc, ◌+◌, ◌<◌, ◌≤◌, Bool, true, false, not, List, find, slice_get, ap, subst, sym, refl, arith, ◌⊎◌, inl, inr, Option, Some, None}
+use Rattle.std.proofs.Common.{◌≡◌, ℕ, zero, suc, ◌+◌, ◌<◌, ◌≤◌, Bool, true, false, not, List, [], ◌∷◌, map, nat_eq, find, slice_get, ap, subst, sym, refl, arith, ◌⊎◌, inl, inr, Option, Some, None}
 use Rattle.std.proofs.lemmas.Bool.Decides.{eqb_tells, leb_tells}
 use Rattle.std.specs.List.{range_with_len}
+use Rattle.mesh_model.specs.HistoryLaws.{commands_of}
 use Rattle.mesh_model.specs.Plain.{Entry}
-use Rattle.mesh_model.specs.Seats.{Call, DifferFirstAt, has_seat, has_stranger, is_number, missing_or, missing_seat}
+use Rattle.mesh_model.specs.Seats.{Call, DifferFirstAt, calls_of, has_seat, has_stranger, is_number, missing_or, missing_seat}
 use Rattle.mesh_model.proofs.GroupLists.{tells}
 
 -- where no number of a range passes the test, each fails it
@@ -52,4 +53,12 @@ one_difference theirs ours i j at_i at_j = elim (leb_tells (suc i) j) [
     | inl above ↦ absurd (at_j.other (at_i.same_before j above.1))
     | inr not_above ↦ omega (arith, not_below.1, not_above.1)
   ]
+]
+
+-- the calls of a worker's entries have the worker's commands
+pub calls_commands : (worker : ℕ) (entries : List Entry) → map (λ call. call.command) (calls_of worker entries) ≡ commands_of worker entries
+calls_commands worker [] = refl
+calls_commands worker (entry ∷ entries) = let rest = calls_commands worker entries in elim (tells (nat_eq entry.worker worker)) [
+  | inl same ↦ rw same (ap (λ commands. entry.command ∷ commands) rest)
+  | inr other ↦ rw other rest
 ]

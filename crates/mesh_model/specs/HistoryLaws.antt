@@ -1,9 +1,10 @@
 -- Table and memory stay tied, and so every history of a job is legal.
-use Rattle.std.specs.Prelude.{◌≡◌, ℕ, ◌+◌, ◌≤◌, Bool, if◌then◌else◌, nat_eq, List, [], ◌∷◌, ◌++◌, Some, None, Ok, length, slice_index_or}
+use Rattle.std.specs.Prelude.{◌≡◌, ℕ, ◌+◌, ◌≤◌, Bool, if◌then◌else◌, nat_eq, List, [], ◌∷◌, ◌++◌, Some, None, Ok, length, slice_index_or, map}
 use Rattle.mesh_model.specs.Jobs.{Job, Line, State, answer, answered, opening, state_after}
 use Rattle.mesh_model.specs.Memory.{Memory, Object, next_serial, object_of, with_object, with_root}
 use Rattle.mesh_model.specs.Mesh.{Stepped, begin, cancel, first_mesh, mesh_in, mesh_whole, step}
 use Rattle.mesh_model.specs.Plain.{Entry, IsLegal, Named, PlainStep, made, stored}
+use Rattle.mesh_model.specs.Seats.{calls_of}
 use Rattle.mesh_model.specs.Sound.{IsSound, IsTied}
 use Rattle.mesh_model.specs.Table.{Counted, Placed, Table, place_new, sweep, without_object}
 use Rattle.mesh_model.specs.declared.commands.Command.{Command}
@@ -98,3 +99,7 @@ abbrev pub EntriesBeginScripts : Type 0
 EntriesBeginScripts = (job : Job) (lines : List Line) (worker : ℕ)
     → commands_of worker (state_after job (opening job) lines).entries ++ slice_index_or (state_after job (opening job) lines).scripts worker []
     ≡ slice_index_or job.scripts worker []
+
+-- the calls of a worker's entries are these commands with their replies
+abbrev pub CallsHaveCommands : Type 0
+CallsHaveCommands = (worker : ℕ) (entries : List Entry) → map (λ call. call.command) (calls_of worker entries) ≡ commands_of worker entries

@@ -153,6 +153,12 @@ SwappedSeatsAreMissing = (missing_seat 2 (1 ∷ 0 ∷ []) [] ≡ Some 0) × (mis
 abbrev pub StrangersAreMissing : Type 0
 StrangersAreMissing = (entries : List Entry) → missing_seat 2 (0 ∷ 1 ∷ 0 ∷ []) entries ≡ Some 2
 
+-- an entry of a worker with a seat is no stranger's, and one of the first worker without a seat is
+abbrev pub EntriesHaveSeats : Type 0
+EntriesHaveSeats = (command : Command) (reply : Reply)
+    → (missing_seat 2 (0 ∷ 1 ∷ []) (record { worker = 1; command = command; reply = reply } ∷ []) ≡ None)
+    × (missing_seat 2 (0 ∷ 1 ∷ []) (record { worker = 2; command = command; reply = reply } ∷ []) ≡ Some 2)
+
 -- two lists of calls have one first difference
 abbrev pub FirstDifferenceIsOne : Type 0
 FirstDifferenceIsOne = (theirs ours : List Call) (i j : ℕ) → DifferFirstAt theirs ours i → DifferFirstAt theirs ours j → i ≡ j

@@ -9,6 +9,7 @@ pub mod Memory
 pub mod Mesh
 pub mod Places
 pub mod Plain
+pub mod ReaderLaws
 pub mod Refusals
 pub mod Search
 pub mod Seats

@@ -1,5 +1,5 @@
 //! Laws of a job's walk: table and memory stay tied, and so every history is legal. Each is the contract of a function that does nothing.
-ghost use Rattle.mesh_model.specs.HistoryLaws.{SweepKeepsTied, BeginKeepsTied, WholeKeepsTied, CancelInKeepsTied, CancelFirstKeepsTied, StepInKeepsTied, StepFirstKeepsTied, StoreKeepsTied, RootKeepsTied, FreeKeepsTied, NewKeepsTied, AnsweredIsStep, OpeningIsRunning, AnswerKeepsRunning, LinesKeepRunning, HistoryIsLegal, EntriesBeginScripts};
+ghost use Rattle.mesh_model.specs.HistoryLaws.{SweepKeepsTied, BeginKeepsTied, WholeKeepsTied, CancelInKeepsTied, CancelFirstKeepsTied, StepInKeepsTied, StepFirstKeepsTied, StoreKeepsTied, RootKeepsTied, FreeKeepsTied, NewKeepsTied, AnsweredIsStep, OpeningIsRunning, AnswerKeepsRunning, LinesKeepRunning, HistoryIsLegal, EntriesBeginScripts, CallsHaveCommands};
 
 /// A sweep keeps table and memory tied.
 pub fn sweep_keeps_tied()
@@ -60,4 +60,9 @@ pub fn history_is_legal()
 /// What a worker was answered is the beginning of its script.
 pub fn entries_begin_scripts()
     ensures { EntriesBeginScripts }
+{}
+
+/// The calls of a worker's entries have the commands of the worker.
+pub fn calls_have_commands()
+    ensures { CallsHaveCommands }
 {}

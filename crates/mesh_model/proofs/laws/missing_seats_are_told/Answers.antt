@@ -10,3 +10,6 @@ returns-clause-swapped c = (refl, refl)
 
 pub returns-clause-strangers : goal.returns-clause-strangers
 returns-clause-strangers c entries = refl
+
+pub returns-clause-entries : goal.returns-clause-entries
+returns-clause-entries c command reply = (refl, refl)
