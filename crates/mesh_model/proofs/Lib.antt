@@ -11,6 +11,7 @@ mod LineReadings
 mod MeshLists
 mod NewApart
 mod NewObjects
+mod Placing
 mod Readings
 mod Searches
 mod Seating

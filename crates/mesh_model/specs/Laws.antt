@@ -1,15 +1,15 @@
 -- What follows from the definitions, and is proved of them.
-use Rattle.std.specs.Prelude.{◌≡◌, ◌↔◌, ℕ, zero, suc, ◌+◌, ◌-◌, ◌*◌, ◌<◌, ◌≤◌, ◌/◌, ◌%◌, min, Bool, true, false, if◌then◌else◌, nat_eq, length, slice_index_or, List, [], ◌∷◌, ◌++◌, Option, Some, None, slice_get, Result, Ok, Err}
-use Rattle.mesh_model.specs.Memory.{Memory}
+use Rattle.std.specs.Prelude.{◌≡◌, ◌↔◌, ℕ, zero, suc, ◌+◌, ◌-◌, ◌*◌, ◌<◌, ◌≤◌, ◌/◌, ◌%◌, min, Bool, true, false, if◌then◌else◌, nat_eq, length, slice_index_or, List, [], ◌∷◌, ◌++◌, Option, Some, None, map, replicate, slice_get, Result, Ok, Err}
+use Rattle.mesh_model.specs.Memory.{Memory, empty_memory}
 use Rattle.mesh_model.specs.Mesh.{any_mesh, begin, cancelled, step_count, table_after, table_unwound, do_overlap, first_mesh, is_protected, mesh_whole, step}
 use Rattle.mesh_model.specs.Search.{Pairing, split_search, tries}
 use Rattle.mesh_model.specs.Seats.{Call, DifferFirstAt, has_stranger, missing_seat}
-use Rattle.mesh_model.specs.Places.{Target, place_of, with_protection}
+use Rattle.mesh_model.specs.Places.{Place, Target, byte_of, holds, meaning, place_of, records_from, with_protection}
 use Rattle.mesh_model.specs.Plain.{plain, PlainStep, IsVacantRange, IsLegal, Runs, Entry}
 use Rattle.mesh_model.specs.Words.{◌>>=◌}
 use Rattle.mesh_model.specs.Classes.{pages_of}
 use Rattle.mesh_model.specs.declared.refusals.Refusal.TheVariants.{NoAddresses}
-use Rattle.mesh_model.specs.Table.{Counted, Mesh, Table, group_of, room_for_span, Group, Progress, Made, Unwinding}
+use Rattle.mesh_model.specs.Table.{Counted, Mesh, Table, group_of, room_for_span, Group, Slot, slot_address, Progress, Made, Unwinding}
 use Rattle.mesh_model.specs.declared.commands.Command.{Command}
 use Rattle.mesh_model.specs.declared.commands.Command.TheVariants.{New, Put, Get, Free, Alias, Addr, Peek, Poke}
 use Rattle.mesh_model.specs.declared.commands.Reply.{Reply}
@@ -134,6 +134,33 @@ UnwindingLeavesGroups = (t : Table) (mesh : Mesh) (q u : ℕ)
 abbrev pub CancelLeavesGroups : Type 0
 CancelLeavesGroups = (t : Table) (mesh : Mesh) (source : Group) (progress : Progress) (x : Counted) → cancelled t mesh source progress ≡ Ok x
     → (x.table.groups ≡ t.groups) × (x.table.free_pages ≡ t.free_pages)
+
+-- the place of an address is the page that its virtual page leads to, and what is left of it
+abbrev pub PlacesAreByPage : Type 0
+PlacesAreByPage = (targets : ℕ → Target) (v offset : ℕ) → offset < 4096
+    → place_of targets (v * 4096 + offset) ≡ record { page = (targets v).page; offset = offset }
+
+-- a heap with no object means the empty memory
+abbrev pub NoObjectMeansNone : Type 0
+NoObjectMeansNone = (targets : ℕ → Target) (bytes : Place → ℕ) → meaning 0 [] targets bytes (replicate 256 None) ≡ empty_memory
+
+-- a heap with a freed object and one of two bytes means these: the address, and the bytes at the places
+abbrev pub ObjectsMeanTheirBytes : Type 0
+ObjectsMeanTheirBytes = (targets : ℕ → Target) (bytes : Place → ℕ) (roots : List (Option ℕ)) (address : ℕ)
+    → meaning 2 (record { serial = 1; address = address; len = 2 } ∷ []) targets bytes roots ≡ record {
+      objects = None ∷ Some (record { address = address; bytes = byte_of targets bytes address ∷ byte_of targets bytes (address + 1) ∷ [] }) ∷ [];
+      roots = roots;
+    }
+
+-- the records of slots are those of the filled ones, at their addresses
+abbrev pub SlotsHaveRecords : Type 0
+SlotsHaveRecords = (class : ℕ) (slot : Slot) → records_from class 0 (None ∷ Some slot ∷ None ∷ [])
+    ≡ record { serial = slot.serial; address = slot_address slot.member class 1; len = slot.len } ∷ []
+
+-- an object of two pages is held by both of them, and by no other
+abbrev pub ObjectsAreHeld : Type 0
+ObjectsAreHeld = (read_only : Bool) → map (λ page. holds (λ v. record { page = v; read_only = read_only }) page
+    (record { serial = 0; address = 8190; len = 4 })) (0 ∷ 1 ∷ 2 ∷ 3 ∷ []) ≡ false ∷ true ∷ true ∷ false ∷ []
 
 -- protecting a page, or letting it be written, leaves the place of every address
 abbrev pub ProtectionLeavesPlaces : Type 0

@@ -1,5 +1,5 @@
 //! Laws of the definitions. Each is the contract of a function that does nothing: a theorem that other crates may rely on.
-ghost use Rattle.mesh_model.specs.Laws.{PlainIsStep, PlainRefusalIsStep, StepDetermined, LegalGoesOn, LegalHasOneEnd, ProtectsNext, HoldsWhileCopying, UnprotectsNext, CancelHolds, UnwindsNext, TriesAreIndexed, ProbesAreFew, PairsAreMeshable, GroupsPairOnce, WholeIsAllSteps, RefusedByAddresses, StepsLeaveGroups, UnwindingLeavesGroups, CancelLeavesGroups, ProtectionLeavesPlaces, SeatsAreAll, SwappedSeatsAreMissing, StrangersAreMissing, EntriesHaveSeats, FirstDifferenceIsOne};
+ghost use Rattle.mesh_model.specs.Laws.{PlainIsStep, PlainRefusalIsStep, StepDetermined, LegalGoesOn, LegalHasOneEnd, ProtectsNext, HoldsWhileCopying, UnprotectsNext, CancelHolds, UnwindsNext, TriesAreIndexed, ProbesAreFew, PairsAreMeshable, GroupsPairOnce, WholeIsAllSteps, RefusedByAddresses, PlacesAreByPage, NoObjectMeansNone, ObjectsMeanTheirBytes, SlotsHaveRecords, ObjectsAreHeld, StepsLeaveGroups, UnwindingLeavesGroups, CancelLeavesGroups, ProtectionLeavesPlaces, SeatsAreAll, SwappedSeatsAreMissing, StrangersAreMissing, EntriesHaveSeats, FirstDifferenceIsOne};
 
 /// What the plain function answers and leaves is a plain step, and so is its refusal.
 pub fn plain_is_step()
@@ -54,6 +54,19 @@ pub fn meshing_leaves_groups()
     ensures steps { StepsLeaveGroups }
     ensures unwinding { UnwindingLeavesGroups }
     ensures cancel { CancelLeavesGroups }
+{}
+
+/// The place of an address is the page that its virtual page leads to, and what is left of the address.
+pub fn places_are_by_page()
+    ensures { PlacesAreByPage }
+{}
+
+/// A heap means the memory of its filled slots: their addresses, and the bytes at the places. A page holds what has a byte there.
+pub fn heaps_mean_their_objects()
+    ensures none { NoObjectMeansNone }
+    ensures bytes { ObjectsMeanTheirBytes }
+    ensures slots { SlotsHaveRecords }
+    ensures held { ObjectsAreHeld }
 {}
 
 /// A page's protection changes the place of no address.

@@ -1,0 +1,14 @@
+use Rattle.std.proofs.Common.{refl}
+use Rattle.mesh_model.proofs.laws.heaps_mean_their_objects.Goals as goal
+
+pub returns-clause-none : goal.returns-clause-none
+returns-clause-none c targets bytes = refl
+
+pub returns-clause-bytes : goal.returns-clause-bytes
+returns-clause-bytes c targets bytes roots address = refl
+
+pub returns-clause-slots : goal.returns-clause-slots
+returns-clause-slots c class slot = refl
+
+pub returns-clause-held : goal.returns-clause-held
+returns-clause-held c read_only = refl
