@@ -160,7 +160,7 @@ SlotsHaveRecords = (class : ℕ) (slot : Slot) → records_from class 0 (None �
 -- an object of two pages is held by both of them, and by no other
 abbrev pub ObjectsAreHeld : Type 0
 ObjectsAreHeld = (read_only : Bool) → map (λ page. holds (λ v. record { page = v; read_only = read_only }) page
-    (record { serial = 0; address = 8190; len = 4 })) (0 ∷ 1 ∷ 2 ∷ 3 ∷ []) ≡ false ∷ true ∷ true ∷ false ∷ []
+    (record { serial = 0; address = 8191; len = 2 })) (0 ∷ 1 ∷ 2 ∷ 3 ∷ []) ≡ false ∷ true ∷ true ∷ false ∷ []
 
 -- protecting a page, or letting it be written, leaves the place of every address
 abbrev pub ProtectionLeavesPlaces : Type 0
