@@ -116,12 +116,12 @@ new_refused t len word serial refusal h = elim (refuse_if_refused Zero (nat_eq l
     no_length h = elim (eqb_tells len 0) [ inl same ↦ same.1 | inr other ↦ let clash : false ≡ true = rw other.0 at h in absurd (cc clash) ]
 
 -- the length of a new object that is not refused
-record IsNewLength (len : ℕ) : Type 0 where
-  some : nat_eq len 0 ≡ false
-  few : len ≤ 2048
+pub record IsNewLength (len : ℕ) : Type 0 where
+  pub some : nat_eq len 0 ≡ false
+  pub few : len ≤ 2048
 
 -- a new object that is not refused is of 1 to 2048 bytes
-new_length : (t : Table) (len word serial : ℕ) (placed : Placed) → place_new t len word serial ≡ Ok placed → IsNewLength len
+pub new_length : (t : Table) (len word serial : ℕ) (placed : Placed) → place_new t len word serial ≡ Ok placed → IsNewLength len
 new_length t len word serial placed h =
     let some = refuse_if_went Zero (nat_eq len 0) _ placed h in
     let class = or_refuse_went TooLarge (class_for len) _ placed some.1 in

@@ -1,24 +1,30 @@
-mod AnsweredCommands
+pub mod AnsweredCommands
 mod Apart
 mod Chains
 mod CommandLines
 mod FieldReadings
 mod Fields
-mod GroupLists
+pub mod FreedObjects
+pub mod GroupLists
 mod Histories
+pub mod Holders
 mod JobHistories
 mod LineReadings
+pub mod MadeObjects
+pub mod Meanings
 mod MeshLists
-mod NewApart
-mod NewObjects
+pub mod NewApart
+pub mod NewObjects
+pub mod OneSlot
 mod Placing
 mod Readings
+pub mod Records
 mod Searches
 mod Seating
 mod Spelling
-mod TableChanges
+pub mod TableChanges
 mod TextReadings
-mod TiedMemories
-mod TiedNewObjects
+pub mod TiedMemories
+pub mod TiedNewObjects
 mod TiedTables
 mod WholeMeshes

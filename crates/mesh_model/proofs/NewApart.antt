@@ -81,7 +81,7 @@ new_apart t len word serial placed number k h slot sound went is filled =
     placed_apart t (find (is_open t class.value) t.groups) class.value len word serial number k placed h slot sound fits.0 refl class.then is filled
 
 -- an address of a range is not one of a range apart
-not_had : (object : Object) (a m b n x : ℕ) → AreApart a m b n → object.address ≡ b → length object.bytes ≡ n → a ≤ x → x < a + m
+pub not_had : (object : Object) (a m b n x : ℕ) → AreApart a m b n → object.address ≡ b → length object.bytes ≡ n → a ≤ x → x < a + m
     → has_address object x ≡ false
 not_had object a m b n x apart is long low high = elim (leb_tells object.address x) [
   | inr below ↦ rw below.0 refl

@@ -156,6 +156,13 @@ free_uncounted : (n : ℕ) → count_by {X = Option Slot} is_some (replicate n N
 free_uncounted zero = refl
 free_uncounted (suc n) = free_uncounted n
 
+-- a fresh group of a class of the table has a free slot
+pub fresh_open : (number class page : ℕ) → IsSome (row_of class)
+    → object_count (fresh_group number class page) < length (fresh_group number class page).slots
+fresh_open number class page row =
+    let room = some_slot class row in let places = length-replicate {A = Option Slot} (slots_of class) None in
+    let count = free_uncounted (slots_of class) in omega (arith, room, places, count)
+
 -- a new object of a class is one filled slot more
 record IsPlaced (t : Table) (placed : Placed) (serial len : ℕ) : Type 0 where
   class : ℕ
@@ -186,9 +193,7 @@ spanned_more t class word serial len sound row =
     let fresh : Group = fresh_group t.next_span class t.next_page in
     let none : group_of t t.next_span ≡ None = none_from 0 t.next_span t.next_span t.groups sound.numbers (omega arith) in
     let is : group_of (with_span t class) t.next_span ≡ Some fresh = last_found t.next_span t.groups fresh none refl in
-    let placed = placed_more (with_span t class) fresh word serial len is
-    (let room = some_slot class row in let places = length-replicate {A = Option Slot} (slots_of class) None in let count = free_uncounted (slots_of class) in
-    omega (arith, room, places, count)) in record {
+    let placed = placed_more (with_span t class) fresh word serial len is (fresh_open t.next_span class t.next_page row) in record {
       class = placed.class;
       k = placed.k;
       slot = placed.slot;

@@ -6,6 +6,7 @@ pub mod HistoryLaws
 pub mod Jobs
 pub mod Laws
 pub mod Memory
+pub mod MeaningLaws
 pub mod Mesh
 pub mod Places
 pub mod Plain

@@ -1,13 +1,14 @@
 //! The words that every layer of Mesh speaks: what a mutator may ask, what it may be answered, and why it may be refused.
 //!
 //! This is the base crate: the plain enums that every layer speaks, the definitions that contracts cite (`specs/`), and what is
-//! proved of the definitions alone (`laws`, `table_laws`, `history_laws`, `text_laws`, `reader_laws`). It has no other code.
+//! proved of the definitions alone (`laws`, `table_laws`, `history_laws`, `meaning_laws`, `text_laws`, `reader_laws`). It has no other code.
 #![tactic(auto)]
 
 mod commands;
 mod faults;
 pub mod history_laws;
 pub mod laws;
+pub mod meaning_laws;
 pub mod reader_laws;
 mod refusals;
 pub mod table_laws;
