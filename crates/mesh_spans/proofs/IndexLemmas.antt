@@ -1,162 +1,137 @@
--- What keeps spans and groups fit together.
-use Rattle.std.proofs.Common.{◌≡◌, ◌≢◌, ℕ, zero, suc, ◌+◌, ◌-◌, ◌*◌, ◌<◌, ◌≤◌, Bool, true, false, not, ◌&&◌, nat_eq, position, List, [], ◌∷◌, ◌++◌, Option, Some, None, length, replicate, slice_set, slice_index, slice_index_or, IsSome, IfSome, IsSomeAnd, get_or, set, ap, subst, refl, sym, ◌∙◌, arith, rules, ◌⊎◌, inl, inr}
+-- What keeps spans, groups and the table of virtual pages fit together.
+use Rattle.std.proofs.Common.{◌≡◌, ◌≢◌, ℕ, zero, suc, ◌+◌, ◌-◌, ◌*◌, ◌/◌, ◌<◌, ◌≤◌, Bool, true, false, if◌then◌else◌, List, [], ◌∷◌, ◌++◌, Option, Some, None, length, slice_index, slice_get, slice_index_or, slice_set, IsSome, IfSome, ap, subst, refl, sym, ◌∙◌, arith, rules, ◌⊎◌, inl, inr}
 use Rattle.std.specs.Option.{option_map}
-use Rattle.std.proofs.lemmas.List.{get_or-set_other, get_or-set_same, get_or-replicate, get_or_past}
-use Rattle.std.proofs.Math.ListN.{length-set, length-replicate, get_or-append, length-append}
-use Rattle.std.proofs.Math.Seq.{get_or-append_seam, get_or-append_right}
-use Rattle.std.proofs.lemmas.Bool.Decides.{eqb_tells, leb_tells, nat_tests}
-use Rattle.std.proofs.lemmas.List.Quantifiers.{position-Some}
-use Rattle.mesh_bits.specs.Bits.{is_member}
+use Rattle.std.proofs.lemmas.List.{get_or-set_other, get_or-set_same, get_or_past}
+use Rattle.std.proofs.Math.ListN.{length-set, get_or-append, length-append}
+use Rattle.std.proofs.Math.Seq.{get_or-append_seam}
+use Rattle.std.proofs.Math.Nat.{mul-le-mul_right}
+use Rattle.std.proofs.lemmas.Bool.Decides.{eqb_tells, leb_tells}
+use Rattle.std.proofs.lemmas.Option.{get_or_from_slice_get, slice_get-get_or, slice_get_within}
 use Rattle.mesh_class.specs.Classes.{pages_of, slots_of, IsClass}
-use Rattle.mesh_spans.specs.Index.{SpanEntry, GroupEntry, Index, span_at, group_at, record_at, no_span, with_record, with_mark, with_slot, is_open, has_room, new_span, new_group, IsSpan, IsIndex, IsRecord, IsFirstMember, IsVacant, AreUnused, HaveSameShape}
+use Rattle.mesh_model.specs.Table.{Slot, slot_address}
+use Rattle.mesh_spans.specs.Index.{SpanEntry, GroupEntry, Index, span_at, group_at, no_span, with_entry, with_slot, new_span, new_group, address_in, IsGroup, IsSpan, IsIndex, IsMember, IsObject, IsOwned, IsVacant, IsFoundAt, IsRecorded, AreUnused, named_in, record_at, record_in, slot_in}
+use Rattle.mesh_spans.proofs.SlotLemmas.{IsGroup_new, IsGroup_put}
+
+-- no group stands at any place of an empty list
+pub none_at : (n : ℕ) (group : GroupEntry) → group_at [] n ≡ Some group → ⊥
+none_at n group e = cc e
 
 -- an index with no span
 pub IsIndex_empty : IsIndex [] []
 IsIndex_empty = record {
   span = λ i h. absurd (omega (arith, h));
   few = λ i h. absurd (omega (arith, h));
-  records = λ i slot h. absurd (omega (arith, h));
   paired = refl;
-  owner = λ i h. absurd (omega (arith, h));
-  member = λ n. tt;
+  each = λ n group e. absurd (none_at n group e);
+  members = λ n place group e. absurd (none_at n group e);
+  numbered = λ i h. absurd (omega (arith, h));
+  classes = λ i group h. absurd (omega (arith, h));
 }
 
--- the two spans lie in one place, and have as many slots
-pub record SameShape (old new : SpanEntry) : Type 0 where
-  pub first : new.first ≡ old.first
-  pub class : new.class ≡ old.class
-  pub group : new.group ≡ old.group
-  pub slots : length new.records ≡ length old.records
+-- no page of an index with no span has an owner
+pub IsOwned_empty : (owners : List (Option ℕ)) → length owners ≡ 65536 → IsOwned [] [] owners
+IsOwned_empty owners long = record { sized = long; owned = λ n place j group e. absurd (none_at n group e) }
 
--- a record changes no span's shape
-pub same_shape : (spans : List SpanEntry) (i slot : ℕ) (entry : Option (ℕ × ℕ)) → i < length spans → (j : ℕ)
-    → SameShape (span_at spans j) (span_at (with_record spans i slot entry) j)
-same_shape spans i slot entry h j = elim (eqb_tells j i) [
-  | inl same ↦ rw (same.1, get_or-set_same spans i (record (span_at spans i) { records = slice_set (span_at spans i).records slot entry }) no_span h)
-      (record { first = refl; class = refl; group = refl; slots = length-set (span_at spans i).records slot entry })
-  | inr other ↦ rw (get_or-set_other spans i j (record (span_at spans i) { records = slice_set (span_at spans i).records slot entry }) no_span other.1)
-      (record { first = refl; class = refl; group = refl; slots = refl })
+-- what the group of a number was before an entry changed
+pub record Was (groups : List (Option GroupEntry)) (n k : ℕ) (entry : Option Slot) (m : ℕ) (now : GroupEntry) : Type 0 where
+  pub group : GroupEntry
+  pub was : group_at groups m ≡ Some group
+  pub class : now.class ≡ group.class
+  pub members : now.members ≡ group.members
+  pub is : (now ≡ group) ⊎ ((now ≡ with_slot k entry group) × (m ≡ n))
+
+changed : (groups : List (Option GroupEntry)) (n k : ℕ) (entry : Option Slot) (o : Option GroupEntry) (now : GroupEntry) → group_at groups n ≡ o
+    → option_map (with_slot k entry) o ≡ Some now → Was groups n k entry n now
+changed groups n k entry None now at e = cc e
+changed groups n k entry (Some g) now at e = let same : with_slot k entry g ≡ now = cc e in record {
+  group = g;
+  was = at;
+  class = sym (ap (λ (x : GroupEntry). x.class) same);
+  members = sym (ap (λ (x : GroupEntry). x.members) same);
+  is = inr (sym same, refl);
+}
+
+past : (groups : List (Option GroupEntry)) (n k : ℕ) (entry : Option Slot) (now : GroupEntry) → length groups ≤ n
+    → group_at (with_entry groups n k entry) n ≡ Some now → ⊥
+past groups n k entry now h e =
+    let none : group_at (with_entry groups n k entry) n ≡ None = get_or_past (with_entry groups n k entry) n None
+    (omega (arith, h, length-set groups n (option_map (with_slot k entry) (group_at groups n)))) in
+    let two : None ≡ Some now = sym none ∙ e in cc two
+
+-- a group stays but for the entry that changed
+pub entry_was : (groups : List (Option GroupEntry)) (n k : ℕ) (entry : Option Slot) (m : ℕ) (now : GroupEntry)
+    → group_at (with_entry groups n k entry) m ≡ Some now → Was groups n k entry m now
+entry_was groups n k entry m now e = elim (eqb_tells m n) [
+  | inl same ↦ subst (λ (x : ℕ). Was groups n k entry x now) (sym same.1) (here (subst (λ (x : ℕ). group_at (with_entry groups n k entry) x ≡ Some now) same.1 e))
+  | inr other ↦ record {
+    group = now;
+    was = sym (get_or-set_other groups n m (option_map (with_slot k entry) (group_at groups n)) None other.1) ∙ e;
+    class = refl;
+    members = refl;
+    is = inl refl;
+  }
 ]
-
--- a span of the same shape is as sound
-pub IsSpan_same : (old new : SpanEntry) → SameShape old new → IsSpan old → IsSpan new
-IsSpan_same old new same sound = record {
-  class = rw same.class sound.class;
-  first = rw same.first sound.first;
-  last = rw (same.first, same.class) sound.last;
-  slots = rw (same.slots, same.class) sound.slots;
-}
-
--- the record at a place is the new one or the one that was there
-pub record_changed : (spans : List SpanEntry) (i slot : ℕ) (entry : Option (ℕ × ℕ)) → i < length spans → slot < length (span_at spans i).records
-    → (j k : ℕ) → ((record_at (span_at (with_record spans i slot entry) j) k ≡ entry) × (j ≡ i))
-    ⊎ (record_at (span_at (with_record spans i slot entry) j) k ≡ record_at (span_at spans j) k)
-record_changed spans i slot entry h in_range j k = elim (eqb_tells j i) [
-  | inl same ↦ let here : span_at (with_record spans i slot entry) j ≡ record (span_at spans i) { records = slice_set (span_at spans i).records slot entry }
-      = rw same.1 (get_or-set_same spans i (record (span_at spans i) { records = slice_set (span_at spans i).records slot entry }) no_span h) in
-      elim (eqb_tells k slot) [
-        | inl at ↦ inl (ap (λ s. record_at s k) here ∙ rw at.1 (get_or-set_same (span_at spans i).records slot entry None in_range), same.1)
-        | inr off ↦ inr (ap (λ s. record_at s k) here ∙ get_or-set_other (span_at spans i).records slot k entry None off.1
-            ∙ ap (λ n. record_at (span_at spans n) k) (sym same.1))
-      ]
-  | inr other ↦ inr (ap (λ s. record_at s k)
-      (get_or-set_other spans i j (record (span_at spans i) { records = slice_set (span_at spans i).records slot entry }) no_span other.1))
-]
-
-IfSome_more : {X : Type 0} (o : Option X) (P Q : X → Type 0) → ((x : X) → P x → Q x) → IfSome o P → IfSome o Q
-IfSome_more None P Q f h = tt
-IfSome_more (Some x) P Q f h = f x h
-
-IsSomeAnd_more : {X : Type 0} (o : Option X) (P Q : X → Type 0) → ((x : X) → P x → Q x) → IsSomeAnd o P → IsSomeAnd o Q
-IsSomeAnd_more None P Q f h = h
-IsSomeAnd_more (Some x) P Q f h = f x h
-
--- a record changes neither the shapes nor the soundness of the index
-pub IsIndex_record : (spans : List SpanEntry) (groups : List (Option GroupEntry)) (i slot : ℕ) (entry : Option (ℕ × ℕ)) → i < length spans
-    → slot < slots_of (span_at spans i).class → IsRecord (span_at spans i).class entry → IsIndex spans groups
-    → IsIndex (with_record spans i slot entry) groups
-IsIndex_record spans groups i slot entry h in_range fits sound = record {
-  span = λ j below. IsSpan_same (span_at spans j) (span_at new j) (same j) (sound.span j (was j below));
-  few = λ j below. rw (same j).first (sound.few j (was j below));
-  records = λ j k below. elim (record_changed spans i slot entry h slot_in j k) [
-    | inl put ↦ rw (put.0, (same j).class, put.1) fits
-    | inr kept ↦ rw (kept, (same j).class) (sound.records j k (was j below))
-  ];
-  paired = sound.paired ∙ sym long;
-  owner = λ j below. rw ((same j).group, (same j).class) (sound.owner j (was j below));
-  member = λ n. IfSome_more (group_at groups n) (λ g. IsFirstMember spans g n) (λ g. IsFirstMember new g n)
-      (λ g first. record {
-        below = rw long first.below;
-        same_class = (same (slice_index g.members 0)).class ∙ first.same_class;
-        same_group = (same (slice_index g.members 0)).group ∙ first.same_group;
-      })
-      (sound.member n);
-}
   where
-    new : List SpanEntry
-    new = with_record spans i slot entry
+    here : group_at (with_entry groups n k entry) n ≡ Some now → Was groups n k entry n now
+    here at = elim (leb_tells (length groups) n) [
+      | inl beyond ↦ absurd (past groups n k entry now beyond.1 at)
+      | inr within ↦ changed groups n k entry (group_at groups n) now refl
+          (sym (get_or-set_same groups n (option_map (with_slot k entry) (group_at groups n)) None within.1) ∙ at)
+    ]
 
-    long : length new ≡ length spans
-    long = length-set spans i (record (span_at spans i) { records = slice_set (span_at spans i).records slot entry })
+-- the entry fits into each group of the number
+abbrev pub Fits : List (Option GroupEntry) → ℕ → ℕ → Option Slot → Type 0
+Fits groups n k entry = (group : GroupEntry) → group_at groups n ≡ Some group → (k < slots_of group.class) × IsObject group.class entry
 
-    same : (j : ℕ) → SameShape (span_at spans j) (span_at new j)
-    same j = same_shape spans i slot entry h j
+IsGroup_was : (groups : List (Option GroupEntry)) (n k : ℕ) (entry : Option Slot) (m : ℕ) (now : GroupEntry) → Fits groups n k entry
+    → ((group : GroupEntry) → group_at groups m ≡ Some group → IsGroup group) → Was groups n k entry m now → IsGroup now
+IsGroup_was groups n k entry m now fits sound was = go was.is
+  where
+    go : (now ≡ was.group) ⊎ ((now ≡ with_slot k entry was.group) × (m ≡ n)) → IsGroup now
+    go (inl same) = subst (λ (g : GroupEntry). IsGroup g) (sym same) (sound was.group was.was)
+    go (inr put) =
+        let at = fits was.group (subst (λ (x : ℕ). group_at groups x ≡ Some was.group) put.1 was.was) in
+        let is = sound was.group was.was in
+        subst (λ (g : GroupEntry). IsGroup g) (sym put.0) (IsGroup_put was.group k entry (rw is.slots at.0) at.1 is)
 
-    was : (j : ℕ) → j < length new → j < length spans
-    was j below = rw (← long) below
+member_was : (spans : List SpanEntry) (groups : List (Option GroupEntry)) (n k : ℕ) (entry : Option Slot) (m place : ℕ) (now : GroupEntry)
+    → IsIndex spans groups → Was groups n k entry m now → place < length now.members → IsMember spans now m (slice_index now.members place)
+member_was spans groups n k entry m place now sound was below =
+    let same : slice_index now.members place ≡ slice_index was.group.members place = ap (λ (xs : List ℕ). slice_index xs place) was.members in
+    let is = sound.members m place was.group was.was (subst (λ (xs : List ℕ). place < length xs) was.members below) in
+    let here : IsMember spans now m (slice_index was.group.members place)
+    = record { below = is.below; same_class = is.same_class ∙ sym was.class; same_group = is.same_group } in
+    subst (λ (x : ℕ). IsMember spans now m x) (sym same) here
 
-    slot_in : slot < length (span_at spans i).records
-    slot_in = rw (sound.span i h).slots in_range
-
--- the group at a number is the marked one or the one that was there
-pub mark_at : (groups : List (Option GroupEntry)) (n slot : ℕ) (occupied : Bool) → n < length groups → (m : ℕ)
-    → (group_at (with_mark groups n slot occupied) m ≡ option_map (with_slot slot occupied) (group_at groups m))
-    ⊎ (group_at (with_mark groups n slot occupied) m ≡ group_at groups m)
-mark_at groups n slot occupied h m = elim (eqb_tells m n) [
-  | inl same ↦ inl (rw same.1 (get_or-set_same groups n (option_map (with_slot slot occupied) (group_at groups n)) None h))
-  | inr other ↦ inr (get_or-set_other groups n m (option_map (with_slot slot occupied) (group_at groups n)) None other.1)
-]
-
-marked_class : (o : Option GroupEntry) (slot : ℕ) (occupied : Bool) (class : ℕ) → IsSomeAnd o (λ g. g.class ≡ class)
-    → IsSomeAnd (option_map (with_slot slot occupied) o) (λ g. g.class ≡ class)
-marked_class None slot occupied class h = h
-marked_class (Some g) slot occupied class h = h
-
-marked_member : (spans : List SpanEntry) (o : Option GroupEntry) (slot n : ℕ) (occupied : Bool) → IfSome o (λ g. IsFirstMember spans g n)
-    → IfSome (option_map (with_slot slot occupied) o) (λ g. IsFirstMember spans g n)
-marked_member spans None slot n occupied h = tt
-marked_member spans (Some g) slot n occupied h = record { below = h.below; same_class = h.same_class; same_group = h.same_group }
-
--- a mark changes no group but in its occupied set
-pub IsIndex_mark : (spans : List SpanEntry) (groups : List (Option GroupEntry)) (n slot : ℕ) (occupied : Bool) → n < length groups
-    → IsIndex spans groups → IsIndex spans (with_mark groups n slot occupied)
-IsIndex_mark spans groups n slot occupied h sound = record {
+-- an index stays one as an entry changes
+pub IsIndex_put : (spans : List SpanEntry) (groups : List (Option GroupEntry)) (n k : ℕ) (entry : Option Slot) → Fits groups n k entry
+    → IsIndex spans groups → IsIndex spans (with_entry groups n k entry)
+IsIndex_put spans groups n k entry fits sound = record {
   span = sound.span;
   few = sound.few;
-  records = sound.records;
-  paired = length-set groups n (option_map (with_slot slot occupied) (group_at groups n)) ∙ sound.paired;
-  owner = λ j below. elim (mark_at groups n slot occupied h (span_at spans j).group) [
-    | inl put ↦ rw put (marked_class (group_at groups (span_at spans j).group) slot occupied (span_at spans j).class (sound.owner j below))
-    | inr kept ↦ rw kept (sound.owner j below)
-  ];
-  member = λ m. elim (mark_at groups n slot occupied h m) [
-    | inl put ↦ rw put (marked_member spans (group_at groups m) slot m occupied (sound.member m))
-    | inr kept ↦ rw kept (sound.member m)
-  ];
+  paired = length-set groups n (option_map (with_slot k entry) (group_at groups n)) ∙ sound.paired;
+  each = λ m now at. IsGroup_was groups n k entry m now fits (sound.each m) (entry_was groups n k entry m now at);
+  members = λ m place now at below. member_was spans groups n k entry m place now sound (entry_was groups n k entry m now at) below;
+  numbered = λ i below. rw (length-set groups n (option_map (with_slot k entry) (group_at groups n))) (sound.numbered i below);
+  classes = λ i now below at. let was = entry_was groups n k entry (span_at spans i).group now at in was.class ∙ sound.classes i was.group below was.was;
 }
 
--- no place of an empty list of records has one
-none_at : (n k : ℕ) → slice_index_or {A = Option (ℕ × ℕ)} (replicate n None) k None ≡ None
-none_at zero k = refl
-none_at (suc n) zero = refl
-none_at (suc n) (suc k) = none_at n k
+owned_was : (spans : List SpanEntry) (groups : List (Option GroupEntry)) (owners : List (Option ℕ)) (n k : ℕ) (entry : Option Slot) (m place j : ℕ)
+    (now : GroupEntry) → IsOwned spans groups owners → Was groups n k entry m now → place < length now.members → j < pages_of now.class
+    → slice_index_or owners ((span_at spans (slice_index now.members place)).first + j) None ≡ Some (slice_index now.members place)
+owned_was spans groups owners n k entry m place j now own was below page =
+    let same : slice_index now.members place ≡ slice_index was.group.members place = ap (λ (xs : List ℕ). slice_index xs place) was.members in
+    let paged : pages_of now.class ≡ pages_of was.group.class = ap pages_of was.class in
+    subst (λ (x : ℕ). slice_index_or owners ((span_at spans x).first + j) None ≡ Some x) (sym same)
+    (own.owned m place j was.group was.was (subst (λ (xs : List ℕ). place < length xs) was.members below) (omega (arith, paged, page)))
 
--- a group stays one in a longer list
-some_append : (groups more : List (Option GroupEntry)) (n : ℕ) (P : GroupEntry → Type 0) → IsSomeAnd (group_at groups n) P
-    → IsSomeAnd (group_at (groups ++ more) n) P
-some_append [] more n P h = absurd h
-some_append (x ∷ xs) more zero P h = h
-some_append (x ∷ xs) more (suc n) P h = some_append xs more n P h
+-- so do the owners of the virtual pages
+pub IsOwned_put : (spans : List SpanEntry) (groups : List (Option GroupEntry)) (owners : List (Option ℕ)) (n k : ℕ) (entry : Option Slot)
+    → IsOwned spans groups owners → IsOwned spans (with_entry groups n k entry) owners
+IsOwned_put spans groups owners n k entry own = record {
+  sized = own.sized;
+  owned = λ m place j now at below page. owned_was spans groups owners n k entry m place j now own (entry_was groups n k entry m now at) below page;
+}
 
 -- as many spans as there are end below the first unused page
 below_unused : (spans : List SpanEntry) (groups : List (Option GroupEntry)) (first : ℕ) → 1 ≤ first
@@ -170,114 +145,332 @@ below_unused spans groups first some unused sound = elim (eqb_tells (length span
       omega arith
 ]
 
--- the spans and groups with one span more
+-- a group of a longer list is the new one or one that was there
+added_was : (groups : List (Option GroupEntry)) (new : GroupEntry) (n : ℕ) (group : GroupEntry) → group_at (groups ++ Some new ∷ []) n ≡ Some group
+    → (group_at groups n ≡ Some group) ⊎ ((group ≡ new) × (n ≡ length groups))
+added_was [] new zero group e = inr ((let same : new ≡ group = cc e in sym same), refl)
+added_was [] new (suc n) group e = absurd (cc e)
+added_was (x ∷ groups) new zero group e = inl e
+added_was (x ∷ groups) new (suc n) group e = elim (added_was groups new n group e) [
+  | inl old ↦ inl old
+  | inr last ↦ inr (last.0, ap suc last.1)
+]
+
+-- a span that was there
+pub span_old : (spans : List SpanEntry) (new : SpanEntry) (i : ℕ) → i < length spans → span_at (spans ++ new ∷ []) i ≡ span_at spans i
+span_old spans new i h = get_or-append spans (new ∷ []) no_span i h
+
+-- the span that was added
+pub span_new : (spans : List SpanEntry) (new : SpanEntry) → span_at (spans ++ new ∷ []) (length spans) ≡ new
+span_new spans new = get_or-append_seam spans new [] no_span
+
+-- spans and groups with one span more
 pub IsIndex_add : (spans : List SpanEntry) (groups : List (Option GroupEntry)) (first class : ℕ) (pages : List ℕ) → IsSpan (new_span first class (length spans))
-    → AreUnused (record { spans = spans; groups = groups }) first → IsIndex spans groups
+    → length pages ≡ pages_of class → AreUnused (record { spans = spans; groups = groups }) first → IsIndex spans groups
     → IsIndex (spans ++ new_span first class (length spans) ∷ []) (groups ++ Some (new_group class (length spans) pages) ∷ [])
-IsIndex_add spans groups first class pages new unused sound = record {
+IsIndex_add spans groups first class pages new paged unused sound = record {
   span = λ j below. elim (leb_tells (length spans) j) [
-    | inr old ↦ rw (at_old j old.1) (sound.span j old.1)
+    | inr old ↦ rw (span_old spans added j old.1) (sound.span j old.1)
     | inl last ↦ rw (at_last j below last.1) new
   ];
   few = λ j below. elim (leb_tells (length spans) j) [
-    | inr old ↦ rw (at_old j old.1) (sound.few j old.1)
+    | inr old ↦ rw (span_old spans added j old.1) (sound.few j old.1)
     | inl last ↦ rw (at_last j below last.1) (let fits : length spans < first = below_unused spans groups first new.first unused sound in
         let at : j < length spans + 1 = rw (← long) below in omega arith)
   ];
-  records = λ j k below. elim (leb_tells (length spans) j) [
-    | inr old ↦ rw (at_old j old.1) (sound.records j k old.1)
-    | inl last ↦ rw (at_last j below last.1, none_at (slots_of class) k) tt
-  ];
   paired = rw (length-append groups (Some new_one ∷ []), long) (ap (λ (x : ℕ). x + 1) sound.paired);
-  owner = λ j below. elim (leb_tells (length spans) j) [
-    | inr old ↦ rw (at_old j old.1)
-        (some_append groups (Some new_one ∷ []) (span_at spans j).group (λ g. g.class ≡ (span_at spans j).class) (sound.owner j old.1))
-    | inl last ↦ rw (at_last j below last.1) (rw new_at refl)
+  each = λ n group at. elim (added_was groups new_one n group at) [
+    | inl old ↦ sound.each n group old
+    | inr last ↦ subst (λ (g : GroupEntry). IsGroup g) (sym last.0) (IsGroup_new class (length spans) pages new.class paged)
   ];
-  member = λ m. elim (leb_tells (length spans) m) [
-    | inr old ↦ rw (get_or-append groups (Some new_one ∷ []) None m (omega (arith, sound.paired, old.1)))
-        (IfSome_more (group_at groups m) (λ g. IsFirstMember spans g m) (λ g. IsFirstMember (spans ++ added ∷ []) g m)
-        (λ g first. record {
-          below = rw long (omega (arith, first.below));
-          same_class = ap (λ s. s.class) (at_old (slice_index g.members 0) first.below) ∙ first.same_class;
-          same_group = ap (λ s. s.group) (at_old (slice_index g.members 0) first.below) ∙ first.same_group;
-        })
-        (sound.member m))
-    | inl from ↦ elim (eqb_tells m (length spans)) [
-      | inl same ↦ rw (same.1, new_at) (record {
-        below = rw long (omega arith);
-        same_class = ap (λ s. s.class) seam;
-        same_group = ap (λ s. s.group) seam;
-      })
-      | inr apart ↦ let beyond : length (groups ++ Some new_one ∷ []) ≤ m = let apart' = apart.1 in
-          rw (length-append groups (Some new_one ∷ [])) (omega (arith, sound.paired)) in
-          rw (get_or_past (groups ++ Some new_one ∷ []) m None beyond) tt
-    ]
+  members = λ n place group at below. elim (added_was groups new_one n group at) [
+    | inl old ↦ old_member n place group old below
+    | inr last ↦ subst (λ (g : GroupEntry). IsMember (spans ++ added ∷ []) g n (slice_index g.members place)) (sym last.0)
+        (new_member n place (last.1 ∙ sound.paired) (subst (λ (g : GroupEntry). place < length g.members) last.0 below))
+  ];
+  numbered = λ i below. rw (length-append groups (Some new_one ∷ [])) (elim (leb_tells (length spans) i) [
+    | inr old ↦ rw (span_old spans added i old.1) (let less = sound.numbered i old.1 in omega (arith, less))
+    | inl last ↦ rw (at_last i below last.1) (omega (arith, sound.paired))
+  ]);
+  classes = λ i group below at. elim (leb_tells (length spans) i) [
+    | inr old ↦ old_class i group old.1 (subst (λ (s : SpanEntry). group_at (groups ++ Some new_one ∷ []) s.group ≡ Some group) (span_old spans added i old.1) at)
+    | inl last ↦ rw (at_last i below last.1) (new_class i group (subst (λ (s : SpanEntry). group_at (groups ++ Some new_one ∷ []) s.group ≡ Some group) (at_last i below last.1) at))
   ];
 }
   where
+    old_class : (i : ℕ) (group : GroupEntry) → i < length spans → group_at (groups ++ Some (new_group class (length spans) pages) ∷ []) (span_at spans i).group ≡ Some group
+        → group.class ≡ (span_at (spans ++ new_span first class (length spans) ∷ []) i).class
+    old_class i group below at = elim (added_was groups (new_group class (length spans) pages) (span_at spans i).group group at) [
+      | inl old ↦ sound.classes i group below old ∙ ap (λ (s : SpanEntry). s.class) (sym (span_old spans (new_span first class (length spans)) i below))
+      | inr last ↦ absurd (let less = sound.numbered i below in omega (arith, less, last.1))
+    ]
+
+    new_class : (i : ℕ) (group : GroupEntry) → group_at (groups ++ Some (new_group class (length spans) pages) ∷ []) (length spans) ≡ Some group → group.class ≡ class
+    new_class i group at = elim (added_was groups (new_group class (length spans) pages) (length spans) group at) [
+      | inl old ↦ absurd (let beyond = get_or_past groups (length spans) None (omega (arith, sound.paired)) in
+          let two : None ≡ Some group = sym beyond ∙ old in cc two)
+      | inr last ↦ ap (λ (g : GroupEntry). g.class) last.0
+    ]
+
     added : SpanEntry
     added = new_span first class (length spans)
 
     long : length (spans ++ added ∷ []) ≡ length spans + 1
     long = length-append spans (added ∷ [])
 
-    at_old : (j : ℕ) → j < length spans → span_at (spans ++ added ∷ []) j ≡ span_at spans j
-    at_old j h = get_or-append spans (added ∷ []) no_span j h
-
     at_last : (j : ℕ) → j < length (spans ++ added ∷ []) → length spans ≤ j → span_at (spans ++ added ∷ []) j ≡ added
     at_last j below h = let at : j < length spans + 1 = rw (← long) below in
-        let same : j ≡ length spans = omega arith in rw same (get_or-append_seam spans added [] no_span)
+        let same : j ≡ length spans = omega arith in rw same (span_new spans added)
 
     new_one : GroupEntry
     new_one = new_group class (length spans) pages
 
-    new_at : group_at (groups ++ Some new_one ∷ []) (length spans) ≡ Some new_one
-    new_at = subst (λ (n : ℕ). group_at (groups ++ Some new_one ∷ []) n ≡ Some new_one) sound.paired
-        (get_or-append_seam groups (Some new_one) [] None)
+    old_member : (n place : ℕ) (group : GroupEntry) → group_at groups n ≡ Some group → place < length group.members
+        → IsMember (spans ++ added ∷ []) group n (slice_index group.members place)
+    old_member n place group at below = let is = sound.members n place group at below in record {
+      below = rw long (omega (arith, is.below));
+      same_class = ap (λ (s : SpanEntry). s.class) (span_old spans added (slice_index group.members place) is.below) ∙ is.same_class;
+      same_group = ap (λ (s : SpanEntry). s.group) (span_old spans added (slice_index group.members place) is.below) ∙ is.same_group;
+    }
 
-    seam : span_at (spans ++ added ∷ []) (length spans) ≡ added
-    seam = get_or-append_seam spans added [] no_span
-
--- a number of a group is below their count
-pub some_below : (groups : List (Option GroupEntry)) (n : ℕ) (P : GroupEntry → Type 0) → IsSomeAnd (group_at groups n) P → n < length groups
-some_below [] n P h = absurd h
-some_below (x ∷ xs) zero P h = omega arith
-some_below (x ∷ xs) (suc n) P h = let below : n < length xs = some_below xs n P h in omega arith
-
--- an object's record put, and its slot marked
-pub IsIndex_occupy : (index : Index) (spans : List SpanEntry) (groups : List (Option GroupEntry)) (span slot : ℕ) (entry : Option (ℕ × ℕ)) (occupied : Bool)
-    → record { spans = spans; groups = groups } ≡ index → span < length index.spans → slot < slots_of (span_at index.spans span).class
-    → IsRecord (span_at index.spans span).class entry → IsIndex spans groups
-    → IsIndex (with_record index.spans span slot entry) (with_mark index.groups (span_at index.spans span).group slot occupied)
-IsIndex_occupy index spans groups span slot entry occupied e below in_range fits sound =
-    let sound' : IsIndex index.spans index.groups = subst (λ (x : Index). IsIndex x.spans x.groups) e sound in
-    IsIndex_mark (with_record index.spans span slot entry) index.groups (span_at index.spans span).group slot occupied
-    (some_below index.groups (span_at index.spans span).group (λ g. g.class ≡ (span_at index.spans span).class) (sound'.owner span below))
-    (IsIndex_record index.spans index.groups span slot entry below in_range fits sound')
-
--- the slot found in the lowest open group is vacant
-pub IsVacant_open : (index : Index) (spans : List SpanEntry) (groups : List (Option GroupEntry)) (class n slot : ℕ) (g : GroupEntry)
-    → record { spans = spans; groups = groups } ≡ index → IsIndex spans groups → position (λ o. is_open o class) groups ≡ Some n
-    → group_at groups n ≡ Some g → (slot < slots_of g.class) × (is_member g.occupied slot ≡ false)
-    → IsVacant index class (slice_index g.members 0) slot
-IsVacant_open index spans groups class n slot g e sound found at free =
-    let fits : is_open (group_at groups n) class ≡ true = (position-Some (λ o. is_open o class) groups n None found).1 in
-    let parts : (nat_eq g.class class && not g.in_mesh && has_room g) ≡ true = ap (λ o. is_open o class) (sym at) ∙ fits in
-    let same : g.class ≡ class = grind (arith, nat_tests) in
-    let first : IsFirstMember spans g n = subst (λ (o : Option GroupEntry). IfSome o (λ h. IsFirstMember spans h n)) at (sound.member n) in
-    subst (λ (x : Index). IsVacant x class (slice_index g.members 0) slot) e (record {
-      below = first.below;
-      of_class = first.same_class ∙ same;
-      in_range = rw (← same) free.0;
-      free = rw (first.same_group, at) free.1;
+    new_member : (n place : ℕ) → n ≡ length spans → place < length new_one.members
+        → IsMember (spans ++ added ∷ []) new_one n (slice_index new_one.members place)
+    new_member n place at below = let zeroth : place ≡ 0 = omega (arith, below) in rw zeroth (record {
+      below = rw long (omega arith);
+      same_class = ap (λ (s : SpanEntry). s.class) (span_new spans added);
+      same_group = ap (λ (s : SpanEntry). s.group) (span_new spans added) ∙ sym at;
     })
 
--- a record changes no span's shape
-pub HaveSameShape_record : (spans new : List SpanEntry) (i slot : ℕ) (entry : Option (ℕ × ℕ)) → i < length spans
-    → new ≡ with_record spans i slot entry → HaveSameShape spans new
-HaveSameShape_record spans new i slot entry below e = rw e (record {
-  count = length-set spans i (record (span_at spans i) { records = slice_set (span_at spans i).records slot entry });
-  first = λ j. (same_shape spans i slot entry below j).first;
-  class = λ j. (same_shape spans i slot entry below j).class;
-})
+-- the owners with one span more
+pub IsOwned_add : (spans : List SpanEntry) (groups : List (Option GroupEntry)) (owners owners' : List (Option ℕ)) (first class : ℕ) (pages : List ℕ)
+    → AreUnused (record { spans = spans; groups = groups }) first → IsIndex spans groups → length owners' ≡ 65536
+    → ((v : ℕ) → first ≤ v → v < first + pages_of class → slice_index_or owners' v None ≡ Some (length spans))
+    → ((v : ℕ) → v < first → slice_index_or owners' v None ≡ slice_index_or owners v None) → IsOwned spans groups owners
+    → IsOwned (spans ++ new_span first class (length spans) ∷ []) (groups ++ Some (new_group class (length spans) pages) ∷ []) owners'
+IsOwned_add spans groups owners owners' first class pages unused sound long here below own = record {
+  sized = long;
+  owned = λ n place j group at within page. elim (added_was groups new_one n group at) [
+    | inl old ↦ old_owned n place j group old within page
+    | inr last ↦ subst (λ (g : GroupEntry). slice_index_or owners' ((span_at (spans ++ added ∷ []) (slice_index g.members place)).first + j) None
+        ≡ Some (slice_index g.members place)) (sym last.0)
+        (new_owned place j (subst (λ (g : GroupEntry). place < length g.members) last.0 within)
+        (subst (λ (g : GroupEntry). j < pages_of g.class) last.0 page))
+  ];
+}
+  where
+    added : SpanEntry
+    added = new_span first class (length spans)
+
+    new_one : GroupEntry
+    new_one = new_group class (length spans) pages
+
+    old_owned : (n place j : ℕ) (group : GroupEntry) → group_at groups n ≡ Some group → place < length group.members → j < pages_of group.class
+        → slice_index_or owners' ((span_at (spans ++ added ∷ []) (slice_index group.members place)).first + j) None ≡ Some (slice_index group.members place)
+    old_owned n place j group at within page =
+        let is = sound.members n place group at within in
+        let end = unused (slice_index group.members place) is.below in
+        let same : (span_at (spans ++ added ∷ []) (slice_index group.members place)).first ≡ (span_at spans (slice_index group.members place)).first
+        = ap (λ (s : SpanEntry). s.first) (span_old spans added (slice_index group.members place) is.below) in
+        let paged : pages_of (span_at spans (slice_index group.members place)).class ≡ pages_of group.class = ap pages_of is.same_class in
+        rw same (below ((span_at spans (slice_index group.members place)).first + j) (omega (arith, end, page, paged))
+        ∙ own.owned n place j group at within page)
+
+    new_owned : (place j : ℕ) → place < length new_one.members → j < pages_of class
+        → slice_index_or owners' ((span_at (spans ++ added ∷ []) (slice_index new_one.members place)).first + j) None ≡ Some (slice_index new_one.members place)
+    new_owned place j within page =
+        let zeroth : place ≡ 0 = omega (arith, within) in
+        let same : (span_at (spans ++ added ∷ []) (length spans)).first ≡ first = ap (λ (s : SpanEntry). s.first) (span_new spans added) in
+        rw zeroth (rw same (here (first + j) (omega arith) (omega (arith, page))))
+
+-- the page of an address in a slot of a member is one of the member's
+page_within : (first size slots pages k o addr : ℕ) → k < slots → o < size → slots * size ≡ pages * 4096 → slot_address first size k + o ≡ addr
+    → (addr / 4096 ≡ first + (k * size + o) / 4096) × ((k * size + o) / 4096 < pages)
+page_within first size slots pages k o addr below small full at =
+    let end : (k + 1) * size ≤ slots * size = mul-le-mul_right size (omega (arith, below)) in
+    (omega (arith, at), omega (arith, end, full, small))
+
+-- an address in a slot of a member belongs to the member's page, so the member owns it
+pub address_owned : (spans : List SpanEntry) (groups : List (Option GroupEntry)) (owners : List (Option ℕ)) (n place k o addr : ℕ) (group : GroupEntry)
+    → IsIndex spans groups → IsOwned spans groups owners → group_at groups n ≡ Some group → place < length group.members → k < slots_of group.class
+    → o < group.class → address_in (span_at spans (slice_index group.members place)) k + o ≡ addr
+    → slice_index_or owners (addr / 4096) None ≡ Some (slice_index group.members place)
+address_owned spans groups owners n place k o addr group sound own at within below small is =
+    let member = sound.members n place group at within in
+    let full = (sound.each n group at).class.full in
+    let page = page_within (span_at spans (slice_index group.members place)).first group.class (slots_of group.class) (pages_of group.class) k o addr below small
+    full (subst (λ (size : ℕ). slot_address (span_at spans (slice_index group.members place)).first size k + o ≡ addr) member.same_class is) in
+    rw page.0 (own.owned n place ((k * group.class + o) / 4096) group at within page.1)
+
+-- index and owners stay so as an entry that fits is put
+pub put_keeps : (index : Index) (spans : List SpanEntry) (groups new : List (Option GroupEntry)) (owners : List (Option ℕ)) (n k : ℕ) (entry : Option Slot)
+    → record { spans = spans; groups = groups } ≡ index → Fits index.groups n k entry → new ≡ with_entry index.groups n k entry
+    → IsIndex spans groups × IsOwned spans groups owners → IsIndex spans new × IsOwned spans new owners
+put_keeps index spans groups new owners n k entry e fits is sound =
+    let at : groups ≡ index.groups = ap (λ (x : Index). x.groups) e in
+    let fits' : Fits groups n k entry = subst (λ (gs : List (Option GroupEntry)). Fits gs n k entry) (sym at) fits in
+    let is' : new ≡ with_entry groups n k entry = is ∙ ap (λ (gs : List (Option GroupEntry)). with_entry gs n k entry) (sym at) in
+    rw is' (IsIndex_put spans groups n k entry fits' sound.0, IsOwned_put spans groups owners n k entry sound.1)
+
+-- an object fits where the slot is vacant
+pub vacant_fits : (index : Index) (span k : ℕ) (entry : Slot) → IsVacant index (span_at index.spans span).class span k
+    → (1 ≤ entry.len) × (entry.len ≤ (span_at index.spans span).class) → Fits index.groups (span_at index.spans span).group k (Some entry)
+vacant_fits index span k entry vacant fits group at =
+    let same : vacant.group ≡ group = let both : Some vacant.group ≡ Some group = sym vacant.there ∙ at in cc both in
+    subst (λ (g : GroupEntry). (k < slots_of g.class) × IsObject g.class (Some entry)) same
+    (rw vacant.same_class (vacant.in_range, fits))
+
+-- what a record tells of its slot
+pub record Recorded (index : Index) (span k : ℕ) : Type 0 where
+  pub below : span < length index.spans
+  pub group : GroupEntry
+  pub there : group_at index.groups (span_at index.spans span).group ≡ Some group
+  pub in_range : k < length group.slots
+
+unnamed : (member : ℕ) → IsSome (named_in member None) → ⊥
+unnamed member some = let two : false ≡ true = some in cc two
+
+nothing : (member k : ℕ) → IsSome (named_in member (slot_in None k)) → ⊥
+nothing member k some = let two : false ≡ true = some in cc two
+
+no_record : (groups : List (Option GroupEntry)) (k : ℕ) → IsSome (record_in None groups k) → ⊥
+no_record groups k some = let two : false ≡ true = some in cc two
+
+recorded_in : (index : Index) (span k : ℕ) (o : Option GroupEntry) → span < length index.spans → group_at index.groups (span_at index.spans span).group ≡ o
+    → IsSome (named_in (span_at index.spans span).first (slot_in o k)) → Recorded index span k
+recorded_in index span k None below at some = absurd (nothing (span_at index.spans span).first k some)
+recorded_in index span k (Some group) below at some = record {
+  below = below;
+  group = group;
+  there = at;
+  in_range = elim (leb_tells (length group.slots) k) [
+    | inr within ↦ within.1
+    | inl beyond ↦ absurd (unnamed (span_at index.spans span).first
+        (subst (λ (o : Option Slot). IsSome (named_in (span_at index.spans span).first o)) (get_or_past group.slots k None beyond.1) some))
+  ];
+}
+
+recorded_of : (index : Index) (span k : ℕ) (o : Option SpanEntry) → slice_get index.spans span ≡ o → IsSome (record_in o index.groups k) → Recorded index span k
+recorded_of index span k None at some = absurd (no_record index.groups k some)
+recorded_of index span k (Some entry) at some =
+    let same : span_at index.spans span ≡ entry = get_or_from_slice_get index.spans span entry no_span at in
+    recorded_in index span k (group_at index.groups (span_at index.spans span).group) (slice_get_within index.spans span entry at) refl
+    (rw same some)
+
+-- a slot with a record is one of its span's group
+pub recorded : (index : Index) (span k : ℕ) → IsSome (record_at index span k) → Recorded index span k
+recorded index span k some = recorded_of index span k (slice_get index.spans span) refl some
+
+-- nothing fits into any slot
+pub nothing_fits : (index : Index) (spans : List SpanEntry) (groups : List (Option GroupEntry)) (span k : ℕ) → record { spans = spans; groups = groups } ≡ index
+    → IsIndex spans groups → IsSome (record_at index span k) → Fits index.groups (span_at index.spans span).group k None
+nothing_fits index spans groups span k e sound some group at =
+    let there = recorded index span k some in
+    let same : there.group ≡ group = let both : Some there.group ≡ Some group = sym there.there ∙ at in cc both in
+    let is : IsGroup group = sound.each (span_at index.spans span).group group (ap (λ (x : Index). group_at x.groups (span_at index.spans span).group) e ∙ at) in
+    (rw (← is.slots) (subst (λ (g : GroupEntry). k < length g.slots) same there.in_range), tt)
+
+-- the number of a group is below their count
+pub group_below : (groups : List (Option GroupEntry)) (n : ℕ) (group : GroupEntry) → group_at groups n ≡ Some group → n < length groups
+group_below [] n group at = absurd (cc at)
+group_below (x ∷ groups) zero group at = omega arith
+group_below (x ∷ groups) (suc n) group at = let below = group_below groups n group at in omega (arith, below)
+
+-- the span and the place in it that an address of a slot leads to
+pub owner_found : (index : Index) (spans : List SpanEntry) (groups : List (Option GroupEntry)) (owners : List (Option ℕ)) (n place k o addr : ℕ)
+    (group : GroupEntry) → record { spans = spans; groups = groups } ≡ index → IsIndex spans groups × IsOwned spans groups owners
+    → group_at index.groups n ≡ Some group → place < length group.members → k < slots_of group.class → o < group.class
+    → address_in (span_at index.spans (slice_index group.members place)) k + o ≡ addr
+    → slice_index_or owners (addr / 4096) None ≡ Some (slice_index group.members place)
+owner_found index spans groups owners n place k o addr group e sound at within below small is =
+    let gs : groups ≡ index.groups = ap (λ (x : Index). x.groups) e in
+    let ss : spans ≡ index.spans = ap (λ (x : Index). x.spans) e in
+    address_owned spans groups owners n place k o addr group sound.0 sound.1
+    (ap (λ (xs : List (Option GroupEntry)). group_at xs n) gs ∙ at) within below small
+    (ap (λ (xs : List SpanEntry). address_in (span_at xs (slice_index group.members place)) k + o) ss ∙ is)
+
+-- the span of a member is there
+pub member_got : (index : Index) (spans : List SpanEntry) (groups : List (Option GroupEntry)) (n place : ℕ) (group : GroupEntry)
+    → record { spans = spans; groups = groups } ≡ index → IsIndex spans groups → group_at index.groups n ≡ Some group → place < length group.members
+    → slice_get spans (slice_index group.members place) ≡ Some (span_at index.spans (slice_index group.members place))
+member_got index spans groups n place group e sound at within =
+    let gs : groups ≡ index.groups = ap (λ (x : Index). x.groups) e in
+    let ss : spans ≡ index.spans = ap (λ (x : Index). x.spans) e in
+    let member = sound.members n place group (ap (λ (xs : List (Option GroupEntry)). group_at xs n) gs ∙ at) within in
+    slice_get-get_or spans (slice_index group.members place) no_span member.below
+    ∙ ap (λ (xs : List SpanEntry). Some (span_at xs (slice_index group.members place))) ss
+
+-- its class is the group's
+pub member_class : (index : Index) (spans : List SpanEntry) (groups : List (Option GroupEntry)) (n place : ℕ) (group : GroupEntry)
+    → record { spans = spans; groups = groups } ≡ index → IsIndex spans groups → group_at index.groups n ≡ Some group → place < length group.members
+    → (span_at index.spans (slice_index group.members place)).class ≡ group.class
+member_class index spans groups n place group e sound at within =
+    let gs : groups ≡ index.groups = ap (λ (x : Index). x.groups) e in
+    let ss : spans ≡ index.spans = ap (λ (x : Index). x.spans) e in
+    let member = sound.members n place group (ap (λ (xs : List (Option GroupEntry)). group_at xs n) gs ∙ at) within in
+    ap (λ (xs : List SpanEntry). (span_at xs (slice_index group.members place)).class) (sym ss) ∙ member.same_class
+
+-- what a slot named so holds
+named_is : (member serial len : ℕ) (o : Option Slot) → named_in member o ≡ Some (serial, len)
+    → o ≡ Some (record { member = member; serial = serial; len = len })
+named_is member serial len None e = absurd (let two : ◌≡◌ {A = Option (ℕ × ℕ)} None (Some (serial, len)) = e in cc two)
+named_is member serial len (Some slot) e = elim (eqb_tells slot.member member) [
+  | inl same ↦ named same.1 (subst (λ (b : Bool). ◌≡◌ {A = Option (ℕ × ℕ)} (if b then Some (slot.serial, slot.len) else None) (Some (serial, len))) same.0 e)
+  | inr other ↦ absurd (let two : ◌≡◌ {A = Option (ℕ × ℕ)} None (Some (serial, len))
+      = subst (λ (b : Bool). ◌≡◌ {A = Option (ℕ × ℕ)} (if b then Some (slot.serial, slot.len) else None) (Some (serial, len))) other.0 e in cc two)
+]
+  where
+    named : slot.member ≡ member → ◌≡◌ {A = Option (ℕ × ℕ)} (Some (slot.serial, slot.len)) (Some (serial, len))
+        → Some slot ≡ Some (record { member = member; serial = serial; len = len })
+    named at e =
+        let same : ◌≡◌ {A = ℕ × ℕ} (slot.serial, slot.len) (serial, len) = cc e in
+        let s : slot.serial ≡ serial = ap (λ (p : ℕ × ℕ). p.0) same in
+        let l : slot.len ≡ len = ap (λ (p : ℕ × ℕ). p.1) same in
+        rw (← at, ← s, ← l) refl
+
+filled_got : (slots : List (Option Slot)) (k : ℕ) (slot : Slot) → slice_index_or slots k None ≡ Some slot → slice_get slots k ≡ Some (Some slot)
+filled_got [] k slot at = absurd (cc at)
+filled_got (x ∷ slots) zero slot at = ap (λ (o : Option Slot). Some o) at
+filled_got (x ∷ slots) (suc k) slot at = filled_got slots k slot at
+
+-- an object is recorded where its record is
+pub recorded_is : (index : Index) (spans : List SpanEntry) (groups : List (Option GroupEntry)) (span k serial len : ℕ)
+    → record { spans = spans; groups = groups } ≡ index → IsIndex spans groups → record_at index span k ≡ Some (serial, len)
+    → IsRecorded index span k serial len
+recorded_is index spans groups span k serial len e sound is =
+    let there = recorded index span k (rw is refl) in
+    let at : slice_get index.spans span ≡ Some (span_at index.spans span) = slice_get-get_or index.spans span no_span there.below in
+    let named : named_in (span_at index.spans span).first (slot_in (group_at index.groups (span_at index.spans span).group) k) ≡ Some (serial, len)
+    = ap (λ (o : Option SpanEntry). record_in o index.groups k) (sym at) ∙ is in
+    let slot : slice_index_or there.group.slots k None ≡ Some (record { member = (span_at index.spans span).first; serial = serial; len = len })
+    = named_is (span_at index.spans span).first serial len (slice_index_or there.group.slots k None)
+    (ap (λ (o : Option GroupEntry). named_in (span_at index.spans span).first (slot_in o k)) (sym there.there) ∙ named) in
+    let sound' : IsIndex index.spans index.groups = subst (λ (x : Index). IsIndex x.spans x.groups) e sound in
+    let group = sound'.each (span_at index.spans span).group there.group there.there in
+    let object : IsObject there.group.class (Some (record { member = (span_at index.spans span).first; serial = serial; len = len }))
+    = subst (λ (o : Option Slot). IsObject there.group.class o) slot (group.objects k) in
+    record {
+      below = there.below;
+      group = there.group;
+      there = there.there;
+      same_class = sound'.classes span there.group there.below there.there;
+      in_range = rw (← group.slots) there.in_range;
+      filled = filled_got there.group.slots k (record { member = (span_at index.spans span).first; serial = serial; len = len }) slot;
+      some = object.0;
+      fits = object.1;
+    }
+
+-- an address of a slot is found where the search for it ends so
+pub found_at : (index : Index) (spans : List SpanEntry) (groups : List (Option GroupEntry)) (n place k o : ℕ) (group : GroupEntry) (found : Option (ℕ × ℕ × ℕ))
+    → record { spans = spans; groups = groups } ≡ index → IsIndex spans groups → group_at index.groups n ≡ Some group → place < length group.members
+    → found ≡ Some (slice_index group.members place, k, o) → IsFoundAt index n (slice_index group.members place) k o found
+found_at index spans groups n place k o group found e sound at within is =
+    let sound' : IsIndex index.spans index.groups = subst (λ (x : Index). IsIndex x.spans x.groups) e sound in
+    let member = sound'.members n place group at within in
+    record { found_is = is; below = member.below; group_is = member.same_group }
+
+-- so what a look-up of it answers is recorded
+pub recorded_if : (index : Index) (spans : List SpanEntry) (groups : List (Option GroupEntry)) (span k : ℕ) (result : Option (ℕ × ℕ))
+    → record { spans = spans; groups = groups } ≡ index → IsIndex spans groups → result ≡ record_at index span k
+    → IfSome result (λ r. IsRecorded index span k r.0 r.1)
+recorded_if index spans groups span k None e sound is = tt
+recorded_if index spans groups span k (Some r) e sound is = recorded_is index spans groups span k r.0 r.1 e sound (sym is)

@@ -1,1 +1,3 @@
 pub mod IndexLemmas
+pub mod SlotLemmas
+pub mod TableLemmas

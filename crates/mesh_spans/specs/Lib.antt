@@ -1,3 +1,5 @@
 pub use Rattle.mesh_class.specs.Classes
 pub use Rattle.mesh_bits.specs.Bits
+pub use Rattle.mesh_model.specs.Table
+pub mod Groups
 pub mod Index

@@ -1,11 +1,14 @@
 //! `Spans`, the index of all spans and groups.
-ghost use Rattle.std.specs.Prelude.{◌≡◌, ℕ, ◌+◌, ◌<◌, ◌≤◌, Some, None, [], ◌∷◌, ◌++◌, true, false, length, slice_set, IfOk, IfSome, OnErr, position, option_copied};
+ghost use Rattle.std.specs.Prelude.{◌≡◌, ℕ, ◌+◌, ◌<◌, ◌≤◌, Some, None, [], ◌∷◌, ◌++◌, find, length, map, slice_index, slice_index_or, ◌/◌, IfOk, IfSome, IfNone, IsSome, IsSomeAnd, OnErr, position, option_copied};
 ghost use Rattle.mesh_class.specs.Classes.{pages_of, slots_of};
-ghost use Rattle.mesh_bits.specs.Bits.{is_member};
-ghost use Rattle.mesh_spans.specs.Index.{span_at, group_at, record_at, slot_address, new_span, new_group, with_record, with_mark, is_open, IsIndex, IsSpan, IsVacant, IsOccupied, AreUnused, HaveSameShape};
+ghost use Rattle.mesh_model.specs.MeaningLaws.{emptied_at};
+ghost use Rattle.mesh_model.specs.Table.{changed_at, fresh_group, slot_address, with_object_in};
+ghost use Rattle.mesh_spans.specs.Groups.{IsPicked, groups_of, is_closed, takes_objects};
+ghost use Rattle.mesh_spans.specs.Index.{AreUnused, GroupEntry, IsFoundAt, IsIndex, IsObject, IsRecorded, IsSpan, IsVacant, OwnsUpTo, address_in, group_at, has_room, is_open, new_group, new_span, record_at, span_at, with_entry};
 
+use crate::extent::{Extent, PAGE_BYTES};
 use crate::groups::Group;
-use crate::records::{PAGE_BYTES, SpanRecords};
+use crate::occupant::Occupant;
 use crate::{Slot, Span};
 use mesh_arena::Page;
 use mesh_class::Class;
@@ -22,7 +25,7 @@ const VIRTUAL_PAGES: usize = 65_536;
 pub struct Spans {
     alloc: Global,
     // By number.
-    spans: Vec<SpanRecords>,
+    spans: Vec<Extent>,
     // By number; None where the number is no group any more.
     groups: Vec<Option<Group>>,
     // By virtual page the span that has it.
@@ -30,14 +33,13 @@ pub struct Spans {
 }
 
 impl Model for Spans {
-    ghost use Rattle.std.specs.Prelude.{◌≡◌, length};
-    ghost use Rattle.mesh_spans.specs.Index.{Index, IsIndex};
+    ghost use Rattle.mesh_spans.specs.Index.{Index, IsIndex, IsOwned};
 
     ghost Value = { Index };
 
     ghost view = { λ s. record { spans = s.spans.items; groups = s.groups.items } };
 
-    ghost invariant = { λ s. IsIndex s.spans.items s.groups.items × (length s.owners.items ≡ 65536) };
+    ghost invariant = { λ s. IsIndex s.spans.items s.groups.items × IsOwned s.spans.items s.groups.items s.owners.items };
 }
 
 impl Spans {
@@ -55,6 +57,13 @@ impl Spans {
         })
     }
 
+    /// What always holds: spans and groups fit together.
+    pub fn sound(&self)
+        ensures { IsIndex self.now.spans self.now.groups }
+    {
+        let _spans = self.spans.len();
+    }
+
     /// Adds a span of these virtual and physical pages, with a group of its own. Nothing changes where memory is refused.
     pub fn add_span(&mut self, class: Class, first: u32, pages: &[Page]) -> Result<Span, AllocError>
         requires first { 1 ≤ first }
@@ -65,25 +74,28 @@ impl Spans {
         ensures spans { IfOk result (λ span. self.new.spans ≡ self.old.spans ++ new_span first class span ∷ []) }
         ensures groups { IfOk result (λ span.
             self.new.groups ≡ self.old.groups ++ Some (new_group class span pages.now) ∷ []) }
+        ensures table { IfOk result (λ span. groups_of self.new ≡ groups_of self.old ++ fresh_group span class first ∷ []) }
         ensures vacant { IfOk result (λ span. (slot : ℕ) → slot < slots_of class → IsVacant self.new class span slot) }
         ensures err { OnErr result (self.new ≡ self.old) }
     {
         let number = self.spans.len() as u32;
-        let records = SpanRecords::new(self.alloc, class, first, number)?;
+        let span = Span::numbered(number);
+        let group = Group::new(self.alloc, class, span, pages)?;
         self.spans.reserve(1)?;
         self.groups.reserve(1)?;
-        let span = Span::numbered(number);
-        let group = Group::new(self.alloc, class, span, pages);
-        self.spans.push_reserved(records);
+        self.spans.push_reserved(Extent::new(first, class, number));
         self.groups.push_reserved(Some(group));
         own(&mut self.owners, first, class.pages(), span);
         Ok(span)
     }
 
     /// The slot that the next object of the class takes: in the lowest group of the class that is in no mesh and has a free slot, the
-    /// free slot at place `word mod count` among its free ones, ascending, of its first member. None where there is no such group.
+    /// free slot at place `word mod count` among its free ones, ascending, of its first member. None only where there is no such group.
     pub fn open_slot(&self, class: Class, word: u64) -> Option<(Span, Slot)>
-        ensures { IfSome result (λ r. IsVacant self.now class r.0 r.1) }
+        ensures picked { IfSome result (λ r. IsSomeAnd (find (takes_objects (is_closed self.now) class) (groups_of self.now))
+            (λ group. IsPicked self.now group word r.0 r.1)) }
+        ensures vacant { IfSome result (λ r. IsVacant self.now class r.0 r.1) }
+        ensures none { IfNone result (find (takes_objects (is_closed self.now) class) (groups_of self.now) ≡ None) }
     {
         let open = lowest_open(self.groups.as_slice(), class)?;
         let group = self.groups[open].as_ref()?;
@@ -96,50 +108,59 @@ impl Spans {
         requires vacant { IsVacant self.old (span_at self.old.spans span).class span slot }
         requires some { 1 ≤ len }
         requires fits { len ≤ (span_at self.old.spans span).class }
-        ensures spans { self.new.spans ≡ with_record self.old.spans span slot (Some (serial, len)) }
-        ensures shape { HaveSameShape self.old.spans self.new.spans }
-        ensures groups { self.new.groups
-            ≡ with_mark self.old.groups (span_at self.old.spans span).group slot true }
+        ensures spans { self.new.spans ≡ self.old.spans }
+        ensures groups { self.new.groups ≡ with_entry self.old.groups (span_at self.old.spans span).group slot
+            (Some (record { member = (span_at self.old.spans span).first; serial = serial; len = len })) }
+        ensures table { groups_of self.new ≡ map (changed_at (span_at self.old.spans span).group
+            (with_object_in slot (record { member = (span_at self.old.spans span).first; serial = serial; len = len })))
+            (groups_of self.old) }
+        ensures closed { (n : ℕ) → is_closed self.new n ≡ is_closed self.old n }
     {
-        let records = &mut self.spans[span.index()];
-        records.put(slot, Some((serial, len)));
-        let group = records.group();
-        mark(&mut self.groups, group, slot, true);
+        let extent = &self.spans[span.index()];
+        let object = Occupant {
+            member: extent.first(),
+            serial,
+            len,
+        };
+        let group = extent.group();
+        put(&mut self.groups, group, slot, Some(object));
     }
 
     /// Takes the record of a slot out.
     pub fn vacate(&mut self, span: Span, slot: Slot)
-        requires { IsOccupied self.old span slot }
-        ensures spans { self.new.spans ≡ with_record self.old.spans span slot None }
-        ensures shape { HaveSameShape self.old.spans self.new.spans }
-        ensures groups { self.new.groups
-            ≡ with_mark self.old.groups (span_at self.old.spans span).group slot false }
+        requires { IsSome (record_at self.old span slot) }
+        ensures spans { self.new.spans ≡ self.old.spans }
+        ensures groups { self.new.groups ≡ with_entry self.old.groups (span_at self.old.spans span).group slot None }
+        ensures table { groups_of self.new ≡ map (changed_at (span_at self.old.spans span).group (emptied_at slot)) (groups_of self.old) }
+        ensures closed { (n : ℕ) → is_closed self.new n ≡ is_closed self.old n }
     {
-        let records = &mut self.spans[span.index()];
-        records.put(slot, None);
-        let group = records.group();
-        mark(&mut self.groups, group, slot, false);
+        let group = self.spans[span.index()].group();
+        put(&mut self.groups, group, slot, None);
     }
 
-    /// Serial and length of the object that stands in a slot. None where none does, or there is no such slot.
+    /// Serial and length of the object that stands in a slot of a span. None only where none of its objects does.
     pub fn record(&self, span: Span, slot: Slot) -> Option<(u32, u32)>
-        ensures value { result ≡ record_at (span_at self.now.spans span) slot }
-        ensures some { IfSome result (λ r. 1 ≤ r.1) }
-        ensures fits { IfSome result (λ r. r.1 ≤ (span_at self.now.spans span).class) }
+        ensures value { result ≡ record_at self.now span slot }
+        ensures object { IfSome result (λ r. IsRecorded self.now span slot r.0 r.1) }
     {
-        self.spans.get(span.index())?.record(slot)
+        let extent = self.spans.get(span.index())?;
+        let group = self.groups.get(extent.group() as usize)?.as_ref()?;
+        group.object_of(extent.first(), slot)
     }
 
-    /// The span, the slot and the offset in the slot of an address. None only where the address is in no span.
+    /// The span, the slot and the offset in the slot of an address. None only where the address is in no member of a group.
     pub fn find(&self, addr: u32) -> Option<(Span, Slot, u32)>
         ensures span { IfSome result (λ r. r.0 < length self.now.spans) }
         ensures sound { IfSome result (λ r. IsSpan (span_at self.now.spans r.0)) }
         ensures slot { IfSome result (λ r. r.1 < slots_of (span_at self.now.spans r.0).class) }
         ensures offset { IfSome result (λ r. r.2 < (span_at self.now.spans r.0).class) }
-        ensures address { IfSome result (λ r. slot_address (span_at self.now.spans r.0) r.1 + r.2 ≡ addr) }
+        ensures address { IfSome result (λ r. address_in (span_at self.now.spans r.0) r.1 + r.2 ≡ addr) }
+        ensures found { (n place k o : ℕ) (group : GroupEntry) → group_at self.now.groups n ≡ Some group → place < length group.members
+            → k < slots_of group.class → o < group.class
+            → slot_address (span_at self.now.spans (slice_index group.members place)).first group.class k + o ≡ addr
+            → IsFoundAt self.now n (slice_index group.members place) k o result }
     {
-        let page = (addr / PAGE_BYTES) as usize;
-        let span = (*self.owners.get(page)?)?;
+        let span = owner_of(self.owners.as_slice(), addr)?;
         let (slot, offset) = self.spans.get(span.index())?.find(addr)?;
         Some((span, slot, offset))
     }
@@ -148,7 +169,7 @@ impl Spans {
     pub fn address(&self, span: Span, slot: Slot) -> u32
         requires span { span < length self.now.spans }
         requires slot { slot < slots_of (span_at self.now.spans span).class }
-        ensures value { result ≡ slot_address (span_at self.now.spans span) slot }
+        ensures value { result ≡ address_in (span_at self.now.spans span) slot }
         ensures sound { IsSpan (span_at self.now.spans span) }
     {
         self.spans[span.index()].address(slot)
@@ -179,22 +200,31 @@ fn is_open(group: &Option<Group>, class: Class) -> bool
     }
 }
 
-// Marks a slot of a group as occupied, or as free.
-fn mark(groups: &mut Vec<Option<Group>>, number: u32, slot: Slot, occupied: bool)
+// Lets an object stand in a slot of a group, or nothing.
+fn put(groups: &mut Vec<Option<Group>>, number: u32, slot: Slot, object: Option<Occupant>)
     requires group { number < length groups.old.items }
     requires slot { IfSome (group_at groups.old.items number) (λ g. slot < slots_of g.class) }
-    ensures { groups.new.items ≡ with_mark groups.old.items number slot occupied }
+    requires fits { IfSome (group_at groups.old.items number) (λ g. IsObject g.class object) }
+    ensures { groups.new.items ≡ with_entry groups.old.items number slot object }
 {
     if let Some(group) = &mut groups[number as usize] {
-        group.mark(slot, occupied);
+        group.put(slot, object);
     }
+}
+
+// The span that has the virtual page of an address.
+fn owner_of(owners: &[Option<Span>], addr: u32) -> Option<Span>
+    ensures { result ≡ slice_index_or owners.now (addr / 4096) None }
+{
+    let page = (addr / PAGE_BYTES) as usize;
+    owners.get(page).copied().flatten()
 }
 
 // Notes for each page of a span that the span has it.
 fn own(owners: &mut Vec<Option<Span>>, first: u32, pages: u32, span: Span)
     requires long { length owners.old.items ≡ 65536 }
     requires last { first + pages ≤ 65536 }
-    ensures long { length owners.new.items ≡ 65536 }
+    ensures { OwnsUpTo owners.old.items owners.new.items first (first + pages) span }
 {
     for page in first..first + pages {
         owners[page as usize] = Some(span);

@@ -4,10 +4,11 @@
 //! mapped to it, its members. A contract sees the index as two lists: the spans with their slot records, and the groups.
 #![tactic(auto)]
 
+mod extent;
 mod groups;
 mod index;
 mod names;
-mod records;
+mod occupant;
 
 pub use groups::{Group, MAX_MEMBERS, MAX_SPAN_PAGES};
 pub use index::Spans;

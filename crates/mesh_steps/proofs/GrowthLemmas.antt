@@ -1,5 +1,5 @@
 -- One page more taken, given or mapped.
-use Rattle.std.proofs.Common.{◌≡◌, ◌≢◌, ℕ, ◌+◌, ◌<◌, ◌≤◌, true, false, List, [], ◌∷◌, ◌++◌, length, slice_index, ap, subst, refl, sym, ◌∙◌, arith, rules, ◌⊎◌, inl, inr}
+use Rattle.std.proofs.Common.{◌≡◌, ◌≢◌, ℕ, zero, suc, ◌+◌, ◌<◌, ◌≤◌, true, false, List, [], ◌∷◌, ◌++◌, length, slice_index, ap, subst, refl, sym, ◌∙◌, arith, rules, ◌⊎◌, inl, inr}
 use Rattle.std.proofs.Math.ListN.{get_or-append, length-append}
 use Rattle.std.proofs.Math.Seq.{get_or-append_seam}
 use Rattle.std.proofs.lemmas.Bool.Decides.{eqb_tells, leb_tells}
@@ -16,6 +16,7 @@ TakesAll_none a = record {
   taken = λ k h. absurd (omega (arith, h));
   apart = λ k l h. absurd (omega (arith, h));
   kept = λ p h. h;
+  others = λ p h. refl;
   same_bytes = λ p o h. refl;
   fewer = omega arith;
   same_length = refl;
@@ -49,6 +50,9 @@ TakesAll_more old mid new pages page were takes = record {
     ]
   ];
   kept = λ p h. takes.other_pages p (different mid p page (were.kept p h) takes.was_free) ∙ were.kept p h;
+  others = λ p none. takes.other_pages p (λ e. none (length pages) (rw (length-append pages (page ∷ [])) (omega arith))
+      (get_or-append_seam pages page [] 0 ∙ sym e))
+      ∙ were.others p (λ k below e. none k (rw (length-append pages (page ∷ [])) (omega (arith, below))) (at_old k below ∙ e));
   same_bytes = λ p o h. takes.other_bytes p o (different mid p page (were.kept p h) takes.was_free) ∙ were.same_bytes p o h;
   fewer = rw (length-append pages (page ∷ [])) (omega (arith, were.fewer, takes.fewer));
   same_length = takes.same_length ∙ were.same_length;
@@ -71,12 +75,20 @@ TakesAll_more old mid new pages page were takes = record {
 
 -- no page given
 pub GivesFirst_none : (a : Pages) (pages : List ℕ) → GivesFirst a a pages 0
-GivesFirst_none a pages = record { kept = λ p h. refl; same_bytes = λ p o h. refl; more = omega arith; same_length = refl }
+GivesFirst_none a pages = record { freed = λ k h. absurd (omega (arith, h)); kept = λ p h. refl; same_bytes = λ p o h. refl; more = omega arith; same_length = refl }
 
 -- one page more given
 pub GivesFirst_more : (old mid new : Pages) (pages : List ℕ) (n page : ℕ) → slice_index pages n ≡ page → GivesFirst old mid pages n
     → Gives mid new page → GivesFirst old new pages (n + 1)
 GivesFirst_more old mid new pages n page at were gives = record {
+  freed = λ k h. elim (eqb_tells (slice_index pages k) page) [
+    | inl same ↦ rw same.1 gives.free
+    | inr other ↦ gives.other_pages (slice_index pages k) other.1
+        ∙ were.freed k (elim (eqb_tells k n) [
+          | inl last ↦ absurd (other.1 (ap (λ (i : ℕ). slice_index pages i) last.1 ∙ at))
+          | inr before ↦ let apart = before.1 in omega (arith, h)
+        ])
+  ];
   kept = λ p h. gives.other_pages p (λ e. h n (omega arith) (at ∙ sym e)) ∙ were.kept p (λ k below. h k (omega (arith, below)));
   same_bytes = λ p o h. gives.other_bytes p o (λ e. h n (omega arith) (at ∙ sym e)) ∙ were.same_bytes p o (λ k below. h k (omega (arith, below)));
   more = omega (arith, were.more, gives.more);
@@ -128,3 +140,31 @@ MapsFirst_more old mid new first pages n vpage page at here were maps = record {
   where
     earlier : (k v : ℕ) → k < n + 1 → first + k ≡ v → v ≢ vpage → k < n
     earlier k v h e o = omega (arith, h, e, o, here)
+
+-- a page is one of the pages, or none of them
+pub where_in : (pages : List ℕ) (p : ℕ) → ((k : ℕ) × (k < length pages) × (slice_index pages k ≡ p)) ⊎ ((k : ℕ) → k < length pages → slice_index pages k ≢ p)
+where_in [] p = inr (λ k below. absurd (omega (arith, below)))
+where_in (x ∷ pages) p = elim (eqb_tells x p) [
+  | inl same ↦ inl (0, omega arith, same.1)
+  | inr other ↦ elim (where_in pages p) [
+    | inl later ↦ inl (suc later.0, omega (arith, later.1), later.2)
+    | inr none ↦ inr (λ k. elim k as (λ j. j < length (x ∷ pages) → slice_index (x ∷ pages) j ≢ p) [
+      | zero ↦ λ below. other.1
+      | suc j ↦ λ below. none j (omega (arith, below))
+    ])
+  ]
+]
+
+-- pages taken and given back are as they were
+pub back_taken : (old taken given : Pages) (pages : List ℕ) → TakesAll old taken pages → GivesFirst taken given pages (length pages) → (p : ℕ)
+    → is_taken given p ≡ is_taken old p
+back_taken old taken given pages takes gives p = elim (where_in pages p) [
+  | inl at ↦ rw (← at.2) (gives.freed at.0 at.1 ∙ sym (takes.were_free at.0 at.1))
+  | inr none ↦ gives.kept p none ∙ takes.others p none
+]
+
+-- what was taken holds what it held
+pub back_bytes : (old taken given : Pages) (pages : List ℕ) → TakesAll old taken pages → GivesFirst taken given pages (length pages) → (p o : ℕ)
+    → IsTaken old p → byte_at given p o ≡ byte_at old p o
+back_bytes old taken given pages takes gives p o is = gives.same_bytes p o (λ k below e. different old p (slice_index pages k) is (takes.were_free k below) (sym e))
+    ∙ takes.same_bytes p o is

@@ -1,2 +1,7 @@
+pub mod GroundLemmas
 pub mod GrowthLemmas
-pub mod HeapLemmas
+pub mod Making
+pub mod Objects
+pub mod Placing
+pub mod Standing
+pub mod Stores

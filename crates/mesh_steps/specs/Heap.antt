@@ -1,57 +1,159 @@
--- A heap: physical pages, page map and span index, and the next serial and virtual page.
-use Rattle.std.specs.Prelude.{◌≡◌, ◌≢◌, ℕ, ◌+◌, ◌*◌, ◌/◌, ◌<◌, ◌≤◌, Bool, true, false, List, [], length, Option, Some, None, refl, slice_index}
-use Rattle.std.specs.Coded.{Coded, code_by, coded×, coded_ℕ, coded_bool, coded_list, coded_option}
-use Rattle.std.specs.FinMap as map
-use Rattle.mesh_arena.specs.Pages.{Pages, is_taken, IsTaken}
-use Rattle.mesh_pagemap.specs.Entries.{Entries, is_mapped, IsMapped, page_of, is_read_only, entry_code}
-use Rattle.mesh_class.specs.Classes.{pages_of, slots_of}
-use Rattle.mesh_spans.specs.Index.{Index, SpanEntry, GroupEntry, span_at, record_at, slot_address, index_code, AreUnused, IsSpan}
+-- A heap: pages, page map and index with the next serial, the plain memory that it stands for, and what its calls do to both.
+use Rattle.std.specs.Prelude.{◌≡◌, ◌≢◌, ℕ, ◌+◌, ◌-◌, ◌<◌, ◌≤◌, Bool, true, false, not, nat_eq, List, [], ◌∷◌, length, find, Option, Some, None, Result, Ok, Err, IsOk, slice_index, slice_range, refl}
+use Rattle.std.specs.Coded.{Coded, code_by, coded×, coded_ℕ}
+use Rattle.mesh_model.specs.MeaningLaws.{IsIn, record_with, with_new}
+use Rattle.mesh_model.specs.Memory.{Memory, Object, object_of, with_object}
+use Rattle.mesh_model.specs.Mesh.{is_blocked}
+use Rattle.mesh_model.specs.Places.{Place, Record, Target, meaning, object_at, records_of}
+use Rattle.mesh_model.specs.Plain.{Named, ends_outside, holding, stored}
+use Rattle.mesh_model.specs.Sound.{IsSound, IsTied}
+use Rattle.mesh_model.specs.Table.{Placed, Table, is_open, place_new, without_object}
+use Rattle.mesh_model.specs.Words.{◌>>=◌, or_refuse, refuse_if}
+use Rattle.mesh_model.specs.declared.refusals.Refusal.{Refusal}
+use Rattle.mesh_model.specs.declared.refusals.Refusal.TheVariants.{Freed, Outside}
+use Rattle.mesh_steps.specs.Ground.{Ground, IsCalm, IsInSlotOf, bytes_in, ground_code, open_group, table_of, targets_of}
+use Rattle.mesh_steps.specs.declared.answers.NewFault.{NewFault}
+use Rattle.mesh_steps.specs.declared.answers.NewFault.TheVariants.{Memory as NoMemory, Refused as NewRefused}
+use Rattle.mesh_steps.specs.declared.answers.Occupied.{Occupied}
+use Rattle.mesh_steps.specs.declared.answers.Ref.{Ref}
+use Rattle.mesh_steps.specs.declared.answers.Stored.{Stored}
+use Rattle.mesh_steps.specs.declared.answers.Stored.TheVariants.{Blocked, Done, Refused}
 
 -- a heap
 pub record Heap : Type 0 where
-  pub arena : Pages
-  pub map : Entries
-  pub index : Index
+  pub base : Ground
   pub next_serial : ℕ
-  pub next_page : ℕ
 
 -- a heap is stored as its parts
 abbrev pub heap_code : Coded Heap
-heap_code =
-    code_by (Pages × (Entries × (Index × (ℕ × ℕ))))
-    (coded× (coded_list (coded_option (coded_list coded_ℕ))) (coded× (map.code coded_ℕ entry_code) (coded× index_code (coded× coded_ℕ coded_ℕ))))
-    (λ h. (h.arena, (h.map, (h.index, (h.next_serial, h.next_page)))))
-    (λ p. record { arena = p.0; map = p.1.0; index = p.1.1.0; next_serial = p.1.1.1.0; next_page = p.1.1.1.1 })
-    (λ _. refl)
+heap_code = code_by (Ground × ℕ) (coded× ground_code coded_ℕ) (λ h. (h.base, h.next_serial)) (λ p. record { base = p.0; next_serial = p.1 }) (λ _. refl)
 
--- every page of every span is mapped, for reading and writing, to a taken page of its own, and no virtual page from the next one on is mapped
-pub record IsHeap (arena : Pages) (map : Entries) (index : Index) (next_page : ℕ) : Type 0 where
-  pub some : 1 ≤ next_page
-  pub most : next_page ≤ 65536
-  pub unused : AreUnused index next_page
-  pub fresh : (v : ℕ) → next_page ≤ v → is_mapped map v ≡ false
-  pub mapped : (i j v : ℕ) → i < length index.spans → j < pages_of (span_at index.spans i).class → (span_at index.spans i).first + j ≡ v
-      → IsMapped map v
-  pub taken : (v : ℕ) → IsMapped map v → IsTaken arena (page_of map v)
-  pub apart : (v w : ℕ) → IsMapped map v → IsMapped map w → v ≢ w → page_of map v ≢ page_of map w
-  pub writable : (v : ℕ) → is_read_only map v ≡ false
+-- the records of its live objects
+abbrev pub live_records : Heap → List Record
+live_records h = records_of (table_of h.base)
 
--- the addresses lie in one slot
-pub record IsCovered (index : Index) (addr len : ℕ) : Type 0 where
-  pub span : ℕ
-  pub slot : ℕ
-  pub below : span < length index.spans
-  pub sound : IsSpan (span_at index.spans span)
-  pub in_range : slot < slots_of (span_at index.spans span).class
-  pub from : slot_address (span_at index.spans span) slot ≤ addr
-  pub to : addr + len ≤ slot_address (span_at index.spans span) slot + (span_at index.spans span).class
+-- the plain memory that the heap stands for with these roots: its objects, read from the arena through the page map
+abbrev pub memory_of : Heap → List (Option ℕ) → Memory
+memory_of h roots = meaning h.next_serial (live_records h) (targets_of h.base.map) (bytes_in h.base.arena) roots
 
--- an object stands in the slot, and a reference of this serial and this address names it
-pub record IsLive (index : Index) (span slot serial len addr : ℕ) : Type 0 where
-  pub below : span < length index.spans
-  pub sound : IsSpan (span_at index.spans span)
-  pub in_range : slot < slots_of (span_at index.spans span).class
-  pub there : record_at (span_at index.spans span) slot ≡ Some (serial, len)
-  pub some : 1 ≤ len
-  pub fits : len ≤ (span_at index.spans span).class
-  pub address : slot_address (span_at index.spans span) slot ≡ addr
+-- the same without roots
+abbrev pub plain_of : Heap → Memory
+plain_of h = memory_of h []
+
+-- the table is sound and names the live objects, and no mesh is running
+pub record IsHeap (h : Heap) : Type 0 where
+  pub sound : IsSound (table_of h.base)
+  pub tied : IsTied (plain_of h) (table_of h.base)
+  pub calm : IsCalm h.base.index
+
+-- the live object that a reference names: the one of its serial, where that stands at its address
+abbrev pub referred : Memory → Ref → Result Named Refusal
+referred m object =
+    or_refuse Freed (object_of m object.serial) >>= λ live. refuse_if Freed (not (nat_eq live.address object.addr)) >>= λ _.
+    Ok (record { serial = object.serial; object = live })
+
+-- the bytes that a read of a reference gives
+abbrev pub bytes_at : Memory → Ref → ℕ → ℕ → Result (List ℕ) Refusal
+bytes_at m object off len =
+    referred m object >>= λ named. refuse_if Outside (ends_outside named.object off len) >>= λ _. Ok (slice_range named.object.bytes off (off + len))
+
+-- the memory after a store through a reference
+abbrev pub stored_at : Memory → Ref → ℕ → List ℕ → Result Memory Refusal
+stored_at m object off bytes =
+    referred m object >>= λ named. refuse_if Outside (ends_outside named.object off (length bytes)) >>= λ _. Ok (stored m named off bytes)
+
+-- the memory after a free through a reference
+abbrev pub freed_at : Memory → Ref → Result Memory Refusal
+freed_at m object = referred m object >>= λ named. Ok (with_object m named.serial None)
+
+-- the byte at an address
+abbrev pub byte_at_address : Memory → ℕ → Result ℕ Refusal
+byte_at_address m addr = holding m addr >>= λ named. Ok (slice_index named.object.bytes (addr - named.object.address))
+
+-- the memory after a byte was stored at an address
+abbrev pub stored_at_address : Memory → ℕ → ℕ → Result Memory Refusal
+stored_at_address m addr byte = holding m addr >>= λ named. Ok (stored m named (addr - named.object.address) (byte ∷ []))
+
+-- what a store comes to: done as the plain memory does it, where no page is read-only; blocked only where one is; or refused
+abbrev pub IsStore : Heap → Heap → Result Memory Refusal → Bool → Stored → Type 0
+IsStore old new after blocked Done =
+    (after ≡ Ok (plain_of new)) × (blocked ≡ false) × (table_of new.base ≡ table_of old.base) × (new.next_serial ≡ old.next_serial)
+IsStore old new after blocked Blocked = IsOk after × (blocked ≡ true) × (new ≡ old)
+IsStore old new after blocked (Refused refusal) = (after ≡ Err refusal) × (new ≡ old)
+
+-- what a free comes to
+pub record IsFree (old new : Heap) (object : Ref) : Type 0 where
+  pub memory : freed_at (plain_of old) object ≡ Ok (plain_of new)
+  pub table : table_of new.base ≡ without_object (table_of old.base) object.serial
+  pub serial : new.next_serial ≡ old.next_serial
+
+-- what a new object comes to: it stands where the table places it, and holds zeros
+pub record IsMade (old new : Heap) (len word : ℕ) (object : Ref) : Type 0 where
+  pub placed : Placed
+  pub placed_is : place_new (table_of old.base) len word old.next_serial ≡ Ok placed
+  pub serial : object.serial ≡ old.next_serial
+  pub address : object.addr ≡ placed.address
+  pub table : table_of new.base ≡ placed.table
+  pub memory : plain_of new ≡ with_new (plain_of old) len placed.address
+  pub next : new.next_serial ≡ old.next_serial + 1
+
+-- a new object needs a new span: no group of its class is open
+pub record NeedsSpan (old : Heap) (len word : ℕ) : Type 0 where
+  pub class : ℕ
+  pub placed : Placed
+  pub placed_is : place_new (table_of old.base) len word old.next_serial ≡ Ok placed
+  pub none_open : open_group old.base class ≡ None
+
+-- nothing that a caller could see has changed
+pub record IsUnchanged (old new : Heap) : Type 0 where
+  pub memory : (roots : List (Option ℕ)) → memory_of new roots ≡ memory_of old roots
+  pub table : table_of new.base ≡ table_of old.base
+  pub serial : new.next_serial ≡ old.next_serial
+
+-- why no object was made: the table refuses it and nothing changed, or the memory for a new span was refused
+abbrev pub IsNotMade : Heap → Heap → ℕ → ℕ → NewFault → Type 0
+IsNotMade old new len word (NewRefused refusal) = (place_new (table_of old.base) len word old.next_serial ≡ Err refusal) × (new ≡ old)
+IsNotMade old new len word NoMemory = NeedsSpan old len word × IsUnchanged old new
+
+-- the object in whose slot an address is, by its record
+pub record IsObjectAt (h : Heap) (addr : ℕ) (o : Occupied) : Type 0 where
+  pub address : ℕ
+  pub at : address + o.offset ≡ addr
+  pub recorded : record_with o.serial (live_records h) ≡ Some (record { serial = o.serial; address = address; len = o.len })
+  pub in_slot : IsInSlotOf h.base.index addr o.span o.slot o.offset o.serial o.len
+
+-- a live object of this serial stands at the address, and has so many bytes
+pub record IsLiveFor (h : Heap) (serial address bytes : ℕ) : Type 0 where
+  pub len : ℕ
+  pub recorded : record_with serial (live_records h) ≡ Some (record { serial = serial; address = address; len = len })
+  pub enough : bytes ≤ len
+
+-- the memory after bytes were stored in the object of a serial, which stands at the address
+abbrev pub stored_in : Heap → ℕ → ℕ → ℕ → List ℕ → Result Memory Refusal
+stored_in h serial address off bytes = stored_at (plain_of h) (record { serial = serial; addr = address }) off bytes
+
+-- the object that a record stands for in the heap
+abbrev pub object_in : Heap → Record → Object
+object_in h r = object_at (targets_of h.base.map) (bytes_in h.base.arena) r
+
+-- the record of an object of this serial, address and length
+abbrev pub live_record : ℕ → ℕ → ℕ → Record
+live_record serial address len = record { serial = serial; address = address; len = len }
+
+-- the object that a reference names, by its record
+pub record IsReferred (h : Heap) (object : Ref) (o : Occupied) : Type 0 where
+  pub at : IsObjectAt h object.addr o
+  pub serial : o.serial ≡ object.serial
+  pub begins : o.offset ≡ 0
+  pub recorded : record_with object.serial (live_records h) ≡ Some (live_record object.serial object.addr o.len)
+  pub in_slot : IsInSlotOf h.base.index object.addr o.span o.slot 0 object.serial o.len
+  pub named : referred (plain_of h) object ≡ Ok (record { serial = object.serial; object = object_in h (live_record object.serial object.addr o.len) })
+
+-- the object whose range has an address, by its record
+pub record IsHeld (h : Heap) (addr : ℕ) (o : Occupied) : Type 0 where
+  pub address : ℕ
+  pub at : address + o.offset ≡ addr
+  pub within : o.offset < o.len
+  pub recorded : record_with o.serial (live_records h) ≡ Some (live_record o.serial address o.len)
+  pub in_slot : IsInSlotOf h.base.index addr o.span o.slot o.offset o.serial o.len
+  pub held : holding (plain_of h) addr ≡ Ok (record { serial = o.serial; object = object_in h (live_record o.serial address o.len) })

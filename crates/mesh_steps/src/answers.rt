@@ -1,5 +1,6 @@
 //! What the heap's calls answer.
 use mesh_model::Refusal;
+use mesh_spans::{Slot, Span};
 
 /// A reference to an object: its serial and its address. It is stale once the record at that address hasn't that serial.
 #[derive(Clone, Copy, Debug, PartialEq, Eq)]
@@ -39,4 +40,19 @@ impl From<Refusal> for NewFault {
     fn from(refusal: Refusal) -> NewFault {
         NewFault::Refused(refusal)
     }
+}
+
+/// Where an object stands in whose slot an address is.
+#[derive(Clone, Copy)]
+pub(crate) struct Occupied {
+    /// The object's span.
+    pub span: Span,
+    /// The object's slot.
+    pub slot: Slot,
+    /// The address's offset in the slot.
+    pub offset: u32,
+    /// The object's serial.
+    pub serial: u32,
+    /// The object's length.
+    pub len: u32,
 }

@@ -1,10 +1,10 @@
-use Rattle.std.proofs.Common.{◌≡◌, ◌++◌, ◌∷◌, [], length, Some, None, sym, subst}
-use Rattle.std.proofs.Math.ListN.{length-replicate}
+use Rattle.std.proofs.Common.{◌≡◌, ℕ, ◌++◌, ◌∷◌, [], length, Some, None, refl, sym, ap, ◌∙◌, subst, arith, rules}
 use Rattle.std.proofs.lemmas.Grind.{common_steps}
-use Rattle.std.proofs.Common.{arith}
 use Rattle.mesh_class.specs.Classes.{slots_of}
-use Rattle.mesh_spans.specs.Index.{Index, AreUnused, new_span, new_group}
-use Rattle.mesh_spans.proofs.IndexLemmas.{IsIndex_add}
+use Rattle.mesh_spans.specs.Groups.{groups_from, groups_of}
+use Rattle.mesh_spans.specs.Index.{Index, AreUnused, IsVacant, new_span, new_group}
+use Rattle.mesh_spans.proofs.IndexLemmas.{IsIndex_add, IsOwned_add}
+use Rattle.mesh_spans.proofs.TableLemmas.{index_is, new_vacant, table_added}
 use Rattle.mesh_spans.proofs.index.Spans.add_span.Goals as goal
 
 pub invariant_of-self-2 : goal.invariant_of-self-2
@@ -13,14 +13,35 @@ invariant_of-self-2 c =
     = grind (arith, common_steps) in
     let groups : c.push_reserved-2.new.self.items
     ≡ c.self.inside.groups.items ++ Some (new_group c.args.class (length c.self.inside.spans.items) c.args.pages.now) ∷ []
-    = grind (arith, common_steps) in (
-      rw (spans, groups) (IsIndex_add c.self.inside.spans.items c.self.inside.groups.items c.args.first c.args.class c.args.pages.now
-          (record {
-            class = c.pages.ensures.class;
-            first = c.requires.first;
-            last = c.requires.last;
-            slots = length-replicate (slots_of c.args.class) None;
-          })
-          (subst (λ (x : Index). AreUnused x c.args.first) (sym c.self.view_is) c.requires.unused) c.self.invariant.0),
-      c.own.ensures.long,
+    = grind (arith, common_steps) in
+    let unused = subst (λ (x : Index). AreUnused x c.args.first) (sym c.self.view_is) c.requires.unused in
+    rw (spans, groups) (
+      IsIndex_add c.self.inside.spans.items c.self.inside.groups.items c.args.first c.args.class c.args.pages.now
+          (record { class = c.pages.ensures.class; first = c.requires.first; last = c.requires.last }) c.requires.pages unused c.self.invariant.0,
+      IsOwned_add c.self.inside.spans.items c.self.inside.groups.items c.self.inside.owners.items c.own.new.owners.items c.args.first c.args.class
+          c.args.pages.now unused c.self.invariant.0 c.own.ensures.long
+          (λ v low high. c.own.ensures.own v low (rw c.pages.ensures.value high) ∙ ap (λ (n : ℕ). Some n) (grind (arith, common_steps))) c.own.ensures.below c.self.invariant.1,
     )
+
+pub returns-clause-table : goal.returns-clause-table
+unfolding groups_of
+returns-clause-table c =
+    let spans : c.push_reserved.new.self.items ≡ c.self.inside.spans.items ++ new_span c.args.first c.args.class (length c.self.inside.spans.items) ∷ []
+    = grind (arith, common_steps) in
+    let groups : c.push_reserved-2.new.self.items
+    ≡ c.self.inside.groups.items ++ Some (new_group c.args.class (length c.self.inside.spans.items) c.args.pages.now) ∷ []
+    = grind (arith, common_steps) in
+    let number : c.numbered-span.result ≡ length c.self.inside.spans.items = grind (arith, common_steps) in
+    rw (number, ← c.self.view_is) (ap (λ (x : Index). groups_of x) (index_is _ _ _ _ spans groups)
+    ∙ table_added c.self.inside.spans.items c.self.inside.groups.items c.args.first c.args.class c.args.pages.now c.self.invariant.0)
+
+pub returns-clause-vacant : goal.returns-clause-vacant
+returns-clause-vacant c = λ slot below.
+    let spans : c.push_reserved.new.self.items ≡ c.self.inside.spans.items ++ new_span c.args.first c.args.class (length c.self.inside.spans.items) ∷ []
+    = grind (arith, common_steps) in
+    let groups : c.push_reserved-2.new.self.items
+    ≡ c.self.inside.groups.items ++ Some (new_group c.args.class (length c.self.inside.spans.items) c.args.pages.now) ∷ []
+    = grind (arith, common_steps) in
+    let number : c.numbered-span.result ≡ length c.self.inside.spans.items = grind (arith, common_steps) in
+    rw number (subst (λ (x : Index). IsVacant x c.args.class (length c.self.inside.spans.items) slot) (sym (index_is _ _ _ _ spans groups))
+    (new_vacant c.self.inside.spans.items c.self.inside.groups.items c.args.first c.args.class slot c.args.pages.now c.self.invariant.0 below))

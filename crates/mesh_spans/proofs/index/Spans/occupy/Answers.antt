@@ -1,20 +1,27 @@
-use Rattle.std.proofs.Common.{◌≡◌, Some, None, true, false, slice_set, refl, sym, ap, ◌∙◌, arith, rules}
+use Rattle.std.proofs.Common.{◌≡◌, Some, None, refl, sym, ap, ◌∙◌, arith, rules, subst}
 use Rattle.std.proofs.lemmas.Grind.{common_steps}
-use Rattle.mesh_spans.specs.Index.{with_record, with_mark, span_at, IsRecord}
-use Rattle.mesh_spans.proofs.IndexLemmas.{IsIndex_occupy, HaveSameShape_record}
+use Rattle.mesh_model.specs.Table.{Group, Slot}
+use Rattle.mesh_spans.specs.Groups.{groups_from, groups_of}
+use Rattle.mesh_spans.specs.Index.{Index, with_entry, span_at}
+use Rattle.mesh_spans.proofs.IndexLemmas.{put_keeps, vacant_fits}
+use Rattle.mesh_spans.proofs.TableLemmas.{groups_put}
 use Rattle.mesh_spans.proofs.index.Spans.occupy.Goals as goal
 
 pub invariant_of-self : goal.invariant_of-self
 invariant_of-self c =
-    let put : slice_set c.self.inside.spans.items c.index.result c.put.new.self
-    ≡ with_record c.args.self.now.spans c.args.span c.args.slot (Some (c.args.serial, c.args.len)) = grind (arith, common_steps) in
-    let marked : c.mark.new.groups.items
-    ≡ with_mark c.args.self.now.groups (span_at c.args.self.now.spans c.args.span).group c.args.slot true = grind (arith, common_steps) in (
-      rw (put, marked) (IsIndex_occupy c.args.self.now c.self.inside.spans.items c.self.inside.groups.items c.args.span c.args.slot
-          (Some (c.args.serial, c.args.len)) true c.self.view_is c.requires.vacant.below c.requires.vacant.in_range
-          (c.requires.some, c.requires.fits) c.self.invariant.0),
-      c.self.invariant.1,
-    )
+    let entry : Slot = record { member = (span_at c.args.self.now.spans c.args.span).first; serial = c.args.serial; len = c.args.len } in
+    let is : c.put.new.groups.items ≡ with_entry c.args.self.now.groups (span_at c.args.self.now.spans c.args.span).group c.args.slot (Some entry)
+    = grind (arith, common_steps) in
+    put_keeps c.args.self.now c.self.inside.spans.items c.self.inside.groups.items c.put.new.groups.items c.self.inside.owners.items
+    (span_at c.args.self.now.spans c.args.span).group c.args.slot (Some entry) c.self.view_is
+    (vacant_fits c.args.self.now c.args.span c.args.slot entry c.requires.vacant (c.requires.some, c.requires.fits)) is c.self.invariant
 
-pub returns-clause-shape : goal.returns-clause-shape
-returns-clause-shape c = HaveSameShape_record c.args.self.now.spans _ c.args.span c.args.slot (Some (c.args.serial, c.args.len)) c.requires.vacant.below (grind (arith, common_steps))
+pub returns-clause-table : goal.returns-clause-table
+unfolding groups_of
+returns-clause-table c =
+    let entry : Slot = record { member = (span_at c.args.self.now.spans c.args.span).first; serial = c.args.serial; len = c.args.len } in
+    let is : c.put.new.groups.items ≡ with_entry c.args.self.now.groups (span_at c.args.self.now.spans c.args.span).group c.args.slot (Some entry)
+    = grind (arith, common_steps) in
+    let spans : c.self.inside.spans.items ≡ c.args.self.now.spans = ap (λ (x : Index). x.spans) c.self.view_is in
+    rw (is, spans) (groups_put c.args.self.now.spans 0 (span_at c.args.self.now.spans c.args.span).group (span_at c.args.self.now.spans c.args.span).group c.args.slot
+    (Some entry) c.args.self.now.groups (omega arith))

@@ -1,19 +1,53 @@
-use Rattle.std.proofs.Common.{◌≡◌, Some, None, true, false, slice_set, refl, sym, ap, ◌∙◌, arith, rules}
+use Rattle.std.proofs.Common.{◌≡◌, ◌<◌, length, Some, None, IfSome, refl, sym, ap, ◌∙◌, arith, rules, subst}
 use Rattle.std.proofs.lemmas.Grind.{common_steps}
-use Rattle.mesh_spans.specs.Index.{with_record, with_mark, span_at, IsRecord}
-use Rattle.mesh_spans.proofs.IndexLemmas.{IsIndex_occupy, HaveSameShape_record}
+use Rattle.mesh_class.specs.Classes.{slots_of}
+use Rattle.mesh_model.specs.Table.{Group, Slot}
+use Rattle.mesh_spans.specs.Groups.{groups_from, groups_of}
+use Rattle.mesh_spans.specs.Index.{Index, GroupEntry, group_at, with_entry, span_at}
+use Rattle.mesh_spans.proofs.IndexLemmas.{group_below, nothing_fits, put_keeps, recorded}
+use Rattle.mesh_spans.proofs.TableLemmas.{groups_put}
 use Rattle.mesh_spans.proofs.index.Spans.vacate.Goals as goal
+
+pub put-requires-clause-group : goal.put-requires-clause-group
+put-requires-clause-group c =
+    let there = recorded c.args.self.now c.args.span c.args.slot c.requires in
+    let below = there.below in
+    let group : c.group-group.result ≡ (span_at c.args.self.now.spans c.args.span).group = grind (arith, common_steps) in
+    let at = group_below c.args.self.now.groups (span_at c.args.self.now.spans c.args.span).group there.group there.there in
+    let same : c.self.inside.groups.items ≡ c.args.self.now.groups = ap (λ (x : Index). x.groups) c.self.view_is in
+    rw (group, same) at
+
+pub put-requires-clause-slot : goal.put-requires-clause-slot
+put-requires-clause-slot c =
+    let there = recorded c.args.self.now c.args.span c.args.slot c.requires in
+    let below = there.below in
+    let group : c.group-group.result ≡ (span_at c.args.self.now.spans c.args.span).group = grind (arith, common_steps) in
+    let same : c.self.inside.groups.items ≡ c.args.self.now.groups = ap (λ (x : Index). x.groups) c.self.view_is in
+    let fits = nothing_fits c.args.self.now c.self.inside.spans.items c.self.inside.groups.items c.args.span c.args.slot c.self.view_is c.self.invariant.0
+    c.requires there.group there.there in
+    rw (group, same, there.there) fits.0
 
 pub invariant_of-self : goal.invariant_of-self
 invariant_of-self c =
-    let put : slice_set c.self.inside.spans.items c.index.result c.put.new.self
-    ≡ with_record c.args.self.now.spans c.args.span c.args.slot None = grind (arith, common_steps) in
-    let marked : c.mark.new.groups.items
-    ≡ with_mark c.args.self.now.groups (span_at c.args.self.now.spans c.args.span).group c.args.slot false = grind (arith, common_steps) in (
-      rw (put, marked) (IsIndex_occupy c.args.self.now c.self.inside.spans.items c.self.inside.groups.items c.args.span c.args.slot
-          None false c.self.view_is c.requires.below c.requires.in_range tt c.self.invariant.0),
-      c.self.invariant.1,
-    )
+    let below = (recorded c.args.self.now c.args.span c.args.slot c.requires).below in
+    let is : c.put.new.groups.items ≡ with_entry c.args.self.now.groups (span_at c.args.self.now.spans c.args.span).group c.args.slot None
+    = grind (arith, common_steps) in
+    put_keeps c.args.self.now c.self.inside.spans.items c.self.inside.groups.items c.put.new.groups.items c.self.inside.owners.items
+    (span_at c.args.self.now.spans c.args.span).group c.args.slot None c.self.view_is
+    (nothing_fits c.args.self.now c.self.inside.spans.items c.self.inside.groups.items c.args.span c.args.slot c.self.view_is c.self.invariant.0 c.requires) is
+    c.self.invariant
 
-pub returns-clause-shape : goal.returns-clause-shape
-returns-clause-shape c = HaveSameShape_record c.args.self.now.spans _ c.args.span c.args.slot None c.requires.below (grind (arith, common_steps))
+pub returns-clause-groups : goal.returns-clause-groups
+returns-clause-groups c =
+    let below = (recorded c.args.self.now c.args.span c.args.slot c.requires).below in
+    grind (arith, common_steps)
+
+pub returns-clause-table : goal.returns-clause-table
+unfolding groups_of
+returns-clause-table c =
+    let below = (recorded c.args.self.now c.args.span c.args.slot c.requires).below in
+    let is : c.put.new.groups.items ≡ with_entry c.args.self.now.groups (span_at c.args.self.now.spans c.args.span).group c.args.slot None
+    = grind (arith, common_steps) in
+    let spans : c.self.inside.spans.items ≡ c.args.self.now.spans = ap (λ (x : Index). x.spans) c.self.view_is in
+    rw (is, spans) (groups_put c.args.self.now.spans 0 (span_at c.args.self.now.spans c.args.span).group (span_at c.args.self.now.spans c.args.span).group c.args.slot
+    None c.args.self.now.groups (omega arith))

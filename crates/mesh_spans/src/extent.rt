@@ -1,0 +1,88 @@
+//! `Extent`, where one span lies.
+ghost use Rattle.std.specs.Prelude.{◌≡◌, ℕ, ◌+◌, ◌*◌, ◌<◌, ◌≤◌, Some, IfSome};
+ghost use Rattle.mesh_class.specs.Classes.{pages_of, slots_of};
+ghost use Rattle.mesh_spans.specs.Index.{IsSpan, address_in, new_span};
+
+use crate::Slot;
+use mesh_class::Class;
+use std::marker::Model;
+
+// The bytes of a page, as a part of addresses.
+pub(crate) const PAGE_BYTES: u32 = 4096;
+
+/// Where one span lies, and which group it belongs to.
+#[derive(Debug, Drop)]
+pub(crate) struct Extent {
+    // The first virtual page.
+    first: u32,
+    class: Class,
+    // The number of the group.
+    group: u32,
+}
+
+impl Model for Extent {
+    ghost use Rattle.mesh_spans.specs.Index.{SpanEntry, IsSpan};
+
+    ghost Value = { SpanEntry };
+
+    ghost view = { λ s. record { first = s.first; class = s.class; group = s.group } };
+
+    ghost invariant = { λ s. IsSpan (record { first = s.first; class = s.class; group = s.group }) };
+}
+
+impl Extent {
+    /// The span of a class from a virtual page on, of a group.
+    pub fn new(first: u32, class: Class, group: u32) -> Extent
+        requires first { 1 ≤ first }
+        requires last { first + pages_of class ≤ 65536 }
+        ensures { result ≡ new_span first class group }
+    {
+        let _pages = class.pages();
+        Extent {
+            first,
+            class,
+            group,
+        }
+    }
+
+    /// The first virtual page.
+    pub fn first(&self) -> u32
+        ensures value { result ≡ self.now.first }
+        ensures sound { IsSpan self.now }
+    {
+        self.first
+    }
+
+    /// The number of the group.
+    pub fn group(&self) -> u32
+        ensures { result ≡ self.now.group }
+    {
+        self.group
+    }
+
+    /// The slot and the offset in it of an address. None only where the address is outside the span.
+    pub fn find(&self, addr: u32) -> Option<(Slot, u32)>
+        ensures slot { IfSome result (λ r. r.0 < slots_of self.now.class) }
+        ensures offset { IfSome result (λ r. r.1 < self.now.class) }
+        ensures address { IfSome result (λ r. address_in self.now r.0 + r.1 ≡ addr) }
+        ensures found { (k o : ℕ) → k < slots_of self.now.class → o < self.now.class → address_in self.now k + o ≡ addr
+            → result ≡ Some (k, o) }
+        ensures sound { IsSpan self.now }
+    {
+        let from_start = addr.checked_sub(self.first * PAGE_BYTES)?;
+        let size = self.class.size();
+        let slot = from_start / size;
+        if slot >= self.class.slots() {
+            return None;
+        }
+        Some((Slot::numbered(slot), from_start % size))
+    }
+
+    /// The address of a slot.
+    pub fn address(&self, slot: Slot) -> u32
+        requires { slot < slots_of self.now.class }
+        ensures { result ≡ address_in self.now slot }
+    {
+        self.first * PAGE_BYTES + slot.number() * self.class.size()
+    }
+}

@@ -1,0 +1,427 @@
+-- What the records of a heap's live objects say of its slots, its bytes and its plain memory.
+use Rattle.std.proofs.Common.{◌≡◌, ◌≢◌, ℕ, zero, suc, ◌+◌, ◌-◌, ◌*◌, ◌/◌, ◌%◌, ◌<◌, ◌≤◌, Bool, true, false, ◌&&◌, if◌then◌else◌, not, nat_eq, nat_lt, find, List, [], ◌∷◌, map, Option, Some, None, IfSome, IsSomeAnd, Result, Ok, Err, length, slice_get, slice_index, slice_range, ap, subst, refl, sym, ◌∙◌, arith, rules, ◌⊎◌, inl, inr}
+use Rattle.std.specs.List.{range_with_len}
+use Rattle.std.specs.Option.{option_map}
+use Rattle.std.proofs.lemmas.Bool.Decides.{eqb_tells, leb_tells}
+use Rattle.std.proofs.lemmas.List.{get_or-map, length-map}
+use Rattle.std.proofs.lemmas.List.FromFn.{length-map-range_with_len}
+use Rattle.std.proofs.lemmas.Option.{slice_get_within}
+use Rattle.mesh_arena.specs.Pages.{Pages, byte_at, run_of}
+use Rattle.mesh_class.specs.Classes.{pages_of, slots_of}
+use Rattle.mesh_model.proofs.GroupLists.{find_sound}
+use Rattle.mesh_model.proofs.Holders.{no_holder, objects_apart, one_holder}
+use Rattle.mesh_model.proofs.Meanings.{bytes_read, meaning_objects, store_means}
+use Rattle.mesh_model.proofs.Records.{record_slot, slot_record, tied_below}
+use Rattle.mesh_model.specs.MeaningLaws.{AreBelow, IsIn, IsOfSlot, record_in, record_with}
+use Rattle.mesh_model.specs.Memory.{Memory, Object, has_address, holder_of, object_of}
+use Rattle.mesh_model.specs.Places.{Place, Record, Target, meaning, object_at, place_of, records_of}
+use Rattle.mesh_model.specs.Plain.{Named, ends_outside, holding, stored}
+use Rattle.mesh_model.specs.Sound.{IsSound, IsTied, times_in}
+use Rattle.mesh_model.specs.Table.{Group, Slot, Table, group_of, has_number, slot_address}
+use Rattle.mesh_model.specs.Words.{◌>>=◌, or_refuse, refuse_if}
+use Rattle.mesh_model.specs.declared.refusals.Refusal.{Refusal}
+use Rattle.mesh_model.specs.declared.refusals.Refusal.TheVariants.{Freed, Outside, Stray}
+use Rattle.mesh_pagemap.specs.Entries.{Entries, IsMapped, page_of}
+use Rattle.mesh_spans.specs.Groups.{first_of, groups_from, groups_of, table_group}
+use Rattle.mesh_spans.specs.Index.{GroupEntry, Index, IsIndex, SpanEntry, address_in, group_at, span_at}
+use Rattle.mesh_store.specs.Places.{Saves, byte_of}
+use Rattle.mesh_steps.proofs.GroundLemmas.{covered_mapped}
+use Rattle.mesh_steps.specs.Ground.{Ground, IsCovered, IsGround, IsInSlotOf, IsStanding, bytes_in, table_of, targets_of}
+use Rattle.mesh_steps.specs.Heap.{Heap, IsHeap, IsHeld, IsObjectAt, IsReferred, bytes_at, byte_at_address, live_record, live_records, memory_of, object_in, plain_of, referred, stored_at, stored_at_address}
+use Rattle.mesh_steps.specs.declared.answers.Occupied.{Occupied}
+use Rattle.mesh_steps.specs.declared.answers.Ref.{Ref}
+
+-- a group of a list that is numbered from `b` on is found by its number
+found_from : (spans : List SpanEntry) (b i n : ℕ) (groups : List (Option GroupEntry)) (entry : GroupEntry) → group_at groups i ≡ Some entry → n ≡ b + i
+    → find (has_number n) (groups_from spans b groups) ≡ Some (table_group spans n entry)
+found_from spans b i n [] entry at is = absurd (cc at)
+found_from spans b zero n (None ∷ groups) entry at is = absurd (cc at)
+found_from spans b zero n (Some one ∷ groups) entry at is =
+    let same : one ≡ entry = cc at in
+    let here : n ≡ b = omega (arith, is) in
+    elim (eqb_tells b n) [ inl yes_ ↦ rw (yes_.0, same, here) refl | inr other ↦ absurd (other.1 (sym here)) ]
+found_from spans b (suc i) n (None ∷ groups) entry at is = found_from spans (b + 1) i n groups entry at (omega (arith, is))
+found_from spans b (suc i) n (Some one ∷ groups) entry at is = elim (eqb_tells b n) [
+  | inl same ↦ absurd (let e = same.1 in omega (arith, is, e))
+  | inr other ↦ rw other.0 (found_from spans (b + 1) i n groups entry at (omega (arith, is)))
+]
+
+-- the group of the index that a group of the table is
+pub record IsEntry (spans : List SpanEntry) (groups : List (Option GroupEntry)) (b n : ℕ) (group : Group) : Type 0 where
+  pub i : ℕ
+  pub at : n ≡ b + i
+  pub entry : GroupEntry
+  pub there : group_at groups i ≡ Some entry
+  pub same : group ≡ table_group spans n entry
+
+back_from : (spans : List SpanEntry) (b n : ℕ) (groups : List (Option GroupEntry)) (group : Group)
+    → find (has_number n) (groups_from spans b groups) ≡ Some group → IsEntry spans groups b n group
+back_from spans b n [] group found = absurd (cc found)
+back_from spans b n (None ∷ groups) group found =
+    let rest = back_from spans (b + 1) n groups group found in
+    record { i = suc rest.i; at = omega (arith, rest.at); entry = rest.entry; there = rest.there; same = rest.same }
+back_from spans b n (Some one ∷ groups) group found = elim (eqb_tells b n) [
+  | inl same ↦ let here : Some (table_group spans b one) ≡ Some group = subst (λ (t : Bool). ◌≡◌ {A = Option Group} (if t then Some (table_group spans b one) else find (has_number n) (groups_from spans (b + 1) groups)) (Some group)) same.0 found in
+      record {
+        i = 0;
+        at = let e = same.1 in omega (arith, e);
+        entry = one;
+        there = refl;
+        same = (let is : table_group spans b one ≡ group = cc here in sym is ∙ ap (λ (m : ℕ). table_group spans m one) same.1);
+      }
+  | inr other ↦ let later : find (has_number n) (groups_from spans (b + 1) groups) ≡ Some group
+      = subst (λ (t : Bool). ◌≡◌ {A = Option Group} (if t then Some (table_group spans b one) else find (has_number n) (groups_from spans (b + 1) groups)) (Some group)) other.0 found in
+      let rest = back_from spans (b + 1) n groups group later in
+      record { i = suc rest.i; at = omega (arith, rest.at); entry = rest.entry; there = rest.there; same = rest.same }
+]
+
+-- a group of the index is one of the table
+pub entry_in_table : (g : Ground) (n : ℕ) (entry : GroupEntry) → group_at g.index.groups n ≡ Some entry
+    → group_of (table_of g) n ≡ Some (table_group g.index.spans n entry)
+unfolding groups_of
+entry_in_table g n entry at = found_from g.index.spans 0 n n g.index.groups entry at (omega arith)
+
+-- a group of the table is one of the index
+pub table_entry : (g : Ground) (n : ℕ) (group : Group) → group_of (table_of g) n ≡ Some group → IsEntry g.index.spans g.index.groups 0 n group
+unfolding groups_of
+table_entry g n group found = back_from g.index.spans 0 n g.index.groups group found
+
+-- an object that stands in a slot has its record
+pub standing_record : (h : Heap) (span k serial len address : ℕ) → IsHeap h → IsStanding h.base.index span k serial len address
+    → record_with serial (live_records h) ≡ Some (record { serial = serial; address = address; len = len })
+standing_record h span k serial len address heap standing =
+    let slot : Slot = record { member = (span_at h.base.index.spans span).first; serial = serial; len = len } in
+    let n : ℕ = (span_at h.base.index.spans span).group in
+    let recorded = standing.recorded in
+    let there = entry_in_table h.base n recorded.group recorded.there in
+    let is = slot_record h.next_serial (table_of h.base) (targets_of h.base.map) (bytes_in h.base.arena) [] n k
+    (table_group h.base.index.spans n recorded.group) slot heap.sound heap.tied there recorded.filled in
+    let at : slot_address (span_at h.base.index.spans span).first recorded.group.class k ≡ address
+    = ap (λ (class : ℕ). slot_address (span_at h.base.index.spans span).first class k) recorded.same_class ∙ standing.address_is in
+    is ∙ ap (λ (a : ℕ). Some (record { serial = serial; address = a; len = len })) at
+
+-- where the object of a record stands
+pub record LivePlace (g : Ground) (r : Record) : Type 0 where
+  pub n : ℕ
+  pub place : ℕ
+  pub k : ℕ
+  pub entry : GroupEntry
+  pub at : group_at g.index.groups n ≡ Some entry
+  pub within : place < length entry.members
+  pub below : k < slots_of entry.class
+  pub filled : slice_get entry.slots k
+      ≡ Some (Some (record { member = (span_at g.index.spans (slice_index entry.members place)).first; serial = r.serial; len = r.len }))
+  pub address : slot_address (span_at g.index.spans (slice_index entry.members place)).first entry.class k ≡ r.address
+  pub some : 1 ≤ r.len
+  pub fits : r.len ≤ entry.class
+
+-- a number that is in a list stands at a place of it
+place_in : (v : ℕ) (xs : List ℕ) → 1 ≤ times_in v xs → (place : ℕ) × (place < length xs) × (slice_index xs place ≡ v)
+place_in v [] some = absurd (omega (arith, some))
+place_in v (x ∷ xs) some = elim (eqb_tells x v) [
+  | inl same ↦ (0, omega arith, same.1)
+  | inr other ↦ let more : 1 ≤ 0 + times_in v xs = subst (λ (b : Bool). 1 ≤ (if◌then◌else◌ {A = ℕ} b 1 0) + times_in v xs) other.0 some in
+      let later : 1 ≤ times_in v xs = omega (arith, more) in
+      let rest = place_in v xs later in (suc rest.0, omega (arith, rest.1), rest.2)
+]
+
+slot_placed : (g : Ground) (n k : ℕ) (group : Group) (slot : Slot) (entry : GroupEntry) → IsSound (table_of g) → group_of (table_of g) n ≡ Some group
+    → slice_get group.slots k ≡ Some (Some slot) → group_at g.index.groups n ≡ Some entry → group ≡ table_group g.index.spans n entry
+    → LivePlace g (record_in group.class k slot)
+slot_placed g n k group slot entry sound there filled at same =
+    let spans : List SpanEntry = g.index.spans in
+    let is = find_sound (has_number n) (groups_of g.index) group there sound.groups in
+    let object = is.objects k slot filled in
+    let member = place_in slot.member (map (first_of spans) entry.members)
+    (subst (λ (x : Group). 1 ≤ times_in slot.member x.members) same object.in_member) in
+    let within : member.0 < length entry.members = omega (arith, member.1, length-map entry.members (first_of spans)) in
+    let first : (span_at spans (slice_index entry.members member.0)).first ≡ slot.member
+    = sym (get_or-map (first_of spans) entry.members member.0 0 0 within) ∙ member.2 in
+    let class : group.class ≡ entry.class = ap (λ (x : Group). x.class) same in
+    let slots : group.slots ≡ entry.slots = ap (λ (x : Group). x.slots) same in
+    let inside = slice_get_within group.slots k (Some slot) filled in
+    record {
+      n = n;
+      place = member.0;
+      k = k;
+      entry = entry;
+      at = at;
+      within = within;
+      below = omega (arith, inside, is.places, ap slots_of class);
+      filled = ap (λ (xs : List (Option Slot)). slice_get xs k) (sym slots) ∙ filled
+          ∙ ap (λ (m : ℕ). Some (Some (record { member = m; serial = slot.serial; len = slot.len }))) (sym first);
+      address = ap (λ (m : ℕ). slot_address m entry.class k) first ∙ ap (λ (c : ℕ). slot_address slot.member c k) (sym class);
+      some = object.some;
+      fits = omega (arith, object.fits, class);
+    }
+
+-- the object of each record stands in a slot
+pub live_place : (h : Heap) (serial : ℕ) (r : Record) → IsHeap h → record_with serial (live_records h) ≡ Some r
+    → (r.serial ≡ serial) × LivePlace h.base r
+live_place h serial r heap found =
+    let slot = record_slot (table_of h.base) serial r heap.sound found in
+    let entry = table_entry h.base slot.1.number slot.1.group slot.1.there in
+    let number : slot.1.number ≡ entry.i = omega (arith, entry.at) in
+    let at : group_at h.base.index.groups slot.1.number ≡ Some entry.entry = ap (λ (i : ℕ). group_at h.base.index.groups i) number ∙ entry.there in (
+      slot.0,
+      subst (λ (x : Record). LivePlace h.base x) (sym slot.1.is)
+          (slot_placed h.base slot.1.number slot.1.k slot.1.group slot.1.slot entry.entry heap.sound slot.1.there slot.1.filled at entry.same),
+    )
+
+-- a part of a live object is covered by its slot
+pub live_covered : (g : Ground) (r : Record) (off count : ℕ) → IsIndex g.index.spans g.index.groups → LivePlace g r → off + count ≤ r.len
+    → IsCovered g.index (r.address + off) count
+live_covered g r off count sound live fits =
+    let member = sound.members live.n live.place live.entry live.at live.within in
+    let span : ℕ = slice_index live.entry.members live.place in
+    let at : address_in (span_at g.index.spans span) live.k ≡ r.address
+    = ap (λ (class : ℕ). slot_address (span_at g.index.spans span).first class live.k) member.same_class ∙ live.address in
+    let size : (span_at g.index.spans span).class ≡ live.entry.class = member.same_class in
+    record {
+      span = span;
+      k = live.k;
+      below = member.below;
+      sound = sound.span span member.below;
+      in_range = rw size live.below;
+      from = omega (arith, at);
+      to = omega (arith, at, size, live.fits, fits);
+    }
+
+-- the virtual page of each address of a live object is mapped
+pub live_mapped : (g : Ground) (r : Record) (x : ℕ) → IsGround g.arena g.map g.index g.next_page → IsIndex g.index.spans g.index.groups → LivePlace g r
+    → IsIn r x → IsMapped g.map (x / 4096)
+live_mapped g r x ground index live within =
+    covered_mapped g.arena g.map g.index g.next_page (r.address + 0) r.len x ground (live_covered g r 0 r.len index live (omega arith))
+    (omega (arith, within.0)) (omega (arith, within.1))
+
+-- the object of a serial is that of its record
+pub live_object : (h : Heap) (roots : List (Option ℕ)) (serial : ℕ) → IsHeap h
+    → object_of (memory_of h roots) serial ≡ option_map (object_at (targets_of h.base.map) (bytes_in h.base.arena)) (record_with serial (live_records h))
+live_object h roots serial heap =
+    meaning_objects h.next_serial (live_records h) (targets_of h.base.map) (bytes_in h.base.arena) roots serial
+    (tied_below h.next_serial (table_of h.base) (targets_of h.base.map) (bytes_in h.base.arena) [] heap.sound heap.tied)
+
+-- the object of a serial with a record
+pub live_found : (h : Heap) (serial : ℕ) (r : Record) → IsHeap h → record_with serial (live_records h) ≡ Some r
+    → object_of (plain_of h) serial ≡ Some (object_in h r)
+live_found h serial r heap found = live_object h [] serial heap ∙ ap (λ (o : Option Record). option_map (object_at (targets_of h.base.map) (bytes_in h.base.arena)) o) found
+
+-- a live object has a record
+pub record HasRecord (h : Heap) (serial : ℕ) (object : Object) : Type 0 where
+  pub r : Record
+  pub found : record_with serial (live_records h) ≡ Some r
+  pub is : object ≡ object_in h r
+
+has_record : (h : Heap) (serial : ℕ) (object : Object) (o : Option Record) → record_with serial (live_records h) ≡ o
+    → option_map (object_at (targets_of h.base.map) (bytes_in h.base.arena)) o ≡ Some object → HasRecord h serial object
+has_record h serial object None at e = absurd (let two : ◌≡◌ {A = Option Object} None (Some object) = e in cc two)
+has_record h serial object (Some r) at e =
+    let same : object_in h r ≡ object = (let both : Some (object_in h r) ≡ Some object = e in cc both) in record { r = r; found = at; is = sym same }
+
+pub object_record : (h : Heap) (serial : ℕ) (object : Object) → IsHeap h → object_of (plain_of h) serial ≡ Some object → HasRecord h serial object
+object_record h serial object heap live =
+    has_record h serial object (record_with serial (live_records h)) refl (sym (live_object h [] serial heap) ∙ live)
+
+-- as many bytes as the record says
+pub object_len : (h : Heap) (r : Record) → length (object_in h r).bytes ≡ r.len
+object_len h r = length-map-range_with_len (λ x. bytes_in h.base.arena (place_of (targets_of h.base.map) x)) r.address r.len
+
+-- a reference names the object of its serial that stands at its address
+pub reference_names : (h : Heap) (object : Ref) (r : Record) → IsHeap h → record_with object.serial (live_records h) ≡ Some r → r.address ≡ object.addr
+    → referred (plain_of h) object ≡ Ok (record { serial = object.serial; object = object_in h r })
+reference_names h object r heap found at = elim (eqb_tells r.address object.addr) [
+  | inl same ↦ rw (live_found h object.serial r heap found, same.0) refl
+  | inr other ↦ absurd (other.1 at)
+]
+
+-- a reference is stale where no record of its serial is at its address
+pub reference_stale : (h : Heap) (object : Ref) → IsHeap h
+    → ((r : Record) → record_with object.serial (live_records h) ≡ Some r → r.address ≡ object.addr → ⊥)
+    → referred (plain_of h) object ≡ Err Freed
+reference_stale h object heap none = go (object_of (plain_of h) object.serial) refl
+  where
+    go : (o : Option Object) → object_of (plain_of h) object.serial ≡ o → referred (plain_of h) object ≡ Err Freed
+    go None e = rw e refl
+    go (Some live) e = elim (eqb_tells live.address object.addr) [
+      | inl same ↦ let has = object_record h object.serial live heap e in
+          absurd (none has.r has.found (ap (λ (x : Object). x.address) (sym has.is) ∙ same.1))
+      | inr other ↦ rw (e, other.0) refl
+    ]
+
+in_range : (h : Heap) (r : Record) (addr : ℕ) → has_address (object_in h r) addr ≡ true → IsIn r addr
+in_range h r addr has = elim (leb_tells r.address addr) [
+  | inr below ↦ absurd (let two : false ≡ true = subst (λ (b : Bool). both b ≡ true) below.0 has in cc two)
+  | inl from ↦ elim (leb_tells (suc addr) (r.address + length (object_in h r).bytes)) [
+    | inr past ↦ absurd (let two : false ≡ true = subst (λ (b : Bool). b ≡ true) past.0 (subst (λ (b : Bool). both b ≡ true) from.0 has) in cc two)
+    | inl within ↦ (from.1, (let long = object_len h r in let less = within.1 in omega (arith, long, less)))
+  ]
+]
+  where
+    both : Bool → Bool
+    both b = b && nat_lt addr (r.address + length (object_in h r).bytes)
+
+pub has_in : (h : Heap) (r : Record) (addr : ℕ) → IsIn r addr → has_address (object_in h r) addr ≡ true
+has_in h r addr within = elim (leb_tells r.address addr) [
+  | inr below ↦ absurd (let a = within.0 in let b = below.1 in omega (arith, a, b))
+  | inl from ↦ elim (leb_tells (suc addr) (r.address + length (object_in h r).bytes)) [
+    | inr past ↦ absurd (let long = object_len h r in let a = within.1 in let b = past.1 in omega (arith, a, b, long))
+    | inl less ↦ rw (from.0, less.0) refl
+  ]
+]
+
+-- an object begins within its range
+pub begins_in : (h : Heap) (serial addr : ℕ) (r : Record) → IsHeap h → record_with serial (live_records h) ≡ Some r → r.address ≡ addr → IsIn r addr
+begins_in h serial addr r heap found at = let some = (live_place h serial r heap found).1.some in (omega (arith, at), omega (arith, at, some))
+
+-- an address of a live object is held by it
+pub address_held : (h : Heap) (serial addr : ℕ) (r : Record) → IsHeap h → record_with serial (live_records h) ≡ Some r → IsIn r addr
+    → holding (plain_of h) addr ≡ Ok (record { serial = serial; object = object_in h r })
+address_held h serial addr r heap found within =
+    let live = live_found h serial r heap found in
+    let holder = one_holder (plain_of h) (table_of h.base) serial addr (object_in h r) heap.sound heap.tied live (has_in h r addr within) in
+    rw (holder, live) refl
+
+-- an address of no live object is held by none
+pub address_stray : (h : Heap) (addr : ℕ) → IsHeap h
+    → ((serial : ℕ) (r : Record) → record_with serial (live_records h) ≡ Some r → IsIn r addr → ⊥) → holding (plain_of h) addr ≡ Err Stray
+address_stray h addr heap none =
+    let holder = no_holder (plain_of h) addr (λ serial object live. go serial object live) in
+    rw holder refl
+  where
+    go : (serial : ℕ) (object : Object) → object_of (plain_of h) serial ≡ Some object → has_address object addr ≡ false
+    go serial object live = elim (has_address object addr) as (λ b. has_address object addr ≡ b → b ≡ false) [
+      | false ↦ λ e. refl
+      | true ↦ λ e. let has = object_record h serial object heap live in
+          absurd (none serial has.r has.found (in_range h has.r addr (ap (λ (x : Object). has_address x addr) (sym has.is) ∙ e)))
+    ] refl
+
+-- an object in whose slot an address is has its record
+pub in_slot_recorded : (h : Heap) (addr : ℕ) (o : Occupied) → IsHeap h → IsInSlotOf h.base.index addr o.span o.slot o.offset o.serial o.len → IsObjectAt h addr o
+in_slot_recorded h addr o heap in_slot = record {
+  address = in_slot.address;
+  at = in_slot.at;
+  recorded = standing_record h o.span o.slot o.serial o.len in_slot.address heap in_slot.standing;
+  in_slot = in_slot;
+}
+
+-- what holds of one thing holds of what may be there
+pub IfSome_more : {X : Type 0} (o : Option X) (P Q : X → Type 0) → ((x : X) → P x → Q x) → IfSome o P → IfSome o Q
+IfSome_more None P Q f h = tt
+IfSome_more (Some x) P Q f h = f x h
+
+pub IsSomeAnd_more : {X : Type 0} (o : Option X) (P Q : X → Type 0) → ((x : X) → P x → Q x) → IsSomeAnd o P → IsSomeAnd o Q
+IsSomeAnd_more None P Q f h = h
+IsSomeAnd_more (Some x) P Q f h = f x h
+
+-- each object of which the address is one is found where a look-up finds every slot's addresses
+abbrev pub FindsSlots : Index → ℕ → Option Occupied → Type 0
+FindsSlots index addr found = (n place k o : ℕ) (group : GroupEntry) (serial len : ℕ) → group_at index.groups n ≡ Some group → place < length group.members
+    → k < slots_of group.class → o < group.class
+    → slice_get group.slots k ≡ Some (Some (record { member = (span_at index.spans (slice_index group.members place)).first; serial = serial; len = len }))
+    → slot_address (span_at index.spans (slice_index group.members place)).first group.class k + o ≡ addr
+    → IsSomeAnd found (λ x. (x.serial ≡ serial) × (x.offset ≡ o) × (x.len ≡ len))
+
+pub object_found : (h : Heap) (addr serial : ℕ) (r : Record) (found : Option Occupied) → IsHeap h → FindsSlots h.base.index addr found
+    → record_with serial (live_records h) ≡ Some r → IsIn r addr
+    → IsSomeAnd found (λ o. (o.serial ≡ serial) × (r.address + o.offset ≡ addr) × (o.len ≡ r.len))
+object_found h addr serial r found heap finds is within =
+    let both = live_place h serial r heap is in
+    let live = both.1 in
+    let low = within.0 in
+    let high = within.1 in
+    let offset : r.address + (addr - r.address) ≡ addr = omega (arith, low) in
+    let there = finds live.n live.place live.k (addr - r.address) live.entry r.serial r.len live.at live.within live.below
+    (omega (arith, low, high, live.fits)) live.filled (ap (λ (a : ℕ). a + (addr - r.address)) live.address ∙ offset) in
+    IsSomeAnd_more found (λ o. (o.serial ≡ r.serial) × (o.offset ≡ addr - r.address) × (o.len ≡ r.len))
+    (λ o. (o.serial ≡ serial) × (r.address + o.offset ≡ addr) × (o.len ≡ r.len))
+    (λ o h. (h.0 ∙ both.0, ap (λ (x : ℕ). r.address + x) h.1 ∙ offset, h.2)) there
+
+-- the object in whose slot a reference's address is, is the one that it names, where it has the serial and begins there
+pub referred_is : (h : Heap) (object : Ref) (o : Occupied) → IsHeap h → IsObjectAt h object.addr o → o.offset ≡ 0 → o.serial ≡ object.serial → IsReferred h object o
+referred_is h object o heap at zeroth same =
+    let address : at.address ≡ object.addr = omega (arith, at.at, zeroth) in
+    let recorded : record_with object.serial (live_records h) ≡ Some (live_record object.serial object.addr o.len)
+    = ap (λ (s : ℕ). record_with s (live_records h)) (sym same) ∙ at.recorded
+    ∙ ap (λ (s : ℕ). Some (live_record s at.address o.len)) same ∙ ap (λ (a : ℕ). Some (live_record object.serial a o.len)) address in
+    record {
+      at = at;
+      serial = same;
+      begins = zeroth;
+      recorded = recorded;
+      in_slot = subst (λ (x : ℕ). IsInSlotOf h.base.index object.addr o.span o.slot x object.serial o.len) zeroth
+          (subst (λ (s : ℕ). IsInSlotOf h.base.index object.addr o.span o.slot o.offset s o.len) same at.in_slot);
+      named = reference_names h object (live_record object.serial object.addr o.len) heap recorded refl;
+    }
+
+-- the object in whose slot an address is, is the one that holds it, where the offset is within its length
+pub held_is : (h : Heap) (addr : ℕ) (o : Occupied) → IsHeap h → IsObjectAt h addr o → o.offset < o.len → IsHeld h addr o
+held_is h addr o heap at within = record {
+  address = at.address;
+  at = at.at;
+  within = within;
+  recorded = at.recorded;
+  in_slot = at.in_slot;
+  held = address_held h o.serial addr (live_record o.serial at.address o.len) heap at.recorded
+      (let e = at.at in (omega (arith, e), omega (arith, e, within)));
+}
+
+-- a part of a live object does not end outside
+pub ends_within : (h : Heap) (r : Record) (off len : ℕ) → off + len ≤ r.len → ends_outside (object_in h r) off len ≡ false
+ends_within h r off len fits = elim (leb_tells (suc (length (object_in h r).bytes)) (off + len)) [
+  | inr no_ ↦ no_.0
+  | inl past ↦ absurd (let long = object_len h r in let more = past.1 in omega (arith, long, more, fits))
+]
+
+-- what is no part of a live object does
+pub ends_past : (h : Heap) (r : Record) (off len : ℕ) → r.len < off + len → ends_outside (object_in h r) off len ≡ true
+ends_past h r off len past = elim (leb_tells (suc (length (object_in h r).bytes)) (off + len)) [
+  | inl yes_ ↦ yes_.0
+  | inr within ↦ absurd (let long = object_len h r in let less = within.1 in omega (arith, long, less, past))
+]
+
+-- the bytes of a part of a live object are those of its addresses
+pub part_read : (h : Heap) (r : Record) (off len : ℕ) → off + len ≤ r.len
+    → slice_range (object_in h r).bytes off (off + len) ≡ run_of (byte_of h.base.arena h.base.map) (r.address + off) len
+unfolding run_of byte_of
+part_read h r off len fits = bytes_read (targets_of h.base.map) (bytes_in h.base.arena) r off len fits
+
+-- a read of a part of the object that a reference names
+pub read_is : (h : Heap) (object : Ref) (o : Occupied) (off len : ℕ) (bytes : List ℕ) → IsReferred h object o → off + len ≤ o.len
+    → bytes ≡ run_of (byte_of h.base.arena h.base.map) (object.addr + off) len → bytes_at (plain_of h) object off len ≡ Ok bytes
+read_is h object o off len bytes is fits loaded =
+    let r : Record = live_record object.serial object.addr o.len in
+    let whole : bytes_at (plain_of h) object off len ≡ Ok (slice_range (object_in h r).bytes off (off + len))
+    = ap (λ (x : Result Named Refusal). x >>= λ named. refuse_if Outside (ends_outside named.object off len) >>= λ _. Ok (slice_range named.object.bytes off (off + len))) is.named
+    ∙ ap (λ (b : Bool). refuse_if Outside b >>= λ _. Ok (slice_range (object_in h r).bytes off (off + len))) (ends_within h r off len fits) in
+    whole ∙ ap (λ (bs : List ℕ). Ok bs) (part_read h r off len fits ∙ sym loaded)
+
+-- a read of more than the object that a reference names
+pub read_past : (h : Heap) (object : Ref) (o : Occupied) (off len : ℕ) → IsReferred h object o → o.len < off + len
+    → bytes_at (plain_of h) object off len ≡ Err Outside
+read_past h object o off len is past =
+    let r : Record = live_record object.serial object.addr o.len in
+    ap (λ (x : Result Named Refusal). x >>= λ named. refuse_if Outside (ends_outside named.object off len) >>= λ _. Ok (slice_range named.object.bytes off (off + len))) is.named
+    ∙ ap (λ (b : Bool). refuse_if Outside b >>= λ _. Ok (slice_range (object_in h r).bytes off (off + len))) (ends_past h r off len past)
+
+-- a read through a stale reference
+pub read_stale : (h : Heap) (object : Ref) (off len : ℕ) → referred (plain_of h) object ≡ Err Freed → bytes_at (plain_of h) object off len ≡ Err Freed
+read_stale h object off len stale =
+    ap (λ (x : Result Named Refusal). x >>= λ named. refuse_if Outside (ends_outside named.object off len) >>= λ _. Ok (slice_range named.object.bytes off (off + len))) stale
+
+-- a part of an object in a slot is covered by it
+pub slot_covered : (g : Ground) (addr span k offset serial len off count : ℕ) → (i : IsInSlotOf g.index addr span k offset serial len) → off + count ≤ len
+    → IsCovered g.index (i.address + off) count
+slot_covered g addr span k offset serial len off count i fits =
+    let standing = i.standing in
+    let size : standing.recorded.group.class ≡ (span_at g.index.spans span).class = standing.recorded.same_class in
+    let few = standing.recorded.fits in
+    let at = standing.address_is in
+    record {
+      span = span;
+      k = k;
+      below = standing.recorded.below;
+      sound = standing.sound;
+      in_range = rw (← size) standing.recorded.in_range;
+      from = omega (arith, at);
+      to = omega (arith, at, size, few, fits);
+    }

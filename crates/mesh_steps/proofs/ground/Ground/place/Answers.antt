@@ -1,0 +1,34 @@
+use Rattle.std.proofs.Common.{◌≡◌, ◌%◌, ℕ, Option, Some, None, Result, Ok, Err, IfErr, find, refl, sym, ap, subst, ◌∙◌, arith, rules}
+use Rattle.std.specs.Result.{IsErrAnd}
+use Rattle.mesh_class.specs.Classes.{slots_of}
+use Rattle.mesh_model.specs.Table.{Group}
+use Rattle.mesh_spans.specs.Groups.{groups_of, is_closed, takes_objects}
+use Rattle.mesh_steps.specs.Ground.{Ground, IsCalm, IsPlace, IsPlaceFault, IsSpanFault, open_group}
+use Rattle.mesh_steps.specs.declared.answers.NewFault.{NewFault}
+use Rattle.mesh_steps.proofs.Placing.{open_is, place_fresh, place_open}
+use Rattle.mesh_steps.proofs.ground.Ground.place.Goals as goal
+
+-- what holds of a fault holds where it is handed on
+handed_on : {T : Type 0} (r : Result T NewFault) (fault : NewFault) (P : NewFault → Type 0) → IsErrAnd r (λ e. e ≡ fault) → P fault → IfErr r P
+handed_on (Ok x) fault P same holds = absurd same
+handed_on (Err e) fault P same holds = subst P (sym same) holds
+
+pub returns-in-Some-clause-ok : goal.returns-in-Some-clause-ok
+returns-in-Some-clause-ok c =
+    let calm = subst (λ (g : Ground). IsCalm g.index) (sym c.self.view_is) c.requires in
+    rw (← c.self.view_is) (place_open _ c.args.class c.args.word c.in-Some.place.0 c.in-Some.place.1 c.in-Some.ensures.picked c.in-Some.ensures.vacant calm)
+
+pub returns-in_err-span-in-None-clause-err : goal.returns-in_err-span-in-None-clause-err
+returns-in_err-span-in-None-clause-err c =
+    let none : open_group c.args.self.now c.args.class ≡ None = sym (open_is c.args.self.now c.args.class c.requires)
+    ∙ subst (λ (g : Ground). find (takes_objects (is_closed g.index) c.args.class) (groups_of g.index) ≡ None) c.self.view_is c.in-None.ensures.none in
+    handed_on c.from_residual.result c.in_err-span-in-None.field-0.0 (IsPlaceFault c.args.self.now c.add_span.new.self c.args.class)
+    c.from_residual.ensures.1 (none, c.in_err-span-in-None.ensures.err)
+
+pub returns-in_ok-span-in-None-clause-ok : goal.returns-in_ok-span-in-None-clause-ok
+returns-in_ok-span-in-None-clause-ok c =
+    let none : open_group c.args.self.now c.args.class ≡ None = sym (open_is c.args.self.now c.args.class c.requires)
+    ∙ subst (λ (g : Ground). find (takes_objects (is_closed g.index) c.args.class) (groups_of g.index) ≡ None) c.self.view_is c.in-None.ensures.none in
+    let at : c.numbered.result ≡ c.args.word % slots_of c.args.class = rw (c.numbered.ensures, c.from.ensures, c.slots.ensures.value) refl in
+    place_fresh c.args.self.now c.add_span.new.self c.args.class c.args.word c.in_ok-span-in-None.span c.numbered.result c.slots.ensures.class none
+    c.in_ok-span-in-None.ensures.ok at c.requires

@@ -1,0 +1,11 @@
+use Rattle.std.proofs.Common.{◌≡◌, ◌+◌, ◌++◌, ◌∷◌, [], length, slice_index, arith}
+use Rattle.mesh_arena.specs.Pages.{Takes}
+use Rattle.mesh_steps.proofs.GrowthLemmas.{TakesAll_more}
+use Rattle.mesh_steps.proofs.growth.take_pages.Goals as goal
+
+pub pages-preserved : goal.pages-preserved
+pages-preserved c =
+    let takes : Takes c.pages.arena c.take.new.self c.unwrap-page.result = rw c.unwrap-page.ensures at c.take.ensures.takes in (
+      omega (arith, c.push.ensures.len, c.pages.invariant.0),
+      rw c.push.ensures.items (TakesAll_more c.args.arena.now c.pages.arena c.take.new.self c.pages.pages.items c.unwrap-page.result c.pages.invariant.1 takes),
+    )

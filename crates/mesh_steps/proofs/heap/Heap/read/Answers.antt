@@ -1,0 +1,44 @@
+use Rattle.std.proofs.Common.{◌≡◌, ◌≤◌, ◌<◌, ◌+◌, ℕ, suc, List, [], ◌∷◌, ◌++◌, length, take, drop, refl, sym, ap, subst, ◌∙◌, arith, rules}
+use Rattle.std.proofs.lemmas.Grind.{common_steps}
+use Rattle.mesh_arena.specs.Pages.{run_of, length-run_of}
+use Rattle.mesh_store.specs.Places.{byte_of}
+use Rattle.mesh_steps.specs.Ground.{IsCovered, IsInSlotOf}
+use Rattle.mesh_steps.specs.Heap.{Heap, IsReferred}
+use Rattle.mesh_steps.proofs.Objects.{read_is, read_past, read_stale, slot_covered}
+use Rattle.mesh_steps.proofs.heap.Heap.read.Goals as goal
+
+-- bytes written over as many are all that is there
+overlaid : (xs ys : List ℕ) → length xs ≡ length ys → take (length ys) (xs ++ drop (length xs) ys) ≡ xs
+overlaid [] [] e = refl
+overlaid [] (y ∷ ys) e = absurd (omega (arith, e))
+overlaid (x ∷ xs) [] e = absurd (omega (arith, e))
+overlaid (x ∷ xs) (y ∷ ys) e = ap (λ (zs : List ℕ). x ∷ zs) (overlaid xs ys (omega (arith, e)))
+
+pub returns-in_default-clause-refused : goal.returns-in_default-clause-refused
+returns-in_default-clause-refused c =
+    read_stale c.args.self.now c.args.object c.args.off c.args.len c.in_default.ensures.none
+
+pub returns-then-not-has_range-clause-refused : goal.returns-then-not-has_range-clause-refused
+returns-then-not-has_range-clause-refused c =
+    read_past c.args.self.now c.args.object c.in-Some.live c.args.off c.args.len c.in-Some.ensures.there c.if-not-has_range.ensures.past
+
+pub load-requires-clause-covered : goal.load-requires-clause-covered
+load-requires-clause-covered c =
+    let there = subst (λ (h : Heap). IsReferred h c.args.object c.in-Some.live) (sym c.self.view_is) c.in-Some.ensures.there in
+    let start : there.in_slot.address ≡ c.args.object.addr = (let at = there.in_slot.at in omega (arith, at)) in
+    let long : length c.as_mut_slice.result.now ≡ c.args.len = grind (arith, common_steps) in
+    rw (long, ← start) (slot_covered c.self.inside.base c.args.object.addr c.in-Some.live.span c.in-Some.live.slot 0 c.args.object.serial c.in-Some.live.len
+    c.args.off c.args.len there.in_slot c.if-not-has_range.ensures.within)
+
+pub returns-clause-bytes : goal.returns-clause-bytes
+returns-clause-bytes c =
+    let long : length c.truncate.new.self.items ≡ c.args.len = grind (arith, common_steps) in
+    let slice : length c.as_mut_slice.result.now ≡ c.args.len = grind (arith, common_steps) in
+    let out : c.load.new.out ≡ run_of (byte_of c.self.inside.base.arena c.self.inside.base.map) (c.args.object.addr + c.args.off) c.args.len
+    = rw (← slice) c.load.ensures in
+    let same : length c.load.new.out ≡ length c.truncate.new.self.items
+    = ap (λ (xs : List ℕ). length xs) out
+    ∙ length-run_of (byte_of c.self.inside.base.arena c.self.inside.base.map) (c.args.object.addr + c.args.off) c.args.len ∙ sym long in
+    read_is c.args.self.now c.args.object c.in-Some.live c.args.off c.args.len _ c.in-Some.ensures.there c.if-not-has_range.ensures.within
+    (overlaid c.load.new.out c.truncate.new.self.items same
+    ∙ subst (λ (h : Heap). c.load.new.out ≡ run_of (byte_of h.base.arena h.base.map) (c.args.object.addr + c.args.off) c.args.len) c.self.view_is out)

@@ -1,0 +1,29 @@
+-- What always holds of a heap's live objects, of their places and pages, and of its read-only pages.
+use Rattle.std.specs.Prelude.{◌≡◌, ◌≢◌, ℕ, true, nat_eq, Some}
+use Rattle.std.specs.List.{list_any}
+use Rattle.mesh_arena.specs.Pages.{IsTaken}
+use Rattle.mesh_model.specs.MeaningLaws.{IsIn, record_with}
+use Rattle.mesh_model.specs.Mesh.{read_only_pages}
+use Rattle.mesh_model.specs.Places.{Record, holds, place_of}
+use Rattle.mesh_pagemap.specs.Entries.{is_read_only}
+use Rattle.mesh_steps.specs.Ground.{table_of, targets_of}
+use Rattle.mesh_steps.specs.Heap.{Heap, live_records}
+
+-- no two live objects have an address in common
+abbrev pub HasObjectsApart : Heap → Type 0
+HasObjectsApart h = (i j x : ℕ) (r q : Record) → record_with i (live_records h) ≡ Some r → record_with j (live_records h) ≡ Some q → i ≢ j
+    → IsIn r x → IsIn q x → ⊥
+
+-- no two addresses of live objects, of one or of two, have one place
+abbrev pub HasPlacesApart : Heap → Type 0
+HasPlacesApart h = (i j x y : ℕ) (r q : Record) → record_with i (live_records h) ≡ Some r → record_with j (live_records h) ≡ Some q
+    → IsIn r x → IsIn q y → x ≢ y → place_of (targets_of h.base.map) x ≢ place_of (targets_of h.base.map) y
+
+-- each physical page that holds a live object is taken, so a free page holds none
+abbrev pub HasHeldPagesTaken : Heap → Type 0
+HasHeldPagesTaken h = (serial page : ℕ) (r : Record) → record_with serial (live_records h) ≡ Some r → holds (targets_of h.base.map) page r ≡ true
+    → IsTaken h.base.arena page
+
+-- the read-only virtual pages are those of the running meshes
+abbrev pub HasReadOnlyOfMeshes : Heap → Type 0
+HasReadOnlyOfMeshes h = (v : ℕ) → is_read_only h.base.map v ≡ list_any (nat_eq v) (read_only_pages (table_of h.base))

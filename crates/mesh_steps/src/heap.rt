@@ -1,0 +1,240 @@
+//! `Heap`: making, reading, writing and freeing objects.
+ghost use Rattle.std.specs.Prelude.{◌≡◌, ℕ, ◌+◌, ◌-◌, ◌^◌, ◌<◌, ◌≤◌, Ok, Err, Some, [], ◌∷◌, length, List, Option, IfOk, IfErr, IfSome, IfNone, IsSomeAnd, is_ok};
+ghost use Rattle.std.specs.Bool.{OnFalse, OnTrue};
+ghost use Rattle.mesh_model.specs.MeaningLaws.{IsIn, record_with};
+ghost use Rattle.mesh_model.specs.Mesh.{is_blocked};
+ghost use Rattle.mesh_model.specs.Places.{Record};
+ghost use Rattle.mesh_model.specs.Plain.{holding};
+ghost use Rattle.mesh_model.specs.Table.{empty_table};
+ghost use Rattle.mesh_steps.specs.Always.{HasHeldPagesTaken, HasObjectsApart, HasPlacesApart, HasReadOnlyOfMeshes};
+ghost use Rattle.mesh_steps.specs.Ground.{table_of};
+ghost use Rattle.mesh_steps.specs.Heap.{IsFree, IsHeap, IsHeld, IsLiveFor, IsMade, IsNotMade, IsObjectAt, IsReferred, IsStore, byte_at_address, bytes_at, freed_at, live_records, memory_of, plain_of, referred, stored_at, stored_at_address, stored_in};
+
+use crate::answers::Occupied;
+use crate::ground::Ground;
+use crate::{NewFault, Ref, Stored};
+use arrayvec::ArrayVec;
+use mesh_class::class_of;
+use mesh_model::{MAX_BYTES, Refusal};
+use std::alloc::{AllocError, Global};
+use std::marker::Model;
+
+/// A heap of objects in slots of spans, over modelled physical pages and a page map.
+#[derive(Drop)]
+pub struct Heap {
+    base: Ground,
+    // The serial of the next object.
+    next_serial: u32,
+}
+
+impl Model for Heap {
+    ghost use Rattle.mesh_steps.specs.Heap.{Heap as State, heap_code, IsHeap};
+
+    ghost Value = { State };
+
+    ghost coded = { heap_code };
+
+    ghost view = { λ h. record { base = h.base; next_serial = h.next_serial } };
+
+    ghost invariant = { λ h. IsHeap (record { base = h.base; next_serial = h.next_serial }) };
+}
+
+impl Heap {
+    /// A heap with no object over `pages` physical pages, 1 to 4,096. Arena, page map and the index's table are made here.
+    pub fn open(alloc: Global, pages: u32) -> Result<Heap, AllocError>
+        requires some { 1 ≤ pages }
+        requires most { pages ≤ 4096 }
+        ensures table { IfOk result (λ heap. table_of heap.base ≡ empty_table pages) }
+        ensures memory { IfOk result (λ heap. (roots : List (Option ℕ)) → memory_of heap roots ≡ record { objects = []; roots = roots }) }
+        ensures serial { IfOk result (λ heap. heap.next_serial ≡ 0) }
+    {
+        let base = Ground::open(alloc, pages)?;
+        Ok(Heap {
+            base,
+            next_serial: 0,
+        })
+    }
+
+    /// Makes an object of `len` zero bytes. The word picks the slot among the free ones of the group that takes it.
+    ///
+    /// Refused with ZERO, TOO_LARGE, NO_PAGES or NO_ADDRESSES, the first that holds. Memory comes only where a new span is needed.
+    pub fn new(&mut self, len: u32, word: u64) -> Result<Ref, NewFault>
+        requires { self.old.next_serial < 2 ^ 32 - 1 }
+        ensures made { IfOk result (IsMade self.old self.new len word) }
+        ensures fault { IfErr result (IsNotMade self.old self.new len word) }
+    {
+        self.base.sound();
+        let class = class_of(len)?;
+        let (span, slot) = self.base.place(class, word)?;
+        self.base.sound();
+        let serial = self.next_serial;
+        let addr = self.base.put(span, slot, serial, len);
+        self.next_serial += 1;
+        Ok(Ref { serial, addr })
+    }
+
+    /// The `len` bytes, 1 to 32, from offset `off` of an object. It takes no memory.
+    ///
+    /// Refused with FREED where the object isn't live, with OUTSIDE where offset and length together are above its length.
+    pub fn read(&self, object: Ref, off: u32, len: u32) -> Result<ArrayVec<u8, MAX_BYTES>, Refusal>
+        requires some { 1 ≤ len }
+        requires few { len ≤ 32 }
+        ensures bytes { IfOk result (λ bytes. bytes_at (plain_of self.now) object off len ≡ Ok bytes.items) }
+        ensures refused { IfErr result (λ refusal. bytes_at (plain_of self.now) object off len ≡ Err refusal) }
+    {
+        let Some(live) = self.live(object) else {
+            return Err(Refusal::Freed);
+        };
+        if !live.has_range(off, len) {
+            return Err(Refusal::Outside);
+        }
+        let mut bytes = ArrayVec::from([0; MAX_BYTES]);
+        bytes.truncate(len as usize);
+        self.base.load(object.addr + off, bytes.as_mut_slice());
+        Ok(bytes)
+    }
+
+    /// Stores 1 to 32 bytes from offset `off` of an object on. It takes no memory.
+    ///
+    /// Refused with FREED where the object isn't live, with OUTSIDE where offset and length together are above its length. Blocked where
+    /// neither holds and a touched page is read-only. Neither stores a byte.
+    pub fn write(&mut self, object: Ref, off: u32, bytes: &[u8]) -> Stored
+        requires some { 1 ≤ length bytes.now }
+        requires few { length bytes.now ≤ 32 }
+        ensures { IsStore self.old self.new (stored_at (plain_of self.old) object off bytes.now)
+            (is_blocked (table_of self.old.base) (object.addr + off) (length bytes.now)) result }
+    {
+        let Some(live) = self.live(object) else {
+            return Stored::Refused(Refusal::Freed);
+        };
+        if !live.has_range(off, bytes.len() as u32) {
+            return Stored::Refused(Refusal::Outside);
+        }
+        self.save(object.serial, object.addr, off, bytes)
+    }
+
+    /// The byte at an address. It takes no memory. Refused with STRAY where no live object's range has the address.
+    pub fn peek(&self, addr: u32) -> Result<u8, Refusal>
+        ensures byte { IfOk result (λ byte. byte_at_address (plain_of self.now) addr ≡ Ok byte) }
+        ensures refused { IfErr result (λ refusal. byte_at_address (plain_of self.now) addr ≡ Err refusal) }
+    {
+        let Some(_held) = self.holder(addr) else {
+            return Err(Refusal::Stray);
+        };
+        let mut byte = [0];
+        self.base.load(addr, &mut byte);
+        Ok(byte[0])
+    }
+
+    /// Stores a byte at an address. It takes no memory.
+    ///
+    /// Refused with STRAY where no live object's range has the address. Blocked where one has and its page is read-only.
+    pub fn poke(&mut self, addr: u32, byte: u8) -> Stored
+        ensures { IsStore self.old self.new (stored_at_address (plain_of self.old) addr byte) (is_blocked (table_of self.old.base) addr 1) result }
+    {
+        let Some(held) = self.holder(addr) else {
+            return Stored::Refused(Refusal::Stray);
+        };
+        self.save(held.serial, addr - held.offset, held.offset, &[byte])
+    }
+
+    /// Frees an object: its slot record is emptied. Its bytes and pages stay. Refused with FREED where it isn't live.
+    pub fn free(&mut self, object: Ref) -> Result<(), Refusal>
+        ensures freed { IfOk result (λ _. IsFree self.old self.new object) }
+        ensures refused { IfErr result (λ refusal. (freed_at (plain_of self.old) object ≡ Err refusal) × (self.new ≡ self.old)) }
+    {
+        let live = self.live(object).ok_or(Refusal::Freed)?;
+        self.base.sound();
+        self.base.take_out(live.span, live.slot);
+        Ok(())
+    }
+
+    /// Whether a reference names a live object.
+    pub fn is_live(&self, object: Ref) -> bool
+        ensures { result ≡ is_ok (referred (plain_of self.now) object) }
+    {
+        self.live(object).is_some()
+    }
+
+    /// What always holds of a heap.
+    pub fn always(&self)
+        ensures objects { HasObjectsApart self.now }
+        ensures places { HasPlacesApart self.now }
+        ensures held { HasHeldPagesTaken self.now }
+        ensures read_only { HasReadOnlyOfMeshes self.now }
+    {
+        self.base.sound();
+    }
+
+    /// What always holds of its table: it is sound, it names the live objects, and no group is in a mesh.
+    pub fn sound(&self)
+        ensures { IsHeap self.now }
+    {
+        let _next = self.next_serial;
+    }
+
+    // Stores bytes within a live object.
+    fn save(&mut self, serial: u32, addr: u32, off: u32, bytes: &[u8]) -> Stored
+        requires some { 1 ≤ length bytes.now }
+        requires few { length bytes.now ≤ 32 }
+        requires live { IsLiveFor self.old serial addr (off + length bytes.now) }
+        ensures { IsStore self.old self.new (stored_in self.old serial addr off bytes.now)
+            (is_blocked (table_of self.old.base) (addr + off) (length bytes.now)) result }
+    {
+        self.base.sound();
+        let from = addr + off;
+        if self.base.blocked(from, bytes.len() as u32) {
+            return Stored::Blocked;
+        }
+        self.base.save(from, bytes);
+        Stored::Done
+    }
+
+    // The object that a reference names, None where it is stale.
+    fn live(&self, object: Ref) -> Option<Occupied>
+        ensures there { IfSome result (IsReferred self.now object) }
+        ensures none { IfNone result (referred (plain_of self.now) object ≡ Err Refusal.Freed) }
+    {
+        let found = self.object_at(object.addr)?;
+        if found.offset == 0 && found.serial == object.serial {
+            Some(found)
+        } else {
+            None
+        }
+    }
+
+    // The object whose range has the address.
+    fn holder(&self, addr: u32) -> Option<Occupied>
+        ensures there { IfSome result (IsHeld self.now addr) }
+        ensures none { IfNone result (holding (plain_of self.now) addr ≡ Err Refusal.Stray) }
+        ensures sound { IsHeap self.now }
+    {
+        let found = self.object_at(addr)?;
+        if found.offset < found.len {
+            Some(found)
+        } else {
+            None
+        }
+    }
+
+    // The object in whose slot an address is. None only where no live object's range has the address.
+    fn object_at(&self, addr: u32) -> Option<Occupied>
+        ensures there { IfSome result (IsObjectAt self.now addr) }
+        ensures found { (serial : ℕ) (r : Record) → record_with serial (live_records self.now) ≡ Some r → IsIn r addr
+            → IsSomeAnd result (λ o. (o.serial ≡ serial) × (r.address + o.offset ≡ addr) × (o.len ≡ r.len)) }
+        ensures sound { IsHeap self.now }
+    {
+        self.base.sound();
+        self.base.occupied_at(addr)
+    }
+}
+
+impl Occupied {
+    // Whether `len` bytes from offset `off` on are within the object.
+    fn has_range(self, off: u32, len: u32) -> bool
+        ensures within { OnTrue result (off + len ≤ self.len) }
+        ensures past { OnFalse result (self.len < off + len) }
+    {
+        len <= self.len && off <= self.len - len
+    }
+}
