@@ -1,7 +1,9 @@
 //! What each command does to heap and roots, and what it is answered.
-ghost use Rattle.std.specs.Prelude.{◌≡◌, ◌+◌, ◌-◌, ◌^◌, ◌<◌, ◌≤◌, length};
+ghost use Rattle.std.specs.Prelude.{◌≡◌, ◌+◌, ◌-◌, ◌^◌, ◌<◌, ◌≤◌, Err, length, IfOk, IfErr};
 ghost use Rattle.mesh_model.specs.Commands.{IsInRange};
+ghost use Rattle.mesh_model.specs.Plain.{named_by};
 ghost use Rattle.mesh_mutator.specs.Attempts.{IsUnrecorded};
+ghost use Rattle.mesh_mutator.specs.Book.{AreRooted, IsLooked, IsNamedBy, IsPerformed, attempt_of, memory_in};
 
 use crate::roots::Roots;
 use crate::{Command, Refusal, Reply};
@@ -24,6 +26,11 @@ pub enum Attempt {
 pub fn perform(heap: &mut Heap, roots: &mut Roots, command: &Command) -> Attempt
     requires range { IsInRange command.now }
     requires serials { heap.old.next_serial < 2 ^ 32 - 1 }
+    requires cells { length roots.old ≡ 256 }
+    requires rooted { AreRooted heap.old roots.old }
+    ensures performed { IsPerformed heap.old heap.new roots.old roots.new command.now result }
+    ensures rooted { AreRooted heap.new roots.new }
+    ensures cells { length roots.new ≡ 256 }
     ensures serials { heap.new.next_serial ≤ heap.old.next_serial + 1 }
     ensures same { IsUnrecorded result → heap.new.next_serial ≡ heap.old.next_serial }
 {
@@ -34,14 +41,19 @@ pub fn perform(heap: &mut Heap, roots: &mut Roots, command: &Command) -> Attempt
         Command::Free(cell) => Attempt::Done(free(heap, roots, *cell)),
         Command::Alias(to, from) => Attempt::Done(alias(heap, roots, *to, *from)),
         Command::Addr(cell) => Attempt::Done(address(heap, roots, *cell)),
-        Command::Peek(addr) => Attempt::Done(peek(heap, *addr)),
-        Command::Poke(addr, byte) => stored(heap.poke(*addr, *byte)),
+        Command::Peek(addr) => Attempt::Done(peek(heap, roots, *addr)),
+        Command::Poke(addr, byte) => poke(heap, roots, *addr, *byte),
     }
 }
 
 // Makes an object and stores its reference in a cell. A refused one leaves the cell.
 fn make(heap: &mut Heap, roots: &mut Roots, cell: u8, len: u32, word: u64) -> Attempt
-    requires { heap.old.next_serial < 2 ^ 32 - 1 }
+    requires serials { heap.old.next_serial < 2 ^ 32 - 1 }
+    requires cells { length roots.old ≡ 256 }
+    requires rooted { AreRooted heap.old roots.old }
+    ensures performed { IsPerformed heap.old heap.new roots.old roots.new (Command.New cell len word) result }
+    ensures rooted { AreRooted heap.new roots.new }
+    ensures cells { length roots.new ≡ 256 }
     ensures serials { heap.new.next_serial ≤ heap.old.next_serial + 1 }
     ensures same { IsUnrecorded result → heap.new.next_serial ≡ heap.old.next_serial }
 {
@@ -59,7 +71,10 @@ fn make(heap: &mut Heap, roots: &mut Roots, cell: u8, len: u32, word: u64) -> At
 fn put(heap: &mut Heap, roots: &Roots, cell: u8, off: u32, bytes: &[u8]) -> Attempt
     requires some { 1 ≤ length bytes.now }
     requires few { length bytes.now ≤ 32 }
-    ensures { heap.new.next_serial ≡ heap.old.next_serial }
+    requires rooted { AreRooted heap.old roots.now }
+    ensures performed { IsPerformed heap.old heap.new roots.now roots.now (Command.Put cell off (record { items = bytes.now })) result }
+    ensures rooted { AreRooted heap.new roots.now }
+    ensures serial { heap.new.next_serial ≡ heap.old.next_serial }
 {
     match roots.get(cell) {
         Some(object) => stored(heap.write(object, off, bytes)),
@@ -67,8 +82,20 @@ fn put(heap: &mut Heap, roots: &Roots, cell: u8, off: u32, bytes: &[u8]) -> Atte
     }
 }
 
+// Stores a byte at an address.
+fn poke(heap: &mut Heap, roots: &Roots, addr: u32, byte: u8) -> Attempt
+    requires { AreRooted heap.old roots.now }
+    ensures performed { IsPerformed heap.old heap.new roots.now roots.now (Command.Poke addr byte) result }
+    ensures rooted { AreRooted heap.new roots.now }
+    ensures serial { heap.new.next_serial ≡ heap.old.next_serial }
+{
+    stored(heap.poke(addr, byte))
+}
+
 // What a store's answer is to its worker.
-fn stored(stored: Stored) -> Attempt {
+fn stored(stored: Stored) -> Attempt
+    ensures { result ≡ attempt_of stored }
+{
     match stored {
         Stored::Done => Attempt::Done(Reply::Done),
         Stored::Blocked => Attempt::Blocked,
@@ -80,6 +107,8 @@ fn stored(stored: Stored) -> Attempt {
 pub fn get(heap: &Heap, roots: &Roots, cell: u8, off: u32, len: u32) -> Reply
     requires some { 1 ≤ len }
     requires few { len ≤ 32 }
+    requires rooted { AreRooted heap.now roots.now }
+    ensures { IsLooked heap.now roots.now (Command.Get cell off len) result }
 {
     match roots.get(cell) {
         Some(object) => match heap.read(object, off, len) {
@@ -92,7 +121,10 @@ pub fn get(heap: &Heap, roots: &Roots, cell: u8, off: u32, len: u32) -> Reply
 
 // Frees the object that a cell names. The cell keeps its reference.
 fn free(heap: &mut Heap, roots: &Roots, cell: u8) -> Reply
-    ensures { heap.new.next_serial ≡ heap.old.next_serial }
+    requires { AreRooted heap.old roots.now }
+    ensures performed { IsPerformed heap.old heap.new roots.now roots.now (Command.Free cell) (Attempt.Done result) }
+    ensures rooted { AreRooted heap.new roots.now }
+    ensures serial { heap.new.next_serial ≡ heap.old.next_serial }
 {
     match roots.get(cell) {
         Some(object) => match heap.free(object) {
@@ -104,7 +136,13 @@ fn free(heap: &mut Heap, roots: &Roots, cell: u8) -> Reply
 }
 
 // Stores in one cell the reference of another, where it names a live object.
-fn alias(heap: &Heap, roots: &mut Roots, to: u8, from: u8) -> Reply {
+fn alias(heap: &Heap, roots: &mut Roots, to: u8, from: u8) -> Reply
+    requires cells { length roots.old ≡ 256 }
+    requires rooted { AreRooted heap.now roots.old }
+    ensures performed { IsPerformed heap.now heap.now roots.old roots.new (Command.Alias to from) (Attempt.Done result) }
+    ensures rooted { AreRooted heap.now roots.new }
+    ensures cells { length roots.new ≡ 256 }
+{
     match live(heap, roots, from) {
         Ok(object) => {
             roots.set(to, object);
@@ -115,7 +153,10 @@ fn alias(heap: &Heap, roots: &mut Roots, to: u8, from: u8) -> Reply {
 }
 
 // The address of the object that a cell names.
-pub fn address(heap: &Heap, roots: &Roots, cell: u8) -> Reply {
+pub fn address(heap: &Heap, roots: &Roots, cell: u8) -> Reply
+    requires { AreRooted heap.now roots.now }
+    ensures { IsLooked heap.now roots.now (Command.Addr cell) result }
+{
     match live(heap, roots, cell) {
         Ok(object) => Reply::At(object.addr),
         Err(refusal) => Reply::Refused(refusal),
@@ -123,7 +164,9 @@ pub fn address(heap: &Heap, roots: &Roots, cell: u8) -> Reply {
 }
 
 // The byte at an address.
-pub fn peek(heap: &Heap, addr: u32) -> Reply {
+pub fn peek(heap: &Heap, roots: &Roots, addr: u32) -> Reply
+    ensures { IsLooked heap.now roots.now (Command.Peek addr) result }
+{
     match heap.peek(addr) {
         Ok(byte) => Reply::Byte(byte),
         Err(refusal) => Reply::Refused(refusal),
@@ -131,8 +174,14 @@ pub fn peek(heap: &Heap, addr: u32) -> Reply {
 }
 
 // The live object that a cell names: EMPTY where the cell holds no reference, FREED where its object isn't live.
-fn live(heap: &Heap, roots: &Roots, cell: u8) -> Result<Ref, Refusal> {
-    let object = roots.get(cell).ok_or(Refusal::Empty)?;
+fn live(heap: &Heap, roots: &Roots, cell: u8) -> Result<Ref, Refusal>
+    requires { AreRooted heap.now roots.now }
+    ensures named { IfOk result (IsNamedBy heap.now roots.now cell) }
+    ensures refused { IfErr result (λ refusal. named_by (memory_in heap.now roots.now) cell ≡ Err refusal) }
+{
+    let Some(object) = roots.get(cell) else {
+        return Err(Refusal::Empty);
+    };
     if heap.is_live(object) {
         Ok(object)
     } else {

@@ -1,24 +1,22 @@
 //! `Book`: a heap with its roots, driven by commands, and the journal of the answers.
-ghost use Rattle.std.specs.Prelude.{◌≤◌, vec_len, vec_capacity};
-ghost use Rattle.mesh_mutator.specs.Attempts.{IsLook};
+ghost use Rattle.std.specs.Prelude.{◌≡◌, ◌≤◌, ◌↔◌, [], IfOk, length, vec_capacity};
 ghost use Rattle.mesh_model.specs.Commands.{IsInRange};
+ghost use Rattle.mesh_model.specs.Memory.{empty_memory};
+ghost use Rattle.mesh_model.specs.Plain.{IsLegal};
+ghost use Rattle.mesh_model.specs.Table.{empty_table};
+ghost use Rattle.mesh_mutator.specs.Attempts.{IsLook};
+ghost use Rattle.mesh_mutator.specs.Book.{IsAttempt, IsLooked, memory_of_book, table_of_book};
+ghost use Rattle.mesh_mutator.specs.declared.attempts.Attempt.{Attempt};
 
 use crate::attempts::{address, get, peek, perform};
+use crate::entry::Entry;
 use crate::roots::Roots;
 use crate::{Attempt, Command, Reply};
+use mesh_model::history_laws::answered_is_step;
+use mesh_model::laws::legal_histories;
 use mesh_steps::Heap;
 use std::alloc::{AllocError, Global};
-
-/// One answered command: who gave it, what it was, and what it was answered.
-#[derive(Debug, Drop, PartialEq, Eq)]
-pub struct Entry {
-    /// The worker's number.
-    pub worker: u32,
-    /// The command.
-    pub command: Command,
-    /// Its reply, a refusal included.
-    pub reply: Reply,
-}
+use std::marker::Model;
 
 /// A heap, its root cells and the journal of all answered commands, in their order of effect.
 #[derive(Drop)]
@@ -28,10 +26,20 @@ pub struct Book {
     journal: Vec<Entry>,
     // How many entries the journal was made for.
     reserved: usize,
-    ghost room: { reserved ≤ vec_capacity journal },
-    ghost short: { vec_len journal ≤ reserved },
-    ghost limit: { reserved ≤ 65536 },
-    ghost serials: { heap.next_serial ≤ vec_len journal },
+}
+
+impl Model for Book {
+    ghost use Rattle.std.specs.Prelude.{◌≤◌, vec_capacity};
+    ghost use Rattle.mesh_mutator.specs.Book.{Book as State, IsBook, book_code};
+
+    ghost Value = { State };
+
+    ghost coded = { book_code };
+
+    ghost view = { λ b. record { heap = b.heap; cells = b.roots; entries = b.journal.items; room = b.reserved } };
+
+    ghost invariant = { λ b. IsBook (record { heap = b.heap; cells = b.roots; entries = b.journal.items; room = b.reserved })
+        × (b.reserved ≤ vec_capacity b.journal) };
 }
 
 impl Book {
@@ -40,6 +48,10 @@ impl Book {
         requires some { 1 ≤ pages }
         requires most { pages ≤ 4096 }
         requires limit { history ≤ 65536 }
+        ensures memory { IfOk result (λ book. memory_of_book book ≡ empty_memory) }
+        ensures table { IfOk result (λ book. table_of_book book ≡ empty_table pages) }
+        ensures entries { IfOk result (λ book. book.entries ≡ []) }
+        ensures room { IfOk result (λ book. book.room ≡ history) }
     {
         let reserved = history as usize;
         let journal = Vec::with_capacity(alloc, reserved)?;
@@ -52,8 +64,11 @@ impl Book {
         })
     }
 
-    /// The entries of the journal.
-    pub fn journal(&self) -> &[Entry] {
+    /// The entries of the journal: a legal history of the plain memory, which ends in what heap and roots stand for.
+    pub fn journal(&self) -> &[Entry]
+        ensures entries { result.now ≡ self.now.entries }
+        ensures legal { IsLegal result.now (memory_of_book self.now) }
+    {
         self.journal.as_slice()
     }
 
@@ -63,17 +78,18 @@ impl Book {
     /// `Poke` that touches a read-only page, then OutOfMemory of a `New` that needs a new span. Only a Done attempt is recorded.
     pub fn act(&mut self, worker: u32, command: &Command) -> Attempt
         requires { IsInRange command.now }
+        ensures attempt { IsAttempt self.old self.new worker command.now result }
+        ensures full { (result ≡ Attempt.HistoryFull) ↔ (self.old.room ≤ length self.old.entries) }
     {
         if self.journal.len() == self.reserved {
             return Attempt::HistoryFull;
         }
+        self.heap.sound();
+        answered_is_step();
+        legal_histories();
         let attempt = perform(&mut self.heap, &mut self.roots, command);
         if let Attempt::Done(reply) = &attempt {
-            let entry = Entry {
-                worker,
-                command: command.clone().unwrap(),
-                reply: reply.clone().unwrap(),
-            };
+            let entry = Entry::of(worker, command, reply);
             self.journal.push_reserved(entry);
         }
         attempt
@@ -82,11 +98,12 @@ impl Book {
     /// What a `Get`, a `Peek` or an `Addr` is answered now. Records nothing.
     pub fn look(&self, command: &Command) -> Reply
         requires { IsLook command.now }
+        ensures { IsLooked self.now.heap self.now.cells command.now result }
     {
         match command {
             Command::Get(cell, off, len) => get(&self.heap, &self.roots, *cell, *off, *len),
             Command::Addr(cell) => address(&self.heap, &self.roots, *cell),
-            Command::Peek(addr) => peek(&self.heap, *addr),
+            Command::Peek(addr) => peek(&self.heap, &self.roots, *addr),
             _ => unreachable!(),
         }
     }

@@ -4,9 +4,11 @@
 #![tactic(auto)]
 
 mod attempts;
+mod entry;
 mod journal;
 mod roots;
 
 pub use attempts::Attempt;
-pub use journal::{Book, Entry};
+pub use entry::Entry;
+pub use journal::Book;
 pub use mesh_model::{Command, Refusal, Reply};

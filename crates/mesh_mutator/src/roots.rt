@@ -1,5 +1,6 @@
 //! The root cells.
-ghost use Rattle.std.specs.Prelude.{◌≡◌, ◌<◌, None, length, replicate, slice_index_or, slice_set};
+ghost use Rattle.std.specs.Prelude.{◌≡◌, ◌<◌, Some, None, length, replicate, slice_index_or, slice_set};
+ghost use Rattle.mesh_mutator.specs.Book.{cell_at};
 
 use mesh_steps::Ref;
 use std::marker::Model;
@@ -13,21 +14,36 @@ pub(crate) struct Roots {
     cells: [Option<Ref>; CELLS],
 }
 
+impl Model for Roots {
+    ghost use Rattle.mesh_mutator.specs.Book.{Cells};
+
+    ghost Value = { Cells };
+
+    ghost view = { λ r. r.cells };
+}
+
 impl Roots {
     /// All cells empty.
-    pub fn new() -> Roots {
+    pub fn new() -> Roots
+        ensures { result ≡ replicate 256 None }
+    {
         Roots {
             cells: [None; CELLS],
         }
     }
 
     /// What a cell holds.
-    pub fn get(&self, cell: u8) -> Option<Ref> {
+    pub fn get(&self, cell: u8) -> Option<Ref>
+        ensures { result ≡ cell_at self.now cell }
+    {
         self.cells[usize::from(cell)]
     }
 
     /// Lets a cell hold a reference.
-    pub fn set(&mut self, cell: u8, object: Ref) {
+    pub fn set(&mut self, cell: u8, object: Ref)
+        ensures value { self.new ≡ slice_set self.old cell (Some object) }
+        ensures length { length self.new ≡ length self.old }
+    {
         self.cells[usize::from(cell)] = Some(object);
     }
 }

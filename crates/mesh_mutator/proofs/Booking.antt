@@ -1,0 +1,105 @@
+-- What an attempt leaves of a book.
+use Rattle.std.proofs.Common.{◌≡◌, ℕ, ◌+◌, ◌<◌, ◌≤◌, List, [], ◌∷◌, ◌++◌, length, ap, subst, refl, sym, ◌∙◌, arith, rules}
+use Rattle.std.proofs.Math.ListN.{length-append}
+use Rattle.mesh_model.specs.HistoryLaws.{AnsweredIsStep}
+use Rattle.mesh_model.specs.Jobs.{answered}
+use Rattle.mesh_model.specs.Laws.{LegalGoesOn}
+use Rattle.mesh_model.specs.Memory.{Memory}
+use Rattle.mesh_model.specs.Plain.{Entry, IsLegal, PlainStep}
+use Rattle.mesh_model.specs.Sound.{IsTied}
+use Rattle.mesh_model.specs.declared.commands.Command.{Command}
+use Rattle.mesh_model.specs.declared.commands.Reply.{Reply}
+use Rattle.mesh_mutator.specs.Attempts.{IsUnrecorded}
+use Rattle.mesh_mutator.specs.Book.{AreRooted, Book, Cells, IsAttempt, IsBook, IsOutcome, IsPerformed, IsSame, memory_in, memory_of_book}
+use Rattle.mesh_mutator.specs.declared.attempts.Attempt.{Attempt}
+use Rattle.mesh_mutator.specs.declared.attempts.Attempt.TheVariants.{Blocked, Done, HistoryFull, OutOfMemory}
+use Rattle.mesh_steps.specs.Ground.{table_of}
+use Rattle.mesh_steps.specs.Heap.{Heap, IsHeap, plain_of}
+
+-- the entry of an answered command
+abbrev pub entry_of : ℕ → Command → Reply → Entry
+entry_of worker command reply = record { worker = worker; command = command; reply = reply }
+
+-- the book after an answered command
+abbrev pub answered_book : Book → Heap → Cells → Entry → Book
+answered_book b h cells entry = record { heap = h; cells = cells; entries = b.entries ++ entry ∷ []; room = b.room }
+
+-- the memory is tied to the table with any roots
+IsTied_roots : (h : Heap) (cells : Cells) → IsTied (plain_of h) (table_of h.base) → IsTied (memory_in h cells) (table_of h.base)
+IsTied_roots h cells tied = record {
+  slots = λ number k group slot there filled. let live = tied.slots number k group slot there filled in
+      record { object = live.object; live = live.live; address = live.address; len = live.len };
+  objects = tied.objects;
+}
+
+-- a command that was answered and recorded leaves a book
+pub IsBook_answered : (b : Book) (h : Heap) (cells : Cells) (worker : ℕ) (command : Command) (reply : Reply) → AnsweredIsStep → LegalGoesOn → IsHeap b.heap
+    → IsBook b → length b.entries < b.room → IsPerformed b.heap h b.cells cells command (Done reply) → AreRooted h cells → length cells ≡ 256
+    → h.next_serial ≤ b.heap.next_serial + 1 → IsBook (answered_book b h cells (entry_of worker command reply))
+IsBook_answered b h cells worker command reply steps goes_on heap book short done rooted long next =
+    let m : Memory = memory_of_book b in
+    let tied : IsTied m (table_of b.heap.base) = IsTied_roots b.heap b.cells heap.tied in
+    let step : PlainStep m command (answered m (table_of b.heap.base) command).reply (answered m (table_of b.heap.base) command).memory
+    = steps m (table_of b.heap.base) command heap.sound tied in
+    let outcome = done.0 in
+    let step' : PlainStep m command reply (memory_in h cells)
+    = subst (λ (r : Reply). PlainStep m command r (memory_in h cells)) (sym outcome.reply_is)
+    (subst (λ (n : Memory). PlainStep m command (answered m (table_of b.heap.base) command).reply n) (sym outcome.memory) step) in
+    record {
+      cells = long;
+      rooted = rooted;
+      legal = goes_on b.entries m (memory_in h cells) (entry_of worker command reply) book.legal step';
+      short = rw (length-append b.entries (entry_of worker command reply ∷ [])) (omega (arith, short));
+      limit = book.limit;
+      serials = rw (length-append b.entries (entry_of worker command reply ∷ [])) (let more = book.serials in omega (arith, more, next));
+    }
+
+-- it is what the attempt comes to
+pub attempt_answered : (b : Book) (h : Heap) (cells : Cells) (worker : ℕ) (command : Command) (reply : Reply) (attempt : Attempt) → length b.entries < b.room
+    → attempt ≡ Done reply → IsPerformed b.heap h b.cells cells command attempt
+    → IsAttempt b (answered_book b h cells (entry_of worker command reply)) worker command attempt
+attempt_answered b h cells worker command reply attempt short is done =
+    subst (λ (a : Attempt). IsAttempt b (answered_book b h cells (entry_of worker command reply)) worker command a) (sym is)
+    (let answered = subst (λ (a : Attempt). IsPerformed b.heap h b.cells cells command a) is done in
+    (short, answered.0, answered.1, refl, refl))
+
+-- an attempt that isn't recorded leaves a book
+pub IsBook_same : (b : Book) (h : Heap) (cells : Cells) → IsBook b → memory_in h cells ≡ memory_of_book b → AreRooted h cells → length cells ≡ 256
+    → h.next_serial ≡ b.heap.next_serial → IsBook (record { heap = h; cells = cells; entries = b.entries; room = b.room })
+IsBook_same b h cells book memory rooted long next = record {
+  cells = long;
+  rooted = rooted;
+  legal = subst (λ (m : Memory). IsLegal b.entries m) (sym memory) book.legal;
+  short = book.short;
+  limit = book.limit;
+  serials = let more = book.serials in omega (arith, more, next);
+}
+
+-- what it leaves
+pub unrecorded_memory : (b : Book) (h : Heap) (cells : Cells) (command : Command) (attempt : Attempt) → ((reply : Reply) → attempt ≡ Done reply → ⊥)
+    → IsPerformed b.heap h b.cells cells command attempt → memory_in h cells ≡ memory_of_book b
+unrecorded_memory b h cells command (Done reply) not_done done = absurd (not_done reply refl)
+unrecorded_memory b h cells command Blocked not_done done = done.1.memory
+unrecorded_memory b h cells command HistoryFull not_done done = absurd done
+unrecorded_memory b h cells command OutOfMemory not_done done = done.1.memory
+
+-- and that it is unrecorded
+pub unrecorded_is : (attempt : Attempt) → ((reply : Reply) → attempt ≡ Done reply → ⊥) → IsUnrecorded attempt
+unrecorded_is (Done reply) not_done = absurd (not_done reply refl)
+unrecorded_is Blocked not_done = tt
+unrecorded_is HistoryFull not_done = tt
+unrecorded_is OutOfMemory not_done = tt
+
+-- what it comes to
+pub attempt_unrecorded : (b : Book) (h : Heap) (cells : Cells) (worker : ℕ) (command : Command) (attempt : Attempt) → length b.entries < b.room
+    → ((reply : Reply) → attempt ≡ Done reply → ⊥) → IsPerformed b.heap h b.cells cells command attempt
+    → IsAttempt b (record { heap = h; cells = cells; entries = b.entries; room = b.room }) worker command attempt
+attempt_unrecorded b h cells worker command (Done reply) short not_done done = absurd (not_done reply refl)
+attempt_unrecorded b h cells worker command Blocked short not_done done = (short, done.0, done.1, refl, refl)
+attempt_unrecorded b h cells worker command HistoryFull short not_done done = absurd done
+attempt_unrecorded b h cells worker command OutOfMemory short not_done done = (short, done.0, done.1, refl, refl)
+
+-- an attempt with room in the journal doesn't find it full
+pub not_full : (b : Book) (h : Heap) (cells : Cells) (command : Command) (attempt : Attempt) → IsPerformed b.heap h b.cells cells command attempt
+    → attempt ≡ HistoryFull → ⊥
+not_full b h cells command attempt done is = subst (λ (a : Attempt). IsPerformed b.heap h b.cells cells command a) is done

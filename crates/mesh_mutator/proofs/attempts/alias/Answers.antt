@@ -1,0 +1,15 @@
+use Rattle.std.proofs.Common.{◌≡◌, Some, None, refl, sym, ap, subst, ◌∙◌, arith}
+use Rattle.mesh_mutator.proofs.Answering.{alias_done, alias_refused, rooted_set}
+use Rattle.mesh_mutator.proofs.attempts.alias.Goals as goal
+
+pub returns-in-Ok-clause-performed : goal.returns-in-Ok-clause-performed
+returns-in-Ok-clause-performed c =
+    rw c.set.ensures.value (alias_done c.args.heap.now c.args.roots.now c.args.to c.args.from c.in-Ok.object c.in-Ok.ensures.named)
+
+pub returns-in-Ok-clause-rooted : goal.returns-in-Ok-clause-rooted
+returns-in-Ok-clause-rooted c =
+    rw c.set.ensures.value (rooted_set c.args.heap.now c.args.roots.now c.args.to c.args.from c.in-Ok.object c.requires.rooted c.in-Ok.ensures.named.held)
+
+pub returns-in-Err-clause-performed : goal.returns-in-Err-clause-performed
+returns-in-Err-clause-performed c =
+    alias_refused c.args.heap.now c.args.roots.now c.args.to c.args.from c.in-Err.refusal c.in-Err.ensures.refused

@@ -1,0 +1,28 @@
+use Rattle.std.proofs.Common.{◌≡◌, ◌+◌, Some, length, refl, sym, ap, subst, ◌∙◌, arith}
+use Rattle.mesh_model.specs.declared.commands.Command.TheVariants.{Put}
+use Rattle.mesh_mutator.proofs.Answering.{put_alike, put_empty, rooted_stored, store_performed, stored_at_keeps, stored_serial}
+use Rattle.mesh_mutator.specs.Book.{cell_at}
+use Rattle.mesh_steps.specs.Heap.{plain_of, stored_at}
+use Rattle.mesh_mutator.proofs.attempts.put.Goals as goal
+
+pub returns-in-Some-clause-performed : goal.returns-in-Some-clause-performed
+returns-in-Some-clause-performed c =
+    let at : cell_at c.args.roots.now c.args.cell ≡ Some c.in-Some.object = sym c.in-Some.ensures in
+    rw c.stored.ensures (store_performed c.args.heap.now c.write.new.self c.args.roots.now (Put c.args.cell c.args.off (record { items = c.args.bytes.now }))
+    (stored_at (plain_of c.args.heap.now) c.in-Some.object c.args.off c.args.bytes.now) (c.in-Some.object.addr + c.args.off) (length c.args.bytes.now)
+    c.write.result refl
+    (put_alike c.args.heap.now c.args.roots.now c.args.cell c.args.off c.args.bytes.now c.in-Some.object c.requires.rooted at) c.write.ensures)
+
+pub returns-in-Some-clause-rooted : goal.returns-in-Some-clause-rooted
+returns-in-Some-clause-rooted c =
+    rooted_stored c.args.heap.now c.write.new.self c.args.roots.now (stored_at (plain_of c.args.heap.now) c.in-Some.object c.args.off c.args.bytes.now) _
+    c.write.result (λ n is. stored_at_keeps (plain_of c.args.heap.now) n c.in-Some.object c.args.off c.args.bytes.now is) c.write.ensures c.requires.rooted
+
+pub returns-in-Some-clause-serial : goal.returns-in-Some-clause-serial
+returns-in-Some-clause-serial c =
+    stored_serial c.args.heap.now c.write.new.self (stored_at (plain_of c.args.heap.now) c.in-Some.object c.args.off c.args.bytes.now) _ c.write.result
+    c.write.ensures
+
+pub returns-in-None-clause-performed : goal.returns-in-None-clause-performed
+returns-in-None-clause-performed c =
+    put_empty c.args.heap.now c.args.roots.now c.args.cell c.args.off c.args.bytes.now (sym c.in-None.ensures)

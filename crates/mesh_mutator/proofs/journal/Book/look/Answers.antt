@@ -1,0 +1,8 @@
+use Rattle.std.proofs.Common.{◌≡◌, sym, ap, subst}
+use Rattle.mesh_model.specs.declared.commands.Command.TheVariants.{Peek}
+use Rattle.mesh_mutator.specs.Book.{Book, IsLooked}
+use Rattle.mesh_mutator.proofs.journal.Book.look.Goals as goal
+
+pub returns-in-Peek : goal.returns-in-Peek
+returns-in-Peek c =
+    rw c.in-Peek.is (subst (λ (b : Book). IsLooked b.heap b.cells (Peek c.in-Peek.addr) c.peek.result) c.self.view_is c.peek.ensures)

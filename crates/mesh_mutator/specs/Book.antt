@@ -1,0 +1,138 @@
+-- A book: a heap with its root cells and the journal of what was answered, and what an attempt at a command comes to.
+use Rattle.std.specs.Prelude.{◌≡◌, ℕ, ◌+◌, ◌<◌, ◌≤◌, Bool, true, false, if◌then◌else◌, List, [], ◌∷◌, ◌++◌, length, map, replicate, slice_index_or, Option, Some, None, Result, Ok, Err, refl}
+use Rattle.std.specs.Option.{option_map}
+use Rattle.std.specs.Coded.{Coded, code_by, codes, coded×, coded_ℕ}
+use Rattle.mesh_model.specs.Jobs.{Outcome, answered, is_refusal, touches_read_only}
+use Rattle.mesh_model.specs.Memory.{Memory, Object, object_of}
+use Rattle.mesh_model.specs.Plain.{Entry, Follows, IsLegal, Named, named_by, plain}
+use Rattle.mesh_model.specs.Table.{Placed, Table, place_new}
+use Rattle.mesh_model.specs.declared.commands.Command.{Command}
+use Rattle.mesh_model.specs.declared.commands.Command.TheVariants.{New}
+use Rattle.mesh_model.specs.declared.commands.Reply.{Reply}
+use Rattle.mesh_model.specs.declared.commands.Reply.TheVariants.{Done as ReplyDone, Refused as ReplyRefused}
+use Rattle.mesh_steps.specs.declared.answers.Stored.{Stored}
+use Rattle.mesh_steps.specs.declared.answers.Stored.TheVariants.{Blocked as StoreBlocked, Done as StoreDone, Refused as StoreRefused}
+use Rattle.mesh_mutator.specs.declared.attempts.Attempt.{Attempt}
+use Rattle.mesh_mutator.specs.declared.attempts.Attempt.TheVariants.{Blocked, Done, HistoryFull, OutOfMemory}
+use Rattle.mesh_steps.specs.Ground.{open_group, table_of}
+use Rattle.mesh_steps.specs.Heap.{Heap, NeedsSpan, heap_code, memory_of, plain_of}
+use Rattle.mesh_steps.specs.declared.answers.Ref.{Ref}
+
+-- the references in the root cells
+abbrev pub Cells : Type 0
+Cells = List (Option Ref)
+
+-- the serial of a reference
+abbrev pub serial_of : Ref → ℕ
+serial_of object = object.serial
+
+-- the serials that the cells hold
+abbrev pub serials_of : Cells → List (Option ℕ)
+serials_of cells = map (option_map serial_of) cells
+
+-- what a cell holds
+abbrev pub cell_at : Cells → ℕ → Option Ref
+cell_at cells cell = slice_index_or cells cell None
+
+-- the plain memory that heap and cells stand for
+abbrev pub memory_in : Heap → Cells → Memory
+memory_in h cells = memory_of h (serials_of cells)
+
+-- each reference in a cell is of an object that was made, and has its address where it is live
+abbrev pub AreRooted : Heap → Cells → Type 0
+AreRooted h cells = (cell : ℕ) (object : Ref) → cell_at cells cell ≡ Some object
+    → (object.serial < h.next_serial) × ((live : Object) → object_of (plain_of h) object.serial ≡ Some live → live.address ≡ object.addr)
+
+-- heap and cells are what the outcome says
+pub record IsOutcome (h : Heap) (cells : Cells) (done : Outcome) (reply : Reply) : Type 0 where
+  pub reply_is : reply ≡ done.reply
+  pub memory : memory_in h cells ≡ done.memory
+  pub table : table_of h.base ≡ done.table
+
+-- a `new` that needs a new span, for which there is room
+abbrev pub IsNewForSpan : Heap → Command → Type 0
+IsNewForSpan h (New cell len word) = NeedsSpan h len word
+IsNewForSpan h command = ⊥
+
+-- nothing that a caller could see has changed
+pub record IsSame (h h' : Heap) (cells cells' : Cells) : Type 0 where
+  pub memory : memory_in h' cells' ≡ memory_in h cells
+  pub table : table_of h'.base ≡ table_of h.base
+
+-- the command is held back by a read-only page, and it isn't refused
+abbrev pub is_held_back : Memory → Table → Command → Reply → Bool
+is_held_back m t command reply = if is_refusal reply then false else touches_read_only m t command
+
+-- what an attempt at a command does to heap and cells
+abbrev pub IsPerformed : Heap → Heap → Cells → Cells → Command → Attempt → Type 0
+IsPerformed h h' cells cells' command (Done reply) =
+    IsOutcome h' cells' (answered (memory_in h cells) (table_of h.base) command) reply
+    × (is_held_back (memory_in h cells) (table_of h.base) command reply ≡ false)
+IsPerformed h h' cells cells' command Blocked =
+    (is_held_back (memory_in h cells) (table_of h.base) command (answered (memory_in h cells) (table_of h.base) command).reply ≡ true)
+    × IsSame h h' cells cells'
+IsPerformed h h' cells cells' command HistoryFull = ⊥
+IsPerformed h h' cells cells' command OutOfMemory = IsNewForSpan h command × IsSame h h' cells cells'
+
+-- a book: heap, cells, the answered commands, and how many there is room for
+pub record Book : Type 0 where
+  pub heap : Heap
+  pub cells : Cells
+  pub entries : List Entry
+  pub room : ℕ
+
+-- a book is stored as its parts
+abbrev pub book_code : Coded Book
+book_code =
+    code_by (Heap × (Cells × (List Entry × ℕ))) (coded× heap_code (coded× (Prim.hlevel codes) (coded× (Prim.hlevel codes) coded_ℕ)))
+    (λ b. (b.heap, (b.cells, (b.entries, b.room)))) (λ p. record { heap = p.0; cells = p.1.0; entries = p.1.1.0; room = p.1.1.1 }) (λ _. refl)
+
+-- the plain memory that a book stands for
+abbrev pub memory_of_book : Book → Memory
+memory_of_book b = memory_in b.heap b.cells
+
+-- and its table
+abbrev pub table_of_book : Book → Table
+table_of_book b = table_of b.heap.base
+
+-- the journal is a legal history that ends in what the book stands for
+pub record IsBook (b : Book) : Type 0 where
+  pub cells : length b.cells ≡ 256
+  pub rooted : AreRooted b.heap b.cells
+  pub legal : IsLegal b.entries (memory_of_book b)
+  pub short : length b.entries ≤ b.room
+  pub limit : b.room ≤ 65536
+  pub serials : b.heap.next_serial ≤ length b.entries
+
+-- what an attempt of a worker comes to: recorded as it was answered where it is done, else nothing changes
+abbrev pub IsAttempt : Book → Book → ℕ → Command → Attempt → Type 0
+IsAttempt old new worker command (Done reply) =
+    (length old.entries < old.room)
+    × IsOutcome new.heap new.cells (answered (memory_of_book old) (table_of_book old) command) reply
+    × (is_held_back (memory_of_book old) (table_of_book old) command reply ≡ false)
+    × (new.entries ≡ old.entries ++ record { worker = worker; command = command; reply = reply } ∷ []) × (new.room ≡ old.room)
+IsAttempt old new worker command Blocked =
+    (length old.entries < old.room)
+    × (is_held_back (memory_of_book old) (table_of_book old) command (answered (memory_of_book old) (table_of_book old) command).reply ≡ true)
+    × IsSame old.heap new.heap old.cells new.cells × (new.entries ≡ old.entries) × (new.room ≡ old.room)
+IsAttempt old new worker command HistoryFull = (old.room ≤ length old.entries) × (new ≡ old)
+IsAttempt old new worker command OutOfMemory =
+    (length old.entries < old.room) × IsNewForSpan old.heap command
+    × IsSame old.heap new.heap old.cells new.cells × (new.entries ≡ old.entries) × (new.room ≡ old.room)
+
+-- what a command is answered that changes nothing
+abbrev pub IsLooked : Heap → Cells → Command → Reply → Type 0
+IsLooked h cells command reply = Follows (plain (memory_in h cells) 0 command) (memory_in h cells) reply (memory_in h cells)
+
+-- the reference is that of the live object that the cell names
+pub record IsNamedBy (h : Heap) (cells : Cells) (cell : ℕ) (object : Ref) : Type 0 where
+  pub held : cell_at cells cell ≡ Some object
+  pub live : Object
+  pub named : named_by (memory_in h cells) cell ≡ Ok (record { serial = object.serial; object = live })
+  pub address : live.address ≡ object.addr
+
+-- what a store's answer is to its worker
+abbrev pub attempt_of : Stored → Attempt
+attempt_of StoreDone = Done ReplyDone
+attempt_of StoreBlocked = Blocked
+attempt_of (StoreRefused refusal) = Done (ReplyRefused refusal)
