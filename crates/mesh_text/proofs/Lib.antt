@@ -1,2 +1,10 @@
+pub mod Decimals
+pub mod FileEnds
+pub mod HexFields
 pub mod HexText
+pub mod ManyFields
 pub mod Parts
+pub mod PlanLines
+pub mod Reading
+pub mod Sames
+pub mod Splits

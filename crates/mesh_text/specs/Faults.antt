@@ -1,5 +1,6 @@
 -- Why a file can't be read, and why a replay stops.
-use Rattle.std.specs.Prelude.{ℕ}
+use Rattle.std.specs.Prelude.{ℕ, List}
+use Rattle.mesh_text.specs.Reading.{IsFaultOf}
 use Rattle.mesh_text.specs.declared.faults.LineFault.{LineFault}
 use Rattle.mesh_text.specs.declared.faults.LineFault.TheVariants.{Kind as LineKind, Memory as LineMemory}
 use Rattle.mesh_text.specs.declared.faults.ReadFault.{ReadFault}
@@ -23,3 +24,8 @@ IsBeforePlan (Text fault) = Unit {0}
 abbrev pub read_fault_at : LineFault → ℕ → ReadFault
 read_fault_at (LineKind kind) line = ReadText (record { line = line; kind = kind })
 read_fault_at LineMemory line = ReadMemory
+
+-- why a text gave no job: a fault of it, or want of memory
+abbrev pub IsReadFault : List ℕ → ReadFault → Type 0
+IsReadFault text (ReadText fault) = IsFaultOf text fault
+IsReadFault text ReadMemory = Unit {0}

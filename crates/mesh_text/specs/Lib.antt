@@ -1,8 +1,9 @@
+pub mod Answers
 pub mod Devices
 pub mod Draft
 pub mod Faults
-pub mod Hex
 pub mod Job
+pub mod Reading
 pub mod Transfer
 pub mod Turns
 pub use Rattle.mesh_model.specs.Commands

@@ -1,6 +1,7 @@
 //! The answer lines.
-ghost use Rattle.std.specs.Prelude.{◌≡◌, ◌<◌, [], ◌∷◌, ◌++◌, decimal, OnOk};
-ghost use Rattle.mesh_text.specs.Hex.{hex_digit, hex_text};
+ghost use Rattle.std.specs.Prelude.{◌≡◌, ◌<◌, ◌++◌, decimal, OnOk};
+ghost use Rattle.mesh_model.specs.Texts.{address_text, answer_text, byte_text, bytes_text, ended, hex_digit, refusal_text, reply_text};
+ghost use Rattle.mesh_text.specs.Answers.{answer_of};
 
 use itoa::Buffer;
 use mesh_model::{Refusal, Reply};
@@ -21,7 +22,9 @@ pub(crate) enum Answer {
 
 impl Answer {
     /// Adds the answer's line, with its line end.
-    pub(crate) fn add_to(&self, text: &mut Vec<u8>) -> Result<(), AllocError> {
+    pub(crate) fn add_to(&self, text: &mut Vec<u8>) -> Result<(), AllocError>
+        ensures { OnOk result (text.new.items ≡ text.old.items ++ ended (answer_text (answer_of self.now))) }
+    {
         match self {
             Answer::Replied(reply) => add_reply(text, reply)?,
             Answer::Blocked => text.extend_from_slice(b"blocked")?,
@@ -34,7 +37,9 @@ impl Answer {
 }
 
 /// Adds what a reply's line says.
-fn add_reply(text: &mut Vec<u8>, reply: &Reply) -> Result<(), AllocError> {
+fn add_reply(text: &mut Vec<u8>, reply: &Reply) -> Result<(), AllocError>
+    ensures { OnOk result (text.new.items ≡ text.old.items ++ reply_text reply.now) }
+{
     match reply {
         Reply::Object(serial, address) => add_object(text, *serial, *address),
         Reply::Done => text.extend_from_slice(b"done"),
@@ -55,7 +60,9 @@ fn add_reply(text: &mut Vec<u8>, reply: &Reply) -> Result<(), AllocError> {
 }
 
 /// Adds `object SERIAL at ADDR`.
-fn add_object(text: &mut Vec<u8>, serial: u32, address: u32) -> Result<(), AllocError> {
+fn add_object(text: &mut Vec<u8>, serial: u32, address: u32) -> Result<(), AllocError>
+    ensures { OnOk result (text.new.items ≡ text.old.items ++ reply_text (Reply.Object serial address)) }
+{
     text.extend_from_slice(b"object ")?;
     add_decimal(text, u64::from(serial))?;
     text.extend_from_slice(b" at ")?;
@@ -63,7 +70,9 @@ fn add_object(text: &mut Vec<u8>, serial: u32, address: u32) -> Result<(), Alloc
 }
 
 /// Adds `refused NUMBER NAME`.
-fn add_refusal(text: &mut Vec<u8>, refusal: Refusal) -> Result<(), AllocError> {
+fn add_refusal(text: &mut Vec<u8>, refusal: Refusal) -> Result<(), AllocError>
+    ensures { OnOk result (text.new.items ≡ text.old.items ++ refusal_text refusal) }
+{
     text.extend_from_slice(b"refused ")?;
     add_decimal(text, u64::from(refusal.number()))?;
     text.push(b' ')?;
@@ -79,7 +88,9 @@ fn add_decimal(text: &mut Vec<u8>, number: u64) -> Result<(), AllocError>
 }
 
 /// Adds an address in hexadecimal digits without a leading zero.
-fn add_address(text: &mut Vec<u8>, address: u32) -> Result<(), AllocError> {
+fn add_address(text: &mut Vec<u8>, address: u32) -> Result<(), AllocError>
+    ensures { OnOk result (text.new.items ≡ text.old.items ++ address_text address) }
+{
     if address >= 16 {
         add_address(text, address / 16)?;
     }
@@ -89,7 +100,7 @@ fn add_address(text: &mut Vec<u8>, address: u32) -> Result<(), AllocError> {
 
 /// Adds bytes, two hexadecimal digits each.
 fn add_bytes(text: &mut Vec<u8>, bytes: &[u8]) -> Result<(), AllocError>
-    ensures { OnOk result (text.new.items ≡ text.old.items ++ hex_text bytes.now) }
+    ensures { OnOk result (text.new.items ≡ text.old.items ++ bytes_text bytes.now) }
 {
     for byte in bytes {
         add_byte(text, *byte)?;
@@ -99,7 +110,7 @@ fn add_bytes(text: &mut Vec<u8>, bytes: &[u8]) -> Result<(), AllocError>
 
 /// Adds a byte in two hexadecimal digits.
 fn add_byte(text: &mut Vec<u8>, byte: u8) -> Result<(), AllocError>
-    ensures { OnOk result (text.new.items ≡ text.old.items ++ hex_text (byte ∷ [])) }
+    ensures { OnOk result (text.new.items ≡ text.old.items ++ byte_text byte) }
 {
     text.push(digit(byte / 16))?;
     text.push(digit(byte % 16))?;

@@ -1,10 +1,14 @@
 //! The job as far as its file was read, line by line.
-ghost use Rattle.std.specs.Prelude.{◌≡◌, ◌<◌, true, [], ◌∷◌, ◌++◌, length, OnOk, IfOk};
-ghost use Rattle.mesh_text.specs.Draft.{IsDraft, is_end};
+ghost use Rattle.std.specs.Prelude.{◌≡◌, ◌<◌, true, false, [], ◌∷◌, ◌++◌, Ok, Err, drop, length, OnOk, IfOk, IfErr};
+ghost use Rattle.std.specs.List.{list_any};
+ghost use Rattle.mesh_model.specs.Files.{blank_draft, has_ended, is_empty, job_of, plan_line, script_line, take_fields, take_in};
+ghost use Rattle.mesh_text.specs.Draft.{IsDraft, draft_of, is_in_header, section_of};
+ghost use Rattle.mesh_text.specs.Reading.{IsFaultOfFields, IsFaultOfLine, IsFaultOfPlan, IsFaultOfStep, IsReadOn, text_lines, texts};
 
 use crate::commands::command_of;
 use crate::faults::LineFault;
-use crate::lines::{bare, fields_of, next_line, numbered, word_of};
+use crate::lines::{fields_of, header, is_word, next_line, no_field, one_field};
+use crate::numbers::number32;
 use crate::{Job, Plan, Script, Scripts};
 use mesh_model::{FaultKind, PlanLine};
 use std::alloc::Global;
@@ -57,7 +61,8 @@ pub(crate) struct Draft {
 impl Draft {
     /// A job of which no line was read.
     pub(crate) fn new(alloc: Global) -> Self
-        ensures { IsDraft result }
+        ensures draft { IsDraft result }
+        ensures blank { draft_of result ≡ blank_draft }
     {
         Draft {
             alloc,
@@ -73,7 +78,7 @@ impl Draft {
 
     /// Whether the line `end` was read.
     pub(crate) fn has_ended(&self) -> bool
-        ensures { result ≡ is_end self.now.section }
+        ensures { result ≡ has_ended (draft_of self.now).section }
     {
         match self.section {
             Section::Ended => true,
@@ -83,9 +88,13 @@ impl Draft {
 
     /// Takes the next line of the text, and gives the bytes behind it.
     pub(crate) fn take_line<'a>(&mut self, text: &'a [u8]) -> Result<&'a [u8], LineFault>
-        requires { IsDraft self.old }
+        requires draft { IsDraft self.old }
+        requires going { has_ended (draft_of self.old).section ≡ false }
         ensures draft { OnOk result (IsDraft self.new) }
         ensures shorter { IfOk result (λ rest. length rest.now < length text.now) }
+        ensures lines { IfOk result (λ rest. drop 1 (text_lines text.now) ≡ text_lines rest.now) }
+        ensures ok { IfOk result (λ rest. IsReadOn (draft_of self.old) text.now (draft_of self.new) rest.now) }
+        ensures err { IfErr result (λ fault. IsFaultOfLine (draft_of self.old) text.now fault) }
     {
         let (line, rest) = next_line(text)?;
         let fields = fields_of(line)?;
@@ -95,78 +104,103 @@ impl Draft {
 
     /// Takes the fields of the next line.
     fn take(&mut self, fields: &[&[u8]]) -> Result<(), LineFault>
-        requires { IsDraft self.old }
-        ensures { OnOk result (IsDraft self.new) }
+        requires draft { IsDraft self.old }
+        requires filled { list_any is_empty (texts fields.now) ≡ false }
+        ensures draft { OnOk result (IsDraft self.new) }
+        ensures ok { OnOk result (take_fields (draft_of self.old) (texts fields.now) ≡ Ok (draft_of self.new)) }
+        ensures err { IfErr result (λ fault. IsFaultOfFields (draft_of self.old) (texts fields.now) fault) }
+    {
+        let [word, fields @ ..] = fields else {
+            return Err(LineFault::Kind(FaultKind::Word));
+        };
+        match self.section {
+            Section::Worker(worker) => self.take_in_script(worker, *word, fields),
+            Section::Plan => self.take_in_plan(*word, fields),
+            _ => Ok(self.take_header(*word, fields)?),
+        }
+    }
+
+    /// Takes a line of the header, or of what follows the end.
+    fn take_header(&mut self, word: &[u8], fields: &[&[u8]]) -> Result<(), FaultKind>
+        requires draft { IsDraft self.old }
+        requires section { is_in_header self.old.section ≡ true }
+        ensures draft { OnOk result (IsDraft self.new) }
+        ensures ok { OnOk result (take_in (section_of self.old.section) (draft_of self.old) word.now (texts fields.now) ≡ Ok (draft_of self.new)) }
+        ensures err { IfErr result (λ kind. take_in (section_of self.old.section) (draft_of self.old) word.now (texts fields.now) ≡ Err kind) }
     {
         match self.section {
             Section::Version => {
-                numbered(fields, b"mesh", 1, 1)?;
+                header(word, fields, b"mesh", 1, 1)?;
                 self.section = Section::Pages;
             }
             Section::Pages => {
-                self.pages = numbered(fields, b"pages", 1, MOST_PAGES)?;
+                self.pages = header(word, fields, b"pages", 1, MOST_PAGES)?;
                 self.section = Section::History;
             }
             Section::History => {
-                self.history = numbered(fields, b"history", 0, MOST_HISTORY)?;
+                self.history = header(word, fields, b"history", 0, MOST_HISTORY)?;
                 self.section = Section::Workers;
             }
             Section::Workers => {
-                self.workers = numbered(fields, b"workers", 1, MOST_WORKERS)?;
+                self.workers = header(word, fields, b"workers", 1, MOST_WORKERS)?;
                 self.section = Section::FirstWorker;
             }
             Section::FirstWorker => {
-                numbered(fields, b"worker", 0, 0)?;
+                header(word, fields, b"worker", 0, 0)?;
                 self.section = Section::Worker(0);
             }
-            Section::Worker(worker) => self.take_in_script(worker, fields)?,
-            Section::Plan => self.take_in_plan(fields)?,
-            Section::Ended => return Err(LineFault::Kind(FaultKind::Trailing)),
+            _ => return Err(FaultKind::Trailing),
         }
         Ok(())
     }
 
     /// Takes a line in the section of a worker: a command, the heading of the next worker or that of the plan.
-    fn take_in_script(&mut self, worker: u32, fields: &[&[u8]]) -> Result<(), LineFault>
+    fn take_in_script(
+        &mut self,
+        worker: u32,
+        word: &[u8],
+        fields: &[&[u8]],
+    ) -> Result<(), LineFault>
         requires section { self.old.section ≡ Section.Worker worker }
         requires draft { IsDraft self.old }
-        ensures { OnOk result (IsDraft self.new) }
+        ensures draft { OnOk result (IsDraft self.new) }
+        ensures ok { OnOk result (script_line (draft_of self.old) worker word.now (texts fields.now) ≡ Ok (draft_of self.new)) }
+        ensures err { IfErr result (IsFaultOfStep (script_line (draft_of self.old) worker word.now (texts fields.now))) }
     {
         let next = worker + 1;
-        match word_of(fields)? {
-            b"worker" if next < self.workers => {
-                numbered(fields, b"worker", next, next)?;
-                close_script(self.alloc, &mut self.script, &mut self.scripts)?;
-                self.section = Section::Worker(next);
-            }
-            b"plan" if next == self.workers => {
-                bare(fields, b"plan")?;
-                close_script(self.alloc, &mut self.script, &mut self.scripts)?;
-                self.section = Section::Plan;
-            }
-            word => {
-                let command = command_of(word, fields)?;
-                self.script.push(command)?;
-            }
+        if is_word(word, b"worker") && next < self.workers {
+            let field = one_field(fields)?;
+            number32(field, next, next)?;
+            close_script(self.alloc, &mut self.script, &mut self.scripts)?;
+            self.section = Section::Worker(next);
+        } else if is_word(word, b"plan") && next == self.workers {
+            no_field(fields)?;
+            close_script(self.alloc, &mut self.script, &mut self.scripts)?;
+            self.section = Section::Plan;
+        } else {
+            let command = command_of(word, fields)?;
+            self.script.push(command)?;
         }
         Ok(())
     }
 
     /// Takes a line in the section of the plan: a turn of a worker, or the end.
-    fn take_in_plan(&mut self, fields: &[&[u8]]) -> Result<(), LineFault>
+    fn take_in_plan(&mut self, word: &[u8], fields: &[&[u8]]) -> Result<(), LineFault>
         requires section { self.old.section ≡ Section.Plan }
         requires draft { IsDraft self.old }
-        ensures { OnOk result (IsDraft self.new) }
+        ensures draft { OnOk result (IsDraft self.new) }
+        ensures ok { OnOk result (plan_line (draft_of self.old) word.now (texts fields.now) ≡ Ok (draft_of self.new)) }
+        ensures err { IfErr result (λ fault. IsFaultOfPlan (draft_of self.old) word.now (texts fields.now) fault) }
     {
-        match word_of(fields)? {
-            b"end" => {
-                bare(fields, b"end")?;
-                self.section = Section::Ended;
-            }
-            _ => {
-                let worker = numbered(fields, b"run", 0, self.workers - 1)?;
-                self.plan.push(PlanLine::Run(worker))?;
-            }
+        if is_word(word, b"end") {
+            no_field(fields)?;
+            self.section = Section::Ended;
+        } else if is_word(word, b"run") {
+            let field = one_field(fields)?;
+            let worker = number32(field, 0, self.workers - 1)?;
+            self.plan.push(PlanLine::Run(worker))?;
+        } else {
+            return Err(LineFault::Kind(FaultKind::Word));
         }
         Ok(())
     }
@@ -174,7 +208,8 @@ impl Draft {
     /// The job, once its last line was read.
     pub(crate) fn finish(self) -> Job
         requires draft { IsDraft self }
-        requires ended { is_end self.section ≡ true }
+        requires ended { has_ended (draft_of self).section ≡ true }
+        ensures { result ≡ job_of (draft_of self) }
     {
         Job {
             pages: self.pages,
@@ -193,6 +228,7 @@ fn close_script(
 ) -> Result<(), LineFault>
     ensures ok { OnOk result (finished.new.items ≡ finished.old.items ++ script.old ∷ []) }
     ensures begun { script.new ≡ [] }
+    ensures err { IfErr result (λ fault. fault ≡ LineFault.Memory) }
 {
     let script = mem::replace(script, Script::new(alloc));
     finished.push(script)?;

@@ -1,7 +1,9 @@
 //! Fields of hexadecimal digits, which are in lower case.
-ghost use Rattle.std.specs.Prelude.{◌≡◌, ◌/◌, ◌%◌, ◌<◌, ◌≤◌, [], ◌∷◌, IfSome, IfOk};
+ghost use Rattle.std.specs.Prelude.{◌≡◌, ◌<◌, ◌≤◌, ◌^◌, ◌⊎◌, ◌↔◌, Ok, Err, true, false, IfSome, IfOk, IfErr, IsNone, IsTrue, length, slice_index};
+ghost use Rattle.std.specs.List.{list_all};
 ghost use Rattle.arrayvec.specs.ArrayVec.{array_vec_len};
-ghost use Rattle.mesh_text.specs.Hex.{hex_digit, hex_text};
+ghost use Rattle.mesh_model.specs.Files.{address_in, byte_from, byte_in, bytes_in, hex_number, hex_value};
+ghost use Rattle.mesh_text.specs.Reading.{is_hex_digit};
 
 use arrayvec::ArrayVec;
 use mesh_model::{FaultKind, MAX_BYTES};
@@ -11,8 +13,8 @@ const MOST_ADDRESS: u32 = 0xfff_ffff;
 
 /// The value of a hexadecimal digit in lower case.
 fn digit(byte: u8) -> Option<u8>
+    ensures value { result ≡ hex_value byte }
     ensures below { IfSome result (λ value. value < 16) }
-    ensures spelling { IfSome result (λ value. byte ≡ hex_digit value) }
 {
     match byte {
         b'0'..=b'9' => Some(byte - b'0'),
@@ -23,8 +25,7 @@ fn digit(byte: u8) -> Option<u8>
 
 /// The byte of two hexadecimal digits. HEX where one of them is no such digit.
 fn byte_of(high: u8, low: u8) -> Result<u8, FaultKind>
-    ensures high { IfOk result (λ byte. high ≡ hex_digit (byte / 16)) }
-    ensures low { IfOk result (λ byte. low ≡ hex_digit (byte % 16)) }
+    ensures { result ≡ byte_from high low }
 {
     let high = digit(high).ok_or(FaultKind::Hex)?;
     let low = digit(low).ok_or(FaultKind::Hex)?;
@@ -33,7 +34,7 @@ fn byte_of(high: u8, low: u8) -> Result<u8, FaultKind>
 
 /// A field of one byte. HEX where it is anything but two hexadecimal digits.
 pub(crate) fn byte(field: &[u8]) -> Result<u8, FaultKind>
-    ensures { IfOk result (λ byte. field.now ≡ hex_text (byte ∷ [])) }
+    ensures { result ≡ byte_in field.now }
 {
     match field {
         [high, low] => byte_of(*high, *low),
@@ -43,14 +44,17 @@ pub(crate) fn byte(field: &[u8]) -> Result<u8, FaultKind>
 
 /// From 1 to 32 bytes of two hexadecimal digits each. HEX where it is anything else.
 pub(crate) fn bytes(field: &[u8]) -> Result<ArrayVec<u8, MAX_BYTES>, FaultKind>
+    ensures ok { IfOk result (λ bytes. bytes_in field.now ≡ Ok bytes.items) }
+    ensures err { IfErr result (λ kind. bytes_in field.now ≡ Err kind) }
     ensures some { IfOk result (λ bytes. 1 ≤ array_vec_len bytes) }
-    ensures spelling { IfOk result (λ bytes. field.now ≡ hex_text bytes.items) }
 {
     let mut bytes = ArrayVec::new();
     let mut rest = field;
     while let [high, low, behind @ ..] = rest {
         let byte = byte_of(*high, *low)?;
-        bytes.try_push(byte).map_err(|_| FaultKind::Hex)?;
+        if bytes.try_push(byte).is_err() {
+            return Err(FaultKind::Hex);
+        }
         rest = behind;
     }
     if !rest.is_empty() {
@@ -64,24 +68,39 @@ pub(crate) fn bytes(field: &[u8]) -> Result<ArrayVec<u8, MAX_BYTES>, FaultKind>
 
 /// An address from 0 to fffffff, without a leading zero. NUMBER where it is anything else.
 pub(crate) fn address(field: &[u8]) -> Result<u32, FaultKind>
-    ensures { IfOk result (λ address. address ≤ 0xfff_ffff) }
+    ensures { result ≡ address_in field.now }
 {
-    match field {
-        [] => Err(FaultKind::Number),
-        [b'0'] => Ok(0),
-        [b'0', ..] => Err(FaultKind::Number),
-        digits => {
-            let value = digits_value(digits).ok_or(FaultKind::Number)?;
-            if value > MOST_ADDRESS {
-                return Err(FaultKind::Number);
-            }
-            Ok(value)
-        }
+    if field.is_empty() {
+        return Err(FaultKind::Number);
+    }
+    if has_leading_zero(field) {
+        return Err(FaultKind::Number);
+    }
+    let Some(value) = digits_value(field) else {
+        return Err(FaultKind::Number);
+    };
+    if value > MOST_ADDRESS {
+        return Err(FaultKind::Number);
+    }
+    Ok(value)
+}
+
+/// Whether some digits begin with a 0 and are more than that.
+fn has_leading_zero(digits: &[u8]) -> bool
+    ensures { IsTrue result ↔ (2 ≤ length digits.now) × (slice_index digits.now 0 ≡ 48) }
+{
+    match digits {
+        [first, _, ..] => *first == b'0',
+        _ => false,
     }
 }
 
 /// The value of hexadecimal digits, where they are nothing else and the value fits 32 bits.
-fn digits_value(digits: &[u8]) -> Option<u32> {
+fn digits_value(digits: &[u8]) -> Option<u32>
+    ensures digits { IfSome result (λ value. list_all is_hex_digit digits.now ≡ true) }
+    ensures value { IfSome result (λ value. value ≡ hex_number digits.now) }
+    ensures none { IsNone result → (list_all is_hex_digit digits.now ≡ false) ⊎ (2 ^ 32 ≤ hex_number digits.now) }
+{
     let mut value = 0u32;
     for byte in digits {
         let next = digit(*byte)?;

@@ -1,7 +1,6 @@
 //! What a job file says.
-ghost use Rattle.std.specs.Prelude.{◌≡◌, ◌<◌, ◌≤◌, length, slice_index_or, [], IfOk};
-ghost use Rattle.std.specs.List.{All};
-ghost use Rattle.mesh_text.specs.Job.{IsForWorkers};
+ghost use Rattle.std.specs.Prelude.{◌≡◌, ◌<◌, ◌≤◌, length, map, slice_index_or};
+ghost use Rattle.mesh_text.specs.Job.{line_of};
 
 use crate::Script;
 use mesh_model::PlanLine;
@@ -59,25 +58,26 @@ pub struct Plan {
 }
 
 impl Model for Plan {
-    ghost use Rattle.std.specs.Prelude.{List};
-    ghost use Rattle.mesh_model.specs.declared.faults.PlanLine.{PlanLine};
+    ghost use Rattle.std.specs.Prelude.{List, map};
+    ghost use Rattle.mesh_model.specs.Jobs.{Line};
+    ghost use Rattle.mesh_text.specs.Job.{line_of};
 
-    ghost Value = { List PlanLine };
+    ghost Value = { List Line };
 
-    ghost view = { λ p. p.lines.items };
+    ghost view = { λ p. map line_of p.lines.items };
 }
 
 impl Plan {
     /// A plan of these lines.
     pub fn new(lines: Vec<PlanLine>) -> Self
-        ensures { result ≡ lines.items }
+        ensures { result ≡ map line_of lines.items }
     {
         Plan { lines }
     }
 
     /// The lines, from the first.
     pub fn lines(&self) -> &[PlanLine]
-        ensures { result.now ≡ self.now }
+        ensures { map line_of result.now ≡ self.now }
     {
         self.lines.as_slice()
     }
@@ -101,7 +101,8 @@ pub struct Job {
 
 impl Model for Job {
     ghost use Rattle.std.specs.Prelude.{length};
-    ghost use Rattle.mesh_text.specs.Job.{PlainJob, IsJob};
+    ghost use Rattle.mesh_model.specs.Jobs.{Job as PlainJob};
+    ghost use Rattle.mesh_text.specs.Job.{IsJob};
 
     ghost Value = { PlainJob };
 

@@ -1,5 +1,7 @@
 //! The reader of job files.
-ghost use Rattle.std.specs.Prelude.{◌≡◌, ◌<◌, ◌↔◌, length};
+ghost use Rattle.std.specs.Prelude.{◌≡◌, ◌<◌, ◌↔◌, Ok, length, IfOk, IfErr};
+ghost use Rattle.mesh_model.specs.Files.{read_text};
+ghost use Rattle.mesh_text.specs.Faults.{IsReadFault};
 
 use crate::draft::Draft;
 use crate::{Job, ReadFault};
@@ -12,9 +14,12 @@ pub(crate) const MOST_FILE_BYTES: usize = 1_048_576;
 /// The job that a file's bytes spell.
 ///
 /// The lines are read in order, and the first that has a fault is told, numbered from 1, with the first kind of `FaultKind` that
-/// holds for it. The file's length is tested before any line. Memory is answered where a growth of the job is refused. The format
-/// of the file is this project's own choice.
+/// holds for it. The file's length is tested before any line. A line of the plan that asks for a call of the mesher is told as
+/// WORD, since this reader doesn't know these lines yet. Memory is answered where a growth of the job is refused. The format of
+/// the file is this project's own choice.
 pub fn read_file(alloc: Global, bytes: &[u8]) -> Result<Job, ReadFault>
+    ensures ok { IfOk result (λ job. read_text bytes.now ≡ Ok job) }
+    ensures fault { IfErr result (IsReadFault bytes.now) }
     ensures too_long { (result ≡ Err (ReadFault.Text (record { line = 0; kind = FaultKind.TooLong })))
         ↔ (1048576 < length bytes.now) }
 {
@@ -25,7 +30,10 @@ pub fn read_file(alloc: Global, bytes: &[u8]) -> Result<Job, ReadFault>
     let mut rest = bytes;
     let mut number = 1;
     while !draft.has_ended() {
-        rest = draft.take_line(rest).map_err(|fault| fault.at(number))?;
+        match draft.take_line(rest) {
+            Ok(behind) => rest = behind,
+            Err(fault) => return Err(fault.at(number)),
+        }
         number += 1;
     }
     if !rest.is_empty() {

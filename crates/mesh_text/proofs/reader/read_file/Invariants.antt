@@ -1,5 +1,6 @@
 use Rattle.std.proofs.Common.{◌+◌, ◌≤◌, length}
-use Rattle.mesh_text.specs.Draft.{IsDraft}
+use Rattle.mesh_text.specs.Draft.{IsDraft, draft_of}
+use Rattle.mesh_text.proofs.FileEnds.{IsReadTo}
 use Rattle.mesh_text.proofs.reader.read_file.Given as goal
 
 -- each line took a byte at least, so that the number of the next line fits
@@ -8,6 +9,7 @@ invariant-loop-draft l = record {
   draft : IsDraft l.draft;
   first : 1 ≤ l.number;
   counted : l.number + length l.rest ≤ length l.bytes + 1;
+  read : IsReadTo l.bytes l.rest l.number (draft_of l.draft);
 }
 
 abbrev pub decreases-loop-draft : goal.decreases-loop-draft

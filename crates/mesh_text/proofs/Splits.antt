@@ -1,0 +1,49 @@
+-- Lists cut at a byte.
+use Rattle.std.proofs.Common.{◌≡◌, ℕ, suc, ◌+◌, ◌≤◌, Bool, true, false, cond, nat_eq, List, [], ◌∷◌, Option, Some, None, length, take, drop, refl, subst, arith, inl, inr}
+use Rattle.std.specs.List.{onto_first, position, position_or_len, slice_split}
+use Rattle.std.proofs.lemmas.Bool.Decides.{eqb_tells, leb_tells}
+use Rattle.std.proofs.lemmas.List.Splits.{slice_split_first}
+
+-- the place of the first byte at which a list is cut, where there is one
+abbrev pub place_in : ℕ → List ℕ → Option ℕ
+place_in c bytes = position (λ b. nat_eq b c) bytes
+
+-- the first part ends at that place
+pub split_at_place : (c : ℕ) (bytes : List ℕ) (place : ℕ) → place_in c bytes ≡ Some place
+    → slice_split (λ b. nat_eq b c) bytes ≡ take place bytes ∷ slice_split (λ b. nat_eq b c) (drop (place + 1) bytes)
+split_at_place c bytes place h = elim (leb_tells (suc (position_or_len (λ b. nat_eq b c) bytes)) (length bytes)) [
+  | inl within ↦
+      let found = rw within.0 at h in let is : position_or_len (λ b. nat_eq b c) bytes ≡ place = cc in
+      let first = slice_split_first (λ b. nat_eq b c) bytes 0 within.1 in
+      subst (λ (n : ℕ). slice_split (λ b. nat_eq b c) bytes ≡ take n bytes ∷ slice_split (λ b. nat_eq b c) (drop (n + 1) bytes)) is first
+  | inr past ↦ let none = rw past.0 at h in absurd (cc)
+]
+
+-- bytes without such a byte are one part
+split_past : (c : ℕ) (bytes : List ℕ) → length bytes ≤ position_or_len (λ b. nat_eq b c) bytes → slice_split (λ b. nat_eq b c) bytes ≡ bytes ∷ []
+split_past c [] past = refl
+split_past c (b ∷ bs) past = elim (eqb_tells b c) [
+  | inl same ↦ let none = rw same.0 at past in absurd (omega (arith, none))
+  | inr other ↦ let later = rw other.0 at past in rw (other.0, split_past c bs (omega (arith, later))) refl
+]
+
+pub split_unplaced : (c : ℕ) (bytes : List ℕ) → place_in c bytes ≡ None → slice_split (λ b. nat_eq b c) bytes ≡ bytes ∷ []
+split_unplaced c bytes h = elim (leb_tells (suc (position_or_len (λ b. nat_eq b c) bytes)) (length bytes)) [
+  | inl within ↦ let found = rw within.0 at h in absurd (cc)
+  | inr past ↦ split_past c bytes (omega (arith, past.1))
+]
+
+-- a list is cut into one part at least
+pub record Parts (parts : List (List ℕ)) : Type 0 where
+  pub first : List ℕ
+  pub later : List (List ℕ)
+  pub is : parts ≡ first ∷ later
+
+one_part : (b : ℕ) (passes : Bool) (parts : List (List ℕ)) → Parts (cond passes ([] ∷ parts) (onto_first b parts))
+one_part b true parts = record { first = []; later = parts; is = refl }
+one_part b false [] = record { first = b ∷ []; later = []; is = refl }
+one_part b false (part ∷ parts) = record { first = b ∷ part; later = parts; is = refl }
+
+pub some_part : (c : ℕ) (bytes : List ℕ) → Parts (slice_split (λ b. nat_eq b c) bytes)
+some_part c [] = record { first = []; later = []; is = refl }
+some_part c (b ∷ bs) = one_part b (nat_eq b c) (slice_split (λ b. nat_eq b c) bs)
