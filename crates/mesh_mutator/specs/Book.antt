@@ -1,7 +1,7 @@
 -- A book: a heap with its root cells and the journal of what was answered, and what an attempt at a command comes to.
 use Rattle.std.specs.Prelude.{◌≡◌, ℕ, ◌+◌, ◌<◌, ◌≤◌, Bool, true, false, if◌then◌else◌, List, [], ◌∷◌, ◌++◌, length, map, replicate, slice_index_or, Option, Some, None, Result, Ok, Err, refl}
 use Rattle.std.specs.Option.{option_map}
-use Rattle.std.specs.Coded.{Coded, code_by, codes, coded×, coded_ℕ}
+use Rattle.std.specs.Coded.{Coded, code_by, coded×, coded_list, coded_option, coded_ℕ}
 use Rattle.mesh_model.specs.Jobs.{Outcome, answered, is_refusal, touches_read_only}
 use Rattle.mesh_model.specs.Memory.{Memory, Object, object_of}
 use Rattle.mesh_model.specs.Plain.{Entry, Follows, IsLegal, Named, named_by, plain}
@@ -10,6 +10,7 @@ use Rattle.mesh_model.specs.declared.commands.Command.{Command}
 use Rattle.mesh_model.specs.declared.commands.Command.TheVariants.{New}
 use Rattle.mesh_model.specs.declared.commands.Reply.{Reply}
 use Rattle.mesh_model.specs.declared.commands.Reply.TheVariants.{Done as ReplyDone, Refused as ReplyRefused}
+use Rattle.mesh_mutator.specs.Codes.{entry_code, ref_code}
 use Rattle.mesh_steps.specs.declared.answers.Stored.{Stored}
 use Rattle.mesh_steps.specs.declared.answers.Stored.TheVariants.{Blocked as StoreBlocked, Done as StoreDone, Refused as StoreRefused}
 use Rattle.mesh_mutator.specs.declared.attempts.Attempt.{Attempt}
@@ -84,7 +85,7 @@ pub record Book : Type 0 where
 -- a book is stored as its parts
 abbrev pub book_code : Coded Book
 book_code =
-    code_by (Heap × (Cells × (List Entry × ℕ))) (coded× heap_code (coded× (Prim.hlevel codes) (coded× (Prim.hlevel codes) coded_ℕ)))
+    code_by (Heap × (Cells × (List Entry × ℕ))) (coded× heap_code (coded× (coded_list (coded_option ref_code)) (coded× (coded_list entry_code) coded_ℕ)))
     (λ b. (b.heap, (b.cells, (b.entries, b.room)))) (λ p. record { heap = p.0; cells = p.1.0; entries = p.1.1.0; room = p.1.1.1 }) (λ _. refl)
 
 -- the plain memory that a book stands for

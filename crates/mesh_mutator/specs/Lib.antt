@@ -6,3 +6,4 @@ pub use Rattle.mesh_steps.specs.Ground
 pub use Rattle.mesh_steps.specs.Heap
 pub mod Attempts
 pub mod Book
+pub mod Codes
