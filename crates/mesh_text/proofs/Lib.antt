@@ -1,5 +1,6 @@
 pub mod Decimals
 pub mod FileEnds
+pub mod Gathering
 pub mod HexFields
 pub mod HexText
 pub mod ManyFields
@@ -8,3 +9,4 @@ pub mod PlanLines
 pub mod Reading
 pub mod Sames
 pub mod Splits
+pub mod Turning

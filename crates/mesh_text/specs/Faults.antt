@@ -6,19 +6,12 @@ use Rattle.mesh_text.specs.declared.faults.LineFault.TheVariants.{Kind as LineKi
 use Rattle.mesh_text.specs.declared.faults.ReadFault.{ReadFault}
 use Rattle.mesh_text.specs.declared.faults.ReadFault.TheVariants.{Text as ReadText, Memory as ReadMemory}
 use Rattle.mesh_text.specs.declared.faults.ReplayError.{ReplayError}
-use Rattle.mesh_text.specs.declared.faults.ReplayError.TheVariants.{Read, Write, Text, Memory}
+use Rattle.mesh_text.specs.declared.faults.ReplayError.TheVariants.{Text, Memory}
 
 -- a replay stops with the fault of what it read
 abbrev pub replay_error_of : ReadFault → ReplayError
 replay_error_of (ReadText fault) = Text fault
 replay_error_of ReadMemory = Memory
-
--- a replay that stops so has not begun with the plan
-abbrev pub IsBeforePlan : ReplayError → Type 0
-IsBeforePlan Read = Unit {0}
-IsBeforePlan Write = ⊥
-IsBeforePlan Memory = ⊥
-IsBeforePlan (Text fault) = Unit {0}
 
 -- the fault of a line as that of its file
 abbrev pub read_fault_at : LineFault → ℕ → ReadFault

@@ -4,6 +4,7 @@ pub mod Draft
 pub mod Faults
 pub mod Job
 pub mod Reading
+pub mod Replay
 pub mod Transfer
 pub mod Turns
 pub use Rattle.mesh_model.specs.Commands

@@ -1,5 +1,11 @@
--- How far the workers of a job have come.
-use Rattle.std.specs.Prelude.{ℕ, ◌+◌, List, slice_index, slice_set}
+-- How far the workers of a job have come, and what was written for it.
+use Rattle.std.specs.Prelude.{◌≡◌, ℕ, ◌+◌, List, [], ◌++◌, Option, drop, length, slice_index, slice_index_or, slice_set, take}
+use Rattle.std.specs.Io.KnownBytes.{Appends}
+use Rattle.std.specs.List.{flat_map}
+use Rattle.mesh_model.specs.Jobs.{Answer as PlainAnswer, Job, Next, State, answers_from, opening, state_after}
+use Rattle.mesh_model.specs.Texts.{answer_text, ended}
+use Rattle.mesh_mutator.specs.Book.{Book, memory_of_book, table_of_book}
+use Rattle.mesh_text.specs.Answers.{answer_of}
 use Rattle.mesh_text.specs.declared.answers.Answer.{Answer}
 use Rattle.mesh_text.specs.declared.answers.Answer.TheVariants.{Replied, Blocked, HistoryFull, Over}
 
@@ -9,3 +15,39 @@ places_after (Replied reply) places worker = slice_set places worker (slice_inde
 places_after Blocked places worker = places
 places_after HistoryFull places worker = places
 places_after Over places worker = places
+
+-- a job stands where this book and these places of its workers' next commands are
+pub record IsAt (job : Job) (state : State) (book : Book) (places : List ℕ) : Type 0 where
+  pub memory : memory_of_book book ≡ state.memory
+  pub table : table_of_book book ≡ state.table
+  pub entries : book.entries ≡ state.entries
+  pub room : book.room ≡ job.history
+  pub workers : length state.scripts ≡ length job.scripts
+  pub scripts : (worker : ℕ) → slice_index_or state.scripts worker [] ≡ drop (slice_index places worker) (slice_index_or job.scripts worker [])
+
+-- this is the answer to a line of the plan, and book and places are where the job stands after it
+pub record IsNextAt (job : Job) (next : Next) (book : Book) (places : List ℕ) (given : Answer) : Type 0 where
+  pub answer_is : answer_of given ≡ next.answer
+  pub at : IsAt job next.state book places
+
+-- the lines of answers, each with its end
+abbrev pub lines_of : List PlainAnswer → List ℕ
+lines_of answers = flat_map (λ a. ended (answer_text a)) answers
+
+-- the lines of the answers to the first lines of a job's plan
+abbrev pub lines_up_to : Job → ℕ → List ℕ
+lines_up_to job n = lines_of (answers_from job (opening job) (take n job.plan))
+
+-- where a job stands after the first lines of its plan
+abbrev pub state_up_to : Job → ℕ → State
+state_up_to job n = state_after job (opening job) (take n job.plan)
+
+-- known bytes grow by the lines of the answers to a beginning of a job's plan
+abbrev pub AppendsLines : Job → Option (List ℕ) → Option (List ℕ) → Type 0
+AppendsLines job old new = (n : ℕ) × Appends old new (lines_up_to job n)
+
+-- of the lines up to here some are written, and the others are this text
+pub record HasGathered (job : Job) (n : ℕ) (old new : Option (List ℕ)) (text : List ℕ) : Type 0 where
+  pub lines : ℕ
+  pub wrote : Appends old new (lines_up_to job lines)
+  pub all : lines_up_to job lines ++ text ≡ lines_up_to job n

@@ -1,8 +1,12 @@
 //! The replay of a job.
-ghost use Rattle.std.specs.Prelude.{◌≡◌, ◌<◌, ◌≤◌, ◌⊎◌, ◌↔◌, slice_index, false, true, length, vec_len, is_err, IfOk, IfErr, OnOk};
-ghost use Rattle.std.specs.Io.KnownBytes.{Keeps};
-ghost use Rattle.mesh_text.specs.Faults.{IsBeforePlan};
-ghost use Rattle.mesh_text.specs.Turns.{places_after};
+ghost use Rattle.std.specs.Prelude.{◌≡◌, ◌<◌, ◌≤◌, ◌⊎◌, ◌↔◌, [], slice_index, slice_index_or, false, true, length, vec_len, is_err, IfOk, IfErr, OnOk, OnErr};
+ghost use Rattle.std.specs.Io.KnownBytes.{Appends, Keeps};
+ghost use Rattle.mesh_model.specs.Jobs.{Job as PlainJob, RunWorker, State, answer, opening};
+ghost use Rattle.mesh_model.specs.Texts.{output as output_of};
+ghost use Rattle.mesh_text.specs.Job.{line_of};
+ghost use Rattle.mesh_text.specs.Replay.{HasReplayed, HasStopped};
+ghost use Rattle.mesh_text.specs.Transfer.{AppendsBeginning};
+ghost use Rattle.mesh_text.specs.Turns.{AppendsLines, IsAt, IsNextAt, places_after};
 
 use crate::answers::Answer;
 use crate::transfer::{read_all, write_all};
@@ -29,9 +33,10 @@ pub fn replay<I: Source, O: Sink>(
     requires input { I.has_failed input.old ≡ false }
     requires output { O.has_failed output.old ≡ false }
     ensures ok { OnOk result ((I.has_failed input.new ≡ false) × (O.has_failed output.new ≡ false)) }
+    ensures replayed { OnOk result (HasReplayed (I.remaining input.old) (I.remaining input.new) (O.written output.old) (O.written output.new)) }
+    ensures stopped { IfErr result (HasStopped (I.remaining input.old) (I.remaining input.new) (O.written output.old) (O.written output.new)) }
     ensures read { result ≡ Err ReplayError.Read → I.has_failed input.new ≡ true }
     ensures write { result ≡ Err ReplayError.Write → O.has_failed output.new ≡ true }
-    ensures unwritten { IfErr result (λ error. IsBeforePlan error → Keeps (O.written output.old) (O.written output.new)) }
 {
     let bytes = read_all(alloc, input)?;
     let job = read_file(alloc, bytes.as_slice())?;
@@ -43,15 +48,17 @@ pub fn replay<I: Source, O: Sink>(
 fn play<O: Sink>(alloc: Global, job: &Job, output: &mut O) -> Result<(), ReplayError>
     requires { O.has_failed output.old ≡ false }
     ensures ok { OnOk result (O.has_failed output.new ≡ false) }
-    ensures write { result ≡ Err ReplayError.Write → O.has_failed output.new ≡ true }
+    ensures whole { OnOk result (Appends (O.written output.old) (O.written output.new) (output_of job.now)) }
+    ensures fails { result ≡ Err ReplayError.Write → O.has_failed output.new ≡ true }
+    ensures beginning { result ≡ Err ReplayError.Write → AppendsBeginning (O.written output.old) (O.written output.new) (output_of job.now) }
+    ensures lines { result ≡ Err ReplayError.Memory → AppendsLines job.now (O.written output.old) (O.written output.new) }
     ensures kinds { IfErr result (λ error. (error ≡ ReplayError.Write) ⊎ (error ≡ ReplayError.Memory)) }
 {
     let mut turns = Turns::open(alloc, job)?;
     let mut text = Vec::new(alloc);
     for line in job.plan.lines() {
-        let answer = match *line {
-            PlanLine::Run(worker) => turns.run(worker, job.scripts.of(worker))?,
-        };
+        let worker = worker_of(*line);
+        let answer = turns.run(worker, job.scripts.of(worker))?;
         answer.add_to(&mut text)?;
         if text.len() >= CHUNK_BYTES {
             write_answers(output, text.as_slice())?;
@@ -61,9 +68,20 @@ fn play<O: Sink>(alloc: Global, job: &Job, output: &mut O) -> Result<(), ReplayE
     write_answers(output, text.as_slice())
 }
 
-/// Writes lines of answers.
+/// The worker that a line of the plan runs.
+fn worker_of(line: PlanLine) -> u32
+    ensures { line_of line ≡ RunWorker result }
+{
+    match line {
+        PlanLine::Run(worker) => worker,
+    }
+}
+
+/// Writes lines of answers. Where the output fails, a beginning of them was written.
 fn write_answers<O: Sink>(output: &mut O, lines: &[u8]) -> Result<(), ReplayError>
     requires { O.has_failed output.old ≡ false }
+    ensures ok { OnOk result (Appends (O.written output.old) (O.written output.new) lines.now) }
+    ensures err { OnErr result (AppendsBeginning (O.written output.old) (O.written output.new) lines.now) }
     ensures fault { IfErr result (λ error. error ≡ ReplayError.Write) }
     ensures fails { O.has_failed output.new ≡ is_err result }
 {
@@ -81,7 +99,8 @@ struct Turns {
 impl Turns {
     /// A fresh heap, with each worker at the beginning of its script.
     fn open(alloc: Global, job: &Job) -> Result<Turns, AllocError>
-        ensures { IfOk result (λ turns. vec_len turns.next ≡ length job.now.scripts) }
+        ensures workers { IfOk result (λ turns. vec_len turns.next ≡ length job.now.scripts) }
+        ensures opening { IfOk result (λ turns. IsAt job.now (opening job.now) turns.book turns.next.items) }
     {
         Ok(Turns {
             book: Book::open(alloc, job.pages, job.history)?,
@@ -96,6 +115,10 @@ impl Turns {
         ensures next { IfOk result (λ answer. self.new.next.items ≡ places_after answer self.old.next.items worker) }
         ensures over { IfOk result (λ answer. (answer ≡ Answer.Over)
             ↔ (length script.now ≤ slice_index self.old.next.items worker)) }
+        ensures answered { IfOk result (λ given. (job : PlainJob) (state : State)
+            → IsAt job state self.old.book self.old.next.items → vec_len self.old.next ≡ length job.scripts
+            → script.now ≡ slice_index_or job.scripts worker []
+            → IsNextAt job (answer job state (RunWorker worker)) self.new.book self.new.next.items given) }
     {
         let place = self.next[worker as usize];
         let Some(command) = script.get(place) else {

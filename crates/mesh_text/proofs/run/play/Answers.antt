@@ -1,19 +1,88 @@
-use Rattle.std.proofs.Common.{length, get_or, rules, arith}
-use Rattle.std.proofs.lemmas.Grind.{common_steps}
-use Rattle.mesh_model.specs.Files.{IsValidLine}
+use Rattle.std.proofs.Common.{◌≡◌, ◌∙◌, ◌+◌, ◌<◌, Err, length, take, ap, subst, arith}
+use Rattle.std.proofs.lemmas.Result.{on_ok_weaker}
+use Rattle.std.specs.Result.{OnErr}
+use Rattle.std.specs.Io.KnownBytes.{Appends}
+use Rattle.mesh_model.specs.Jobs.{Job, RunWorker}
 use Rattle.mesh_model.specs.declared.faults.PlanLine.TheVariants.{Run}
-use Rattle.mesh_text.specs.Job.{line_of}
-use Rattle.mesh_text.proofs.PlanLines.{line_fits}
+use Rattle.mesh_text.specs.Transfer.{AppendsBeginning}
+use Rattle.mesh_text.specs.Turns.{HasGathered, state_up_to}
+use Rattle.mesh_text.proofs.Gathering.{all_written, gathered_more, next_at, output_written, part_written}
+use Rattle.mesh_text.proofs.PlanLines.{all_lines, turn_of_line, worker_fits}
 use Rattle.mesh_text.proofs.run.play.Goals as goal
+use Rattle.mesh_text.proofs.run.play.Goals.{then-len-ge-CHUNK_BYTES+in_ok-write_answers, else-len-ge-CHUNK_BYTES}
 
 pub of-requires : goal.of-requires
 of-requires g c =
-    let fit : IsValidLine (length c.job.inside.scripts) (line_of (get_or c.lines-line-items.result.now c.loop-line.line-index (Run 0))) =
-    line_fits _ c.lines-line-items.result.now c.job.inside.plan c.loop-line.line-index (Run 0) c.lines-line-items.ensures c.job.invariant.plan_fits c.loop-line-test.true in
-    search rules
+    worker_fits (length c.job.inside.scripts) c.lines-line-items.result.now c.job.inside.plan c.loop-line.line-index c.worker_of-worker.result (Run 0)
+    c.lines-line-items.ensures c.job.invariant.plan_fits c.loop-line-test.true c.worker_of-worker.ensures
 
 pub run-requires : goal.run-requires
 run-requires g c =
-    let fit : IsValidLine (length c.job.inside.scripts) (line_of (get_or c.lines-line-items.result.now c.loop-line.line-index (Run 0))) =
-    line_fits _ c.lines-line-items.result.now c.job.inside.plan c.loop-line.line-index (Run 0) c.lines-line-items.ensures c.job.invariant.plan_fits c.loop-line-test.true in
-    grind (arith, common_steps)
+    let fit : c.worker_of-worker.result < length c.job.inside.scripts
+    = worker_fits (length c.job.inside.scripts) c.lines-line-items.result.now c.job.inside.plan c.loop-line.line-index c.worker_of-worker.result (Run 0)
+    c.lines-line-items.ensures c.job.invariant.plan_fits c.loop-line-test.true c.worker_of-worker.ensures in
+    omega (arith, fit, c.loop-line.invariant.workers, ap (λ (j : Job). length j.scripts) c.job.view_is)
+
+pub loop-line-preserved : goal.loop-line-preserved
+loop-line-preserved g c =
+    let job : Job = c.args.job.now in
+    let i = c.loop-line.line-index in
+    let worker = c.worker_of-worker.result in
+    let turn = turn_of_line job c.job.inside.plan c.job.inside.scripts c.lines-line-items.result.now i worker (Run 0) c.of.result.now
+    (ap (λ (j : Job). j.plan) c.job.view_is) (ap (λ (j : Job). j.scripts) c.job.view_is) c.lines-line-items.ensures c.job.invariant.plan_fits c.loop-line-test.true
+    c.worker_of-worker.ensures c.of.ensures in
+    let next = c.in_ok-answer.ensures.answered job (state_up_to job i) c.loop-line.invariant.at c.loop-line.invariant.workers turn.script_is in
+    let gathered : HasGathered job (i + 1) (g.O.Sink.written c.args.output.now) (g.O.Sink.written c.loop-line.output) c.add_to.new.text.items
+    = gathered_more job i (RunWorker worker) c.run.new.self.book c.run.new.self.next.items c.in_ok-answer.answer (g.O.Sink.written c.args.output.now)
+    (g.O.Sink.written c.loop-line.output) c.loop-line.text.items c.add_to.new.text.items turn.more next c.loop-line.invariant.gathered c.in_ok-add_to.ensures in
+    let workers = c.in_ok-answer.ensures.workers ∙ c.loop-line.invariant.workers in
+    let at = next_at job i (RunWorker worker) c.run.new.self.book c.run.new.self.next.items c.in_ok-answer.answer turn.more next in
+    elim c.if-len-ge-CHUNK_BYTES.branch [
+      then-len-ge-CHUNK_BYTES+in_ok-write_answers w ↦
+        let wrote : Appends (g.O.Sink.written c.loop-line.output) (g.O.Sink.written w.write_answers.new.output) c.add_to.new.text.items
+        = subst (λ bytes. Appends (g.O.Sink.written c.loop-line.output) (g.O.Sink.written w.write_answers.new.output) bytes) w.as_slice.ensures.value w.in_ok-write_answers.ensures.ok in
+        record {
+          workers = workers;
+          fresh = ap (λ o. g.O.Sink.has_failed o) w.output-is ∙ w.in_ok-write_answers.ensures.fails;
+          at = at;
+          gathered = rw (w.output-is, w.text-is, w.clear.ensures.items) (all_written job (i + 1) _ _ _ c.add_to.new.text.items gathered wrote);
+        } |
+      else-len-ge-CHUNK_BYTES w ↦ record {
+        workers = workers;
+        fresh = ap (λ o. g.O.Sink.has_failed o) w.output-is ∙ c.loop-line.invariant.fresh;
+        at = at;
+        gathered = rw (w.output-is, w.text-is) gathered;
+      }
+    ]
+
+pub returns-in_err-write_answers-clause-beginning : goal.returns-in_err-write_answers-clause-beginning
+returns-in_err-write_answers-clause-beginning g c is =
+    let job : Job = c.args.job.now in
+    let i = c.loop-line.line-index in
+    let worker = c.worker_of-worker.result in
+    let turn = turn_of_line job c.job.inside.plan c.job.inside.scripts c.lines-line-items.result.now i worker (Run 0) c.of.result.now
+    (ap (λ (j : Job). j.plan) c.job.view_is) (ap (λ (j : Job). j.scripts) c.job.view_is) c.lines-line-items.ensures c.job.invariant.plan_fits c.loop-line-test.true
+    c.worker_of-worker.ensures c.of.ensures in
+    let next = c.in_ok-answer.ensures.answered job (state_up_to job i) c.loop-line.invariant.at c.loop-line.invariant.workers turn.script_is in
+    let gathered : HasGathered job (i + 1) (g.O.Sink.written c.args.output.now) (g.O.Sink.written c.loop-line.output) c.add_to.new.text.items
+    = gathered_more job i (RunWorker worker) c.run.new.self.book c.run.new.self.next.items c.in_ok-answer.answer (g.O.Sink.written c.args.output.now)
+    (g.O.Sink.written c.loop-line.output) c.loop-line.text.items c.add_to.new.text.items turn.more next c.loop-line.invariant.gathered c.in_ok-add_to.ensures in
+    part_written job (i + 1) _ _ _ c.add_to.new.text.items gathered
+    (subst (λ bytes. AppendsBeginning (g.O.Sink.written c.loop-line.output) (g.O.Sink.written c.write_answers.new.output) bytes) c.as_slice.ensures.value c.in_err-write_answers.ensures.err)
+
+pub returns-clause-whole : goal.returns-clause-whole
+returns-clause-whole g c =
+    let job : Job = c.args.job.now in
+    let all : take c.loop-line.line-index job.plan ≡ job.plan
+    = all_lines c.lines-line-items.result.now job.plan c.loop-line.line-index (c.lines-line-items.ensures ∙ ap (λ (j : Job). j.plan) c.job.view_is) c.loop-line-test.false in
+    on_ok_weaker c.write_answers-2.result
+    (λ wrote. output_written job c.loop-line.line-index _ _ _ c.loop-line.text.items all c.loop-line.invariant.gathered
+    (subst (λ bytes. Appends (g.O.Sink.written c.loop-line.output) (g.O.Sink.written c.write_answers-2.new.output) bytes) c.as_slice-2.ensures.value wrote))
+    c.write_answers-2.ensures.ok
+
+pub returns-clause-beginning : goal.returns-clause-beginning
+returns-clause-beginning g c is =
+    let part : AppendsBeginning (g.O.Sink.written c.loop-line.output) (g.O.Sink.written c.write_answers-2.new.output) c.as_slice-2.result.now
+    = subst (λ r. OnErr r (AppendsBeginning (g.O.Sink.written c.loop-line.output) (g.O.Sink.written c.write_answers-2.new.output) c.as_slice-2.result.now)) is c.write_answers-2.ensures.err in
+    part_written c.args.job.now c.loop-line.line-index _ _ _ c.loop-line.text.items c.loop-line.invariant.gathered
+    (subst (λ bytes. AppendsBeginning (g.O.Sink.written c.loop-line.output) (g.O.Sink.written c.write_answers-2.new.output) bytes) c.as_slice-2.ensures.value part)

@@ -1,0 +1,207 @@
+-- A worker's turn: what an attempt at its next command is to the job.
+use Rattle.std.proofs.Common.{◌≡◌, ℕ, zero, suc, ◌+◌, ◌<◌, ◌≤◌, Bool, true, false, if◌then◌else◌, nat_le, List, [], ◌∷◌, ◌++◌, Option, Some, None, drop, get_or, length, replicate, slice_get, slice_index, slice_index_or, slice_set, ap, subst, refl, sym, ◌∙◌, arith, rules, inl, inr}
+use Rattle.std.proofs.lemmas.Bool.Decides.{eqb_tells, leb_tells}
+use Rattle.std.proofs.lemmas.List.{get_or-set_other, get_or-set_same, get_or_default}
+use Rattle.std.proofs.Math.ListN.{length-set}
+use Rattle.mesh_model.specs.Jobs.{Answer as PlainAnswer, Job, Next, Outcome, Replied as PlainReplied, RunWorker, ScriptOver, State, StoreBlocked, JournalFull, answer, answered, attempted, blocked_now, later_commands, opening, run_next, with_reply}
+use Rattle.mesh_model.specs.Memory.{Memory, empty_memory}
+use Rattle.mesh_model.specs.Plain.{Entry}
+use Rattle.mesh_model.specs.Table.{Table, empty_table}
+use Rattle.mesh_model.specs.declared.commands.Command.{Command}
+use Rattle.mesh_model.specs.declared.commands.Reply.{Reply}
+use Rattle.mesh_mutator.specs.Book.{Book, IsAttempt, IsOutcome, IsSame, is_held_back, memory_of_book, table_of_book}
+use Rattle.mesh_mutator.specs.declared.attempts.Attempt.{Attempt}
+use Rattle.mesh_mutator.specs.declared.attempts.Attempt.TheVariants.{Blocked as HeldBack, Done, HistoryFull as NoRoom, OutOfMemory}
+use Rattle.mesh_text.specs.Turns.{IsAt, IsNextAt}
+use Rattle.mesh_text.specs.declared.answers.Answer.{Answer}
+use Rattle.mesh_text.specs.declared.answers.Answer.TheVariants.{Replied, Blocked, HistoryFull, Over}
+
+-- past the last command none is left
+none_left : (n : ℕ) (script : List Command) → None ≡ slice_get script n → drop n script ≡ []
+none_left zero [] at = refl
+none_left zero (command ∷ script) at = absurd (cc at)
+none_left (suc n) [] at = refl
+none_left (suc n) (command ∷ script) at = none_left n script at
+
+-- the command at a place is the first of those left
+drop_next : (n : ℕ) (script : List Command) (command : Command) → Some command ≡ slice_get script n → drop n script ≡ command ∷ drop (suc n) script
+drop_next zero [] command at = absurd (cc at)
+drop_next zero (first ∷ script) command at = let same : command ≡ first = cc at in rw same refl
+drop_next (suc n) [] command at = absurd (cc at)
+drop_next (suc n) (first ∷ script) command at = drop_next n script command at
+
+drop_at : (n : ℕ) (script : List Command) (command : Command) → Some command ≡ slice_get script n → drop n script ≡ command ∷ drop (n + 1) script
+drop_at n script command at = let one : suc n ≡ n + 1 = omega arith in drop_next n script command at ∙ ap (λ (k : ℕ). command ∷ drop k script) one
+
+-- the place that was read is the worker's place
+pub at_place : (places : List ℕ) (script : List Command) (worker place : ℕ) (command : Option Command) → worker < length places → place ≡ get_or places worker place
+    → command ≡ slice_get script place → command ≡ slice_get script (slice_index places worker)
+at_place places script worker place command below is here = here ∙ ap (λ n. slice_get script n) (is ∙ get_or_default places worker place 0 below)
+
+-- what the script's commands at the worker's place are to the state
+commands_left : (job : Job) (state : State) (book : Book) (places : List ℕ) (script : List Command) (worker : ℕ) → IsAt job state book places
+    → script ≡ slice_index_or job.scripts worker [] → slice_index_or state.scripts worker [] ≡ drop (slice_index places worker) script
+commands_left job state book places script worker at is = at.scripts worker ∙ ap (λ s. drop (slice_index places worker) s) (sym is)
+
+-- a worker whose script is passed is told so
+pub turn_over : (job : Job) (state : State) (book : Book) (places : List ℕ) (script : List Command) (worker : ℕ) → IsAt job state book places
+    → script ≡ slice_index_or job.scripts worker [] → None ≡ slice_get script (slice_index places worker)
+    → IsNextAt job (answer job state (RunWorker worker)) book places Over
+turn_over job state book places script worker at is past =
+    let none : slice_index_or state.scripts worker [] ≡ [] = commands_left job state book places script worker at is ∙ none_left (slice_index places worker) script past in
+    subst (λ commands. IsNextAt job (run_next job state worker commands) book places Over) (sym none) (record { answer_is = refl; at = at })
+
+-- the outcome of a command is one on the state's memory and table
+outcome_at : (m m' : Memory) (t t' : Table) (command : Command) → m ≡ m' → t ≡ t' → answered m t command ≡ answered m' t' command
+outcome_at m m' t t' command memory table = rw (memory, table) refl
+
+-- a command that is not held back is not blocked, and one that is held back is
+held_at : (state : State) (m : Memory) (t : Table) (command : Command) (reply : Reply) (held : Bool) → m ≡ state.memory → t ≡ state.table
+    → reply ≡ (answered m t command).reply → is_held_back m t command reply ≡ held
+    → blocked_now state command (answered state.memory state.table command) ≡ held
+held_at state m t command reply held memory table is h =
+    let here : is_held_back m t command (answered m t command).reply ≡ held = subst (λ r. is_held_back m t command r ≡ held) is h in
+    let there : is_held_back state.memory t command (answered state.memory t command).reply ≡ held = subst (λ n. is_held_back n t command (answered n t command).reply ≡ held) memory here in
+    subst (λ u. is_held_back state.memory u command (answered state.memory u command).reply ≡ held) table there
+
+-- what a turn tells of an attempt that had memory
+abbrev pub given_to : Attempt → Answer
+given_to (Done reply) = Replied reply
+given_to HeldBack = Blocked
+given_to NoRoom = HistoryFull
+given_to OutOfMemory = Over
+
+-- the places after it
+abbrev pub passed_by : Attempt → List ℕ → ℕ → List ℕ
+passed_by (Done reply) places worker = slice_set places worker (slice_index places worker + 1)
+passed_by HeldBack places worker = places
+passed_by NoRoom places worker = places
+passed_by OutOfMemory places worker = places
+
+-- the attempt had memory
+abbrev pub HasMemory : Attempt → Type 0
+HasMemory (Done reply) = Unit {0}
+HasMemory HeldBack = Unit {0}
+HasMemory NoRoom = Unit {0}
+HasMemory OutOfMemory = ⊥
+
+-- what is left of each script after a reply
+replied_scripts : (job : Job) (state : State) (book : Book) (places : List ℕ) (script : List Command) (worker : ℕ) (command : Command) (later : List Command)
+    → IsAt job state book places → script ≡ slice_index_or job.scripts worker [] → Some command ≡ slice_get script (slice_index places worker)
+    → length places ≡ length job.scripts → worker < length places
+    → later ≡ later_commands (slice_index_or state.scripts worker [])
+    → (other : ℕ) → slice_index_or (slice_set state.scripts worker later) other []
+    ≡ drop (slice_index (slice_set places worker (slice_index places worker + 1)) other) (slice_index_or job.scripts other [])
+replied_scripts job state book places script worker command later at is here long below rest other =
+    let left = commands_left job state book places script worker at is ∙ drop_at (slice_index places worker) script command here in
+    let after : later ≡ drop (slice_index places worker + 1) script = rest ∙ ap (λ commands. later_commands commands) left in
+    elim (eqb_tells other worker) [
+      inl same ↦
+        subst (λ w. slice_index_or (slice_set state.scripts worker later) w [] ≡ drop (slice_index (slice_set places worker (slice_index places worker + 1)) w) (slice_index_or job.scripts w [])) (sym same.1)
+        (get_or-set_same state.scripts worker later [] (let workers = at.workers in omega (arith, workers, long, below))
+        ∙ after ∙ ap (λ s. drop (slice_index places worker + 1) s) is
+        ∙ ap (λ n. drop n (slice_index_or job.scripts worker [])) (sym (get_or-set_same places worker (slice_index places worker + 1) 0 below))) |
+      inr apart ↦
+        get_or-set_other state.scripts worker other later [] apart.1 ∙ at.scripts other
+        ∙ ap (λ n. drop n (slice_index_or job.scripts other [])) (sym (get_or-set_other places worker other (slice_index places worker + 1) 0 apart.1))
+    ]
+
+-- a turn with a command left is what the definitions answer
+pub turn_taken : (job : Job) (state : State) (book book' : Book) (places : List ℕ) (script : List Command) (worker : ℕ) (command : Command) (attempt : Attempt)
+    → IsAt job state book places → script ≡ slice_index_or job.scripts worker [] → Some command ≡ slice_get script (slice_index places worker)
+    → length places ≡ length job.scripts → worker < length places → IsAttempt book book' worker command attempt → HasMemory attempt
+    → IsNextAt job (answer job state (RunWorker worker)) book' (passed_by attempt places worker) (given_to attempt)
+turn_taken job state book book' places script worker command attempt at is here long below done some =
+    let commands = drop (slice_index places worker + 1) script in
+    let left : slice_index_or state.scripts worker [] ≡ command ∷ commands
+    = commands_left job state book places script worker at is ∙ drop_at (slice_index places worker) script command here in
+    go attempt commands left done some
+  where
+    full : (b : Bool) → nat_le job.history (length state.entries) ≡ b → (commands : List Command) → run_next job state worker (command ∷ commands)
+        ≡ (if b then record { answer = JournalFull; state = state }
+          else attempted state worker command (blocked_now state command (answered state.memory state.table command)) (answered state.memory state.table command))
+    full b is commands = rw is refl
+
+    room_left : length book.entries < book.room → nat_le job.history (length state.entries) ≡ false
+    room_left short = elim (leb_tells job.history (length state.entries)) [
+      inl over ↦ absurd (let most = over.1 in let room = at.room in let entries = at.entries in omega (arith, short, most, room, ap (λ (xs : List Entry). length xs) entries)) |
+      inr under ↦ under.0
+    ]
+
+    no_room : book.room ≤ length book.entries → nat_le job.history (length state.entries) ≡ true
+    no_room past = elim (leb_tells job.history (length state.entries)) [
+      inl over ↦ over.0 |
+      inr under ↦ absurd (let less = under.1 in let room = at.room in let entries = at.entries in omega (arith, past, less, room, ap (λ (xs : List Entry). length xs) entries))
+    ]
+
+    open_room : (commands : List Command) (held : Bool) → length book.entries < book.room → blocked_now state command (answered state.memory state.table command) ≡ held
+        → run_next job state worker (command ∷ commands) ≡ attempted state worker command held (answered state.memory state.table command)
+    open_room commands held short is = full false (room_left short) commands ∙ ap (λ b. attempted state worker command b (answered state.memory state.table command)) is
+
+    go : (attempt : Attempt) (commands : List Command) → slice_index_or state.scripts worker [] ≡ command ∷ commands → IsAttempt book book' worker command attempt
+        → HasMemory attempt → IsNextAt job (answer job state (RunWorker worker)) book' (passed_by attempt places worker) (given_to attempt)
+    go (Done reply) commands left done some =
+        let outcome = done.1 in
+        let same : answered (memory_of_book book) (table_of_book book) command ≡ answered state.memory state.table command
+        = outcome_at (memory_of_book book) state.memory (table_of_book book) state.table command at.memory at.table in
+        let free = held_at state (memory_of_book book) (table_of_book book) command reply false at.memory at.table outcome.reply_is done.2 in
+        let whole : answer job state (RunWorker worker) ≡ attempted state worker command false (answered state.memory state.table command)
+        = ap (λ cs. run_next job state worker cs) left ∙ open_room commands false done.0 free in
+        let reply_is : reply ≡ (answered state.memory state.table command).reply = outcome.reply_is ∙ ap (λ (o : Outcome). o.reply) same in
+        subst (λ next. IsNextAt job next book' (passed_by (Done reply) places worker) (Replied reply)) (sym whole)
+        (record {
+          answer_is = ap (λ r. PlainReplied r) reply_is;
+          at = record {
+            memory = outcome.memory ∙ ap (λ (o : Outcome). o.memory) same;
+            table = outcome.table ∙ ap (λ (o : Outcome). o.table) same;
+            entries = done.3 ∙ ap (λ (xs : List Entry). xs ++ record { worker = worker; command = command; reply = reply } ∷ []) at.entries
+                ∙ ap (λ (r : Reply). state.entries ++ record { worker = worker; command = command; reply = r } ∷ []) reply_is;
+            room = done.4 ∙ at.room;
+            workers = length-set state.scripts worker (later_commands (slice_index_or state.scripts worker [])) ∙ at.workers;
+            scripts = replied_scripts job state book places script worker command (later_commands (slice_index_or state.scripts worker [])) at is here long below refl;
+          };
+        })
+    go HeldBack commands left done some =
+        let held = held_at state (memory_of_book book) (table_of_book book) command (answered (memory_of_book book) (table_of_book book) command).reply true at.memory at.table refl done.1 in
+        let whole : answer job state (RunWorker worker) ≡ attempted state worker command true (answered state.memory state.table command)
+        = ap (λ cs. run_next job state worker cs) left ∙ open_room commands true done.0 held in
+        let same = done.2 in
+        subst (λ next. IsNextAt job next book' places Blocked) (sym whole)
+        (record {
+          answer_is = refl;
+          at = record {
+            memory = same.memory ∙ at.memory;
+            table = same.table ∙ at.table;
+            entries = done.3 ∙ at.entries;
+            room = done.4 ∙ at.room;
+            workers = at.workers;
+            scripts = at.scripts;
+          };
+        })
+    go NoRoom commands left done some =
+        let whole : answer job state (RunWorker worker) ≡ record { answer = JournalFull; state = state }
+        = ap (λ cs. run_next job state worker cs) left ∙ full true (no_room done.0) commands in
+        subst (λ next. IsNextAt job next book' places HistoryFull) (sym whole)
+        (record { answer_is = refl; at = subst (λ b. IsAt job state b places) (sym done.1) at })
+    go OutOfMemory commands left done some = absurd some
+
+-- before the first turn no command is passed
+opening_scripts : (n worker : ℕ) (scripts : List (List Command)) → slice_index_or scripts worker [] ≡ drop (slice_index (replicate n 0) worker) (slice_index_or scripts worker [])
+opening_scripts n worker scripts = ap (λ k. drop k (slice_index_or scripts worker [])) (sym (nothing_passed n worker))
+  where
+    nothing_passed : (n worker : ℕ) → slice_index (replicate n 0) worker ≡ 0
+    nothing_passed zero worker = refl
+    nothing_passed (suc n) zero = refl
+    nothing_passed (suc n) (suc worker) = nothing_passed n worker
+
+-- a fresh book is where a job begins
+pub at_opening : (job : Job) (book : Book) (n : ℕ) → memory_of_book book ≡ empty_memory → table_of_book book ≡ empty_table job.pages → book.entries ≡ []
+    → book.room ≡ job.history → IsAt job (opening job) book (replicate n 0)
+at_opening job book n memory table entries room = record {
+  memory = memory;
+  table = table;
+  entries = entries;
+  room = room;
+  workers = refl;
+  scripts = λ worker. opening_scripts n worker job.scripts;
+}

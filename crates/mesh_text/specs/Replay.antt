@@ -1,0 +1,54 @@
+-- What a replay has read and written when it ends, and when it stops.
+use Rattle.std.specs.Prelude.{◌≡◌, ◌⊎◌, ℕ, List, Option, Ok, length}
+use Rattle.std.specs.Io.KnownBytes.{Appends, Consumes, IsAtEnd, Keeps}
+use Rattle.mesh_model.specs.Files.{read_text, replayed}
+use Rattle.mesh_model.specs.Jobs.{Job}
+use Rattle.mesh_model.specs.declared.faults.TextFault.{TextFault}
+use Rattle.mesh_text.specs.Reading.{IsFaultOf}
+use Rattle.mesh_text.specs.Transfer.{AppendsBeginning}
+use Rattle.mesh_text.specs.Turns.{AppendsLines}
+use Rattle.mesh_text.specs.declared.faults.ReplayError.{ReplayError}
+use Rattle.mesh_text.specs.declared.faults.ReplayError.TheVariants.{Read, Write, Text, Memory}
+
+-- this text was read from the input, to its end or to one byte more than a job file may have
+pub record HasRead (left left' : Option (List ℕ)) (text : List ℕ) : Type 0 where
+  pub taken : Consumes left left' text
+  pub whole : IsAtEnd left' ⊎ (length text ≡ 1048577)
+
+-- the input was read to its end, and its output was written: the answers that the definitions give for the job of that text
+pub record HasReplayed (left left' written written' : Option (List ℕ)) : Type 0 where
+  pub text : List ℕ
+  pub taken : Consumes left left' text
+  pub whole : IsAtEnd left'
+  pub answers : List ℕ
+  pub is_output : replayed text ≡ Ok answers
+  pub wrote : Appends written written' answers
+
+-- a job was read, and a beginning of its output was written
+pub record HasBegun (left left' written written' : Option (List ℕ)) : Type 0 where
+  pub text : List ℕ
+  pub read : HasRead left left' text
+  pub answers : List ℕ
+  pub is_output : replayed text ≡ Ok answers
+  pub wrote : AppendsBeginning written written' answers
+
+-- a job was read, and the answers to a beginning of its plan were written
+pub record HasAnswered (left left' written written' : Option (List ℕ)) : Type 0 where
+  pub text : List ℕ
+  pub read : HasRead left left' text
+  pub job : Job
+  pub is_job : read_text text ≡ Ok job
+  pub wrote : AppendsLines job written written'
+
+-- a text was read that has this fault
+pub record HasFound (left left' : Option (List ℕ)) (fault : TextFault) : Type 0 where
+  pub text : List ℕ
+  pub read : HasRead left left' text
+  pub is_fault : IsFaultOf text fault
+
+-- what was read and written, by the error that a replay stopped for
+abbrev pub HasStopped : Option (List ℕ) → Option (List ℕ) → Option (List ℕ) → Option (List ℕ) → ReplayError → Type 0
+HasStopped left left' written written' Read = Keeps written written'
+HasStopped left left' written written' Write = HasBegun left left' written written'
+HasStopped left left' written written' (Text fault) = HasFound left left' fault × Keeps written written'
+HasStopped left left' written written' Memory = Keeps written written' ⊎ HasAnswered left left' written written'
