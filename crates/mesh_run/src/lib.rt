@@ -5,6 +5,7 @@
 #![tactic(auto)]
 
 mod command_line;
+mod fault_line;
 mod runs;
 mod status;
 

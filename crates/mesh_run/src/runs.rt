@@ -1,17 +1,18 @@
 //! The program's runs.
-ghost use Rattle.std.specs.Prelude.{◌≡◌, ◌≤◌, false};
+ghost use Rattle.std.specs.Prelude.{◌≡◌, ◌<◌, ◌≤◌, ◌||◌, false, is_err};
+ghost use Rattle.std.specs.Cow.{cow_str_bytes};
 ghost use Rattle.std.specs.Io.KnownBytes.{Keeps};
+ghost use Rattle.mesh_model.specs.Texts.{ended};
+ghost use Rattle.mesh_run.specs.Runs.{HasFailed, HasTold, error_text};
 ghost use Rattle.mesh_run.specs.Status.{status_of_error};
+ghost use Rattle.mesh_text.specs.Replay.{HasReplayed, HasStopped};
+ghost use Rattle.mesh_text.specs.declared.faults.ReplayError.{ReplayError};
 
 use crate::Stop;
+use crate::fault_line::line_of;
 use crate::status::{DONE, FAILED, FAULTY};
-use arrayvec::ArrayString;
 use mesh_text::{ReplayError, Sink, Source, replay, write_all};
 use std::alloc::Global;
-use std::fmt::Write;
-
-/// Room for the longest fault line, `line 4294967295: LONG_LINE` and its end.
-const FAULT_LINE_BYTES: usize = 32;
 
 /// Replays the job that the input gives, writes its answers to the output and its fault to `errors`, and gives the exit status.
 ///
@@ -25,8 +26,13 @@ pub fn replay_run<I: Source, O: Sink, E: Sink>(
 ) -> u8
     requires input { I.has_failed input.old ≡ false }
     requires output { O.has_failed output.old ≡ false }
-    ensures done { result ≡ 0 → (I.has_failed input.new ≡ false) × (O.has_failed output.new ≡ false) }
-    ensures text_fault { result ≡ 2 → Keeps (O.written output.old) (O.written output.new) }
+    ensures done { result ≡ 0 → HasReplayed (I.remaining input.old) (I.remaining input.new) (O.written output.old) (O.written output.new) }
+    ensures sound { result ≡ 0 → (I.has_failed input.new ≡ false) × (O.has_failed output.new ≡ false) }
+    ensures untold { result ≡ 0 → Keeps (E.written errors.old) (E.written errors.new) }
+    ensures stopped { 0 < result → (error : ReplayError) × (result ≡ status_of_error error)
+        × HasStopped (I.remaining input.old) (I.remaining input.new) (O.written output.old) (O.written output.new) error
+        × HasFailed (I.has_failed input.new) (O.has_failed output.new) error
+        × HasTold (E.has_failed errors.new) (E.written errors.old) (E.written errors.new) (ended (error_text error)) }
     ensures small { result ≤ 2 }
 {
     match replay(alloc, input, output) {
@@ -43,29 +49,41 @@ pub fn replay_run<I: Source, O: Sink, E: Sink>(
 /// Where the text can't be written the status stays.
 pub fn stop_run<O: Sink, E: Sink>(stop: &Stop, output: &mut O, errors: &mut E) -> u8
     ensures status { result ≡ stop.now.status }
+    ensures help { result ≡ 0 → HasTold (O.has_failed output.new) (O.written output.old) (O.written output.new) (cow_str_bytes stop.now.text)
+        × Keeps (E.written errors.old) (E.written errors.new) }
+    ensures fault { 0 < result → HasTold (E.has_failed errors.new) (E.written errors.old) (E.written errors.new) (cow_str_bytes stop.now.text)
+        × Keeps (O.written output.old) (O.written output.new) }
 {
     let text = stop.text.as_str().as_bytes();
-    let _ = if stop.status == DONE {
-        write_all(output, text)
+    if stop.status == DONE {
+        tell(output, text);
     } else {
-        write_all(errors, text)
-    };
+        tell(errors, text);
+    }
     stop.status
 }
 
 /// Writes to `errors` that the file can't be read, because it can't be opened, and gives the exit status.
 pub fn unopened_run<E: Sink>(errors: &mut E) -> u8
-    ensures { result ≡ 1 }
+    ensures status { result ≡ 1 }
+    ensures told { HasTold (E.has_failed errors.new) (E.written errors.old) (E.written errors.new) (ended (error_text ReplayError.Read)) }
 {
     tell_error(errors, ReplayError::Read);
     FAILED
 }
 
-/// Writes the line of an error. Where it can't be written there is nobody left to tell.
-fn tell_error<E: Sink>(errors: &mut E, error: ReplayError) {
-    let mut line = ArrayString::<FAULT_LINE_BYTES>::new();
-    let _ = writeln!(line, "{error}");
-    let _ = write_all(errors, line.as_str().as_bytes());
+/// Writes the line of an error.
+fn tell_error<E: Sink>(errors: &mut E, error: ReplayError)
+    ensures { HasTold (E.has_failed errors.new) (E.written errors.old) (E.written errors.new) (ended (error_text error)) }
+{
+    tell(errors, line_of(error).as_slice());
+}
+
+/// Writes a text for a person. Where it can't be written there is nobody left to tell.
+fn tell<S: Sink>(sink: &mut S, text: &[u8])
+    ensures { HasTold (S.has_failed sink.new) (S.written sink.old) (S.written sink.new) text.now }
+{
+    let _ = write_all(sink, text);
 }
 
 /// The exit status of a replay that stopped.

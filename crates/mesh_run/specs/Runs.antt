@@ -1,0 +1,32 @@
+-- What a run tells a person, and which device has failed where a replay stops.
+use Rattle.std.specs.Prelude.{◌≡◌, ℕ, Bool, true, false, List, ◌++◌, Option, codes}
+use Rattle.std.specs.Io.KnownBytes.{Appends}
+use Rattle.mesh_model.specs.Faults.{kind_name_of}
+use Rattle.mesh_model.specs.Texts.{number_field}
+use Rattle.mesh_model.specs.declared.faults.TextFault.{TextFault}
+use Rattle.mesh_text.specs.Transfer.{AppendsBeginning}
+use Rattle.mesh_text.specs.declared.faults.ReplayError.{ReplayError}
+use Rattle.mesh_text.specs.declared.faults.ReplayError.TheVariants.{Read, Write, Memory, Text}
+
+-- a fault's line, without its end
+abbrev pub fault_text : TextFault → List ℕ
+fault_text fault = codes "line" ++ number_field fault.line ++ codes ": " ++ kind_name_of fault.kind
+
+-- an error's line, without its end
+abbrev pub error_text : ReplayError → List ℕ
+error_text Read = codes "read fault"
+error_text Write = codes "write fault"
+error_text Memory = codes "out of memory"
+error_text (Text fault) = fault_text fault
+
+-- of this text a beginning was told, and the whole of it unless the device failed
+pub record HasTold (failed : Bool) (told told' : Option (List ℕ)) (text : List ℕ) : Type 0 where
+  pub part : AppendsBeginning told told' text
+  pub whole : failed ≡ false → Appends told told' text
+
+-- the device that an error tells of has failed
+abbrev pub HasFailed : Bool → Bool → ReplayError → Type 0
+HasFailed input output Read = input ≡ true
+HasFailed input output Write = output ≡ true
+HasFailed input output Memory = Unit {0}
+HasFailed input output (Text fault) = Unit {0}

@@ -1,0 +1,47 @@
+//! The line that tells why a replay stopped.
+ghost use Rattle.std.specs.Prelude.{◌≡◌, ◌+◌, ◌≤◌, [], ◌++◌, length};
+ghost use Rattle.mesh_model.specs.Texts.{ended};
+ghost use Rattle.mesh_run.specs.Runs.{error_text, fault_text};
+
+use arrayvec::ArrayVec;
+use itoa::Buffer;
+use mesh_text::{ReplayError, TextFault};
+
+/// The bytes of a line, with room for the longest: `line 4294967295: LONG_LINE` and its end.
+type Line = ArrayVec<u8, 32>;
+
+/// The line of an error, with its end.
+pub(crate) fn line_of(error: ReplayError) -> Line
+    ensures { result.items ≡ ended (error_text error) }
+{
+    let mut line = Line::new();
+    match error {
+        ReplayError::Read => add(&mut line, b"read fault"),
+        ReplayError::Write => add(&mut line, b"write fault"),
+        ReplayError::Memory => add(&mut line, b"out of memory"),
+        ReplayError::Text(fault) => add_fault(&mut line, fault),
+    }
+    add(&mut line, b"\n");
+    line
+}
+
+/// Adds what a fault's line says.
+fn add_fault(line: &mut Line, fault: TextFault)
+    requires { line.old.items ≡ [] }
+    ensures text { line.new.items ≡ fault_text fault }
+    ensures short { length line.new.items ≤ 31 }
+{
+    let mut digits = Buffer::new();
+    add(line, b"line ");
+    add(line, digits.format(fault.line).as_bytes());
+    add(line, b": ");
+    add(line, fault.kind.name().as_bytes());
+}
+
+/// Adds bytes for which there is room.
+fn add(line: &mut Line, bytes: &[u8])
+    requires { length line.old.items + length bytes.now ≤ 32 }
+    ensures { line.new.items ≡ line.old.items ++ bytes.now }
+{
+    let _ = line.try_extend_from_slice(bytes);
+}
