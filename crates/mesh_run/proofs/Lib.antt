@@ -1,1 +1,2 @@
+pub mod CommandLines
 pub mod Telling

@@ -1,5 +1,9 @@
 //! The command line.
-ghost use Rattle.std.specs.Prelude.{◌≡◌, ◌≤◌, IfErr};
+ghost use Rattle.std.specs.Prelude.{◌≡◌, ◌≢◌, ◌⊎◌, ◌≤◌, None, true, IfErr, IfOk, map, option_map};
+ghost use Rattle.std.specs.IoError.{error_kind};
+ghost use Rattle.std.specs.declared.io.ErrorKind.TheVariants.{OutOfMemory as IoOutOfMemory};
+ghost use Rattle.clap.specs.Words.{app_of, kind_of, subcommand_rows_of};
+ghost use Rattle.mesh_run.specs.CommandLine.{IsAllowedOf, IsAsked, IsNoText, IsOutOfMemory, IsSaidOf, IsStopAt, file_asked, file_in, is_taken, meshrun_app, path_of, status_of_kind};
 
 use crate::status::{DONE, FAILED, FAULTY};
 use clap::error::ErrorKind;
@@ -32,7 +36,10 @@ pub struct Stop {
 ///
 /// The words are read by `clap`, which words the texts of help and of faults. The file is the word as it was given.
 pub fn arguments<'a, S: AsStr>(alloc: Global, words: &'a [S]) -> Result<Args<'a>, Stop>
-    ensures { IfErr result (λ stop. stop.status ≤ 2) }
+    ensures asked { IfOk result (IsAsked (map S.text words.now)) }
+    ensures stop { IfErr result (IsStopAt (map S.text words.now)) }
+    ensures passes { IfErr result (λ stop. is_taken (map S.text words.now) ≡ true → IsOutOfMemory stop ⊎ (file_asked (map S.text words.now) ≡ None)) }
+    ensures small { IfErr result (λ stop. stop.status ≤ 2) }
 {
     match read_words(alloc, words) {
         Ok(args) => Ok(args),
@@ -41,17 +48,36 @@ pub fn arguments<'a, S: AsStr>(alloc: Global, words: &'a [S]) -> Result<Args<'a>
 }
 
 /// What the words ask for, or what `clap` says of them.
-fn read_words<'a, S: AsStr>(alloc: Global, words: &'a [S]) -> Result<Args<'a>, Error> {
+fn read_words<'a, S: AsStr>(alloc: Global, words: &'a [S]) -> Result<Args<'a>, Error>
+    ensures asked { IfOk result (IsAsked (map S.text words.now)) }
+    ensures kinds { IfErr result (λ error. IsSaidOf (map S.text words.now) (kind_of error)) }
+    ensures passes { IfErr result (λ error. IsAllowedOf (map S.text words.now) (kind_of error)) }
+{
     let mut command = meshrun_command(alloc)?;
-    let matches = command.try_get_matches_from_mut(words)?;
+    let matches = matches_of(&mut command, words)?;
     match asked_for(&matches) {
         Some(args) => Ok(args),
         None => Err(command.error(ErrorKind::MissingSubcommand, "a command is missing\n")?),
     }
 }
 
+/// What `clap` makes of the words.
+fn matches_of<'a, S: AsStr>(
+    command: &mut Command<'a>,
+    words: &'a [S],
+) -> Result<ArgMatches<'a>, Error>
+    requires { app_of command.old ≡ meshrun_app }
+    ensures file { IfOk result (λ matches. file_in (subcommand_rows_of matches) ≡ file_asked (map S.text words.now)) }
+    ensures kinds { IfErr result (λ error. IsSaidOf (map S.text words.now) (kind_of error)) }
+    ensures passes { IfErr result (λ error. IsAllowedOf (map S.text words.now) (kind_of error)) }
+{
+    command.try_get_matches_from_mut(words)
+}
+
 /// The command that the matches name, with its file.
-fn asked_for<'a>(matches: &ArgMatches<'a>) -> Option<Args<'a>> {
+fn asked_for<'a>(matches: &ArgMatches<'a>) -> Option<Args<'a>>
+    ensures { option_map path_of result ≡ file_in (subcommand_rows_of matches.now) }
+{
     let (name, matches) = matches.subcommand()?;
     let file = matches.get_str(FILE)?;
     match name {
@@ -61,7 +87,9 @@ fn asked_for<'a>(matches: &ArgMatches<'a>) -> Option<Args<'a>> {
 }
 
 /// The program's command line: a command and its file.
-fn meshrun_command<'a>(alloc: Global) -> Result<Command<'a>, AllocError> {
+fn meshrun_command<'a>(alloc: Global) -> Result<Command<'a>, AllocError>
+    ensures { IfOk result (λ command. app_of command ≡ meshrun_app) }
+{
     let file = Arg::new(alloc, FILE)
         .required(true)
         .help("The job file to replay");
@@ -77,7 +105,8 @@ fn meshrun_command<'a>(alloc: Global) -> Result<Command<'a>, AllocError> {
 
 /// How the program stops where the system doesn't give it the words of its command line: they are no text, or memory was refused.
 pub fn unread_words(error: &io::Error) -> Stop
-    ensures { result.status ≤ 2 }
+    ensures memory { error_kind error.now ≡ IoOutOfMemory → IsOutOfMemory result }
+    ensures other { error_kind error.now ≢ IoOutOfMemory → IsNoText result }
 {
     if error.kind() == io::ErrorKind::OutOfMemory {
         return out_of_memory();
@@ -90,7 +119,8 @@ pub fn unread_words(error: &io::Error) -> Stop
 
 /// How the program stops for this error.
 fn stop_of(alloc: Global, error: &Error) -> Stop
-    ensures { result.status ≤ 2 }
+    ensures stop { IsOutOfMemory result ⊎ (result.status ≡ status_of_kind (kind_of error.now)) }
+    ensures memory { kind_of error.now ≡ ErrorKind.OutOfMemory → IsOutOfMemory result }
 {
     if error.kind() == ErrorKind::OutOfMemory {
         return out_of_memory();
@@ -107,7 +137,7 @@ fn stop_of(alloc: Global, error: &Error) -> Stop
 
 /// How the program stops for want of memory.
 fn out_of_memory() -> Stop
-    ensures { result.status ≡ 1 }
+    ensures { IsOutOfMemory result }
 {
     Stop {
         status: FAILED,

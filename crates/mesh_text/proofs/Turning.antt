@@ -96,14 +96,14 @@ replied_scripts job state book places script worker command later at is here lon
     let left = commands_left job state book places script worker at is ∙ drop_at (slice_index places worker) script command here in
     let after : later ≡ drop (slice_index places worker + 1) script = rest ∙ ap (λ commands. later_commands commands) left in
     elim (eqb_tells other worker) [
-      inl same ↦
-        subst (λ w. slice_index_or (slice_set state.scripts worker later) w [] ≡ drop (slice_index (slice_set places worker (slice_index places worker + 1)) w) (slice_index_or job.scripts w [])) (sym same.1)
-        (get_or-set_same state.scripts worker later [] (let workers = at.workers in omega (arith, workers, long, below))
-        ∙ after ∙ ap (λ s. drop (slice_index places worker + 1) s) is
-        ∙ ap (λ n. drop n (slice_index_or job.scripts worker [])) (sym (get_or-set_same places worker (slice_index places worker + 1) 0 below))) |
-      inr apart ↦
-        get_or-set_other state.scripts worker other later [] apart.1 ∙ at.scripts other
-        ∙ ap (λ n. drop n (slice_index_or job.scripts other [])) (sym (get_or-set_other places worker other (slice_index places worker + 1) 0 apart.1))
+      | inl same ↦
+          subst (λ w. slice_index_or (slice_set state.scripts worker later) w [] ≡ drop (slice_index (slice_set places worker (slice_index places worker + 1)) w) (slice_index_or job.scripts w [])) (sym same.1)
+          (get_or-set_same state.scripts worker later [] (let workers = at.workers in omega (arith, workers, long, below))
+          ∙ after ∙ ap (λ s. drop (slice_index places worker + 1) s) is
+          ∙ ap (λ n. drop n (slice_index_or job.scripts worker [])) (sym (get_or-set_same places worker (slice_index places worker + 1) 0 below)))
+      | inr apart ↦
+          get_or-set_other state.scripts worker other later [] apart.1 ∙ at.scripts other
+          ∙ ap (λ n. drop n (slice_index_or job.scripts other [])) (sym (get_or-set_other places worker other (slice_index places worker + 1) 0 apart.1))
     ]
 
 -- a turn with a command left is what the definitions answer
@@ -119,19 +119,19 @@ turn_taken job state book book' places script worker command attempt at is here 
   where
     full : (b : Bool) → nat_le job.history (length state.entries) ≡ b → (commands : List Command) → run_next job state worker (command ∷ commands)
         ≡ (if b then record { answer = JournalFull; state = state }
-          else attempted state worker command (blocked_now state command (answered state.memory state.table command)) (answered state.memory state.table command))
+        else attempted state worker command (blocked_now state command (answered state.memory state.table command)) (answered state.memory state.table command))
     full b is commands = rw is refl
 
     room_left : length book.entries < book.room → nat_le job.history (length state.entries) ≡ false
     room_left short = elim (leb_tells job.history (length state.entries)) [
-      inl over ↦ absurd (let most = over.1 in let room = at.room in let entries = at.entries in omega (arith, short, most, room, ap (λ (xs : List Entry). length xs) entries)) |
-      inr under ↦ under.0
+      | inl over ↦ absurd (let most = over.1 in let room = at.room in let entries = at.entries in omega (arith, short, most, room, ap (λ (xs : List Entry). length xs) entries))
+      | inr under ↦ under.0
     ]
 
     no_room : book.room ≤ length book.entries → nat_le job.history (length state.entries) ≡ true
     no_room past = elim (leb_tells job.history (length state.entries)) [
-      inl over ↦ over.0 |
-      inr under ↦ absurd (let less = under.1 in let room = at.room in let entries = at.entries in omega (arith, past, less, room, ap (λ (xs : List Entry). length xs) entries))
+      | inl over ↦ over.0
+      | inr under ↦ absurd (let less = under.1 in let room = at.room in let entries = at.entries in omega (arith, past, less, room, ap (λ (xs : List Entry). length xs) entries))
     ]
 
     open_room : (commands : List Command) (held : Bool) → length book.entries < book.room → blocked_now state command (answered state.memory state.table command) ≡ held

@@ -38,16 +38,16 @@ loop-line-preserved g c =
     let workers = c.in_ok-answer.ensures.workers ∙ c.loop-line.invariant.workers in
     let at = next_at job i (RunWorker worker) c.run.new.self.book c.run.new.self.next.items c.in_ok-answer.answer turn.more next in
     elim c.if-len-ge-CHUNK_BYTES.branch [
-      then-len-ge-CHUNK_BYTES+in_ok-write_answers w ↦
-        let wrote : Appends (g.O.Sink.written c.loop-line.output) (g.O.Sink.written w.write_answers.new.output) c.add_to.new.text.items
-        = subst (λ bytes. Appends (g.O.Sink.written c.loop-line.output) (g.O.Sink.written w.write_answers.new.output) bytes) w.as_slice.ensures.value w.in_ok-write_answers.ensures.ok in
-        record {
-          workers = workers;
-          fresh = ap (λ o. g.O.Sink.has_failed o) w.output-is ∙ w.in_ok-write_answers.ensures.fails;
-          at = at;
-          gathered = rw (w.output-is, w.text-is, w.clear.ensures.items) (all_written job (i + 1) _ _ _ c.add_to.new.text.items gathered wrote);
-        } |
-      else-len-ge-CHUNK_BYTES w ↦ record {
+      | then-len-ge-CHUNK_BYTES+in_ok-write_answers w ↦
+          let wrote : Appends (g.O.Sink.written c.loop-line.output) (g.O.Sink.written w.write_answers.new.output) c.add_to.new.text.items
+          = subst (λ bytes. Appends (g.O.Sink.written c.loop-line.output) (g.O.Sink.written w.write_answers.new.output) bytes) w.as_slice.ensures.value w.in_ok-write_answers.ensures.ok in
+          record {
+            workers = workers;
+            fresh = ap (λ o. g.O.Sink.has_failed o) w.output-is ∙ w.in_ok-write_answers.ensures.fails;
+            at = at;
+            gathered = rw (w.output-is, w.text-is, w.clear.ensures.items) (all_written job (i + 1) _ _ _ c.add_to.new.text.items gathered wrote);
+          }
+      | else-len-ge-CHUNK_BYTES w ↦ record {
         workers = workers;
         fresh = ap (λ o. g.O.Sink.has_failed o) w.output-is ∙ c.loop-line.invariant.fresh;
         at = at;

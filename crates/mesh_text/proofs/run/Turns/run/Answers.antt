@@ -20,8 +20,8 @@ returns-in-Done-clause-answered g job state at long is =
     = sym (g.index-place.ensures ∙ get_or_default g.args.self.now.next.items g.args.worker g.index-place.result.now 0 below) in
     subst (λ n. IsNextAt job (answer job state (RunWorker g.args.worker)) g.act.new.self (slice_set g.args.self.now.next.items g.args.worker (n + 1)) (Replied g.in-Done.reply)) place
     (turn_taken job state g.args.self.now.book g.act.new.self g.args.self.now.next.items g.args.script.now g.args.worker g.in-Some.command.now (Done g.in-Done.reply) at is
-        (at_place g.args.self.now.next.items g.args.script.now g.args.worker g.index-place.result.now _ below g.index-place.ensures g.in-Some.ensures.value)
-        (sym g.args.self.now.next.ok.0 ∙ long) below g.in-Done.ensures.attempt tt)
+    (at_place g.args.self.now.next.items g.args.script.now g.args.worker g.index-place.result.now _ below g.index-place.ensures g.in-Some.ensures.value)
+    (sym g.args.self.now.next.ok.0 ∙ long) below g.in-Done.ensures.attempt tt)
 
 pub returns-in-Blocked-clause-answered : goal.returns-in-Blocked-clause-answered
 returns-in-Blocked-clause-answered g job state at long is =
