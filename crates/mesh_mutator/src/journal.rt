@@ -7,6 +7,7 @@ ghost use Rattle.mesh_model.specs.Table.{empty_table};
 ghost use Rattle.mesh_mutator.specs.Attempts.{IsLook};
 ghost use Rattle.mesh_mutator.specs.Book.{IsAttempt, IsLooked, memory_of_book, table_of_book};
 ghost use Rattle.mesh_mutator.specs.declared.attempts.Attempt.{Attempt};
+ghost use Rattle.mesh_steps.specs.Always.{HasHeldPagesTaken, HasObjectsApart, HasPlacesApart, HasReadOnlyOfMeshes};
 
 use crate::attempts::{address, get, peek, perform};
 use crate::entry::Entry;
@@ -70,6 +71,17 @@ impl Book {
         ensures legal { IsLegal result.now (memory_of_book self.now) }
     {
         self.journal.as_slice()
+    }
+
+    /// What always holds of its heap: two different bytes of live objects never share a place, no free page holds a live object, and the
+    /// read-only pages are exactly those of the running meshes.
+    pub fn always(&self)
+        ensures objects { HasObjectsApart self.now.heap }
+        ensures places { HasPlacesApart self.now.heap }
+        ensures held { HasHeldPagesTaken self.now.heap }
+        ensures read_only { HasReadOnlyOfMeshes self.now.heap }
+    {
+        self.heap.always();
     }
 
     /// One attempt of a worker at a command.
