@@ -1,15 +1,14 @@
 -- What the split search finds.
-use Rattle.std.proofs.Common.{◌≡◌, ◌≢◌, ℕ, zero, suc, ◌+◌, ◌-◌, ◌*◌, ◌/◌, ◌%◌, ◌<◌, ◌≤◌, Bool, true, false, cond, not, ◌&&◌, ◌||◌, nat_eq, nat_lt, List, [], ◌∷◌, ◌++◌, length, map, filter, take, drop, slice_index_or, get_or, ap, subst, refl, sym, ◌∙◌, arith, rules, ◌⊎◌, inl, inr, Option, Some, None, zero-add, add_comm}
+use Rattle.std.proofs.Common.{◌≡◌, ℕ, zero, suc, ◌+◌, ◌-◌, ◌*◌, ◌/◌, ◌%◌, ◌<◌, ◌≤◌, Bool, true, false, cond, not, nat_eq, nat_lt, List, [], ◌∷◌, ◌++◌, length, map, filter, take, drop, slice_index_or, ap, subst, refl, sym, ◌∙◌, arith, ◌⊎◌, inl, inr, Option, Some, None, zero-add, add_comm}
 use Rattle.std.specs.List.{list_any, zip}
-use Rattle.std.proofs.lemmas.Grind.{common_steps}
-use Rattle.std.proofs.lemmas.Bool.Decides.{eqb_tells, leb_tells, nat_tests}
+use Rattle.std.proofs.lemmas.Bool.Decides.{eqb_tells, leb_tells}
 use Rattle.std.proofs.lemmas.List.{length-append, get_or-drop, get_or-take, get_or-append_right, length-drop, length-take, length-take-le}
 use Rattle.std.proofs.Math.ListN.{get_or-append}
 use Rattle.std.proofs.Math.Nat.{mul-le-mul_left, mod-eq_of_lt, add-mod-mod, add-mod_right, mod-lt}
 use Rattle.std.proofs.lemmas.Bool.{true≢false}
-use Rattle.mesh_model.specs.Mesh.{do_overlap, both_occupied}
-use Rattle.mesh_model.specs.Search.{Pairing, Found, split_search, rounds_from, pairs_of_round, tries, are_meshable, turned, unpaired, pairs_group, rotated, followed_by}
-use Rattle.mesh_model.specs.Table.{Slot, Group, has_number, object_count}
+use Rattle.mesh_model.specs.Mesh.{do_overlap}
+use Rattle.mesh_model.specs.Search.{Pairing, split_search, rounds_from, pairs_of_round, tries, are_meshable, turned, unpaired, pairs_group, rotated}
+use Rattle.mesh_model.specs.Table.{Slot, Group, object_count}
 use Rattle.mesh_model.specs.Laws.{AreAllMeshable, times, times_paired}
 
 -- overlapping is symmetric

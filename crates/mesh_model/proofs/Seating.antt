@@ -1,5 +1,5 @@
 -- Which seat is missing, and where calls first differ.
-use Rattle.std.proofs.Common.{◌≡◌, ℕ, zero, suc, ◌+◌, ◌<◌, ◌≤◌, Bool, true, false, not, List, [], ◌∷◌, map, nat_eq, find, slice_get, ap, subst, sym, refl, arith, ◌⊎◌, inl, inr, Option, Some, None}
+use Rattle.std.proofs.Common.{◌≡◌, ℕ, zero, suc, ◌+◌, ◌<◌, ◌≤◌, Bool, true, false, not, List, [], ◌∷◌, map, nat_eq, find, slice_get, ap, subst, refl, arith, inl, inr, Option, Some, None}
 use Rattle.std.proofs.lemmas.Bool.Decides.{eqb_tells, leb_tells}
 use Rattle.std.specs.List.{range_with_len}
 use Rattle.mesh_model.specs.HistoryLaws.{commands_of}

@@ -1,18 +1,15 @@
 -- A whole mesh, step by step.
-use Rattle.std.proofs.Common.{◌≡◌, ◌≢◌, ℕ, zero, suc, ◌+◌, ◌-◌, ◌*◌, ◌<◌, ◌≤◌, Bool, true, false, cond, not, ◌&&◌, nat_eq, nat_lt, nat_le, List, [], ◌∷◌, ◌++◌, Option, Some, None, Result, Ok, Err, length, ap, subst, refl, sym, ◌∙◌, arith, ◌⊎◌, inl, inr}
+use Rattle.std.proofs.Common.{◌≡◌, ℕ, zero, suc, ◌+◌, ◌-◌, ◌*◌, ◌<◌, ◌≤◌, Bool, true, false, not, nat_eq, nat_lt, List, [], ◌∷◌, ◌++◌, Option, Some, None, Result, Ok, Err, length, ap, subst, refl, sym, ◌∙◌, arith, inl, inr}
 use Rattle.std.specs.List.{list_any}
-use Rattle.std.proofs.lemmas.Grind.{common_steps}
-use Rattle.std.proofs.lemmas.Bool.Decides.{eqb_tells, leb_tells, nat_tests}
+use Rattle.std.proofs.lemmas.Bool.Decides.{eqb_tells, leb_tells}
 use Rattle.std.proofs.lemmas.Bool.{true≢false}
 use Rattle.mesh_model.specs.Classes.{pages_of, slots_of}
 use Rattle.mesh_model.specs.Laws.{steps_made, HasPages}
-use Rattle.mesh_model.specs.Mesh.{Pair, page_count, step_count, kind_after, free_after, table_after, stepped, step, first_mesh, merged, any_mesh, do_overlap, may_begin, begin, mesh_whole, is_mesh, without_mesh, with_progress, mesh_at}
-use Rattle.mesh_model.specs.Table.{Group, Progress, Made, Unwinding, Mesh, Table, group_of, Counted}
+use Rattle.mesh_model.specs.Mesh.{Pair, page_count, step_count, kind_after, free_after, table_after, merged, any_mesh, do_overlap, may_begin, begin, mesh_whole}
+use Rattle.mesh_model.specs.Table.{Group, Progress, Made, Mesh, Table, group_of, Counted}
 use Rattle.mesh_model.specs.Words.{◌>>=◌, or_refuse, refuse_if}
 use Rattle.mesh_model.specs.declared.refusals.Refusal.{Refusal}
 use Rattle.mesh_model.specs.declared.refusals.Refusal.TheVariants.{NoGroup, Same, Class, Busy, Overlap, Members}
-use Rattle.mesh_model.specs.declared.commands.StepKind.{StepKind}
-use Rattle.mesh_model.specs.declared.commands.StepKind.TheVariants.{Protect, Copy, Remap, Unprotect, Release}
 
 -- a release comes after all other steps
 free_next : (a : Group) (d f : ℕ) → free_after (kind_after a d) f + (d - (3 * page_count a + slots_of a.class)) ≡ f + (d + 1 - (3 * page_count a + slots_of a.class))

@@ -1,5 +1,5 @@
 -- Reading a job's text: the job, or the first fault with its line. The format is this project's own choice.
-use Rattle.std.specs.Prelude.{◌≡◌, ℕ, ◌+◌, ◌-◌, ◌*◌, ◌<◌, ◌≤◌, Bool, true, false, ◌&&◌, ◌||◌, not, if◌then◌else◌, nat_eq, nat_le, nat_lt, List, [], ◌∷◌, ◌++◌, Option, Some, None, IsSome, Result, Ok, Err, length, codes, decimal}
+use Rattle.std.specs.Prelude.{ℕ, ◌+◌, ◌-◌, ◌*◌, ◌<◌, ◌≤◌, Bool, true, false, ◌&&◌, not, if◌then◌else◌, nat_eq, nat_le, nat_lt, List, [], ◌∷◌, ◌++◌, Option, Some, None, IsSome, Result, Ok, Err, length, codes, decimal}
 use Rattle.std.specs.List.{All, fold, list_all, list_any, slice_split}
 use Rattle.mesh_model.specs.Classes.{row_of}
 use Rattle.mesh_model.specs.Jobs.{Line, RunWorker, PairClass, BeginMesh, StepMesh, CancelMesh, WholeMesh, SweepGroup, MakeReport, Job}

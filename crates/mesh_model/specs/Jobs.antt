@@ -1,14 +1,14 @@
 -- A job, and its answers: plain memory and table together walk through the plan. This project's own choice.
-use Rattle.std.specs.Prelude.{ℕ, ◌+◌, ◌-◌, Bool, true, false, not, if◌then◌else◌, nat_le, List, [], ◌∷◌, ◌++◌, Option, Some, None, Result, Ok, Err, length, map, slice_index_or, slice_set}
-use Rattle.mesh_model.specs.Memory.{Object, Memory, empty_memory, next_serial}
+use Rattle.std.specs.Prelude.{ℕ, ◌+◌, Bool, true, false, if◌then◌else◌, nat_le, List, [], ◌∷◌, ◌++◌, Result, Ok, Err, length, slice_index_or, slice_set}
+use Rattle.mesh_model.specs.Memory.{Memory, empty_memory, next_serial}
 use Rattle.mesh_model.specs.Mesh.{any_mesh, begin, step, cancel, mesh_whole, first_mesh, is_blocked, Stepped}
 use Rattle.mesh_model.specs.Plain.{Named, named_by, plain, Entry}
 use Rattle.mesh_model.specs.Search.{Found, search}
 use Rattle.mesh_model.specs.Table.{Table, Counted, Placed, Report, empty_table, place_new, report_of, sweep, without_object}
 use Rattle.mesh_model.specs.declared.commands.Command.{Command}
-use Rattle.mesh_model.specs.declared.commands.Command.TheVariants.{New, Put, Get, Free, Alias, Addr, Peek, Poke}
+use Rattle.mesh_model.specs.declared.commands.Command.TheVariants.{New, Put, Free, Poke}
 use Rattle.mesh_model.specs.declared.commands.Reply.{Reply}
-use Rattle.mesh_model.specs.declared.commands.Reply.TheVariants.{Object as Made, Done, Bytes, At, Byte, Refused}
+use Rattle.mesh_model.specs.declared.commands.Reply.TheVariants.{Refused}
 use Rattle.mesh_model.specs.declared.commands.StepKind.{StepKind}
 use Rattle.mesh_model.specs.declared.refusals.Refusal.{Refusal}
 

@@ -5,13 +5,13 @@ use Rattle.mesh_model.specs.Mesh.{any_mesh, begin, cancelled, step_count, table_
 use Rattle.mesh_model.specs.Search.{Pairing, split_search, tries}
 use Rattle.mesh_model.specs.Seats.{Call, DifferFirstAt, has_stranger, missing_seat}
 use Rattle.mesh_model.specs.Places.{Place, Target, byte_of, holds, meaning, place_of, records_from, with_protection}
-use Rattle.mesh_model.specs.Plain.{plain, PlainStep, IsVacantRange, IsLegal, Runs, Entry}
+use Rattle.mesh_model.specs.Plain.{plain, PlainStep, IsVacantRange, IsLegal, Entry}
 use Rattle.mesh_model.specs.Words.{◌>>=◌}
 use Rattle.mesh_model.specs.Classes.{pages_of}
 use Rattle.mesh_model.specs.declared.refusals.Refusal.TheVariants.{NoAddresses}
 use Rattle.mesh_model.specs.Table.{Counted, Mesh, Table, group_of, room_for_span, Group, Slot, slot_address, Progress, Made, Unwinding}
 use Rattle.mesh_model.specs.declared.commands.Command.{Command}
-use Rattle.mesh_model.specs.declared.commands.Command.TheVariants.{New, Put, Get, Free, Alias, Addr, Peek, Poke}
+use Rattle.mesh_model.specs.declared.commands.Command.TheVariants.{New}
 use Rattle.mesh_model.specs.declared.commands.Reply.{Reply}
 use Rattle.mesh_model.specs.declared.commands.Reply.TheVariants.{Refused}
 use Rattle.mesh_model.specs.declared.refusals.Refusal.{Refusal}

@@ -1,9 +1,9 @@
 -- Meshing: two groups of one class put on one physical span, step by step. Protecting, copying and remapping are those of the publication
 -- (Powers, Tench, Berger, McGregor, "Mesh", 2019); the order of the steps and all the rest are this project's own.
-use Rattle.std.specs.Prelude.{ℕ, ◌+◌, ◌-◌, ◌*◌, ◌/◌, Bool, true, false, ◌&&◌, ◌||◌, not, if◌then◌else◌, nat_eq, nat_le, nat_lt, min, List, [], ◌∷◌, ◌++◌, Option, Some, None, Result, Ok, Err, length, map, filter, find}
-use Rattle.std.specs.List.{list_any, flat_map, range_with_len, enumerate_from}
+use Rattle.std.specs.Prelude.{ℕ, ◌+◌, ◌-◌, ◌*◌, ◌/◌, Bool, true, false, ◌&&◌, ◌||◌, not, if◌then◌else◌, nat_eq, nat_le, nat_lt, min, List, [], ◌∷◌, ◌++◌, Option, Some, None, Result, Ok, length, map, filter, find}
+use Rattle.std.specs.List.{list_any, flat_map, range_with_len}
 use Rattle.mesh_model.specs.Classes.{pages_of, slots_of}
-use Rattle.mesh_model.specs.Table.{Slot, Group, Progress, Made, Unwinding, Mesh, Table, group_of, has_number, takes_part, is_meshing, with_group, changed_at, Counted}
+use Rattle.mesh_model.specs.Table.{Slot, Group, Progress, Made, Unwinding, Mesh, Table, group_of, has_number, changed_at, Counted}
 use Rattle.mesh_model.specs.Words.{◌>>=◌, or_refuse, refuse_if}
 use Rattle.mesh_model.specs.declared.commands.StepKind.{StepKind}
 use Rattle.mesh_model.specs.declared.commands.StepKind.TheVariants.{Protect, Copy, Remap, Unprotect, Release}

@@ -1,9 +1,9 @@
 -- Where a byte of an address lies, and the plain memory that a heap with roots stands for. This project's own choice.
-use Rattle.std.specs.Prelude.{ℕ, ◌+◌, ◌*◌, ◌/◌, ◌%◌, Bool, true, false, if◌then◌else◌, nat_eq, List, [], ◌∷◌, ◌++◌, Option, Some, None, map, find}
+use Rattle.std.specs.Prelude.{ℕ, ◌+◌, ◌/◌, ◌%◌, Bool, if◌then◌else◌, nat_eq, List, [], ◌∷◌, Option, Some, None, map, find}
 use Rattle.std.specs.List.{flat_map, list_any, range_with_len}
 use Rattle.std.specs.Option.{option_map}
 use Rattle.mesh_model.specs.Memory.{Object, Memory}
-use Rattle.mesh_model.specs.Table.{Slot, Group, Table, slot_address}
+use Rattle.mesh_model.specs.Table.{Slot, Table, slot_address}
 
 -- where a virtual page leads: its physical page, and whether it is read-only
 pub record Target : Type 0 where

@@ -1,5 +1,5 @@
 -- The plain step: what one command may answer and leave on a plain memory. This project's own choice.
-use Rattle.std.specs.Prelude.{◌≡◌, ℕ, ◌+◌, ◌-◌, ◌<◌, ◌≤◌, Bool, true, false, nat_eq, nat_lt, List, [], ◌∷◌, ◌++◌, Option, Some, None, Result, Ok, Err, length, replicate, slice_index, slice_range}
+use Rattle.std.specs.Prelude.{◌≡◌, ℕ, ◌+◌, ◌-◌, ◌<◌, ◌≤◌, Bool, false, nat_eq, nat_lt, List, [], ◌∷◌, ◌++◌, Some, None, Result, Ok, Err, length, replicate, slice_index, slice_range}
 use Rattle.mesh_model.specs.Memory.{Object, Memory, empty_memory, next_serial, object_of, root_of, has_address, holder_of, overwritten, with_object, with_root}
 use Rattle.mesh_model.specs.Words.{◌>>=◌, or_refuse, refuse_if}
 use Rattle.mesh_model.specs.declared.commands.Command.{Command}
@@ -7,7 +7,7 @@ use Rattle.mesh_model.specs.declared.commands.Command.TheVariants.{New, Put, Get
 use Rattle.mesh_model.specs.declared.commands.Reply.{Reply}
 use Rattle.mesh_model.specs.declared.commands.Reply.TheVariants.{Object as Made, Done, Bytes, At, Byte, Refused}
 use Rattle.mesh_model.specs.declared.refusals.Refusal.{Refusal}
-use Rattle.mesh_model.specs.declared.refusals.Refusal.TheVariants.{Zero, TooLarge, NoPages, NoAddresses, Empty, Freed, Outside, Stray, NoGroup, Same, Class, Busy, Overlap, Members, NoMesh, TooLate, NotEmpty}
+use Rattle.mesh_model.specs.declared.refusals.Refusal.TheVariants.{Zero, TooLarge, NoPages, NoAddresses, Empty, Freed, Outside, Stray}
 
 -- a live object with its serial
 pub record Named : Type 0 where

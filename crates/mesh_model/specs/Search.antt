@@ -1,10 +1,10 @@
 -- The split search: which groups of a class a mesher may pair. The split into two lists is the publication's; shift, order of the tries and removal
 -- at a round's end are this project's own.
-use Rattle.std.specs.Prelude.{ℕ, zero, suc, ◌+◌, ◌*◌, ◌/◌, ◌%◌, Bool, true, false, ◌&&◌, ◌||◌, not, if◌then◌else◌, nat_eq, nat_le, nat_lt, List, [], ◌∷◌, ◌++◌, Option, Some, None, length, map, filter, find, take, drop, slice_index_or, remove}
+use Rattle.std.specs.Prelude.{ℕ, zero, suc, ◌+◌, ◌/◌, ◌%◌, Bool, ◌&&◌, ◌||◌, not, if◌then◌else◌, nat_eq, nat_lt, List, [], ◌∷◌, ◌++◌, length, map, filter, take, drop, slice_index_or, remove}
 use Rattle.std.specs.List.{list_any, zip}
 use Rattle.mesh_model.specs.Classes.{slots_of}
 use Rattle.mesh_model.specs.Mesh.{do_overlap}
-use Rattle.mesh_model.specs.Table.{Group, Table, is_meshing, object_count, has_number}
+use Rattle.mesh_model.specs.Table.{Group, Table, is_meshing, object_count}
 
 -- the group may be paired: it is of the class, in no mesh, not empty and not full
 abbrev pub is_candidate : Table → ℕ → Group → Bool

@@ -1,8 +1,8 @@
 -- What every table keeps, and what ties it to the plain memory.
-use Rattle.std.specs.Prelude.{◌≡◌, ℕ, ◌+◌, ◌*◌, ◌<◌, ◌≤◌, Bool, true, false, not, nat_eq, if◌then◌else◌, List, [], ◌∷◌, ◌++◌, Option, Some, None, IsSome, length, slice_get, replicate}
-use Rattle.std.specs.List.{flat_map, list_any}
+use Rattle.std.specs.Prelude.{◌≡◌, ℕ, ◌+◌, ◌*◌, ◌<◌, ◌≤◌, false, nat_eq, if◌then◌else◌, List, [], ◌∷◌, Some, IsSome, length, slice_get}
+use Rattle.std.specs.List.{flat_map}
 use Rattle.mesh_model.specs.Classes.{row_of, pages_of, slots_of}
-use Rattle.mesh_model.specs.Memory.{Object, Memory, object_of, next_serial}
+use Rattle.mesh_model.specs.Memory.{Object, Memory, object_of}
 use Rattle.mesh_model.specs.Mesh.{virtual_pages, page_count, do_overlap}
 use Rattle.mesh_model.specs.Table.{Slot, Group, Progress, Made, Unwinding, Mesh, Table, group_of, slot_address}
 

@@ -1,6 +1,6 @@
 -- The table: the state of a heap without its bytes. Spans, groups and their order are this project's own choice.
-use Rattle.std.specs.Prelude.{ℕ, ◌+◌, ◌-◌, ◌*◌, ◌%◌, Bool, true, false, ◌&&◌, ◌||◌, not, if◌then◌else◌, nat_eq, nat_lt, List, [], ◌∷◌, ◌++◌, Option, Some, None, Result, Ok, Err, length, map, filter, find, count_by, sum_by, is_some, is_none, replicate, slice_index, slice_set}
-use Rattle.std.specs.List.{list_any, enumerate_from, flat_map, range_with_len}
+use Rattle.std.specs.Prelude.{ℕ, ◌+◌, ◌-◌, ◌*◌, ◌%◌, Bool, ◌&&◌, ◌||◌, not, if◌then◌else◌, nat_eq, nat_lt, List, [], ◌∷◌, ◌++◌, Option, Some, None, Result, Ok, length, map, filter, find, count_by, sum_by, is_some, replicate, slice_index, slice_set}
+use Rattle.std.specs.List.{list_any}
 use Rattle.mesh_model.specs.Classes.{pages_of, slots_of, class_for}
 use Rattle.mesh_model.specs.Words.{◌>>=◌, or_refuse, refuse_if}
 use Rattle.mesh_model.specs.declared.refusals.Refusal.{Refusal}

@@ -1,5 +1,5 @@
 -- The text of jobs and of answers: the one spelling of each line. This project's own choice.
-use Rattle.std.specs.Prelude.{ℕ, zero, suc, ◌+◌, ◌-◌, ◌/◌, ◌%◌, Bool, true, false, if◌then◌else◌, nat_lt, List, [], ◌∷◌, ◌++◌, length, map, codes, decimal}
+use Rattle.std.specs.Prelude.{ℕ, zero, suc, ◌+◌, ◌/◌, ◌%◌, if◌then◌else◌, nat_lt, List, [], ◌∷◌, ◌++◌, length, map, codes, decimal}
 use Rattle.std.specs.List.{flat_map}
 use Rattle.mesh_model.specs.Jobs.{Line, RunWorker, PairClass, BeginMesh, StepMesh, CancelMesh, WholeMesh, SweepGroup, MakeReport, Job, Answer, Replied, StoreBlocked, JournalFull, ScriptOver, StepsLeft, StepMade, PagesMeshed, PagesSwept, PairsFound, Reported, MesherRefused, answers}
 use Rattle.mesh_model.specs.Refusals.{number_of, name_of}

@@ -1,5 +1,5 @@
 -- What the heap answers a command over cells, and what the plain memory answers it.
-use Rattle.std.proofs.Common.{◌≡◌, ◌≢◌, ℕ, zero, suc, ◌+◌, ◌-◌, ◌<◌, ◌≤◌, Bool, true, false, if◌then◌else◌, List, [], ◌∷◌, ◌++◌, length, map, replicate, slice_index, slice_index_or, slice_range, slice_set, Option, Some, None, Result, Ok, Err, is_ok, nat_eq, not, ap, subst, refl, sym, ◌∙◌, arith, rules, ◌⊎◌, inl, inr}
+use Rattle.std.proofs.Common.{◌≡◌, ℕ, zero, suc, ◌+◌, ◌-◌, ◌<◌, ◌≤◌, Bool, true, false, List, [], ◌∷◌, ◌++◌, length, replicate, slice_index, slice_index_or, slice_range, slice_set, Option, Some, None, Result, Ok, Err, is_ok, nat_eq, ap, subst, refl, sym, ◌∙◌, arith, ◌⊎◌, inl, inr}
 use Rattle.std.specs.List.{list_any, range_with_len}
 use Rattle.std.specs.Option.{option_map}
 use Rattle.std.proofs.Math.ListN.{get_or-append, get_or-map, length-append, length-set}
@@ -14,19 +14,18 @@ use Rattle.mesh_model.specs.Memory.{Memory, Object, holder_of, next_serial, obje
 use Rattle.mesh_model.specs.Mesh.{is_blocked}
 use Rattle.mesh_model.specs.Plain.{Named, Follows, ends_outside, holding, made, named_by, plain, stored}
 use Rattle.mesh_model.specs.Table.{Placed, Table, place_new, without_object}
-use Rattle.mesh_model.specs.Words.{◌>>=◌, or_refuse, refuse_if}
+use Rattle.mesh_model.specs.Words.{◌>>=◌, refuse_if}
 use Rattle.mesh_model.specs.declared.commands.Command.{Command}
 use Rattle.mesh_model.specs.declared.commands.Command.TheVariants.{New, Put, Get, Free, Alias, Addr, Peek, Poke}
 use Rattle.mesh_model.specs.declared.commands.Reply.{Reply}
 use Rattle.mesh_model.specs.declared.commands.Reply.TheVariants.{Object as Made, Done as ReplyDone, Bytes, At, Byte, Refused as ReplyRefused}
 use Rattle.mesh_model.specs.declared.refusals.Refusal.{Refusal}
 use Rattle.mesh_model.specs.declared.refusals.Refusal.TheVariants.{Empty, Freed, Outside, Stray}
-use Rattle.mesh_mutator.proofs.Chains.{GoAlike, GoesOn, after_same, refused_too, test_same, went_on}
-use Rattle.mesh_mutator.specs.Book.{AreRooted, Cells, IsLooked, IsNamedBy, IsOutcome, IsPerformed, IsSame, attempt_of, cell_at, is_held_back, memory_in, serial_of, serials_of}
-use Rattle.mesh_mutator.specs.declared.attempts.Attempt.{Attempt}
-use Rattle.mesh_mutator.specs.declared.attempts.Attempt.TheVariants.{Blocked, Done, HistoryFull, OutOfMemory}
+use Rattle.mesh_mutator.proofs.Chains.{GoAlike, after_same, refused_too, test_same, went_on}
+use Rattle.mesh_mutator.specs.Book.{AreRooted, Cells, IsLooked, IsNamedBy, IsOutcome, IsPerformed, attempt_of, cell_at, is_held_back, memory_in, serial_of, serials_of}
+use Rattle.mesh_mutator.specs.declared.attempts.Attempt.TheVariants.{Done, OutOfMemory}
 use Rattle.mesh_steps.specs.Ground.{Ground, bytes_in, table_of, targets_of}
-use Rattle.mesh_steps.specs.Heap.{Heap, IsFree, IsMade, IsNotMade, IsStore, IsUnchanged, NeedsSpan, byte_at_address, bytes_at, freed_at, live_records, memory_of, plain_of, referred, stored_at, stored_at_address}
+use Rattle.mesh_steps.specs.Heap.{Heap, IsFree, IsMade, IsStore, IsUnchanged, NeedsSpan, byte_at_address, bytes_at, freed_at, live_records, plain_of, referred, stored_at, stored_at_address}
 use Rattle.mesh_steps.specs.declared.answers.Ref.{Ref}
 use Rattle.mesh_steps.specs.declared.answers.Stored.{Stored}
 use Rattle.mesh_steps.specs.declared.answers.Stored.TheVariants.{Blocked as StoreBlocked, Done as StoreDone, Refused as StoreRefused}

@@ -1,5 +1,5 @@
 -- What an attempt leaves of a book.
-use Rattle.std.proofs.Common.{◌≡◌, ℕ, ◌+◌, ◌<◌, ◌≤◌, List, [], ◌∷◌, ◌++◌, length, ap, subst, refl, sym, ◌∙◌, arith, rules}
+use Rattle.std.proofs.Common.{◌≡◌, ℕ, ◌+◌, ◌<◌, ◌≤◌, [], ◌∷◌, ◌++◌, length, subst, refl, sym, arith}
 use Rattle.std.proofs.Math.ListN.{length-append}
 use Rattle.mesh_model.specs.HistoryLaws.{AnsweredIsStep}
 use Rattle.mesh_model.specs.Jobs.{answered}
@@ -10,7 +10,7 @@ use Rattle.mesh_model.specs.Sound.{IsTied}
 use Rattle.mesh_model.specs.declared.commands.Command.{Command}
 use Rattle.mesh_model.specs.declared.commands.Reply.{Reply}
 use Rattle.mesh_mutator.specs.Attempts.{IsUnrecorded}
-use Rattle.mesh_mutator.specs.Book.{AreRooted, Book, Cells, IsAttempt, IsBook, IsOutcome, IsPerformed, IsSame, memory_in, memory_of_book}
+use Rattle.mesh_mutator.specs.Book.{AreRooted, Book, Cells, IsAttempt, IsBook, IsPerformed, memory_in, memory_of_book}
 use Rattle.mesh_mutator.specs.declared.attempts.Attempt.{Attempt}
 use Rattle.mesh_mutator.specs.declared.attempts.Attempt.TheVariants.{Blocked, Done, HistoryFull, OutOfMemory}
 use Rattle.mesh_steps.specs.Ground.{table_of}

@@ -3,7 +3,7 @@ use Rattle.mesh_model.specs.declared.commands.Command.{Command}
 use Rattle.mesh_model.specs.declared.commands.Command.TheVariants.{New, Put, Get, Free, Alias, Addr, Peek, Poke}
 use Rattle.mesh_mutator.specs.declared.attempts.Attempt.{Attempt}
 use Rattle.mesh_mutator.specs.declared.attempts.Attempt.TheVariants.{Done, Blocked, HistoryFull, OutOfMemory}
-use Rattle.std.specs.Prelude.{ℕ, ◌≤◌}
+use Rattle.std.specs.Prelude.{◌≤◌}
 
 -- the command reads and changes nothing
 abbrev pub IsLook : Command → Type 0

@@ -1,11 +1,11 @@
 -- A book: a heap with its root cells and the journal of what was answered, and what an attempt at a command comes to.
-use Rattle.std.specs.Prelude.{◌≡◌, ℕ, ◌+◌, ◌<◌, ◌≤◌, Bool, true, false, if◌then◌else◌, List, [], ◌∷◌, ◌++◌, length, map, replicate, slice_index_or, Option, Some, None, Result, Ok, Err, refl}
+use Rattle.std.specs.Prelude.{◌≡◌, ℕ, ◌<◌, ◌≤◌, Bool, true, false, if◌then◌else◌, List, [], ◌∷◌, ◌++◌, length, map, slice_index_or, Option, Some, None, Ok, refl}
 use Rattle.std.specs.Option.{option_map}
 use Rattle.std.specs.Coded.{Coded, code_by, coded×, coded_list, coded_option, coded_ℕ}
 use Rattle.mesh_model.specs.Jobs.{Outcome, answered, is_refusal, touches_read_only}
 use Rattle.mesh_model.specs.Memory.{Memory, Object, object_of}
-use Rattle.mesh_model.specs.Plain.{Entry, Follows, IsLegal, Named, named_by, plain}
-use Rattle.mesh_model.specs.Table.{Placed, Table, place_new}
+use Rattle.mesh_model.specs.Plain.{Entry, Follows, IsLegal, named_by, plain}
+use Rattle.mesh_model.specs.Table.{Table}
 use Rattle.mesh_model.specs.declared.commands.Command.{Command}
 use Rattle.mesh_model.specs.declared.commands.Command.TheVariants.{New}
 use Rattle.mesh_model.specs.declared.commands.Reply.{Reply}
@@ -15,7 +15,7 @@ use Rattle.mesh_steps.specs.declared.answers.Stored.{Stored}
 use Rattle.mesh_steps.specs.declared.answers.Stored.TheVariants.{Blocked as StoreBlocked, Done as StoreDone, Refused as StoreRefused}
 use Rattle.mesh_mutator.specs.declared.attempts.Attempt.{Attempt}
 use Rattle.mesh_mutator.specs.declared.attempts.Attempt.TheVariants.{Blocked, Done, HistoryFull, OutOfMemory}
-use Rattle.mesh_steps.specs.Ground.{open_group, table_of}
+use Rattle.mesh_steps.specs.Ground.{table_of}
 use Rattle.mesh_steps.specs.Heap.{Heap, NeedsSpan, heap_code, memory_of, plain_of}
 use Rattle.mesh_steps.specs.declared.answers.Ref.{Ref}
 

@@ -1,5 +1,5 @@
 -- What keeps spans, groups and the table of virtual pages fit together.
-use Rattle.std.proofs.Common.{◌≡◌, ◌≢◌, ℕ, zero, suc, ◌+◌, ◌-◌, ◌*◌, ◌/◌, ◌<◌, ◌≤◌, Bool, true, false, if◌then◌else◌, List, [], ◌∷◌, ◌++◌, Option, Some, None, length, slice_index, slice_get, slice_index_or, slice_set, IsSome, IfSome, ap, subst, refl, sym, ◌∙◌, arith, rules, ◌⊎◌, inl, inr}
+use Rattle.std.proofs.Common.{◌≡◌, ℕ, zero, suc, ◌+◌, ◌-◌, ◌*◌, ◌/◌, ◌<◌, ◌≤◌, Bool, true, false, if◌then◌else◌, List, [], ◌∷◌, ◌++◌, Option, Some, None, length, slice_index, slice_get, slice_index_or, IsSome, IfSome, ap, subst, refl, sym, ◌∙◌, arith, ◌⊎◌, inl, inr}
 use Rattle.std.specs.Option.{option_map}
 use Rattle.std.proofs.lemmas.List.{get_or-set_other, get_or-set_same, get_or_past}
 use Rattle.std.proofs.Math.ListN.{length-set, get_or-append, length-append}
@@ -7,7 +7,7 @@ use Rattle.std.proofs.Math.Seq.{get_or-append_seam}
 use Rattle.std.proofs.Math.Nat.{mul-le-mul_right}
 use Rattle.std.proofs.lemmas.Bool.Decides.{eqb_tells, leb_tells}
 use Rattle.std.proofs.lemmas.Option.{get_or_from_slice_get, slice_get-get_or, slice_get_within}
-use Rattle.mesh_class.specs.Classes.{pages_of, slots_of, IsClass}
+use Rattle.mesh_class.specs.Classes.{pages_of, slots_of}
 use Rattle.mesh_model.specs.Table.{Slot, slot_address}
 use Rattle.mesh_spans.specs.Index.{SpanEntry, GroupEntry, Index, span_at, group_at, no_span, with_entry, with_slot, new_span, new_group, address_in, IsGroup, IsSpan, IsIndex, IsMember, IsObject, IsOwned, IsVacant, IsFoundAt, IsRecorded, AreUnused, named_in, record_at, record_in, slot_in}
 use Rattle.mesh_spans.proofs.SlotLemmas.{IsGroup_new, IsGroup_put}

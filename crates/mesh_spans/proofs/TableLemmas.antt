@@ -1,6 +1,5 @@
 -- The groups as the table has them, as the index changes.
-use Rattle.std.proofs.Common.{◌≡◌, ◌≢◌, ℕ, zero, suc, ◌+◌, ◌<◌, ◌≤◌, Bool, true, false, not, ◌&&◌, nat_eq, nat_lt, count_by, is_some, find, List, [], ◌∷◌, ◌++◌, Option, Some, None, length, map, slice_get, slice_index, slice_set, position, ◌%◌, ap, subst, refl, sym, ◌∙◌, arith, rules, ◌⊎◌, inl, inr}
-use Rattle.std.specs.Option.{option_map}
+use Rattle.std.proofs.Common.{◌≡◌, ◌≢◌, ℕ, zero, suc, ◌+◌, ◌<◌, Bool, true, false, not, ◌&&◌, nat_eq, find, List, [], ◌∷◌, ◌++◌, Option, Some, None, length, map, slice_get, slice_index, slice_set, position, ◌%◌, ap, subst, refl, sym, ◌∙◌, arith, inl, inr}
 use Rattle.std.proofs.lemmas.Bool.Decides.{eqb_tells, leb_tells, nat_tests}
 use Rattle.std.proofs.lemmas.List.Sums.{fails_before_first}
 use Rattle.std.specs.List.{position_or_len}
@@ -12,7 +11,7 @@ use Rattle.mesh_class.specs.Classes.{slots_of}
 use Rattle.mesh_spans.proofs.SlotLemmas.{none_got}
 use Rattle.mesh_model.specs.Table.{Group, Slot, changed_at, free_from, fresh_group}
 use Rattle.mesh_spans.specs.Groups.{first_of, groups_from, groups_of, is_closed, is_in_mesh, IsPicked, table_group, takes_objects}
-use Rattle.mesh_spans.specs.Index.{GroupEntry, Index, IsIndex, IsVacant, SpanEntry, group_at, has_room, is_open, new_group, new_span, span_at, with_entry, with_slot}
+use Rattle.mesh_spans.specs.Index.{GroupEntry, Index, IsIndex, IsVacant, SpanEntry, group_at, has_room, is_open, new_group, new_span, with_entry, with_slot}
 use Rattle.mesh_spans.proofs.IndexLemmas.{span_new, span_old}
 
 -- a group of the table with another entry in a slot

@@ -1,5 +1,5 @@
 -- The span index as two lists: the spans, and the groups with what stands in their slots.
-use Rattle.std.specs.Prelude.{◌≡◌, ℕ, ◌+◌, ◌*◌, ◌<◌, ◌≤◌, Bool, true, false, ◌&&◌, not, if◌then◌else◌, nat_eq, nat_lt, count_by, is_some, List, [], ◌∷◌, Option, Some, None, length, replicate, slice_get, slice_index, slice_index_or, slice_set, IsSome, IfSome, refl}
+use Rattle.std.specs.Prelude.{◌≡◌, ℕ, ◌+◌, ◌<◌, ◌≤◌, Bool, false, ◌&&◌, not, if◌then◌else◌, nat_eq, nat_lt, count_by, is_some, List, [], ◌∷◌, Option, Some, None, length, replicate, slice_get, slice_index, slice_index_or, slice_set, refl}
 use Rattle.std.specs.Option.{option_map}
 use Rattle.std.specs.Coded.{Coded, code_by, coded×, coded_ℕ, coded_bool, coded_list, coded_option}
 use Rattle.mesh_class.specs.Classes.{pages_of, slots_of, IsClass}

@@ -1,15 +1,15 @@
 -- What keeps the pages of spans mapped, taken and apart.
-use Rattle.std.proofs.Common.{◌≡◌, ◌≢◌, ℕ, ◌+◌, ◌-◌, ◌*◌, ◌/◌, ◌<◌, ◌≤◌, Bool, true, false, IsTrue, Option, Some, None, is_some, List, [], ◌∷◌, ◌++◌, length, slice_index, ap, subst, refl, sym, ◌∙◌, arith, rules, ◌⊎◌, inl, inr}
+use Rattle.std.proofs.Common.{◌≡◌, ◌≢◌, ℕ, ◌+◌, ◌-◌, ◌*◌, ◌/◌, ◌<◌, ◌≤◌, Bool, true, false, IsTrue, Some, None, is_some, List, [], ◌∷◌, ◌++◌, length, slice_index, ap, subst, refl, sym, ◌∙◌, arith, ◌⊎◌, inl, inr}
 use Rattle.std.proofs.Math.Nat.{mul-le-mul_right}
 use Rattle.std.proofs.Math.ListN.{get_or-append, length-append}
 use Rattle.std.proofs.Math.Seq.{get_or-append_seam}
-use Rattle.std.proofs.lemmas.Bool.Decides.{eqb_tells, leb_tells}
-use Rattle.mesh_class.specs.Classes.{pages_of, slots_of, IsClass}
+use Rattle.std.proofs.lemmas.Bool.Decides.{leb_tells}
+use Rattle.mesh_class.specs.Classes.{pages_of, slots_of}
 use Rattle.mesh_arena.specs.Pages.{Pages, is_taken, IsTaken}
 use Rattle.mesh_pagemap.specs.Entries.{Entries, is_mapped, IsMapped, page_of, is_read_only, reads_only, prot_in}
 use Rattle.std.specs.FinMap as map
 use Rattle.mesh_spans.specs.Index.{Index, SpanEntry, span_at, no_span, address_in, new_span, IsSpan, IsVacant}
-use Rattle.mesh_store.specs.Places.{AreBacked, IsBacked, IsBlocked, IsOpen}
+use Rattle.mesh_store.specs.Places.{AreBacked, IsBlocked, IsOpen}
 use Rattle.mesh_steps.specs.Growth.{TakesAll, GivesFirst, MapsFirst}
 use Rattle.mesh_steps.specs.Ground.{IsCovered, IsGround}
 

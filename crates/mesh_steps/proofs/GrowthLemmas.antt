@@ -1,13 +1,12 @@
 -- One page more taken, given or mapped.
-use Rattle.std.proofs.Common.{◌≡◌, ◌≢◌, ℕ, zero, suc, ◌+◌, ◌<◌, ◌≤◌, true, false, List, [], ◌∷◌, ◌++◌, length, slice_index, ap, subst, refl, sym, ◌∙◌, arith, rules, ◌⊎◌, inl, inr}
+use Rattle.std.proofs.Common.{◌≡◌, ◌≢◌, ℕ, zero, suc, ◌+◌, ◌<◌, ◌≤◌, true, false, List, [], ◌∷◌, ◌++◌, length, slice_index, ap, subst, refl, sym, ◌∙◌, arith, ◌⊎◌, inl, inr}
 use Rattle.std.proofs.Math.ListN.{get_or-append, length-append}
 use Rattle.std.proofs.Math.Seq.{get_or-append_seam}
 use Rattle.std.proofs.lemmas.Bool.Decides.{eqb_tells, leb_tells}
-use Rattle.mesh_arena.specs.Pages.{Pages, is_taken, IsTaken, byte_at, free_count, Takes, Gives}
-use Rattle.mesh_pagemap.specs.Entries.{Entries, is_mapped, IsMapped, page_of, is_read_only, reads_only, Maps}
-use Rattle.mesh_pagemap.specs.declared.prot.Prot.{Prot}
+use Rattle.mesh_arena.specs.Pages.{Pages, is_taken, IsTaken, byte_at, Takes, Gives}
+use Rattle.mesh_pagemap.specs.Entries.{Entries, Maps}
 use Rattle.mesh_pagemap.specs.declared.prot.Prot.TheVariants.{ReadWrite}
-use Rattle.mesh_steps.specs.Growth.{TakesAll, GivesFirst, MapsFirst, AreTaken, AreApart, AreUnmapped}
+use Rattle.mesh_steps.specs.Growth.{TakesAll, GivesFirst, MapsFirst, AreTaken, AreUnmapped}
 
 -- no page taken
 pub TakesAll_none : (a : Pages) → TakesAll a a []

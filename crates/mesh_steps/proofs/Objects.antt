@@ -1,33 +1,32 @@
 -- What the records of a heap's live objects say of its slots, its bytes and its plain memory.
-use Rattle.std.proofs.Common.{◌≡◌, ◌≢◌, ℕ, zero, suc, ◌+◌, ◌-◌, ◌*◌, ◌/◌, ◌%◌, ◌<◌, ◌≤◌, Bool, true, false, ◌&&◌, if◌then◌else◌, not, nat_eq, nat_lt, find, List, [], ◌∷◌, map, Option, Some, None, IfSome, IsSomeAnd, Result, Ok, Err, length, slice_get, slice_index, slice_range, ap, subst, refl, sym, ◌∙◌, arith, rules, ◌⊎◌, inl, inr}
-use Rattle.std.specs.List.{range_with_len}
+use Rattle.std.proofs.Common.{◌≡◌, ℕ, zero, suc, ◌+◌, ◌-◌, ◌/◌, ◌<◌, ◌≤◌, Bool, true, false, ◌&&◌, if◌then◌else◌, nat_lt, find, List, [], ◌∷◌, map, Option, Some, None, IfSome, IsSomeAnd, Result, Ok, Err, length, slice_get, slice_index, slice_range, ap, subst, refl, sym, ◌∙◌, arith, inl, inr}
 use Rattle.std.specs.Option.{option_map}
 use Rattle.std.proofs.lemmas.Bool.Decides.{eqb_tells, leb_tells}
 use Rattle.std.proofs.lemmas.List.{get_or-map, length-map}
 use Rattle.std.proofs.lemmas.List.FromFn.{length-map-range_with_len}
 use Rattle.std.proofs.lemmas.Option.{slice_get_within}
-use Rattle.mesh_arena.specs.Pages.{Pages, byte_at, run_of}
-use Rattle.mesh_class.specs.Classes.{pages_of, slots_of}
+use Rattle.mesh_arena.specs.Pages.{run_of}
+use Rattle.mesh_class.specs.Classes.{slots_of}
 use Rattle.mesh_model.proofs.GroupLists.{find_sound}
-use Rattle.mesh_model.proofs.Holders.{no_holder, objects_apart, one_holder}
-use Rattle.mesh_model.proofs.Meanings.{bytes_read, meaning_objects, store_means}
+use Rattle.mesh_model.proofs.Holders.{no_holder, one_holder}
+use Rattle.mesh_model.proofs.Meanings.{bytes_read, meaning_objects}
 use Rattle.mesh_model.proofs.Records.{record_slot, slot_record, tied_below}
-use Rattle.mesh_model.specs.MeaningLaws.{AreBelow, IsIn, IsOfSlot, record_in, record_with}
-use Rattle.mesh_model.specs.Memory.{Memory, Object, has_address, holder_of, object_of}
-use Rattle.mesh_model.specs.Places.{Place, Record, Target, meaning, object_at, place_of, records_of}
-use Rattle.mesh_model.specs.Plain.{Named, ends_outside, holding, stored}
-use Rattle.mesh_model.specs.Sound.{IsSound, IsTied, times_in}
-use Rattle.mesh_model.specs.Table.{Group, Slot, Table, group_of, has_number, slot_address}
-use Rattle.mesh_model.specs.Words.{◌>>=◌, or_refuse, refuse_if}
+use Rattle.mesh_model.specs.MeaningLaws.{IsIn, record_in, record_with}
+use Rattle.mesh_model.specs.Memory.{Object, has_address, object_of}
+use Rattle.mesh_model.specs.Places.{Record, object_at, place_of}
+use Rattle.mesh_model.specs.Plain.{Named, ends_outside, holding}
+use Rattle.mesh_model.specs.Sound.{IsSound, times_in}
+use Rattle.mesh_model.specs.Table.{Group, Slot, group_of, has_number, slot_address}
+use Rattle.mesh_model.specs.Words.{◌>>=◌, refuse_if}
 use Rattle.mesh_model.specs.declared.refusals.Refusal.{Refusal}
 use Rattle.mesh_model.specs.declared.refusals.Refusal.TheVariants.{Freed, Outside, Stray}
-use Rattle.mesh_pagemap.specs.Entries.{Entries, IsMapped, page_of}
+use Rattle.mesh_pagemap.specs.Entries.{IsMapped}
 use Rattle.mesh_spans.specs.Groups.{first_of, groups_from, groups_of, table_group}
 use Rattle.mesh_spans.specs.Index.{GroupEntry, Index, IsIndex, SpanEntry, address_in, group_at, span_at}
-use Rattle.mesh_store.specs.Places.{Saves, byte_of}
+use Rattle.mesh_store.specs.Places.{byte_of}
 use Rattle.mesh_steps.proofs.GroundLemmas.{covered_mapped}
 use Rattle.mesh_steps.specs.Ground.{Ground, IsCovered, IsGround, IsInSlotOf, IsStanding, bytes_in, table_of, targets_of}
-use Rattle.mesh_steps.specs.Heap.{Heap, IsHeap, IsHeld, IsObjectAt, IsReferred, bytes_at, byte_at_address, live_record, live_records, memory_of, object_in, plain_of, referred, stored_at, stored_at_address}
+use Rattle.mesh_steps.specs.Heap.{Heap, IsHeap, IsHeld, IsObjectAt, IsReferred, bytes_at, live_record, live_records, memory_of, object_in, plain_of, referred}
 use Rattle.mesh_steps.specs.declared.answers.Occupied.{Occupied}
 use Rattle.mesh_steps.specs.declared.answers.Ref.{Ref}
 

@@ -1,19 +1,19 @@
 -- Where the next object of a class goes.
-use Rattle.std.proofs.Common.{◌≡◌, ℕ, zero, suc, ◌+◌, ◌-◌, ◌%◌, ◌<◌, ◌≤◌, Bool, true, false, not, ◌&&◌, nat_eq, nat_lt, find, List, [], ◌∷◌, ◌++◌, Option, Some, None, Result, Ok, IsSomeAnd, length, replicate, slice_get, slice_index, slice_index_or, ap, subst, refl, sym, ◌∙◌, arith, rules, inl, inr}
+use Rattle.std.proofs.Common.{◌≡◌, ℕ, zero, suc, ◌+◌, ◌-◌, ◌%◌, ◌<◌, ◌≤◌, Bool, true, false, not, ◌&&◌, nat_eq, nat_lt, find, List, [], ◌∷◌, ◌++◌, Option, Some, None, Result, Ok, IsSomeAnd, length, replicate, slice_get, slice_index, slice_index_or, ap, subst, refl, sym, ◌∙◌, arith, inl, inr}
 use Rattle.std.proofs.Math.ListN.{length-append}
 use Rattle.std.proofs.Math.Seq.{get_or-append_seam}
 use Rattle.std.proofs.lemmas.Bool.Decides.{eqb_tells, leb_tells}
 use Rattle.std.proofs.lemmas.Option.{get_or_from_slice_get, slice_get-get_or}
-use Rattle.mesh_arena.specs.Pages.{Pages, IsTaken, byte_at, free_count, is_taken}
+use Rattle.mesh_arena.specs.Pages.{Pages, free_count}
 use Rattle.mesh_class.specs.Classes.{pages_of, slots_of, IsClass}
 use Rattle.mesh_model.proofs.GroupLists.{find_passes}
 use Rattle.mesh_model.proofs.NewObjects.{open_gives}
-use Rattle.mesh_model.specs.Table.{Group, Slot, Table, object_count, first_member, free_from, fresh_group, is_open, picked_slot, place_in, placed_in, room_for_span, with_span}
+use Rattle.mesh_model.specs.Table.{Group, Table, object_count, free_from, fresh_group, is_open, picked_slot, place_in, placed_in, room_for_span, with_span}
 use Rattle.mesh_model.specs.Words.{◌>>=◌}
 use Rattle.mesh_model.specs.declared.refusals.Refusal.{Refusal}
-use Rattle.mesh_pagemap.specs.Entries.{Entries, IsMapped, is_mapped, page_of}
+use Rattle.mesh_pagemap.specs.Entries.{Entries, IsMapped}
 use Rattle.mesh_spans.specs.Groups.{IsPicked, groups_of, is_closed, is_in_mesh, takes_objects}
-use Rattle.mesh_spans.specs.Index.{GroupEntry, Index, IsFoundAt, IsVacant, SpanEntry, group_at, named_in, new_group, new_span, no_span, record_at, record_in, slot_in, span_at}
+use Rattle.mesh_spans.specs.Index.{GroupEntry, Index, IsFoundAt, IsVacant, SpanEntry, group_at, new_group, new_span, no_span, record_at, span_at}
 use Rattle.mesh_steps.specs.Growth.{MapsFirst, TakesAll}
 use Rattle.mesh_steps.specs.Ground.{Ground, IsCalm, IsFreshSpan, IsGround, IsPlace, KeepsBytes, open_group, table_of}
 

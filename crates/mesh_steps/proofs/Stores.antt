@@ -1,5 +1,5 @@
 -- What a store does to the plain memory that a heap stands for.
-use Rattle.std.proofs.Common.{◌≡◌, ◌≢◌, ℕ, zero, suc, ◌+◌, ◌-◌, ◌*◌, ◌/◌, ◌%◌, ◌<◌, ◌≤◌, Bool, true, false, List, [], ◌∷◌, Option, Some, None, Result, Ok, Err, length, slice_index, ap, subst, refl, sym, ◌∙◌, arith, rules, ◌⊎◌, inl, inr}
+use Rattle.std.proofs.Common.{◌≡◌, ℕ, zero, suc, ◌+◌, ◌-◌, ◌*◌, ◌/◌, ◌%◌, ◌<◌, ◌≤◌, Bool, true, false, List, [], ◌∷◌, Some, None, Result, Ok, Err, length, slice_index, ap, subst, refl, sym, ◌∙◌, arith, ◌⊎◌, inl, inr}
 use Rattle.std.specs.List.{list_any, range_with_len}
 use Rattle.std.proofs.lemmas.Bool.Decides.{eqb_tells, leb_tells}
 use Rattle.mesh_arena.specs.Pages.{Pages, byte_at, free_count}
@@ -7,20 +7,20 @@ use Rattle.mesh_model.proofs.Holders.{objects_apart}
 use Rattle.mesh_model.proofs.Meanings.{byte_read, store_means}
 use Rattle.mesh_model.proofs.Records.{tied_below}
 use Rattle.mesh_model.proofs.TiedMemories.{stored_tied}
-use Rattle.mesh_model.specs.MeaningLaws.{AreBelow, IsIn, record_with}
-use Rattle.mesh_model.specs.Memory.{Memory, Object, has_address}
+use Rattle.mesh_model.specs.MeaningLaws.{IsIn, record_with}
+use Rattle.mesh_model.specs.Memory.{Memory}
 use Rattle.mesh_model.specs.Mesh.{is_blocked}
-use Rattle.mesh_model.specs.Places.{Place, Record, Target, meaning}
+use Rattle.mesh_model.specs.Places.{Record, meaning}
 use Rattle.mesh_model.specs.Plain.{Named, ends_outside, holding, stored}
 use Rattle.mesh_model.specs.Sound.{IsSound, IsTied}
 use Rattle.mesh_model.specs.Table.{Table}
-use Rattle.mesh_model.specs.Words.{◌>>=◌, or_refuse, refuse_if}
+use Rattle.mesh_model.specs.Words.{◌>>=◌, refuse_if}
 use Rattle.mesh_model.specs.declared.refusals.Refusal.{Refusal}
 use Rattle.mesh_model.specs.declared.refusals.Refusal.TheVariants.{Freed, Outside, Stray}
 use Rattle.mesh_pagemap.specs.Entries.{Entries, IsMapped, page_of}
 use Rattle.std.proofs.Math.Nat.{mul-le-mul_right}
-use Rattle.mesh_class.specs.Classes.{pages_of, slots_of}
-use Rattle.mesh_spans.specs.Index.{Index, IsIndex, address_in, span_at}
+use Rattle.mesh_class.specs.Classes.{slots_of}
+use Rattle.mesh_spans.specs.Index.{Index, IsIndex, span_at}
 use Rattle.mesh_store.specs.Places.{Saves, byte_of}
 use Rattle.mesh_steps.proofs.Objects.{LivePlace, ends_past, ends_within, has_in, live_covered, live_found, live_mapped, live_place, object_len, reference_names}
 use Rattle.mesh_steps.specs.Ground.{Ground, IsCovered, IsGround, bytes_in, table_of, targets_of}

@@ -1,12 +1,11 @@
 -- Physical pages, page map and span index together, and how they change as objects come and go.
-use Rattle.std.specs.Prelude.{◌≡◌, ◌≢◌, ℕ, ◌+◌, ◌<◌, ◌≤◌, Bool, true, false, List, [], find, length, replicate, Option, Some, None, Result, Ok, Err, IsSome, refl}
+use Rattle.std.specs.Prelude.{◌≡◌, ◌≢◌, ℕ, ◌+◌, ◌<◌, ◌≤◌, false, [], find, length, Option, None, Ok, Err, refl}
 use Rattle.std.specs.Coded.{Coded, code_by, coded×, coded_ℕ, coded_list, coded_option}
 use Rattle.std.specs.FinMap as map
 use Rattle.mesh_arena.specs.Pages.{Pages, IsTaken, byte_at, free_count, is_taken}
 use Rattle.mesh_class.specs.Classes.{pages_of, slots_of}
-use Rattle.mesh_model.specs.Places.{Place, Record, Target}
+use Rattle.mesh_model.specs.Places.{Place, Target}
 use Rattle.mesh_model.specs.Table.{Group, Table, is_open, place_in, placed_in, room_for_span, with_span}
-use Rattle.mesh_model.specs.declared.refusals.Refusal.{Refusal}
 use Rattle.mesh_steps.specs.declared.answers.NewFault.{NewFault}
 use Rattle.mesh_steps.specs.declared.answers.NewFault.TheVariants.{Memory, Refused}
 use Rattle.mesh_pagemap.specs.Entries.{Entries, IsMapped, entry_code, is_mapped, is_read_only, page_of}

@@ -1,13 +1,12 @@
 -- A heap: pages, page map and index with the next serial, the plain memory that it stands for, and what its calls do to both.
-use Rattle.std.specs.Prelude.{◌≡◌, ◌≢◌, ℕ, ◌+◌, ◌-◌, ◌<◌, ◌≤◌, Bool, true, false, not, nat_eq, List, [], ◌∷◌, length, find, Option, Some, None, Result, Ok, Err, IsOk, slice_index, slice_range, refl}
+use Rattle.std.specs.Prelude.{◌≡◌, ℕ, ◌+◌, ◌-◌, ◌<◌, ◌≤◌, Bool, true, false, not, nat_eq, List, [], ◌∷◌, length, Option, Some, None, Result, Ok, Err, IsOk, slice_index, slice_range, refl}
 use Rattle.std.specs.Coded.{Coded, code_by, coded×, coded_ℕ}
-use Rattle.mesh_model.specs.MeaningLaws.{IsIn, record_with, with_new}
+use Rattle.mesh_model.specs.MeaningLaws.{record_with, with_new}
 use Rattle.mesh_model.specs.Memory.{Memory, Object, object_of, with_object}
-use Rattle.mesh_model.specs.Mesh.{is_blocked}
-use Rattle.mesh_model.specs.Places.{Place, Record, Target, meaning, object_at, records_of}
+use Rattle.mesh_model.specs.Places.{Record, meaning, object_at, records_of}
 use Rattle.mesh_model.specs.Plain.{Named, ends_outside, holding, stored}
 use Rattle.mesh_model.specs.Sound.{IsSound, IsTied}
-use Rattle.mesh_model.specs.Table.{Placed, Table, is_open, place_new, without_object}
+use Rattle.mesh_model.specs.Table.{Placed, place_new, without_object}
 use Rattle.mesh_model.specs.Words.{◌>>=◌, or_refuse, refuse_if}
 use Rattle.mesh_model.specs.declared.refusals.Refusal.{Refusal}
 use Rattle.mesh_model.specs.declared.refusals.Refusal.TheVariants.{Freed, Outside}

@@ -1,5 +1,5 @@
 -- The answer lines of a plan, gathered and written.
-use Rattle.std.proofs.Common.{◌≡◌, ℕ, ◌+◌, ◌≤◌, List, [], ◌∷◌, ◌++◌, Option, append_assoc, append-nil, drop, length, take, take-append-drop, ap, subst, refl, sym, ◌∙◌}
+use Rattle.std.proofs.Common.{◌≡◌, ℕ, ◌+◌, List, [], ◌∷◌, ◌++◌, Option, append_assoc, append-nil, drop, length, take, take-append-drop, ap, subst, refl, sym, ◌∙◌}
 use Rattle.std.proofs.KnownBytes.{Appends-nil, Appends-trans}
 use Rattle.std.proofs.Math.Seq.{take-append_seam}
 use Rattle.std.proofs.lemmas.Grind.{flat_map-append}
@@ -9,7 +9,7 @@ use Rattle.mesh_model.specs.Texts.{answer_text, ended, output}
 use Rattle.mesh_mutator.specs.Book.{Book}
 use Rattle.mesh_text.specs.Answers.{answer_of}
 use Rattle.mesh_text.specs.Transfer.{AppendsBeginning}
-use Rattle.mesh_text.specs.Turns.{AppendsLines, HasGathered, IsAt, IsNextAt, lines_of, lines_up_to, state_up_to}
+use Rattle.mesh_text.specs.Turns.{HasGathered, IsAt, IsNextAt, lines_of, lines_up_to, state_up_to}
 use Rattle.mesh_text.specs.declared.answers.Answer.{Answer}
 
 -- the answers to two parts of a plan

@@ -1,15 +1,15 @@
 -- A worker's turn: what an attempt at its next command is to the job.
-use Rattle.std.proofs.Common.{◌≡◌, ℕ, zero, suc, ◌+◌, ◌<◌, ◌≤◌, Bool, true, false, if◌then◌else◌, nat_le, List, [], ◌∷◌, ◌++◌, Option, Some, None, drop, get_or, length, replicate, slice_get, slice_index, slice_index_or, slice_set, ap, subst, refl, sym, ◌∙◌, arith, rules, inl, inr}
+use Rattle.std.proofs.Common.{◌≡◌, ℕ, zero, suc, ◌+◌, ◌<◌, ◌≤◌, Bool, true, false, if◌then◌else◌, nat_le, List, [], ◌∷◌, ◌++◌, Option, Some, None, drop, get_or, length, replicate, slice_get, slice_index, slice_index_or, slice_set, ap, subst, refl, sym, ◌∙◌, arith, inl, inr}
 use Rattle.std.proofs.lemmas.Bool.Decides.{eqb_tells, leb_tells}
 use Rattle.std.proofs.lemmas.List.{get_or-set_other, get_or-set_same, get_or_default}
 use Rattle.std.proofs.Math.ListN.{length-set}
-use Rattle.mesh_model.specs.Jobs.{Answer as PlainAnswer, Job, Next, Outcome, Replied as PlainReplied, RunWorker, ScriptOver, State, StoreBlocked, JournalFull, answer, answered, attempted, blocked_now, later_commands, opening, run_next, with_reply}
+use Rattle.mesh_model.specs.Jobs.{Job, Outcome, Replied as PlainReplied, RunWorker, State, JournalFull, answer, answered, attempted, blocked_now, later_commands, opening, run_next}
 use Rattle.mesh_model.specs.Memory.{Memory, empty_memory}
 use Rattle.mesh_model.specs.Plain.{Entry}
 use Rattle.mesh_model.specs.Table.{Table, empty_table}
 use Rattle.mesh_model.specs.declared.commands.Command.{Command}
 use Rattle.mesh_model.specs.declared.commands.Reply.{Reply}
-use Rattle.mesh_mutator.specs.Book.{Book, IsAttempt, IsOutcome, IsSame, is_held_back, memory_of_book, table_of_book}
+use Rattle.mesh_mutator.specs.Book.{Book, IsAttempt, is_held_back, memory_of_book, table_of_book}
 use Rattle.mesh_mutator.specs.declared.attempts.Attempt.{Attempt}
 use Rattle.mesh_mutator.specs.declared.attempts.Attempt.TheVariants.{Blocked as HeldBack, Done, HistoryFull as NoRoom, OutOfMemory}
 use Rattle.mesh_text.specs.Turns.{IsAt, IsNextAt}

@@ -1,4 +1,3 @@
-use Rattle.std.proofs.Common.{◌≡◌, Some, None, refl, sym, ap, subst, ◌∙◌, arith}
 use Rattle.mesh_mutator.proofs.Answering.{addr_done, addr_refused}
 use Rattle.mesh_mutator.proofs.attempts.address.Goals as goal
 

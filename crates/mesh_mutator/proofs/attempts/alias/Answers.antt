@@ -1,4 +1,3 @@
-use Rattle.std.proofs.Common.{◌≡◌, Some, None, refl, sym, ap, subst, ◌∙◌, arith}
 use Rattle.mesh_mutator.proofs.Answering.{alias_done, alias_refused, rooted_set}
 use Rattle.mesh_mutator.proofs.attempts.alias.Goals as goal
 

@@ -1,4 +1,4 @@
-use Rattle.std.proofs.Common.{◌≡◌, Some, None, refl, sym, ap, subst, ◌∙◌, arith}
+use Rattle.std.proofs.Common.{sym, subst}
 use Rattle.mesh_mutator.proofs.Answering.{free_empty, free_performed, free_refused, freed_at_keeps, rooted_kept}
 use Rattle.mesh_mutator.specs.Book.{AreRooted}
 use Rattle.mesh_steps.specs.Heap.{Heap, plain_of}

@@ -1,4 +1,4 @@
-use Rattle.std.proofs.Common.{◌≡◌, Some, None, refl, sym, ap, subst, ◌∙◌, arith}
+use Rattle.std.proofs.Common.{sym, ◌∙◌}
 use Rattle.mesh_mutator.proofs.Answering.{live_named, live_stale, named_none}
 use Rattle.mesh_mutator.proofs.attempts.live.Goals as goal
 

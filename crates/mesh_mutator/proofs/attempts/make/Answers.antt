@@ -1,4 +1,4 @@
-use Rattle.std.proofs.Common.{◌≡◌, Some, None, refl, sym, ap, subst, ◌∙◌, arith}
+use Rattle.std.proofs.Common.{sym, subst}
 use Rattle.mesh_mutator.specs.Book.{AreRooted}
 use Rattle.mesh_steps.specs.Heap.{Heap}
 use Rattle.mesh_mutator.proofs.Answering.{made_performed, made_rooted, new_refused, new_without_memory, rooted_unchanged}

@@ -1,4 +1,3 @@
-use Rattle.std.proofs.Common.{◌≡◌, refl, sym, ap, subst, ◌∙◌, arith}
 use Rattle.mesh_mutator.proofs.Answering.{peek_done, peek_refused}
 use Rattle.mesh_mutator.proofs.attempts.peek.Goals as goal
 

@@ -1,8 +1,6 @@
-use Rattle.std.proofs.Common.{◌≡◌, refl, sym, ap, subst, ◌∙◌, arith}
+use Rattle.std.proofs.Common.{refl}
 use Rattle.mesh_model.specs.declared.commands.Command.TheVariants.{Poke}
 use Rattle.mesh_mutator.proofs.Answering.{poke_alike, rooted_stored, store_performed, stored_at_address_keeps, stored_serial}
-use Rattle.mesh_mutator.specs.Book.{IsPerformed, attempt_of}
-use Rattle.mesh_mutator.specs.declared.attempts.Attempt.{Attempt}
 use Rattle.mesh_steps.specs.Heap.{plain_of, stored_at_address}
 use Rattle.mesh_mutator.proofs.attempts.poke.Goals as goal
 

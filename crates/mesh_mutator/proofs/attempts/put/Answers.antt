@@ -1,4 +1,4 @@
-use Rattle.std.proofs.Common.{◌≡◌, ◌+◌, Some, length, refl, sym, ap, subst, ◌∙◌, arith}
+use Rattle.std.proofs.Common.{◌≡◌, ◌+◌, Some, length, refl, sym}
 use Rattle.mesh_model.specs.declared.commands.Command.TheVariants.{Put}
 use Rattle.mesh_mutator.proofs.Answering.{put_alike, put_empty, rooted_stored, store_performed, stored_at_keeps, stored_serial}
 use Rattle.mesh_mutator.specs.Book.{cell_at}

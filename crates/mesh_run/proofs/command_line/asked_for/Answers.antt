@@ -1,4 +1,4 @@
-use Rattle.std.proofs.Common.{◌≡◌, ◌∙◌, None, Some, codes, option_map, ap, sym}
+use Rattle.std.proofs.Common.{◌∙◌, Some, codes, option_map, ap, sym}
 use Rattle.clap.proofs.WalkLemmas.{first_value-rows}
 use Rattle.clap.specs.Words.{found_of, rows_of, subcommand_rows_of}
 use Rattle.mesh_run.specs.CommandLine.{path_of}

@@ -1,4 +1,4 @@
-use Rattle.std.proofs.Common.{◌≡◌, ◌∙◌, ap, inl, map}
+use Rattle.std.proofs.Common.{◌∙◌, ap, inl, map}
 use Rattle.std.proofs.lemmas.Result.{IfErr-weaker, IfOk-weaker}
 use Rattle.clap.specs.Words.{App, is_simple, is_simple_and_free}
 use Rattle.mesh_run.proofs.CommandLines.{file_of_matches, has_matches, is_told, said_by, taken_of}

@@ -1,7 +1,7 @@
-use Rattle.std.proofs.Common.{◌≡◌, ◌∙◌, ap, ap₂, refl, codes, rules}
+use Rattle.std.proofs.Common.{◌≡◌, ◌∙◌, ap, ap₂, codes, rules}
 use Rattle.std.proofs.lemmas.Result.{IfOk-weaker}
 use Rattle.clap.specs.Words.{App, app_of, new_app, rule_of, with_rule, with_subcommand}
-use Rattle.mesh_run.specs.CommandLine.{bare_app, file_rule, meshrun_app, replay_app}
+use Rattle.mesh_run.specs.CommandLine.{bare_app, file_rule, replay_app}
 use Rattle.mesh_run.proofs.command_line.meshrun_command.Goals as goal
 
 pub returns : goal.returns

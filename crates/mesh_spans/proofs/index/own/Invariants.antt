@@ -1,4 +1,3 @@
-use Rattle.std.proofs.Common.{◌+◌}
 use Rattle.mesh_spans.specs.Index.{OwnsUpTo}
 use Rattle.mesh_spans.proofs.index.own.Given as goal
 

@@ -1,4 +1,4 @@
-use Rattle.std.proofs.Common.{◌≡◌, ℕ, List, subst}
+use Rattle.std.proofs.Common.{ℕ, List, subst}
 use Rattle.std.proofs.lemmas.List.{take-replicate}
 use Rattle.mesh_store.specs.Places.{Saves}
 use Rattle.mesh_steps.proofs.ground.clear.Goals as goal

@@ -1,4 +1,4 @@
-use Rattle.std.proofs.Common.{◌≡◌, ◌+◌, ◌++◌, ◌∷◌, [], length, slice_index, arith}
+use Rattle.std.proofs.Common.{arith}
 use Rattle.mesh_arena.specs.Pages.{Takes}
 use Rattle.mesh_steps.proofs.GrowthLemmas.{TakesAll_more}
 use Rattle.mesh_steps.proofs.growth.take_pages.Goals as goal

@@ -1,8 +1,5 @@
-use Rattle.std.proofs.Common.{◌≡◌, ◌<◌, ◌≤◌, ◌++◌, ◌∷◌, [], List, length, refl, sym, ap, subst, ◌∙◌, arith, rules}
+use Rattle.std.proofs.Common.{◌≡◌, ◌<◌, ◌++◌, ◌∷◌, [], length, arith}
 use Rattle.std.proofs.lemmas.Grind.{common_steps}
-use Rattle.mesh_model.specs.Plain.{Entry}
-use Rattle.mesh_mutator.specs.Book.{Book, IsAttempt, IsBook, IsPerformed}
-use Rattle.mesh_mutator.specs.declared.attempts.Attempt.{Attempt}
 use Rattle.mesh_mutator.proofs.Booking.{IsBook_answered, IsBook_same, attempt_answered, attempt_unrecorded, entry_of, not_full, unrecorded_is, unrecorded_memory}
 use Rattle.mesh_mutator.proofs.journal.Book.act.Goals as goal
 

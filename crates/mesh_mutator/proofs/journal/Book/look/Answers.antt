@@ -1,4 +1,4 @@
-use Rattle.std.proofs.Common.{◌≡◌, sym, ap, subst}
+use Rattle.std.proofs.Common.{subst}
 use Rattle.mesh_model.specs.declared.commands.Command.TheVariants.{Peek}
 use Rattle.mesh_mutator.specs.Book.{Book, IsLooked}
 use Rattle.mesh_mutator.proofs.journal.Book.look.Goals as goal

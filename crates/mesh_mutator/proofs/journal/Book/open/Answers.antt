@@ -1,8 +1,8 @@
-use Rattle.std.proofs.Common.{◌≡◌, ℕ, zero, suc, ◌≤◌, Option, Some, None, List, [], ◌∷◌, length, replicate, refl, sym, ap, subst, ◌∙◌, arith, rules}
+use Rattle.std.proofs.Common.{◌≡◌, ℕ, zero, suc, Option, Some, None, List, [], ◌∷◌, length, replicate, refl, sym, ap, ◌∙◌, arith}
 use Rattle.std.proofs.lemmas.Grind.{common_steps}
 use Rattle.std.proofs.Math.ListN.{length-replicate}
 use Rattle.mesh_model.specs.Memory.{Memory, empty_memory}
-use Rattle.mesh_mutator.specs.Book.{AreRooted, Cells, cell_at, memory_in, serials_of}
+use Rattle.mesh_mutator.specs.Book.{Cells, cell_at, memory_in, serials_of}
 use Rattle.mesh_steps.specs.Heap.{Heap, memory_of}
 use Rattle.mesh_steps.specs.declared.answers.Ref.{Ref}
 use Rattle.mesh_mutator.proofs.journal.Book.open.Goals as goal

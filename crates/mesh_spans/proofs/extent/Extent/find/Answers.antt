@@ -1,7 +1,7 @@
-use Rattle.std.proofs.Common.{◌≡◌, ℕ, ◌+◌, ◌*◌, ◌<◌, ◌≤◌, Some, ◌-◌, ◌/◌, ◌%◌, arith, rules, ap, refl, sym, ◌∙◌}
+use Rattle.std.proofs.Common.{◌≡◌, ℕ, ◌+◌, ◌*◌, ◌<◌, ◌/◌, ◌%◌, arith, ap, refl, ◌∙◌}
 use Rattle.std.proofs.lemmas.Grind.{common_steps}
 use Rattle.std.proofs.lemmas.Nat.{div-mul-add, div-add-mod'}
-use Rattle.mesh_spans.specs.Index.{SpanEntry, address_in}
+use Rattle.mesh_spans.specs.Index.{SpanEntry}
 use Rattle.mesh_spans.proofs.extent.Extent.find.Goals as goal
 
 -- quotient and remainder of what stands behind so many whole parts

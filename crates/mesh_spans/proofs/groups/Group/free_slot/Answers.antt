@@ -1,10 +1,9 @@
-use Rattle.std.proofs.Common.{◌≡◌, ◌≢◌, ◌<◌, ◌≤◌, ◌%◌, ◌-◌, ℕ, length, map, is_some, Some, None, refl, sym, ◌∙◌, arith, rules, ap, subst, false}
+use Rattle.std.proofs.Common.{◌≡◌, ◌≢◌, ◌≤◌, ◌%◌, ◌-◌, length, is_some, refl, ◌∙◌, arith, ap}
 use Rattle.std.proofs.lemmas.Grind.{common_steps}
 use Rattle.std.proofs.lemmas.List.{length-map}
 use Rattle.mesh_bits.specs.Bits.{member_count, clear_count}
 use Rattle.mesh_class.specs.Classes.{slots_of}
-use Rattle.mesh_spans.specs.Index.{GroupEntry, has_room}
-use Rattle.mesh_spans.proofs.SlotLemmas.{all_filled, clear_is_free, member_or_clear, picked}
+use Rattle.mesh_spans.proofs.SlotLemmas.{clear_is_free, member_or_clear, picked}
 use Rattle.mesh_spans.proofs.groups.Group.free_slot.Goals as goal
 
 pub returns-in_err-slot-clause-none : goal.returns-in_err-slot-clause-none

@@ -1,7 +1,6 @@
-use Rattle.std.proofs.Common.{◌≡◌, ℕ, ◌++◌, ◌∷◌, [], length, Some, None, refl, sym, ap, ◌∙◌, subst, arith, rules}
+use Rattle.std.proofs.Common.{◌≡◌, ℕ, ◌++◌, ◌∷◌, [], length, Some, sym, ap, ◌∙◌, subst, arith}
 use Rattle.std.proofs.lemmas.Grind.{common_steps}
-use Rattle.mesh_class.specs.Classes.{slots_of}
-use Rattle.mesh_spans.specs.Groups.{groups_from, groups_of}
+use Rattle.mesh_spans.specs.Groups.{groups_of}
 use Rattle.mesh_spans.specs.Index.{Index, AreUnused, IsVacant, new_span, new_group}
 use Rattle.mesh_spans.proofs.IndexLemmas.{IsIndex_add, IsOwned_add}
 use Rattle.mesh_spans.proofs.TableLemmas.{index_is, new_vacant, table_added}

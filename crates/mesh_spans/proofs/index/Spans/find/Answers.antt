@@ -1,8 +1,7 @@
-use Rattle.std.proofs.Common.{◌≡◌, ◌+◌, ◌<◌, ◌/◌, ℕ, List, Option, Some, None, slice_get, slice_index, slice_index_or, refl, sym, ap, ◌∙◌, arith, rules, subst}
+use Rattle.std.proofs.Common.{◌≡◌, ◌+◌, ◌/◌, ℕ, List, Option, Some, None, slice_get, slice_index, slice_index_or, refl, sym, ap, ◌∙◌, arith}
 use Rattle.std.proofs.lemmas.Grind.{common_steps}
-use Rattle.mesh_class.specs.Classes.{slots_of}
 use Rattle.mesh_model.specs.Table.{slot_address}
-use Rattle.mesh_spans.specs.Index.{Index, IsIndex, IsOwned, address_in, group_at, span_at}
+use Rattle.mesh_spans.specs.Index.{address_in, span_at}
 use Rattle.mesh_spans.proofs.IndexLemmas.{found_at, member_class, member_got, owner_found}
 use Rattle.mesh_spans.proofs.index.Spans.find.Goals as goal
 

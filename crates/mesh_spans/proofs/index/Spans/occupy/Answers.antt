@@ -1,7 +1,7 @@
-use Rattle.std.proofs.Common.{◌≡◌, Some, None, refl, sym, ap, ◌∙◌, arith, rules, subst}
+use Rattle.std.proofs.Common.{◌≡◌, Some, ap, arith}
 use Rattle.std.proofs.lemmas.Grind.{common_steps}
-use Rattle.mesh_model.specs.Table.{Group, Slot}
-use Rattle.mesh_spans.specs.Groups.{groups_from, groups_of}
+use Rattle.mesh_model.specs.Table.{Slot}
+use Rattle.mesh_spans.specs.Groups.{groups_of}
 use Rattle.mesh_spans.specs.Index.{Index, with_entry, span_at}
 use Rattle.mesh_spans.proofs.IndexLemmas.{put_keeps, vacant_fits}
 use Rattle.mesh_spans.proofs.TableLemmas.{groups_put}

@@ -1,6 +1,6 @@
-use Rattle.std.proofs.Common.{◌≡◌, ◌++◌, ◌∷◌, [], length, Some, None, true, false, position, find, IsSomeAnd, IfNone, refl, sym, ap, ◌∙◌, arith, rules}
+use Rattle.std.proofs.Common.{◌≡◌, Some, None, true, false, position, sym, ◌∙◌, arith}
 use Rattle.std.proofs.lemmas.Grind.{common_steps}
-use Rattle.mesh_spans.specs.Index.{group_at, has_room, is_open, span_at}
+use Rattle.mesh_spans.specs.Index.{group_at, is_open}
 use Rattle.mesh_spans.proofs.TableLemmas.{no_group, open_parts, picked_in, table_none, table_open, vacant_in}
 use Rattle.mesh_spans.proofs.index.Spans.open_slot.Goals as goal
 

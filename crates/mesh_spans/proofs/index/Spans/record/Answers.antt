@@ -1,5 +1,4 @@
-use Rattle.std.proofs.Common.{◌≡◌, List, Option, Some, None, slice_get, slice_index_or, refl, sym, ap, ◌∙◌, arith, rules}
-use Rattle.std.proofs.lemmas.Grind.{common_steps}
+use Rattle.std.proofs.Common.{◌≡◌, Option, Some, None, slice_get, slice_index_or, sym, ap, ◌∙◌}
 use Rattle.std.proofs.lemmas.Option.{slice_get-get_or}
 use Rattle.mesh_spans.specs.Index.{GroupEntry, Index, SpanEntry, group_at, named_in, no_span, record_at, record_in, slot_in}
 use Rattle.mesh_spans.proofs.IndexLemmas.{recorded_if}

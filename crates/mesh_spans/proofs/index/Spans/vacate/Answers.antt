@@ -1,9 +1,7 @@
-use Rattle.std.proofs.Common.{◌≡◌, ◌<◌, length, Some, None, IfSome, refl, sym, ap, ◌∙◌, arith, rules, subst}
+use Rattle.std.proofs.Common.{◌≡◌, None, ap, arith}
 use Rattle.std.proofs.lemmas.Grind.{common_steps}
-use Rattle.mesh_class.specs.Classes.{slots_of}
-use Rattle.mesh_model.specs.Table.{Group, Slot}
-use Rattle.mesh_spans.specs.Groups.{groups_from, groups_of}
-use Rattle.mesh_spans.specs.Index.{Index, GroupEntry, group_at, with_entry, span_at}
+use Rattle.mesh_spans.specs.Groups.{groups_of}
+use Rattle.mesh_spans.specs.Index.{Index, with_entry, span_at}
 use Rattle.mesh_spans.proofs.IndexLemmas.{group_below, nothing_fits, put_keeps, recorded}
 use Rattle.mesh_spans.proofs.TableLemmas.{groups_put}
 use Rattle.mesh_spans.proofs.index.Spans.vacate.Goals as goal

@@ -1,9 +1,8 @@
-use Rattle.std.proofs.Common.{◌≡◌, ℕ, List, ◌+◌, ◌-◌, ◌<◌, ◌≤◌, ◌++◌, ◌∷◌, [], length, Ok, sym, ap, subst, refl, ◌∙◌, arith, rules}
+use Rattle.std.proofs.Common.{◌≡◌, ℕ, List, ◌+◌, ◌≤◌, length, ap, subst, refl, ◌∙◌, arith}
 use Rattle.mesh_arena.specs.Pages.{free_count}
 use Rattle.mesh_class.specs.Classes.{pages_of}
-use Rattle.mesh_spans.specs.Index.{Index, new_span}
-use Rattle.mesh_steps.specs.Growth.{TakesAll, GivesFirst, MapsFirst}
-use Rattle.mesh_steps.specs.Ground.{Ground, IsAsBefore, IsFreshSpan, IsGround, table_of}
+use Rattle.mesh_steps.specs.Growth.{GivesFirst, MapsFirst}
+use Rattle.mesh_steps.specs.Ground.{table_of}
 use Rattle.mesh_steps.proofs.GroundLemmas.{IsGround_give, IsGround_grow}
 use Rattle.mesh_steps.proofs.GrowthLemmas.{back_bytes, back_taken}
 use Rattle.mesh_steps.proofs.Placing.{IsFreshSpan_added, room_is}

@@ -1,5 +1,4 @@
-use Rattle.std.proofs.Common.{◌≡◌, length, ap, sym, ◌∙◌, subst, arith, rules}
-use Rattle.mesh_spans.specs.Index.{Index}
+use Rattle.std.proofs.Common.{sym, subst}
 use Rattle.mesh_steps.specs.Ground.{Ground, IsCovered}
 use Rattle.mesh_steps.proofs.GroundLemmas.{covered_backed, not_blocked}
 use Rattle.mesh_steps.proofs.ground.Ground.blocked.Goals as goal

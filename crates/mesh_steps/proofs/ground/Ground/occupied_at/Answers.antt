@@ -1,6 +1,4 @@
-use Rattle.std.proofs.Common.{◌≡◌, ◌<◌, ◌+◌, ℕ, Option, Some, None, IsSomeAnd, length, slice_get, slice_index, refl, sym, ap, subst, ◌∙◌, arith, rules}
-use Rattle.mesh_spans.specs.Index.{Index, IsFoundAt, group_at, record_at, span_at}
-use Rattle.mesh_steps.specs.Ground.{Ground}
+use Rattle.std.proofs.Common.{◌≡◌, ℕ, Option, Some, None, slice_index, ap}
 use Rattle.mesh_steps.proofs.Placing.{found_recorded}
 use Rattle.mesh_steps.proofs.ground.Ground.occupied_at.Goals as goal
 

@@ -1,4 +1,4 @@
-use Rattle.std.proofs.Common.{◌≡◌, refl, sym, ap, ◌∙◌, arith, rules}
+use Rattle.std.proofs.Common.{refl}
 use Rattle.mesh_spans.specs.Groups.{groups_of}
 use Rattle.mesh_steps.proofs.GroundLemmas.{IsGround_open}
 use Rattle.mesh_steps.proofs.ground.Ground.open.Goals as goal

@@ -1,9 +1,8 @@
-use Rattle.std.proofs.Common.{◌≡◌, ◌%◌, ℕ, Option, Some, None, Result, Ok, Err, IfErr, find, refl, sym, ap, subst, ◌∙◌, arith, rules}
+use Rattle.std.proofs.Common.{◌≡◌, ◌%◌, None, Result, Ok, Err, IfErr, find, refl, sym, subst, ◌∙◌}
 use Rattle.std.specs.Result.{IsErrAnd}
 use Rattle.mesh_class.specs.Classes.{slots_of}
-use Rattle.mesh_model.specs.Table.{Group}
 use Rattle.mesh_spans.specs.Groups.{groups_of, is_closed, takes_objects}
-use Rattle.mesh_steps.specs.Ground.{Ground, IsCalm, IsPlace, IsPlaceFault, IsSpanFault, open_group}
+use Rattle.mesh_steps.specs.Ground.{Ground, IsCalm, IsPlaceFault, open_group}
 use Rattle.mesh_steps.specs.declared.answers.NewFault.{NewFault}
 use Rattle.mesh_steps.proofs.Placing.{open_is, place_fresh, place_open}
 use Rattle.mesh_steps.proofs.ground.Ground.place.Goals as goal

@@ -1,6 +1,6 @@
-use Rattle.std.proofs.Common.{◌≡◌, ◌≤◌, length, ap, sym, ◌∙◌, subst, arith, rules}
-use Rattle.mesh_spans.specs.Index.{Index, IsVacant, span_at}
-use Rattle.mesh_steps.specs.Ground.{Ground, IsCovered}
+use Rattle.std.proofs.Common.{◌≤◌, sym, subst}
+use Rattle.mesh_spans.specs.Index.{IsVacant, span_at}
+use Rattle.mesh_steps.specs.Ground.{Ground}
 use Rattle.mesh_steps.proofs.GroundLemmas.{slot_backed, IsGround_same_spans, IsGround_same_taken}
 use Rattle.mesh_steps.proofs.ground.Ground.put.Goals as goal
 

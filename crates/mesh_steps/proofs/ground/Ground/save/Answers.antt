@@ -1,7 +1,6 @@
-use Rattle.std.proofs.Common.{◌≡◌, length, ap, sym, ◌∙◌, subst, arith, rules}
-use Rattle.mesh_spans.specs.Index.{Index}
+use Rattle.std.proofs.Common.{length, sym, subst}
 use Rattle.mesh_steps.specs.Ground.{Ground, IsCovered}
-use Rattle.mesh_steps.proofs.GroundLemmas.{covered_backed, ground_open, IsGround_same_taken}
+use Rattle.mesh_steps.proofs.GroundLemmas.{covered_backed, IsGround_same_taken}
 use Rattle.mesh_steps.proofs.ground.Ground.save.Goals as goal
 
 pub save-requires-clause-backed : goal.save-requires-clause-backed

@@ -1,4 +1,3 @@
-use Rattle.std.proofs.Common.{◌≡◌, length, ap, sym, ◌∙◌, subst, arith, rules}
 use Rattle.mesh_steps.proofs.GroundLemmas.{IsGround_same_spans}
 use Rattle.mesh_steps.proofs.ground.Ground.take_out.Goals as goal
 

@@ -1,4 +1,4 @@
-use Rattle.std.proofs.Common.{◌≡◌, Option, IfSome, subst, sym}
+use Rattle.std.proofs.Common.{Option, IfSome, subst, sym}
 use Rattle.mesh_steps.specs.Heap.{Heap, IsObjectAt, IsReferred}
 use Rattle.mesh_steps.specs.declared.answers.Occupied.{Occupied}
 use Rattle.mesh_steps.proofs.Making.{freed_heap, freed_is}

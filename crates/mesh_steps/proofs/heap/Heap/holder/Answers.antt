@@ -1,6 +1,4 @@
-use Rattle.std.proofs.Common.{◌≡◌, ℕ, ◌⊎◌, inl, inr, None, refl, sym, ap, subst, ◌∙◌, arith, rules}
-use Rattle.mesh_model.specs.MeaningLaws.{record_with}
-use Rattle.mesh_steps.specs.Heap.{Heap, IsHeap, IsObjectAt, live_records}
+use Rattle.std.proofs.Common.{arith}
 use Rattle.mesh_steps.proofs.Objects.{address_stray, held_is}
 use Rattle.mesh_steps.proofs.heap.Heap.holder.Goals as goal
 

@@ -1,6 +1,4 @@
-use Rattle.std.proofs.Common.{◌≡◌, ℕ, Option, Some, None, IfSome, IfNone, Result, Err, Bool, is_some, is_ok, refl, sym, ap, subst, ◌∙◌, arith, rules}
-use Rattle.mesh_model.specs.Plain.{Named}
-use Rattle.mesh_model.specs.declared.refusals.Refusal.{Refusal}
+use Rattle.std.proofs.Common.{◌≡◌, Option, Some, None, IfSome, IfNone, Err, is_some, is_ok, refl, ◌∙◌}
 use Rattle.mesh_model.specs.declared.refusals.Refusal.TheVariants.{Freed}
 use Rattle.mesh_steps.specs.Heap.{Heap, IsReferred, plain_of, referred}
 use Rattle.mesh_steps.specs.declared.answers.Occupied.{Occupied}

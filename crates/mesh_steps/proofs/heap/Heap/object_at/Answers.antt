@@ -1,6 +1,5 @@
-use Rattle.std.proofs.Common.{◌≡◌, ℕ, refl, sym, ap, subst, ◌∙◌, arith}
 use Rattle.mesh_steps.specs.Ground.{IsInSlotOf}
-use Rattle.mesh_steps.specs.Heap.{Heap, IsHeap, IsObjectAt}
+use Rattle.mesh_steps.specs.Heap.{IsObjectAt}
 use Rattle.mesh_steps.proofs.Objects.{IfSome_more, in_slot_recorded, object_found}
 use Rattle.mesh_steps.proofs.heap.Heap.object_at.Goals as goal
 

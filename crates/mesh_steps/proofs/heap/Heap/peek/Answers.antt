@@ -1,7 +1,6 @@
-use Rattle.std.proofs.Common.{◌≡◌, ◌+◌, ◌<◌, ℕ, List, length, slice_index, refl, sym, ap, subst, ◌∙◌, arith, rules}
-use Rattle.mesh_arena.specs.Pages.{run_of, slice_index-run_of}
+use Rattle.std.proofs.Common.{◌≡◌, ◌+◌, ℕ, List, slice_index, sym, ap, subst, ◌∙◌, arith}
+use Rattle.mesh_arena.specs.Pages.{slice_index-run_of}
 use Rattle.mesh_store.specs.Places.{byte_of}
-use Rattle.mesh_steps.specs.Ground.{IsCovered}
 use Rattle.mesh_steps.specs.Heap.{Heap, IsHeld}
 use Rattle.mesh_steps.proofs.Objects.{slot_covered}
 use Rattle.mesh_steps.proofs.Stores.{read_held, read_stray}

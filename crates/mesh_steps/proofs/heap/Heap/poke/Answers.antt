@@ -1,7 +1,7 @@
-use Rattle.std.proofs.Common.{◌≡◌, ◌+◌, ◌-◌, ◌≤◌, ◌<◌, ℕ, false, [], ◌∷◌, Result, length, refl, sym, ap, subst, ◌∙◌, arith, rules}
+use Rattle.std.proofs.Common.{◌≡◌, ◌-◌, ℕ, false, [], ◌∷◌, Result, refl, sym, ap, subst, ◌∙◌, arith}
 use Rattle.mesh_model.specs.Memory.{Memory}
 use Rattle.mesh_model.specs.declared.refusals.Refusal.{Refusal}
-use Rattle.mesh_steps.specs.Heap.{Heap, IsHeap, IsLiveFor, IsStore, stored_in}
+use Rattle.mesh_steps.specs.Heap.{IsStore, stored_in}
 use Rattle.mesh_steps.proofs.Stores.{stored_held, stored_stray}
 use Rattle.mesh_steps.proofs.heap.Heap.poke.Goals as goal
 

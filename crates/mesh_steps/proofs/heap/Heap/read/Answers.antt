@@ -1,8 +1,7 @@
-use Rattle.std.proofs.Common.{◌≡◌, ◌≤◌, ◌<◌, ◌+◌, ℕ, suc, List, [], ◌∷◌, ◌++◌, length, take, drop, refl, sym, ap, subst, ◌∙◌, arith, rules}
+use Rattle.std.proofs.Common.{◌≡◌, ◌+◌, ℕ, List, [], ◌∷◌, ◌++◌, length, take, drop, refl, sym, ap, subst, ◌∙◌, arith}
 use Rattle.std.proofs.lemmas.Grind.{common_steps}
 use Rattle.mesh_arena.specs.Pages.{run_of, length-run_of}
 use Rattle.mesh_store.specs.Places.{byte_of}
-use Rattle.mesh_steps.specs.Ground.{IsCovered, IsInSlotOf}
 use Rattle.mesh_steps.specs.Heap.{Heap, IsReferred}
 use Rattle.mesh_steps.proofs.Objects.{read_is, read_past, read_stale, slot_covered}
 use Rattle.mesh_steps.proofs.heap.Heap.read.Goals as goal

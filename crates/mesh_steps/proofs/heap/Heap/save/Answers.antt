@@ -1,7 +1,7 @@
-use Rattle.std.proofs.Common.{◌≡◌, ◌+◌, ◌≤◌, ◌<◌, ◌*◌, ℕ, List, length, refl, sym, ap, subst, ◌∙◌, arith, rules}
+use Rattle.std.proofs.Common.{◌+◌, length, sym, subst, arith}
 use Rattle.mesh_model.specs.Mesh.{is_blocked}
 use Rattle.mesh_steps.specs.Ground.{table_of}
-use Rattle.mesh_steps.specs.Heap.{Heap, IsHeap, IsLiveFor, IsStore, stored_in}
+use Rattle.mesh_steps.specs.Heap.{Heap, IsLiveFor, IsStore, stored_in}
 use Rattle.mesh_steps.specs.declared.answers.Stored.TheVariants.{Done}
 use Rattle.mesh_steps.proofs.Stores.{live_for_covered, live_for_fits, stored_whole}
 use Rattle.mesh_steps.proofs.heap.Heap.save.Goals as goal

@@ -1,5 +1,4 @@
-use Rattle.std.proofs.Common.{◌≡◌, ◌+◌, ◌≤◌, ◌<◌, ℕ, length, refl, sym, ap, subst, ◌∙◌, arith, rules}
-use Rattle.mesh_steps.specs.Heap.{Heap, IsLiveFor}
+use Rattle.std.proofs.Common.{refl}
 use Rattle.mesh_steps.proofs.Stores.{stored_past, stored_stale}
 use Rattle.mesh_steps.proofs.heap.Heap.write.Goals as goal
 
