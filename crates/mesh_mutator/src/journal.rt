@@ -8,6 +8,7 @@ ghost use Rattle.mesh_mutator.specs.Attempts.{IsLook};
 ghost use Rattle.mesh_mutator.specs.Book.{IsAttempt, IsLooked, memory_of_book, table_of_book};
 ghost use Rattle.mesh_mutator.specs.declared.attempts.Attempt.{Attempt};
 ghost use Rattle.mesh_steps.specs.Always.{HasHeldPagesTaken, HasObjectsApart, HasPlacesApart, HasReadOnlyOfMeshes};
+ghost use Rattle.mesh_steps.specs.Layout.{IsLaidOut, layout_of};
 
 use crate::attempts::{address, get, peek, perform};
 use crate::entry::Entry;
@@ -73,13 +74,14 @@ impl Book {
         self.journal.as_slice()
     }
 
-    /// What always holds of its heap: two different bytes of live objects never share a place, no free page holds a live object, and the
-    /// read-only pages are exactly those of the running meshes.
+    /// What always holds of its heap: two different bytes of live objects never share a place, no free page holds a live object, the
+    /// read-only pages are exactly those of the running meshes, and groups, page map and arena lie as these meshes have them.
     pub fn always(&self)
         ensures objects { HasObjectsApart self.now.heap }
         ensures places { HasPlacesApart self.now.heap }
         ensures held { HasHeldPagesTaken self.now.heap }
         ensures read_only { HasReadOnlyOfMeshes self.now.heap }
+        ensures laid_out { IsLaidOut (layout_of self.now.heap.base.index) (table_of_book self.now).meshes self.now.heap.base.map self.now.heap.base.arena }
     {
         self.heap.always();
     }

@@ -1,5 +1,5 @@
 -- What keeps the pages of spans mapped, taken and apart.
-use Rattle.std.proofs.Common.{◌≡◌, ◌≢◌, ℕ, ◌+◌, ◌-◌, ◌*◌, ◌/◌, ◌<◌, ◌≤◌, Bool, true, false, IsTrue, Some, None, is_some, List, [], ◌∷◌, ◌++◌, length, slice_index, ap, subst, refl, sym, ◌∙◌, arith, ◌⊎◌, inl, inr}
+use Rattle.std.proofs.Common.{◌≡◌, ◌≢◌, ℕ, ◌+◌, ◌-◌, ◌*◌, ◌/◌, ◌<◌, ◌≤◌, Bool, true, false, IsTrue, Option, Some, None, is_some, List, [], ◌∷◌, ◌++◌, length, slice_index, ap, subst, refl, sym, ◌∙◌, arith, ◌⊎◌, inl, inr}
 use Rattle.std.proofs.Math.Nat.{mul-le-mul_right}
 use Rattle.std.proofs.Math.ListN.{get_or-append, length-append}
 use Rattle.std.proofs.Math.Seq.{get_or-append_seam}
@@ -8,10 +8,12 @@ use Rattle.mesh_class.specs.Classes.{pages_of, slots_of}
 use Rattle.mesh_arena.specs.Pages.{Pages, is_taken, IsTaken}
 use Rattle.mesh_pagemap.specs.Entries.{Entries, is_mapped, IsMapped, page_of, is_read_only, reads_only, prot_in}
 use Rattle.std.specs.FinMap as map
-use Rattle.mesh_spans.specs.Index.{Index, SpanEntry, span_at, no_span, address_in, new_span, IsSpan, IsVacant}
+use Rattle.mesh_model.specs.Table.{Slot}
+use Rattle.mesh_spans.specs.Index.{Index, IsIndex, SpanEntry, span_at, no_span, address_in, new_group, new_span, with_entry, IsSpan, IsVacant}
 use Rattle.mesh_store.specs.Places.{AreBacked, IsBlocked, IsOpen}
 use Rattle.mesh_steps.specs.Growth.{TakesAll, GivesFirst, MapsFirst}
 use Rattle.mesh_steps.specs.Ground.{IsCovered, IsGround}
+use Rattle.mesh_steps.proofs.Layouts.{IsHome_entry, IsHome_grow, IsHome_open}
 
 -- a slot ends within the pages that the slots fill
 slot_end : (slot slots size pages : ℕ) → slot < slots → slots * size ≡ pages * 4096 → slot * size + size ≤ pages * 4096
@@ -72,8 +74,9 @@ unfolding is_mapped is_read_only
 unmapped_writable m v unmapped = elim (map.get m v) as (λ o. is_some o ≡ false → reads_only (prot_in o) ≡ false) [ None ↦ λ h. refl | Some e ↦ λ h. cc ] unmapped
 
 -- pages and index with nothing in them are a ground
-pub IsGround_open : (arena : Pages) (m : Entries) (index : Index) → ((v : ℕ) → is_mapped m v ≡ false) → index.spans ≡ [] → IsGround arena m index 1
-IsGround_open arena m index unmapped none = record {
+pub IsGround_open : (arena : Pages) (m : Entries) (index : Index) → ((v : ℕ) → is_mapped m v ≡ false) → index.spans ≡ [] → index.groups ≡ []
+    → IsGround arena m index 1
+IsGround_open arena m index unmapped none ungrouped = record {
   some = omega arith;
   most = omega arith;
   unused = λ i below. absurd (empty i below);
@@ -82,6 +85,7 @@ IsGround_open arena m index unmapped none = record {
   taken = λ v mapped. absurd (clash v mapped);
   apart = λ v w mapped. absurd (clash v mapped);
   writable = λ v. unmapped_writable m v (unmapped v);
+  home = IsHome_open index m ungrouped unmapped;
 }
   where
     empty : (i : ℕ) → i < length index.spans → ⊥
@@ -102,12 +106,13 @@ IsGround_same_taken arena arena' map index next same ground = record {
   taken = λ v mapped. same (page_of map v) ∙ ground.taken v mapped;
   apart = ground.apart;
   writable = ground.writable;
+  home = ground.home;
 }
 
--- the ground of an index of the same spans is one
-pub IsGround_same_spans : (arena : Pages) (map : Entries) (index index' : Index) (next : ℕ) → index'.spans ≡ index.spans
-    → IsGround arena map index next → IsGround arena map index' next
-IsGround_same_spans arena map index index' next same ground = record {
+-- an entry in a slot leaves a ground
+pub IsGround_entry : (arena : Pages) (map : Entries) (index index' : Index) (next n k : ℕ) (entry : Option Slot) → index'.spans ≡ index.spans
+    → index'.groups ≡ with_entry index.groups n k entry → IsGround arena map index next → IsGround arena map index' next
+IsGround_entry arena map index index' next n k entry same groups ground = record {
   some = ground.some;
   most = ground.most;
   unused = λ i below. rw same (ground.unused i (rw (← same) below));
@@ -117,6 +122,7 @@ IsGround_same_spans arena map index index' next same ground = record {
   taken = ground.taken;
   apart = ground.apart;
   writable = ground.writable;
+  home = IsHome_entry index index' n k entry map same groups ground.home;
 }
 
 -- pages that were free are none of the mapped ones
@@ -137,13 +143,15 @@ IsGround_give arena taken given map index next pages takes gives ground = record
       ∙ takes.kept (page_of map v) (ground.taken v mapped);
   apart = ground.apart;
   writable = ground.writable;
+  home = ground.home;
 }
 
 -- a new span's pages, taken and mapped, leave a ground
 pub IsGround_grow : (arena taken : Pages) (map map' : Entries) (index index' : Index) (next end class group : ℕ) (pages : List ℕ)
     → TakesAll arena taken pages → MapsFirst map map' next pages (length pages) → length pages ≡ pages_of class → next + length pages ≡ end → end ≤ 65536
-    → index'.spans ≡ index.spans ++ new_span next class group ∷ [] → IsGround arena map index next → IsGround taken map' index' end
-IsGround_grow arena taken map map' index index' next end class group pages takes maps count ends fits added ground = record {
+    → index'.spans ≡ index.spans ++ new_span next class group ∷ [] → index'.groups ≡ index.groups ++ Some (new_group class group pages) ∷ []
+    → group ≡ length index.spans → IsIndex index.spans index.groups → IsGround arena map index next → IsGround taken map' index' end
+IsGround_grow arena taken map map' index index' next end class group pages takes maps count ends fits added grouped number sound ground = record {
   some = omega (arith, ground.some, ends);
   most = fits;
   unused = λ i below. elim (leb_tells (length index.spans) i) [
@@ -183,6 +191,7 @@ IsGround_grow arena taken map map' index index' next end class group pages takes
       | inr new ↦ maps.writable (v - next) v (omega (arith, from.1, new.1)) (omega (arith, from.1))
     ]
   ];
+  home = IsHome_grow index index' map map' next class group pages sound added grouped number ground.fresh maps count ground.home;
 }
   where
     at_old : (i : ℕ) → i < length index.spans → span_at index'.spans i ≡ span_at index.spans i

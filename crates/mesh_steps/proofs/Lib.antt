@@ -1,5 +1,6 @@
 pub mod GroundLemmas
 pub mod GrowthLemmas
+pub mod Layouts
 pub mod Making
 pub mod Objects
 pub mod Placing

@@ -9,6 +9,7 @@ use Rattle.mesh_model.specs.Table.{Group, Table, is_open, place_in, placed_in, r
 use Rattle.mesh_steps.specs.declared.answers.NewFault.{NewFault}
 use Rattle.mesh_steps.specs.declared.answers.NewFault.TheVariants.{Memory, Refused}
 use Rattle.mesh_pagemap.specs.Entries.{Entries, IsMapped, entry_code, is_mapped, is_read_only, page_of}
+use Rattle.mesh_steps.specs.Layout.{IsHome, layout_of}
 use Rattle.mesh_spans.specs.Groups.{IsPicked, groups_of, is_closed}
 use Rattle.mesh_spans.specs.Index.{AreUnused, Index, IsRecorded, IsSpan, IsVacant, address_in, index_code, span_at}
 
@@ -28,7 +29,8 @@ ground_code =
     (λ p. record { arena = p.0; map = p.1.0; index = p.1.1.0; next_page = p.1.1.1 })
     (λ _. refl)
 
--- every page of every span is mapped, for reading and writing, to a taken page of its own, and no virtual page from the next one on is mapped
+-- every page of every span is mapped, for reading and writing, to a taken page of its own, no virtual page from the next one on is mapped, and
+-- every page of a group's members leads home
 pub record IsGround (arena : Pages) (map : Entries) (index : Index) (next_page : ℕ) : Type 0 where
   pub some : 1 ≤ next_page
   pub most : next_page ≤ 65536
@@ -39,6 +41,7 @@ pub record IsGround (arena : Pages) (map : Entries) (index : Index) (next_page :
   pub taken : (v : ℕ) → IsMapped map v → IsTaken arena (page_of map v)
   pub apart : (v w : ℕ) → IsMapped map v → IsMapped map w → v ≢ w → page_of map v ≢ page_of map w
   pub writable : (v : ℕ) → is_read_only map v ≡ false
+  pub home : IsHome (layout_of index) map
 
 -- what the table says of it; no mesh is running
 abbrev pub table_of : Ground → Table

@@ -10,3 +10,4 @@ pub mod Growth
 pub mod Always
 pub mod Ground
 pub mod Heap
+pub mod Layout

@@ -93,6 +93,7 @@ impl Ground {
         ensures ok { IfOk result (λ span. IsFreshSpan self.old self.new class span) }
         ensures err { IfErr result (IsSpanFault self.old self.new class) }
     {
+        self.spans.sound();
         let count = class.pages();
         if self.store.arena.free_pages() < count {
             return Err(NewFault::Refused(Refusal::NoPages));

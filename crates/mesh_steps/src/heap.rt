@@ -8,6 +8,7 @@ ghost use Rattle.mesh_model.specs.Plain.{holding};
 ghost use Rattle.mesh_model.specs.Table.{empty_table};
 ghost use Rattle.mesh_steps.specs.Always.{HasHeldPagesTaken, HasObjectsApart, HasPlacesApart, HasReadOnlyOfMeshes};
 ghost use Rattle.mesh_steps.specs.Ground.{table_of};
+ghost use Rattle.mesh_steps.specs.Layout.{IsLaidOut, layout_of};
 ghost use Rattle.mesh_steps.specs.Heap.{IsFree, IsHeap, IsHeld, IsLiveFor, IsMade, IsNotMade, IsObjectAt, IsReferred, IsStore, byte_at_address, bytes_at, freed_at, live_records, memory_of, plain_of, referred, stored_at, stored_at_address, stored_in};
 
 use crate::answers::Occupied;
@@ -156,12 +157,14 @@ impl Heap {
         self.live(object).is_some()
     }
 
-    /// What always holds of a heap.
+    /// What always holds of a heap: two different bytes of live objects never share a place, no free page holds a live object, the
+    /// read-only pages are exactly those of the running meshes, and groups, page map and arena lie as these meshes have them.
     pub fn always(&self)
         ensures objects { HasObjectsApart self.now }
         ensures places { HasPlacesApart self.now }
         ensures held { HasHeldPagesTaken self.now }
         ensures read_only { HasReadOnlyOfMeshes self.now }
+        ensures laid_out { IsLaidOut (layout_of self.now.base.index) (table_of self.now.base).meshes self.now.base.map self.now.base.arena }
     {
         self.base.sound();
     }

@@ -18,7 +18,8 @@ invariant_of-self c =
     IsGround_grow c.self.inside.store.arena c.take_pages-pages.new.arena c.self.inside.store.map c.map_pages.new.map c.self.inside.spans
     c.add_span.new.self c.self.inside.next_page (c.self.inside.next_page + c.pages-count.result) c.args.class c.in-Ok.span pages
     c.take_pages-pages.ensures.taken maps count (ap (λ (n : ℕ). c.self.inside.next_page + n) c.take_pages-pages.ensures.count)
-    (omega (arith, c.self.invariant.most)) c.in-Ok.ensures.spans c.self.invariant
+    (omega (arith, c.self.invariant.most)) c.in-Ok.ensures.spans (rw c.as_slice.ensures.value at c.in-Ok.ensures.groups) c.in-Ok.ensures.number
+    c.sound.ensures c.self.invariant
 
 pub invariant_of-self-in-Err : goal.invariant_of-self-in-Err
 invariant_of-self-in-Err c =

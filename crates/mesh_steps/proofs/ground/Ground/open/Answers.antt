@@ -4,7 +4,7 @@ use Rattle.mesh_steps.proofs.GroundLemmas.{IsGround_open}
 use Rattle.mesh_steps.proofs.ground.Ground.open.Goals as goal
 
 pub invariant_of-result : goal.invariant_of-result
-invariant_of-result c = IsGround_open _ _ c.in_ok-spans.spans c.in_ok-store.ensures.unmapped c.in_ok-spans.ensures.spans
+invariant_of-result c = IsGround_open _ _ c.in_ok-spans.spans c.in_ok-store.ensures.unmapped c.in_ok-spans.ensures.spans c.in_ok-spans.ensures.groups
 
 pub returns-clause-table : goal.returns-clause-table
 unfolding groups_of

@@ -1,7 +1,7 @@
 use Rattle.std.proofs.Common.{◌≤◌, sym, subst}
 use Rattle.mesh_spans.specs.Index.{IsVacant, span_at}
 use Rattle.mesh_steps.specs.Ground.{Ground}
-use Rattle.mesh_steps.proofs.GroundLemmas.{slot_backed, IsGround_same_spans, IsGround_same_taken}
+use Rattle.mesh_steps.proofs.GroundLemmas.{slot_backed, IsGround_entry, IsGround_same_taken}
 use Rattle.mesh_steps.proofs.ground.Ground.put.Goals as goal
 
 pub clear-requires-clause-backed : goal.clear-requires-clause-backed
@@ -19,5 +19,5 @@ invariant_of-self c =
     rw c.clear.ensures.map
     (IsGround_same_taken c.self.inside.store.arena c.clear.new.store.arena c.self.inside.store.map c.occupy.new.self c.self.inside.next_page
     c.clear.ensures.saves.same_taken
-    (IsGround_same_spans c.self.inside.store.arena c.self.inside.store.map c.self.inside.spans c.occupy.new.self c.self.inside.next_page
-    c.occupy.ensures.spans c.self.invariant))
+    (IsGround_entry c.self.inside.store.arena c.self.inside.store.map c.self.inside.spans c.occupy.new.self c.self.inside.next_page
+    _ _ _ c.occupy.ensures.spans c.occupy.ensures.groups c.self.invariant))

@@ -1,3 +1,4 @@
+use Rattle.mesh_steps.proofs.Layouts.{IsLaidOut_calm}
 use Rattle.mesh_steps.proofs.Standing.{heap_held_taken, heap_objects_apart, heap_places_apart, heap_read_only}
 use Rattle.mesh_steps.proofs.heap.Heap.always.Goals as goal
 
@@ -18,3 +19,8 @@ returns-clause-held c =
 pub returns-clause-read_only : goal.returns-clause-read_only
 returns-clause-read_only c =
     rw (← c.self.view_is) (heap_read_only (record { base = c.self.inside.base; next_serial = c.self.inside.next_serial }) c.sound.ensures.pages)
+
+pub returns-clause-laid_out : goal.returns-clause-laid_out
+returns-clause-laid_out c =
+    let ground = c.sound.ensures.pages in
+    rw (← c.self.view_is) (IsLaidOut_calm _ _ _ ground.home ground.taken ground.apart ground.writable)
