@@ -1,3 +1,10 @@
 pub mod IndexLemmas
 pub mod SlotLemmas
 pub mod TableLemmas
+pub mod FlagLemmas
+pub mod MergedIndex
+pub mod MergedTable
+pub mod MergeLemmas
+pub mod FilingLemmas
+pub mod FindLemmas
+pub mod CountLemmas

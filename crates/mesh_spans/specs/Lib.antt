@@ -1,5 +1,7 @@
 pub use Rattle.mesh_class.specs.Classes
 pub use Rattle.mesh_bits.specs.Bits
 pub use Rattle.mesh_model.specs.Table
+pub mod Changes
+pub mod Filing
 pub mod Groups
 pub mod Index

@@ -1,6 +1,7 @@
 //! `Extent`, where one span lies.
 ghost use Rattle.std.specs.Prelude.{◌≡◌, ℕ, ◌+◌, ◌*◌, ◌<◌, ◌≤◌, Some, IfSome};
 ghost use Rattle.mesh_class.specs.Classes.{pages_of, slots_of};
+ghost use Rattle.mesh_spans.specs.Changes.{in_group};
 ghost use Rattle.mesh_spans.specs.Index.{IsSpan, address_in, new_span};
 
 use crate::Slot;
@@ -58,6 +59,13 @@ impl Extent {
         ensures { result ≡ self.now.group }
     {
         self.group
+    }
+
+    /// Lets the span belong to another group.
+    pub fn join(&mut self, group: u32)
+        ensures { self.new ≡ in_group group self.old }
+    {
+        self.group = group;
     }
 
     /// The slot and the offset in it of an address. None only where the address is outside the span.

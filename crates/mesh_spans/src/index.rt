@@ -1,16 +1,24 @@
 //! `Spans`, the index of all spans and groups.
-ghost use Rattle.std.specs.Prelude.{◌≡◌, ℕ, ◌+◌, ◌<◌, ◌≤◌, Some, None, [], ◌∷◌, ◌++◌, find, length, map, slice_index, slice_index_or, ◌/◌, IfOk, IfSome, IfNone, IsSome, IsSomeAnd, OnErr, position, option_copied};
+ghost use Rattle.std.specs.Prelude.{◌≡◌, ℕ, ◌+◌, true, false, not, nat_eq, ◌&&◌, ◌||◌, filter, slice_set, ◌<◌, ◌≤◌, Some, None, [], ◌∷◌, ◌++◌, find, length, map, slice_index, slice_index_or, ◌/◌, IfOk, IfSome, IfNone, IsSome, IsSomeAnd, OnErr, position, option_copied};
+ghost use Rattle.std.specs.Option.{option_map};
 ghost use Rattle.mesh_class.specs.Classes.{pages_of, slots_of};
 ghost use Rattle.mesh_model.specs.MeaningLaws.{emptied_at};
 ghost use Rattle.mesh_model.specs.Table.{changed_at, fresh_group, slot_address, with_object_in};
 ghost use Rattle.mesh_spans.specs.Groups.{IsPicked, groups_of, is_closed, takes_objects};
 ghost use Rattle.mesh_spans.specs.Index.{AreUnused, GroupEntry, IsFoundAt, IsIndex, IsObject, IsRecorded, IsSpan, IsVacant, OwnsUpTo, address_in, group_at, has_room, is_open, new_group, new_span, record_at, span_at, with_entry};
+ghost use Rattle.mesh_model.specs.Mesh.{merged};
+ghost use Rattle.mesh_model.specs.Table.{Group as TableGroup, has_number};
+ghost use Rattle.mesh_bins.specs.Words.{IsLeast};
+ghost use Rattle.mesh_spans.specs.Filing.{candidate_from, is_partial};
+ghost use Rattle.mesh_spans.specs.Changes.{IsMergeable, Merges, Regroups, merged_entry, merged_groups, with_flag};
 
 use crate::extent::{Extent, PAGE_BYTES};
+use crate::filing::{file_at, lowest_open, lowest_partial, new_bins, refile};
 use crate::groups::Group;
 use crate::occupant::Occupant;
 use crate::{Slot, Span};
 use mesh_arena::Page;
+use mesh_bins::Bin;
 use mesh_class::Class;
 use std::alloc::{AllocError, Global};
 use std::marker::Model;
@@ -30,6 +38,8 @@ pub struct Spans {
     groups: Vec<Option<Group>>,
     // By virtual page the span that has it.
     owners: Vec<Option<Span>>,
+    // The groups that are in no mesh, in three bins for each class.
+    bins: Vec<Bin>,
 }
 
 impl Model for Spans {
@@ -39,7 +49,10 @@ impl Model for Spans {
 
     ghost view = { λ s. record { spans = s.spans.items; groups = s.groups.items } };
 
-    ghost invariant = { λ s. IsIndex s.spans.items s.groups.items × IsOwned s.spans.items s.groups.items s.owners.items };
+    ghost use Rattle.mesh_spans.specs.Filing.{IsFiled};
+
+    ghost invariant = { λ s. (IsIndex s.spans.items s.groups.items × IsOwned s.spans.items s.groups.items s.owners.items)
+        × IsFiled s.groups.items s.bins.items };
 }
 
 impl Spans {
@@ -49,11 +62,13 @@ impl Spans {
         ensures groups { IfOk result (λ s. s.groups ≡ []) }
     {
         let owners = vec![in alloc; None; VIRTUAL_PAGES]?;
+        let bins = new_bins(alloc)?;
         Ok(Spans {
             alloc,
             spans: Vec::new(alloc),
             groups: Vec::new(alloc),
             owners,
+            bins,
         })
     }
 
@@ -86,6 +101,7 @@ impl Spans {
         self.spans.push_reserved(Extent::new(first, class, number));
         self.groups.push_reserved(Some(group));
         own(&mut self.owners, first, class.pages(), span);
+        refile(&mut self.bins, self.groups.as_slice(), number, None);
         Ok(span)
     }
 
@@ -97,10 +113,18 @@ impl Spans {
         ensures vacant { IfSome result (λ r. IsVacant self.now class r.0 r.1) }
         ensures none { IfNone result (find (takes_objects (is_closed self.now) class) (groups_of self.now) ≡ None) }
     {
-        let open = lowest_open(self.groups.as_slice(), class)?;
-        let group = self.groups[open].as_ref()?;
+        let open = lowest_open(self.bins.as_slice(), class)?;
+        let group = self.group(open)?;
         let slot = group.free_slot(word)?;
         Some((group.first_member(), slot))
+    }
+
+    /// The lowest group of the class at or above `from` that is in no mesh, not empty and not full. None only where there is none.
+    pub fn next_candidate(&self, class: Class, from: u32) -> Option<u32>
+        ensures least { IsLeast (λ n. is_partial (group_at self.now.groups n) class) from 65536 result }
+        ensures table { result ≡ option_map (λ g. g.number) (find (candidate_from (is_closed self.now) class from) (groups_of self.now)) }
+    {
+        lowest_partial(self.bins.as_slice(), class, from)
     }
 
     /// Records an object of `len` bytes in a slot.
@@ -123,7 +147,9 @@ impl Spans {
             len,
         };
         let group = extent.group();
+        let before = file_at(self.groups.as_slice(), group);
         put(&mut self.groups, group, slot, Some(object));
+        refile(&mut self.bins, self.groups.as_slice(), group, before);
     }
 
     /// Takes the record of a slot out.
@@ -135,7 +161,68 @@ impl Spans {
         ensures closed { (n : ℕ) → is_closed self.new n ≡ is_closed self.old n }
     {
         let group = self.spans[span.index()].group();
+        let before = file_at(self.groups.as_slice(), group);
         put(&mut self.groups, group, slot, None);
+        refile(&mut self.bins, self.groups.as_slice(), group, before);
+    }
+
+    /// Says that a group is in a mesh: it takes no new objects.
+    pub fn close(&mut self, n: u32)
+        requires { IsSome (group_at self.old.groups n) }
+        ensures spans { self.new.spans ≡ self.old.spans }
+        ensures groups { self.new.groups ≡ with_flag self.old.groups n true }
+        ensures table { groups_of self.new ≡ groups_of self.old }
+        ensures closed { (m : ℕ) → is_closed self.new m ≡ (nat_eq m n || is_closed self.old m) }
+    {
+        let before = file_at(self.groups.as_slice(), n);
+        flag(&mut self.groups, n, true);
+        refile(&mut self.bins, self.groups.as_slice(), n, before);
+    }
+
+    /// Says that a group is in no mesh.
+    pub fn reopen(&mut self, n: u32)
+        requires { IsSome (group_at self.old.groups n) }
+        ensures spans { self.new.spans ≡ self.old.spans }
+        ensures groups { self.new.groups ≡ with_flag self.old.groups n false }
+        ensures table { groups_of self.new ≡ groups_of self.old }
+        ensures closed { (m : ℕ) → is_closed self.new m ≡ (not (nat_eq m n) && is_closed self.old m) }
+    {
+        let before = file_at(self.groups.as_slice(), n);
+        flag(&mut self.groups, n, false);
+        refile(&mut self.bins, self.groups.as_slice(), n, before);
+    }
+
+    /// Merges the group `src` into `dst`: its members and objects are those of `dst`, after its own, on the pages of `dst`. The number
+    /// `src` is no group any more.
+    pub fn merge(&mut self, dst: u32, src: u32)
+        requires pair { IsMergeable self.old dst src }
+        ensures merges { (a b : GroupEntry) → group_at self.old.groups src ≡ Some a → group_at self.old.groups dst ≡ Some b
+            → Merges self.old self.new src dst a b }
+        ensures table { (a : TableGroup) → find (has_number src) (groups_of self.old) ≡ Some a
+            → groups_of self.new ≡ merged (groups_of self.old) a dst }
+        ensures closed { (m : ℕ) → is_closed self.new m ≡ (not (nat_eq m src) && is_closed self.old m) }
+    {
+        let from = file_at(self.groups.as_slice(), src);
+        if let Some(source) = remove(&mut self.groups, src) {
+            refile(&mut self.bins, self.groups.as_slice(), src, from);
+            let before = file_at(self.groups.as_slice(), dst);
+            absorb(&mut self.groups, dst, &source);
+            refile(&mut self.bins, self.groups.as_slice(), dst, before);
+            regroup(&mut self.spans, source.members(), dst);
+        }
+    }
+
+    /// Takes a group out; its number is no group any more.
+    pub fn retire(&mut self, n: u32)
+        requires { IsSome (group_at self.old.groups n) }
+        ensures spans { self.new.spans ≡ self.old.spans }
+        ensures groups { self.new.groups ≡ slice_set self.old.groups n None }
+        ensures table { groups_of self.new ≡ filter (λ g. not (has_number n g)) (groups_of self.old) }
+        ensures closed { (m : ℕ) → is_closed self.new m ≡ (not (nat_eq m n) && is_closed self.old m) }
+    {
+        let before = file_at(self.groups.as_slice(), n);
+        remove(&mut self.groups, n);
+        refile(&mut self.bins, self.groups.as_slice(), n, before);
     }
 
     /// Serial and length of the object that stands in a slot of a span. None only where none of its objects does.
@@ -183,23 +270,6 @@ impl Spans {
     }
 }
 
-// The number of the lowest group of the class that is in no mesh and has a free slot.
-fn lowest_open(groups: &[Option<Group>], class: Class) -> Option<usize>
-    ensures { result ≡ position (λ g. is_open g class) groups.now }
-{
-    groups.iter().position(|group| is_open(group, class))
-}
-
-// Whether a place of the list of groups has one of this class that is in no mesh and has a free slot.
-fn is_open(group: &Option<Group>, class: Class) -> bool
-    ensures { result ≡ is_open group.now class }
-{
-    match group {
-        Some(group) => group.class() == class && !group.in_mesh() && group.has_room(),
-        None => false,
-    }
-}
-
 // Lets an object stand in a slot of a group, or nothing.
 fn put(groups: &mut Vec<Option<Group>>, number: u32, slot: Slot, object: Option<Occupant>)
     requires group { number < length groups.old.items }
@@ -209,6 +279,47 @@ fn put(groups: &mut Vec<Option<Group>>, number: u32, slot: Slot, object: Option<
 {
     if let Some(group) = &mut groups[number as usize] {
         group.put(slot, object);
+    }
+}
+
+// Says of a group that it is in a mesh, or in none.
+fn flag(groups: &mut Vec<Option<Group>>, n: u32, in_mesh: bool)
+    requires { n < length groups.old.items }
+    ensures { groups.new.items ≡ with_flag groups.old.items n in_mesh }
+{
+    if let Some(group) = &mut groups[n as usize] {
+        group.set_in_mesh(in_mesh);
+    }
+}
+
+// Takes a group out.
+fn remove(groups: &mut Vec<Option<Group>>, n: u32) -> Option<Group>
+    requires { n < length groups.old.items }
+    ensures result { result ≡ group_at groups.old.items n }
+    ensures groups { groups.new.items ≡ slice_set groups.old.items n None }
+{
+    groups[n as usize].take()
+}
+
+// Lets a group take members and objects of another one.
+fn absorb(groups: &mut Vec<Option<Group>>, n: u32, source: &Group)
+    requires there { n < length groups.old.items }
+    requires class { IfSome (group_at groups.old.items n) (λ g. source.now.class ≡ g.class) }
+    requires few { IfSome (group_at groups.old.items n) (λ g. length source.now.members + length g.members ≤ 8) }
+    ensures { groups.new.items ≡ slice_set groups.old.items n (option_map (merged_entry source.now) (group_at groups.old.items n)) }
+{
+    if let Some(group) = &mut groups[n as usize] {
+        group.absorb(source);
+    }
+}
+
+// Lets spans belong to another group.
+fn regroup(spans: &mut Vec<Extent>, members: &[Span], group: u32)
+    requires { (place : ℕ) → place < length members.now → slice_index members.now place < length spans.old.items }
+    ensures { Regroups spans.old.items spans.new.items members.now (length members.now) group }
+{
+    for member in members {
+        spans[member.index()].join(group);
     }
 }
 

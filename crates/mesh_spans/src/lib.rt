@@ -5,6 +5,7 @@
 #![tactic(auto)]
 
 mod extent;
+mod filing;
 mod groups;
 mod index;
 mod names;

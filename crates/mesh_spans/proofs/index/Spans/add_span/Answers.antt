@@ -1,7 +1,10 @@
-use Rattle.std.proofs.Common.{◌≡◌, ℕ, ◌++◌, ◌∷◌, [], length, Some, sym, ap, ◌∙◌, subst, arith}
+use Rattle.std.proofs.Common.{None, refl, ◌≡◌, ℕ, ◌++◌, ◌∷◌, [], length, Some, sym, ap, ◌∙◌, subst, arith}
 use Rattle.std.proofs.lemmas.Grind.{common_steps}
 use Rattle.mesh_spans.specs.Groups.{groups_of}
 use Rattle.mesh_spans.specs.Index.{Index, AreUnused, IsVacant, new_span, new_group}
+use Rattle.std.proofs.lemmas.List.{get_or_past}
+use Rattle.mesh_spans.specs.Filing.{file_of}
+use Rattle.mesh_spans.proofs.FilingLemmas.{added_others, refiled_is}
 use Rattle.mesh_spans.proofs.IndexLemmas.{IsIndex_add, IsOwned_add}
 use Rattle.mesh_spans.proofs.TableLemmas.{index_is, new_vacant, table_added}
 use Rattle.mesh_spans.proofs.index.Spans.add_span.Goals as goal
@@ -14,12 +17,21 @@ invariant_of-self-2 c =
     ≡ c.self.inside.groups.items ++ Some (new_group c.args.class (length c.self.inside.spans.items) c.args.pages.now) ∷ []
     = grind (arith, common_steps) in
     let unused = subst (λ (x : Index). AreUnused x c.args.first) (sym c.self.view_is) c.requires.unused in
+    let at : c.len-number.result ≡ length c.self.inside.groups.items = (let paired = c.self.invariant.0.0.paired in let long : c.len-number.result ≡ length c.self.inside.spans.items = grind (arith, common_steps) in long ∙ sym paired) in
     rw (spans, groups) (
-      IsIndex_add c.self.inside.spans.items c.self.inside.groups.items c.args.first c.args.class c.args.pages.now
-          (record { class = c.pages.ensures.class; first = c.requires.first; last = c.requires.last }) c.requires.pages unused c.self.invariant.0,
-      IsOwned_add c.self.inside.spans.items c.self.inside.groups.items c.self.inside.owners.items c.own.new.owners.items c.args.first c.args.class
-          c.args.pages.now unused c.self.invariant.0 c.own.ensures.long
-          (λ v low high. c.own.ensures.own v low (rw c.pages.ensures.value high) ∙ ap (λ (n : ℕ). Some n) (grind (arith, common_steps))) c.own.ensures.below c.self.invariant.1,
+      (
+        IsIndex_add c.self.inside.spans.items c.self.inside.groups.items c.args.first c.args.class c.args.pages.now
+            (record { class = c.pages.ensures.class; first = c.requires.first; last = c.requires.last }) c.requires.pages unused c.self.invariant.0.0,
+        IsOwned_add c.self.inside.spans.items c.self.inside.groups.items c.self.inside.owners.items c.own.new.owners.items c.args.first c.args.class
+            c.args.pages.now unused c.self.invariant.0.0 c.own.ensures.long
+            (λ v low high. c.own.ensures.own v low (rw c.pages.ensures.value high) ∙ ap (λ (n : ℕ). Some n) (grind (arith, common_steps))) c.own.ensures.below c.self.invariant.0.1,
+      ),
+      refiled_is c.self.inside.groups.items (c.self.inside.groups.items ++ Some (new_group c.args.class (length c.self.inside.spans.items) c.args.pages.now) ∷ [])
+          c.self.inside.groups.items c.as_slice.result.now c.self.inside.bins.items c.refile.new.bins.items c.len-number.result None c.self.invariant.1 refl
+          (c.as_slice.ensures.value ∙ groups)
+          (sym (ap file_of (get_or_past c.self.inside.groups.items c.len-number.result None (omega (arith, at))))) c.refile.ensures
+          (λ m apart. added_others c.self.inside.groups.items (Some (new_group c.args.class (length c.self.inside.spans.items) c.args.pages.now)) m
+          (λ e. apart (e ∙ sym at))),
     )
 
 pub returns-clause-table : goal.returns-clause-table
@@ -32,7 +44,7 @@ returns-clause-table c =
     = grind (arith, common_steps) in
     let number : c.numbered-span.result ≡ length c.self.inside.spans.items = grind (arith, common_steps) in
     rw (number, ← c.self.view_is) (ap (λ (x : Index). groups_of x) (index_is _ _ _ _ spans groups)
-    ∙ table_added c.self.inside.spans.items c.self.inside.groups.items c.args.first c.args.class c.args.pages.now c.self.invariant.0)
+    ∙ table_added c.self.inside.spans.items c.self.inside.groups.items c.args.first c.args.class c.args.pages.now c.self.invariant.0.0)
 
 pub returns-clause-vacant : goal.returns-clause-vacant
 returns-clause-vacant c = λ slot below.
@@ -43,4 +55,4 @@ returns-clause-vacant c = λ slot below.
     = grind (arith, common_steps) in
     let number : c.numbered-span.result ≡ length c.self.inside.spans.items = grind (arith, common_steps) in
     rw number (subst (λ (x : Index). IsVacant x c.args.class (length c.self.inside.spans.items) slot) (sym (index_is _ _ _ _ spans groups))
-    (new_vacant c.self.inside.spans.items c.self.inside.groups.items c.args.first c.args.class slot c.args.pages.now c.self.invariant.0 below))
+    (new_vacant c.self.inside.spans.items c.self.inside.groups.items c.args.first c.args.class slot c.args.pages.now c.self.invariant.0.0 below))

@@ -11,23 +11,23 @@ parts a b k o e = let same : ◌≡◌ {A = ℕ × ℕ} (a, b) (k, o) = cc e in 
 
 pub returns-in_err-span-clause-found : goal.returns-in_err-span-clause-found
 returns-in_err-span-clause-found c = λ n place k o group at within below small is0.
-    let class = member_class c.args.self.now c.self.inside.spans.items c.self.inside.groups.items n place group c.self.view_is c.self.invariant.0 at within in
+    let class = member_class c.args.self.now c.self.inside.spans.items c.self.inside.groups.items n place group c.self.view_is c.self.invariant.0.0 at within in
     let is : address_in (span_at c.args.self.now.spans (slice_index group.members place)) k + o ≡ c.args.addr
     = ap (λ (size : ℕ). slot_address (span_at c.args.self.now.spans (slice_index group.members place)).first size k + o) class ∙ is0 in
     let own = owner_found c.args.self.now c.self.inside.spans.items c.self.inside.groups.items c.self.inside.owners.items n place k o c.args.addr group
-    c.self.view_is c.self.invariant at within below small is in
+    c.self.view_is c.self.invariant.0 at within below small is in
     let none : slice_index_or c.self.inside.owners.items (c.args.addr / 4096) None ≡ None = grind (arith, common_steps) in
     let two : Some (slice_index group.members place) ≡ None = sym own ∙ none in
     absurd (cc two)
 
 pub returns-in_err-get-clause-found : goal.returns-in_err-get-clause-found
 returns-in_err-get-clause-found c = λ n place k o group at within below small is0.
-    let class = member_class c.args.self.now c.self.inside.spans.items c.self.inside.groups.items n place group c.self.view_is c.self.invariant.0 at within in
+    let class = member_class c.args.self.now c.self.inside.spans.items c.self.inside.groups.items n place group c.self.view_is c.self.invariant.0.0 at within in
     let is : address_in (span_at c.args.self.now.spans (slice_index group.members place)) k + o ≡ c.args.addr
     = ap (λ (size : ℕ). slot_address (span_at c.args.self.now.spans (slice_index group.members place)).first size k + o) class ∙ is0 in
     let own = owner_found c.args.self.now c.self.inside.spans.items c.self.inside.groups.items c.self.inside.owners.items n place k o c.args.addr group
-    c.self.view_is c.self.invariant at within below small is in
-    let got = member_got c.args.self.now c.self.inside.spans.items c.self.inside.groups.items n place group c.self.view_is c.self.invariant.0 at within in
+    c.self.view_is c.self.invariant.0 at within below small is in
+    let got = member_got c.args.self.now c.self.inside.spans.items c.self.inside.groups.items n place group c.self.view_is c.self.invariant.0.0 at within in
     let owner : Some c.in_ok-span.span ≡ Some (slice_index group.members place) = c.in_ok-span.ensures ∙ ap (λ (xs : List (Option ℕ)). slice_index_or xs (c.args.addr / 4096) None) c.as_slice.ensures.value ∙ own in
     let span : c.in_ok-span.span ≡ slice_index group.members place = cc owner in
     let none : slice_get c.self.inside.spans.items (slice_index group.members place) ≡ None = grind (arith, common_steps) in
@@ -36,12 +36,12 @@ returns-in_err-get-clause-found c = λ n place k o group at within below small i
 
 pub returns-in_err-slot-clause-found : goal.returns-in_err-slot-clause-found
 returns-in_err-slot-clause-found c = λ n place k o group at within below small is0.
-    let class = member_class c.args.self.now c.self.inside.spans.items c.self.inside.groups.items n place group c.self.view_is c.self.invariant.0 at within in
+    let class = member_class c.args.self.now c.self.inside.spans.items c.self.inside.groups.items n place group c.self.view_is c.self.invariant.0.0 at within in
     let is : address_in (span_at c.args.self.now.spans (slice_index group.members place)) k + o ≡ c.args.addr
     = ap (λ (size : ℕ). slot_address (span_at c.args.self.now.spans (slice_index group.members place)).first size k + o) class ∙ is0 in
     let own = owner_found c.args.self.now c.self.inside.spans.items c.self.inside.groups.items c.self.inside.owners.items n place k o c.args.addr group
-    c.self.view_is c.self.invariant at within below small is in
-    let got = member_got c.args.self.now c.self.inside.spans.items c.self.inside.groups.items n place group c.self.view_is c.self.invariant.0 at within in
+    c.self.view_is c.self.invariant.0 at within below small is in
+    let got = member_got c.args.self.now c.self.inside.spans.items c.self.inside.groups.items n place group c.self.view_is c.self.invariant.0.0 at within in
     let owner : Some c.in_ok-span.span ≡ Some (slice_index group.members place) = c.in_ok-span.ensures ∙ ap (λ (xs : List (Option ℕ)). slice_index_or xs (c.args.addr / 4096) None) c.as_slice.ensures.value ∙ own in
     let span : c.in_ok-span.span ≡ slice_index group.members place = cc owner in
     let entry : c.in_ok-get.field-0.now ≡ span_at c.args.self.now.spans (slice_index group.members place) = grind (arith, common_steps) in
@@ -50,16 +50,16 @@ returns-in_err-slot-clause-found c = λ n place k o group at within below small 
 
 pub returns-clause-found : goal.returns-clause-found
 returns-clause-found c = λ n place k o group at within below small is0.
-    let class = member_class c.args.self.now c.self.inside.spans.items c.self.inside.groups.items n place group c.self.view_is c.self.invariant.0 at within in
+    let class = member_class c.args.self.now c.self.inside.spans.items c.self.inside.groups.items n place group c.self.view_is c.self.invariant.0.0 at within in
     let is : address_in (span_at c.args.self.now.spans (slice_index group.members place)) k + o ≡ c.args.addr
     = ap (λ (size : ℕ). slot_address (span_at c.args.self.now.spans (slice_index group.members place)).first size k + o) class ∙ is0 in
     let own = owner_found c.args.self.now c.self.inside.spans.items c.self.inside.groups.items c.self.inside.owners.items n place k o c.args.addr group
-    c.self.view_is c.self.invariant at within below small is in
-    let got = member_got c.args.self.now c.self.inside.spans.items c.self.inside.groups.items n place group c.self.view_is c.self.invariant.0 at within in
+    c.self.view_is c.self.invariant.0 at within below small is in
+    let got = member_got c.args.self.now c.self.inside.spans.items c.self.inside.groups.items n place group c.self.view_is c.self.invariant.0.0 at within in
     let owner : Some c.in_ok-span.span ≡ Some (slice_index group.members place) = c.in_ok-span.ensures ∙ ap (λ (xs : List (Option ℕ)). slice_index_or xs (c.args.addr / 4096) None) c.as_slice.ensures.value ∙ own in
     let span : c.in_ok-span.span ≡ slice_index group.members place = cc owner in
     let entry : c.in_ok-get.field-0.now ≡ span_at c.args.self.now.spans (slice_index group.members place) = grind (arith, common_steps) in
     let lower = c.in_ok-slot.ensures.found k o (rw (entry, class) below) (rw (entry, class) small) (rw entry is) in
     let both : (c.in_ok-slot.slot ≡ k) × (c.in_ok-slot.offset ≡ o) = parts c.in_ok-slot.slot c.in_ok-slot.offset k o lower in
-    found_at c.args.self.now c.self.inside.spans.items c.self.inside.groups.items n place k o group _ c.self.view_is c.self.invariant.0 at within
+    found_at c.args.self.now c.self.inside.spans.items c.self.inside.groups.items n place k o group _ c.self.view_is c.self.invariant.0.0 at within
     (rw (span, both.0, both.1) refl)

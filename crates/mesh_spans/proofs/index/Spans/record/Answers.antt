@@ -21,4 +21,4 @@ returns-clause-object c =
     = ap (λ (o : Option SpanEntry). record_in o c.self.inside.groups.items c.args.slot) extent
     ∙ ap (λ (o : Option GroupEntry). named_in c.in_ok-extent.extent.now.first (slot_in o c.args.slot)) group in
     recorded_if c.args.self.now c.self.inside.spans.items c.self.inside.groups.items c.args.span c.args.slot c.object_of.result c.self.view_is
-    c.self.invariant.0 (named ∙ sym here ∙ ap (λ (x : Index). record_at x c.args.span c.args.slot) c.self.view_is)
+    c.self.invariant.0.0 (named ∙ sym here ∙ ap (λ (x : Index). record_at x c.args.span c.args.slot) c.self.view_is)

@@ -1,7 +1,10 @@
-use Rattle.std.proofs.Common.{◌≡◌, None, ap, arith}
+use Rattle.std.proofs.Common.{◌<◌, List, Option, length, ◌≡◌, None, ap, arith}
 use Rattle.std.proofs.lemmas.Grind.{common_steps}
+use Rattle.std.proofs.Common.{◌∙◌}
+use Rattle.std.proofs.lemmas.List.{get_or-set_other}
+use Rattle.mesh_spans.proofs.FilingLemmas.{number_fits, refiled_is}
 use Rattle.mesh_spans.specs.Groups.{groups_of}
-use Rattle.mesh_spans.specs.Index.{Index, with_entry, span_at}
+use Rattle.mesh_spans.specs.Index.{GroupEntry, group_at, Index, with_entry, span_at}
 use Rattle.mesh_spans.proofs.IndexLemmas.{group_below, nothing_fits, put_keeps, recorded}
 use Rattle.mesh_spans.proofs.TableLemmas.{groups_put}
 use Rattle.mesh_spans.proofs.index.Spans.vacate.Goals as goal
@@ -21,19 +24,34 @@ put-requires-clause-slot c =
     let below = there.below in
     let group : c.group-group.result ≡ (span_at c.args.self.now.spans c.args.span).group = grind (arith, common_steps) in
     let same : c.self.inside.groups.items ≡ c.args.self.now.groups = ap (λ (x : Index). x.groups) c.self.view_is in
-    let fits = nothing_fits c.args.self.now c.self.inside.spans.items c.self.inside.groups.items c.args.span c.args.slot c.self.view_is c.self.invariant.0
+    let fits = nothing_fits c.args.self.now c.self.inside.spans.items c.self.inside.groups.items c.args.span c.args.slot c.self.view_is c.self.invariant.0.0
     c.requires there.group there.there in
     rw (group, same, there.there) fits.0
+
+pub refile-requires-clause-number : goal.refile-requires-clause-number
+refile-requires-clause-number c =
+    let below : c.group-group.result < length c.self.inside.groups.items = (
+    let there = recorded c.args.self.now c.args.span c.args.slot c.requires in
+    let within = there.below in
+    let group : c.group-group.result ≡ (span_at c.args.self.now.spans c.args.span).group = grind (arith, common_steps) in
+    let at = group_below c.args.self.now.groups (span_at c.args.self.now.spans c.args.span).group there.group there.there in
+    let same : c.self.inside.groups.items ≡ c.args.self.now.groups = ap (λ (x : Index). x.groups) c.self.view_is in
+    rw (group, same) at) in
+    number_fits c.self.inside.spans.items c.self.inside.groups.items c.group-group.result c.self.invariant.0.0 below
 
 pub invariant_of-self : goal.invariant_of-self
 invariant_of-self c =
     let below = (recorded c.args.self.now c.args.span c.args.slot c.requires).below in
     let is : c.put.new.groups.items ≡ with_entry c.args.self.now.groups (span_at c.args.self.now.spans c.args.span).group c.args.slot None
-    = grind (arith, common_steps) in
-    put_keeps c.args.self.now c.self.inside.spans.items c.self.inside.groups.items c.put.new.groups.items c.self.inside.owners.items
-    (span_at c.args.self.now.spans c.args.span).group c.args.slot None c.self.view_is
-    (nothing_fits c.args.self.now c.self.inside.spans.items c.self.inside.groups.items c.args.span c.args.slot c.self.view_is c.self.invariant.0 c.requires) is
-    c.self.invariant
+    = grind (arith, common_steps) in (
+      put_keeps c.args.self.now c.self.inside.spans.items c.self.inside.groups.items c.put.new.groups.items c.self.inside.owners.items
+          (span_at c.args.self.now.spans c.args.span).group c.args.slot None c.self.view_is
+          (nothing_fits c.args.self.now c.self.inside.spans.items c.self.inside.groups.items c.args.span c.args.slot c.self.view_is c.self.invariant.0.0 c.requires) is
+          c.self.invariant.0,
+      refiled_is c.self.inside.groups.items c.put.new.groups.items c.as_slice.result.now c.as_slice-2.result.now c.self.inside.bins.items c.refile.new.bins.items c.group-group.result c.file_at-before.result c.self.invariant.1
+          c.as_slice.ensures.value c.as_slice-2.ensures.value c.file_at-before.ensures.file c.refile.ensures
+          (λ m apart. ap (λ (gs : List (Option GroupEntry)). group_at gs m) c.put.ensures ∙ get_or-set_other c.self.inside.groups.items c.group-group.result m _ None apart),
+    )
 
 pub returns-clause-groups : goal.returns-clause-groups
 returns-clause-groups c =

@@ -1,0 +1,299 @@
+-- Words and the sets that they hold.
+use Rattle.std.proofs.Common.{◌≡◌, ◌≢◌, ℕ, zero, suc, ◌+◌, ◌-◌, ◌*◌, ◌/◌, ◌%◌, ◌^◌, ◌<◌, ◌≤◌, Bool, true, false, cond, not, ◌&&◌, ◌||◌, nat_eq, Option, None, Some, List, [], ◌∷◌, filter, length, replicate, slice_set, slice_index, get_or, set, ap, refl, sym, ◌∙◌, arith, inl, inr}
+use Rattle.std.proofs.lemmas.List.{get_or-set_other, get_or-set_same, get_or-replicate, get_or_past}
+use Rattle.std.proofs.lemmas.Bool.Decides.{eqb_tells, leb_tells}
+use Rattle.std.specs.Int.{bit_at}
+use Rattle.std.specs.List.{range_with_len, list_any}
+use Rattle.std.specs.Ordering.{nat_cmp, eq_by_cmp}
+use Rattle.std.specs.Cmp.{unsigned_tied, nat_cmp_total}
+use Rattle.std.specs.FinMap.{nat_cmp-IsAntisymmetric}
+use Rattle.std.specs.FinSet.{FinSet, contains, insert, remove, empty, from_list, contains-insert, contains-remove, contains-from_list_nat, contains-empty, same_set}
+use Rattle.std.proofs.Common.{w64, take, drop, ◌++◌}
+use Rattle.std.proofs.Math.Seq.{take-append_seam}
+use Rattle.std.proofs.Math.Nat.{div-le_self}
+use Rattle.std.proofs.lemmas.Nat.{shr-shr}
+use Rattle.std.specs.Int.{trailing_zeros}
+use Rattle.std.proofs.lemmas.Nat.Bits.{bit_at-zero, bit_at_above, bit_at-trailing_zeros}
+use Rattle.mesh_bins.specs.Words.{bit, has, set_of, IsFirst, IsLeast, PutsBit, IsMarked, IsBin}
+
+-- no word has a bit past the end
+has_past : (words : List ℕ) (n : ℕ) → 64 * length words ≤ n → has words n ≡ false
+has_past words n past =
+    ap (λ (w : ℕ). bit w (n % 64)) (get_or_past words (n / 64) 0 (omega (arith, past))) ∙ ap (λ (b : ℕ). nat_eq b 1) (bit_at-zero (n % 64))
+
+-- whether a filtered list has a number, its first element first
+kept : (p : ℕ → Bool) (a n : ℕ) (rest : List ℕ) → list_any (λ y. nat_eq y n) (filter p (a ∷ rest)) ≡ (p a && nat_eq a n || list_any (λ y. nat_eq y n) (filter p rest))
+kept p a n rest = go (p a)
+  where
+    go : (b : Bool) → list_any (λ y. nat_eq y n) (cond b (a ∷ filter p rest) (filter p rest)) ≡ (b && nat_eq a n || list_any (λ y. nat_eq y n) (filter p rest))
+    go true = refl
+    go false = refl
+
+and_false : (b : Bool) → (b && false) ≡ false
+and_false true = refl
+and_false false = refl
+
+or_false : (b : Bool) → (b || false) ≡ b
+or_false true = refl
+or_false false = refl
+
+and_true : (b : Bool) → (b && true) ≡ b
+and_true true = refl
+and_true false = refl
+
+-- a number outside the range is not in its filtered list
+out_of_range : (p : ℕ → Bool) (a k n : ℕ) → ((i : ℕ) → i < k → a + i ≢ n) → list_any (λ y. nat_eq y n) (filter p (range_with_len a k)) ≡ false
+out_of_range p a zero n out = refl
+out_of_range p a (suc k) n out = kept p a n (range_with_len (a + 1) k) ∙ elim (eqb_tells a n) [
+  | inl same ↦ absurd (out 0 (omega arith) (let e = same.1 in omega (arith, e)))
+  | inr other ↦ rw (other.0, and_false (p a)) (out_of_range p (a + 1) k n (λ i below e. out (suc i) (omega (arith, below)) (omega (arith, e))))
+]
+
+-- one in the range is in the list where it passes
+in_range : (p : ℕ → Bool) (a k n : ℕ) → a ≤ n → n < a + k → list_any (λ y. nat_eq y n) (filter p (range_with_len a k)) ≡ p n
+in_range p a zero n above below = absurd (omega (arith, above, below))
+in_range p a (suc k) n above below = kept p a n (range_with_len (a + 1) k) ∙ elim (eqb_tells a n) [
+  | inl same ↦ rw (same.0, and_true (p a), out_of_range p (a + 1) k n (λ i low e. let at = same.1 in omega (arith, at, e)))
+      (or_false (p a) ∙ ap p same.1)
+  | inr other ↦ rw (other.0, and_false (p a)) (in_range p (a + 1) k n (let apart = other.1 in omega (arith, apart, above)) (omega (arith, below)))
+]
+
+-- the set has a number where the words have its bit
+pub contains-set_of : (words : List ℕ) (n : ℕ) → contains (set_of words) n ≡ has words n
+unfolding set_of
+contains-set_of words n = contains-from_list_nat (filter (has words) (range_with_len 0 (64 * length words))) n ∙ elim (leb_tells (64 * length words) n) [
+  | inl past ↦ out_of_range (has words) 0 (64 * length words) n (λ i below e. let far = past.1 in omega (arith, far, below, e)) ∙ sym (has_past words n past.1)
+  | inr within ↦ in_range (has words) 0 (64 * length words) n (omega arith) (let low = within.1 in omega (arith, low))
+]
+
+tied_same : (v : ℕ) → eq_by_cmp nat_cmp v v ≡ true
+tied_same v = unsigned_tied v v ∙ elim (eqb_tells v v) [ inl same ↦ same.0 | inr other ↦ absurd (other.1 refl) ]
+
+tied_other : (v w : ℕ) → v ≢ w → eq_by_cmp nat_cmp v w ≡ false
+tied_other v w ne = unsigned_tied v w ∙ elim (eqb_tells v w) [ inl same ↦ absurd (ne same.1) | inr other ↦ other.0 ]
+
+-- a bit that is set is a number that is inserted
+pub set_of-insert : (old new : List ℕ) (n : ℕ) → PutsBit old new n true → set_of new ≡ insert (set_of old) n
+set_of-insert old new n puts = same_set nat_cmp_total nat_cmp-IsAntisymmetric _ _ (λ q. contains-set_of new q ∙ each q ∙ sym (contains-insert nat_cmp_total (set_of old) n q))
+  where
+    each : (q : ℕ) → has new q ≡ (eq_by_cmp nat_cmp q n || contains (set_of old) q)
+    each q = elim (eqb_tells q n) [
+      | inl same ↦ rw (same.1, tied_same n) puts.here
+      | inr other ↦ rw (tied_other q n other.1) (puts.others q other.1 ∙ sym (contains-set_of old q))
+    ]
+
+-- a bit that is cleared is a number that is removed
+pub set_of-remove : (old new : List ℕ) (n : ℕ) → PutsBit old new n false → set_of new ≡ remove (set_of old) n
+set_of-remove old new n puts = same_set nat_cmp_total nat_cmp-IsAntisymmetric _ _ (λ q. contains-set_of new q ∙ each q ∙ sym (contains-remove nat_cmp_total (set_of old) n q))
+  where
+    each : (q : ℕ) → has new q ≡ (not (eq_by_cmp nat_cmp q n) && contains (set_of old) q)
+    each q = elim (eqb_tells q n) [
+      | inl same ↦ rw (same.1, tied_same n) puts.here
+      | inr other ↦ rw (tied_other q n other.1) (puts.others q other.1 ∙ sym (contains-set_of old q))
+    ]
+
+zero_at : (k i : ℕ) → slice_index (replicate k 0) i ≡ 0
+zero_at zero i = refl
+zero_at (suc k) zero = refl
+zero_at (suc k) (suc i) = zero_at k i
+
+-- no bit of zero words is set
+pub has_zeros : (k n : ℕ) → has (replicate k 0) n ≡ false
+has_zeros k n = ap (λ (w : ℕ). bit w (n % 64)) (zero_at k (n / 64)) ∙ ap (λ (b : ℕ). nat_eq b 1) (bit_at-zero (n % 64))
+
+-- zero words hold the empty set
+pub set_of-zeros : (k : ℕ) → set_of (replicate k 0) ≡ empty
+set_of-zeros k = same_set nat_cmp_total nat_cmp-IsAntisymmetric _ _ (λ q. contains-set_of (replicate k 0) q ∙ has_zeros k q ∙ sym (contains-empty nat_cmp q))
+
+-- a list written over as long as it was
+pub refilled : (len : ℕ) (old new : List ℕ) → len ≡ length old → length new ≡ length old → take len (new ++ drop (length new) old) ≡ new
+refilled len old new is long = rw (is, ← long) (take-append_seam new (drop (length new) old))
+
+-- one word with one bit put
+pub puts_in_word : (words : List ℕ) (n word : ℕ) (value : Bool) → n / 64 < length words → bit word (n % 64) ≡ value
+    → ((k : ℕ) → k < 64 → k ≢ n % 64 → bit_at word k ≡ bit_at (slice_index words (n / 64)) k) → PutsBit words (slice_set words (n / 64) word) n value
+puts_in_word words n word value inside here others = record {
+  here = rw (get_or-set_same words (n / 64) word 0 inside) here;
+  others = λ m apart. elim (eqb_tells (m / 64) (n / 64)) [
+    | inl same ↦ let bits_apart : m % 64 ≢ n % 64 = λ e. apart (let s = same.1 in omega (arith, e, s)) in
+        rw (same.1, get_or-set_same words (n / 64) word 0 inside, others (m % 64) (omega arith) bits_apart) refl
+    | inr other ↦ rw (get_or-set_other words (n / 64) (m / 64) word 0 other.1) refl
+  ];
+}
+
+-- the bits of a word from a place on
+bit_shifted : (word from k : ℕ) → bit_at (word / 2 ^ from) k ≡ bit_at word (from + k)
+bit_shifted word from k = ap (λ (n : ℕ). n % 2) (shr-shr word from k)
+
+-- a word of which nothing is left after a shift has no bit there
+pub least_none : (word from : ℕ) → word / 2 ^ from ≡ 0 → IsLeast (bit word) from 64 None
+least_none word from none m above below =
+    let at : from + (m - from) ≡ m = omega (arith, above) in
+    ap (λ (k : ℕ). bit word k) (sym at) ∙ ap (λ (b : ℕ). nat_eq b 1) (sym (bit_shifted word from (m - from)) ∙ ap (λ (w : ℕ). bit_at w (m - from)) none ∙ bit_at-zero (m - from))
+
+-- and else its least bit is as many places up as the rest has zeros below
+pub least_some : (word from : ℕ) → 0 < word / 2 ^ from → word < 2 ^ 64 → from < 64 → IsLeast (bit word) from 64 (Some (from + trailing_zeros w64 (word / 2 ^ from)))
+least_some word from some fits low =
+    let rest = bit_at-trailing_zeros w64 (word / 2 ^ from) some (let less = div-le_self word (2 ^ from) in omega (arith, less, fits)) in
+    let z : ℕ = trailing_zeros w64 (word / 2 ^ from) in
+    let here : bit_at word (from + z) ≡ 1 = sym (bit_shifted word from z) ∙ rest.1 in
+    record {
+      above = omega arith;
+      below = elim (leb_tells 64 (from + z)) [
+        | inl past ↦ absurd (let none : bit_at word (from + z) ≡ 0 = bit_at_above word 64 (from + z) fits past.1 in omega (arith, here, none))
+        | inr within ↦ within.1
+      ];
+      passes = ap (λ (b : ℕ). nat_eq b 1) here;
+      first = λ m above below.
+          let at : from + (m - from) ≡ m = omega (arith, above) in
+          ap (λ (k : ℕ). bit word k) (sym at) ∙ ap (λ (b : ℕ). nat_eq b 1) (sym (bit_shifted word from (m - from)) ∙ rest.2 (m - from) (omega (arith, above, below)));
+    }
+
+-- no number from one on is a bit of the words, up to another
+abbrev pub ArePassed : List ℕ → ℕ → ℕ → Type 0
+ArePassed words from end = (m : ℕ) → from ≤ m → m < end → has words m ≡ false
+
+has_in : (words : List ℕ) (j k m : ℕ) → k < 64 → m ≡ 64 * j + k → has words m ≡ bit (slice_index words j) k
+has_in words j k m below is =
+    let word : m / 64 ≡ j = omega (arith, below, is) in
+    let place : m % 64 ≡ k = omega (arith, below, is) in
+    rw (word, place) refl
+
+-- the least bit of a word is that of the words where all before it are passed
+pub found_in_word : (words : List ℕ) (from end j low k n : ℕ) → ArePassed words from (64 * j + low) → from ≤ 64 * j + low → low < 64
+    → IsFirst (bit (slice_index words j)) low 64 k → 64 * j + 64 ≤ end → n ≡ 64 * j + k → IsFirst (has words) from end n
+found_in_word words from end j low k n passed start small least inside is =
+    let above = least.above in
+    let below = least.below in
+    record {
+      above = omega (arith, start, above, is);
+      below = omega (arith, below, is, inside);
+      passes = has_in words j k n below is ∙ least.passes;
+      first = λ m high under. elim (leb_tells (64 * j + low) m) [
+        | inl here ↦ let h = here.1 in
+            has_in words j (m - 64 * j) m (omega (arith, h, under, is, below)) (omega (arith, h)) ∙ least.first (m - 64 * j) (omega (arith, h)) (omega (arith, h, under, is))
+        | inr before ↦ passed m high before.1
+      ];
+    }
+
+-- a word without a bit from the place on is passed
+pub passed_word : (words : List ℕ) (from j low : ℕ) → ArePassed words from (64 * j + low) → IsLeast (bit (slice_index words j)) low 64 None
+    → ArePassed words from (64 * (j + 1))
+passed_word words from j low passed none m high under = elim (leb_tells (64 * j + low) m) [
+  | inl here ↦ let h = here.1 in
+      has_in words j (m - 64 * j) m (omega (arith, h, under)) (omega (arith, h)) ∙ none (m - 64 * j) (omega (arith, h)) (omega (arith, h, under))
+  | inr before ↦ passed m high before.1
+]
+
+-- words that are zero are passed
+pub passed_zeros : (words : List ℕ) (from j n : ℕ) → ArePassed words from (64 * j) → ((i : ℕ) → j ≤ i → i < n → slice_index words i ≡ 0)
+    → ArePassed words from (64 * n)
+passed_zeros words from j n passed zeros m high under = elim (leb_tells (64 * j) m) [
+  | inl here ↦ let h = here.1 in
+      ap (λ (w : ℕ). bit w (m % 64)) (zeros (m / 64) (omega (arith, h)) (omega (arith, under))) ∙ ap (λ (b : ℕ). nat_eq b 1) (bit_at-zero (m % 64))
+  | inr before ↦ passed m high before.1
+]
+
+-- a word that the summary doesn't mark is zero
+pub unmarked : (words summary : List ℕ) (j : ℕ) → IsMarked words summary → has summary j ≡ false → slice_index words j ≡ 0
+unmarked words summary j marked none = elim (eqb_tells (slice_index words j) 0) [
+  | inl same ↦ same.1
+  | inr other ↦ absurd (let two : true ≡ false = sym (ap not other.0) ∙ sym (marked j) ∙ none in cc two)
+]
+
+-- one that it marks has a bit
+pub marked_some : (words summary : List ℕ) (j : ℕ) → IsMarked words summary → slice_index words j < 2 ^ 64 → has summary j ≡ true
+    → IsLeast (bit (slice_index words j)) 0 64 None → ⊥
+marked_some words summary j marked fits is none = elim (eqb_tells (slice_index words j) 0) [
+  | inl same ↦ let two : false ≡ true = sym (ap not same.0) ∙ sym (marked j) ∙ is in cc two
+  | inr other ↦ let some : 0 < slice_index words j = (let apart = other.1 in omega (arith, apart)) in
+      let low = bit_at-trailing_zeros w64 (slice_index words j) some fits in
+      let two : true ≡ false = sym (ap (λ (b : ℕ). nat_eq b 1) low.1) ∙ none (trailing_zeros w64 (slice_index words j)) (omega arith) low.0 in cc two
+]
+
+-- every word but one is as it was
+abbrev pub AreOthers : List ℕ → List ℕ → ℕ → Type 0
+AreOthers words new at = (j : ℕ) → j ≢ at → slice_index new j ≡ slice_index words j
+
+other_mark : (words new summary : List ℕ) (j at : ℕ) → IsMarked words summary → AreOthers words new at → j ≢ at → has summary j ≡ not (nat_eq (slice_index new j) 0)
+other_mark words new summary j at marked others apart = marked j ∙ ap (λ (w : ℕ). not (nat_eq w 0)) (sym (others j apart))
+
+-- the summary after a bit of a word is set
+pub marked_insert : (words new summary after : List ℕ) (n : ℕ) → IsMarked words summary → AreOthers words new (n / 64)
+    → has new n ≡ true → PutsBit summary after (n / 64) true → IsMarked new after
+marked_insert words new summary after n marked rest some puts j = elim (eqb_tells j (n / 64)) [
+  | inl same ↦ rw same.1 (puts.here ∙ elim (eqb_tells (slice_index new (n / 64)) 0) [
+    | inl none ↦ absurd (let two : true ≡ false = sym some ∙ ap (λ (w : ℕ). bit w (n % 64)) none.1 ∙ ap (λ (b : ℕ). nat_eq b 1) (bit_at-zero (n % 64)) in cc two)
+    | inr other ↦ sym (ap not other.0)
+  ])
+  | inr other ↦ puts.others j other.1 ∙ other_mark words new summary j (n / 64) marked rest other.1
+]
+
+-- after a word's last bit is cleared
+pub marked_cleared : (words new summary after : List ℕ) (n : ℕ) → IsMarked words summary → AreOthers words new (n / 64)
+    → slice_index new (n / 64) ≡ 0 → PutsBit summary after (n / 64) false → IsMarked new after
+marked_cleared words new summary after n marked rest none puts j = elim (eqb_tells j (n / 64)) [
+  | inl same ↦ rw (same.1, none) puts.here
+  | inr other ↦ puts.others j other.1 ∙ other_mark words new summary j (n / 64) marked rest other.1
+]
+
+-- a word that has a bit after one was cleared had one
+was_some : (words new : List ℕ) (n : ℕ) → PutsBit words new n false → slice_index new (n / 64) < 2 ^ 64 → slice_index new (n / 64) ≢ 0 → slice_index words (n / 64) ≢ 0
+was_some words new n puts fits some none =
+    let more : 0 < slice_index new (n / 64) = omega (arith, some) in
+    let low = bit_at-trailing_zeros w64 (slice_index new (n / 64)) more fits in
+    let k : ℕ = trailing_zeros w64 (slice_index new (n / 64)) in
+    let is : has new (64 * (n / 64) + k) ≡ true = has_in new (n / 64) k (64 * (n / 64) + k) low.0 refl ∙ ap (λ (b : ℕ). nat_eq b 1) low.1 in
+    elim (eqb_tells (64 * (n / 64) + k) n) [
+      | inl same ↦ let two : true ≡ false = sym is ∙ ap (has new) same.1 ∙ puts.here in cc two
+      | inr other ↦ let two : true ≡ false = sym is ∙ puts.others (64 * (n / 64) + k) other.1 ∙ has_in words (n / 64) k (64 * (n / 64) + k) low.0 refl
+          ∙ ap (λ (w : ℕ). bit w k) none ∙ ap (λ (b : ℕ). nat_eq b 1) (bit_at-zero k) in cc two
+    ]
+
+-- after a bit of a word is cleared that has others
+pub marked_kept : (words new summary : List ℕ) (n : ℕ) → IsMarked words summary → AreOthers words new (n / 64) → PutsBit words new n false
+    → slice_index new (n / 64) < 2 ^ 64 → slice_index new (n / 64) ≢ 0 → IsMarked new summary
+marked_kept words new summary n marked rest puts fits some j = elim (eqb_tells j (n / 64)) [
+  | inl same ↦ rw same.1 (marked (n / 64) ∙ elim (eqb_tells (slice_index words (n / 64)) 0) [
+    | inl none ↦ absurd (was_some words new n puts fits some none.1)
+    | inr old ↦ elim (eqb_tells (slice_index new (n / 64)) 0) [ inl none ↦ absurd (some none.1) | inr now ↦ ap not old.0 ∙ sym (ap not now.0) ]
+  ])
+  | inr other ↦ other_mark words new summary j (n / 64) marked rest other.1
+]
+
+-- the least number that a set has, where the words have it
+pub least_contained : (words : List ℕ) (s : FinSet nat_cmp) (from end : ℕ) (r : Option ℕ) → set_of words ≡ s → IsLeast (has words) from end r
+    → IsLeast (contains s) from end r
+least_contained words s from end None is none = λ m above below. ap (λ (t : FinSet nat_cmp). contains t m) (sym is) ∙ contains-set_of words m ∙ none m above below
+least_contained words s from end (Some n) is least = record {
+  above = least.above;
+  below = least.below;
+  passes = ap (λ (t : FinSet nat_cmp). contains t n) (sym is) ∙ contains-set_of words n ∙ least.passes;
+  first = λ m above below. ap (λ (t : FinSet nat_cmp). contains t m) (sym is) ∙ contains-set_of words m ∙ least.first m above below;
+}
+
+-- nothing is at or above a number past the end
+pub nothing_past : (words : List ℕ) (from end : ℕ) → end ≤ from → IsLeast (has words) from end None
+nothing_past words from end past m above below = absurd (omega (arith, past, above, below))
+
+-- all below a number is passed before it
+pub passed_start : (words : List ℕ) (from : ℕ) → ArePassed words from (64 * (from / 64) + from % 64)
+passed_start words from m above below = absurd (omega (arith, above, below))
+
+-- the least bit of the words past a word that has none, by the summary
+pub found_by_summary : (words summary : List ℕ) (from j next k n : ℕ) → IsMarked words summary → ArePassed words from (64 * j) → from ≤ 64 * j
+    → IsFirst (has summary) j 1024 next → IsFirst (bit (slice_index words next)) 0 64 k → n ≡ 64 * next + k → IsFirst (has words) from 65536 n
+found_by_summary words summary from j next k n marked passed start least low is =
+    let above = least.above in let below = least.below in
+    let all : ArePassed words from (64 * next + 0) = (λ m h l. passed_zeros words from j next passed (λ i h l. unmarked words summary i marked (least.first i h l)) m h (omega (arith, l))) in
+    found_in_word words from 65536 next 0 k n all (omega (arith, start, above)) (omega arith) low (omega (arith, below)) is
+
+-- nothing there where the summary has nothing
+pub none_by_summary : (words summary : List ℕ) (from j : ℕ) → IsMarked words summary → ArePassed words from (64 * j) → IsLeast (has summary) j 1024 None
+    → IsLeast (has words) from 65536 None
+none_by_summary words summary from j marked passed none m above below =
+    passed_zeros words from j 1024 passed (λ i h l. unmarked words summary i marked (none i h l)) m above (omega (arith, below))
+
+-- zero words have no marks
+pub marked_zeros : (k l : ℕ) → IsMarked (replicate k 0) (replicate l 0)
+marked_zeros k l j = has_zeros l j ∙ sym (ap (λ (w : ℕ). not (nat_eq w 0)) (zero_at k j))

@@ -1,0 +1,52 @@
+use Rattle.std.proofs.Common.{◌≡◌, ◌≤◌, ◌<◌, ◌+◌, ◌*◌, ◌/◌, ◌%◌, ◌^◌, ℕ, List, None, Some, slice_index, true, length, ap, sym, ◌∙◌, arith, rules}
+use Rattle.std.proofs.lemmas.Grind.{common_steps}
+use Rattle.mesh_bins.specs.Words.{IsFirst, IsLeast, has, bit}
+use Rattle.mesh_bins.proofs.WordLemmas.{ArePassed, found_by_summary, found_in_word, least_contained, marked_some, none_by_summary, nothing_past, passed_start, passed_word}
+use Rattle.mesh_bins.proofs.bin.Bin.least.Goals as goal
+
+pub returns-in-Some : goal.returns-in-Some
+returns-in-Some c =
+    let word : c.in_ok-word.field-0.now ≡ slice_index c.self.inside.words.items (c.args.from / 64) = grind (arith, common_steps) in
+    let inside : c.args.from / 64 < 1024 = grind (arith, common_steps) in
+    let low : IsFirst (bit (slice_index c.self.inside.words.items (c.args.from / 64))) (c.args.from % 64) 64 c.in-Some.bit = rw word at c.in-Some.ensures in
+    least_contained c.self.inside.words.items c.args.self.now c.args.from 65536 (Some (c.args.from / 64 * 64 + c.in-Some.bit)) c.self.view_is
+    (found_in_word c.self.inside.words.items c.args.from 65536 (c.args.from / 64) (c.args.from % 64) c.in-Some.bit _
+    (passed_start c.self.inside.words.items c.args.from) (omega arith) (omega arith) low (omega (arith, inside)) (omega arith))
+
+pub returns-in_err-next : goal.returns-in_err-next
+returns-in_err-next c =
+    let word : c.in_ok-word.field-0.now ≡ slice_index c.self.inside.words.items (c.args.from / 64) = grind (arith, common_steps) in
+    let none : IsLeast (bit (slice_index c.self.inside.words.items (c.args.from / 64))) (c.args.from % 64) 64 None = rw word at c.in_default.ensures in
+    let passed = passed_word c.self.inside.words.items c.args.from (c.args.from / 64) (c.args.from % 64) (passed_start c.self.inside.words.items c.args.from) none in
+    rw c.from_residual-in_err-next.ensures (least_contained c.self.inside.words.items c.args.self.now c.args.from 65536 None c.self.view_is
+    (none_by_summary c.self.inside.words.items c.self.inside.summary c.args.from (c.args.from / 64 + 1) c.self.invariant.marked passed
+    (λ m above below. c.in_err-next.ensures m above (let summed = c.self.invariant.summed in omega (arith, summed, below)))))
+
+-- the word that the summary names
+next : (n : ℕ) (summary : List ℕ) (from : ℕ) → length summary ≡ 16 → IsFirst (has summary) from (64 * length summary) n → IsFirst (has summary) from 1024 n
+next n summary from summed first = record {
+  above = first.above;
+  below = let below = first.below in omega (arith, below, summed);
+  passes = first.passes;
+  first = first.first;
+}
+
+pub returns-in_err-bit : goal.returns-in_err-bit
+returns-in_err-bit c =
+    let at : c.index.result.now ≡ slice_index c.self.inside.words.items c.in_ok-next.next = grind (arith, common_steps) in
+    let none : IsLeast (bit (slice_index c.self.inside.words.items c.in_ok-next.next)) 0 64 None = rw at at c.in_err-bit.ensures in
+    let fits : slice_index c.self.inside.words.items c.in_ok-next.next < 2 ^ 64 = search rules in
+    let passes : has c.self.inside.summary c.in_ok-next.next ≡ true = (let first : IsFirst (has c.self.inside.summary) (c.args.from / 64 + 1) (64 * length c.self.inside.summary) c.in_ok-next.next = c.in_ok-next.ensures in first.passes) in
+    absurd (marked_some c.self.inside.words.items c.self.inside.summary c.in_ok-next.next c.self.invariant.marked fits passes none)
+
+pub returns : goal.returns
+returns c =
+    let word : c.in_ok-word.field-0.now ≡ slice_index c.self.inside.words.items (c.args.from / 64) = grind (arith, common_steps) in
+    let none : IsLeast (bit (slice_index c.self.inside.words.items (c.args.from / 64))) (c.args.from % 64) 64 None = rw word at c.in_default.ensures in
+    let passed = passed_word c.self.inside.words.items c.args.from (c.args.from / 64) (c.args.from % 64) (passed_start c.self.inside.words.items c.args.from) none in
+    let next : IsFirst (has c.self.inside.summary) (c.args.from / 64 + 1) 1024 c.in_ok-next.next = next c.in_ok-next.next c.self.inside.summary (c.args.from / 64 + 1) c.self.invariant.summed c.in_ok-next.ensures in
+    let at : c.index.result.now ≡ slice_index c.self.inside.words.items c.in_ok-next.next = grind (arith, common_steps) in
+    let low : IsFirst (bit (slice_index c.self.inside.words.items c.in_ok-next.next)) 0 64 c.in_ok-bit.bit = rw at at c.in_ok-bit.ensures in
+    least_contained c.self.inside.words.items c.args.self.now c.args.from 65536 (Some (c.in_ok-next.next * 64 + c.in_ok-bit.bit)) c.self.view_is
+    (found_by_summary c.self.inside.words.items c.self.inside.summary c.args.from (c.args.from / 64 + 1) c.in_ok-next.next c.in_ok-bit.bit _
+    c.self.invariant.marked passed (omega arith) next low (omega arith))

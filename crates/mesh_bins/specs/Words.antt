@@ -1,0 +1,45 @@
+-- Sets of numbers in words of 64 bits.
+use Rattle.std.specs.Prelude.{◌≡◌, ◌≢◌, ℕ, ◌+◌, ◌*◌, ◌/◌, ◌%◌, ◌<◌, ◌≤◌, Bool, true, false, not, nat_eq, List, Option, Some, None, filter, length, slice_index}
+use Rattle.std.specs.Int.{bit_at}
+use Rattle.std.specs.List.{range_with_len}
+use Rattle.std.specs.Ordering.{nat_cmp}
+use Rattle.std.specs.FinSet as set
+
+-- whether the bit of a word is set
+abbrev pub bit : ℕ → ℕ → Bool
+bit word k = nat_eq (bit_at word k) 1
+
+-- whether the words have the bit of the number
+abbrev pub has : List ℕ → ℕ → Bool
+has words n = bit (slice_index words (n / 64)) (n % 64)
+
+-- the set that the words hold
+unfoldable pub set_of : List ℕ → set.FinSet nat_cmp
+set_of words = set.from_list (filter (has words) (range_with_len 0 (64 * length words)))
+
+-- the number is at or above `from` and below `end`, and the first of these that the test passes
+pub record IsFirst (test : ℕ → Bool) (from end n : ℕ) : Type 0 where
+  pub above : from ≤ n
+  pub below : n < end
+  pub passes : test n ≡ true
+  pub first : (m : ℕ) → from ≤ m → m < n → test m ≡ false
+
+-- the first number of a range that the test passes, nothing where there is none
+abbrev pub IsLeast : (ℕ → Bool) → ℕ → ℕ → Option ℕ → Type 0
+IsLeast test from end None = (m : ℕ) → from ≤ m → m < end → test m ≡ false
+IsLeast test from end (Some n) = IsFirst test from end n
+
+-- the new words have bit `n` as told, and every other bit as the old ones
+pub record PutsBit (old new : List ℕ) (n : ℕ) (value : Bool) : Type 0 where
+  pub here : has new n ≡ value
+  pub others : (m : ℕ) → m ≢ n → has new m ≡ has old m
+
+-- the summary has the bits of the words that aren't zero
+abbrev pub IsMarked : List ℕ → List ℕ → Type 0
+IsMarked words summary = (j : ℕ) → has summary j ≡ not (nat_eq (slice_index words j) 0)
+
+-- a set's words, and its summary
+pub record IsBin (words summary : List ℕ) : Type 0 where
+  pub sized : length words ≡ 1024
+  pub summed : length summary ≡ 16
+  pub marked : IsMarked words summary

@@ -1,0 +1,72 @@
+//! Bits in a list of words.
+ghost use Rattle.std.specs.Prelude.{◌≡◌, ◌≢◌, ℕ, ◌/◌, ◌^◌, nat_eq, ◌<◌, ◌≤◌, ◌*◌, true, false, length, slice_index};
+ghost use Rattle.mesh_bins.specs.Words.{has, bit, IsLeast, PutsBit};
+
+// The bits of a word.
+pub(crate) const WORD_BITS: u32 = 64;
+
+// Whether the words have bit `n`.
+pub(crate) fn has_bit(words: &[u64], n: u32) -> bool
+    requires { n < 64 * length words.now }
+    ensures { result ≡ has words.now n }
+{
+    (words[(n / WORD_BITS) as usize] >> (n % WORD_BITS)) & 1 == 1
+}
+
+// Sets bit `n` of the words.
+pub(crate) fn set_bit(words: &mut [u64], n: u32)
+    requires { n < 64 * length words.old }
+    ensures puts { PutsBit words.old words.new n true }
+    ensures others { (j : ℕ) → j ≢ n / 64 → slice_index words.new j ≡ slice_index words.old j }
+    ensures long { length words.new ≡ length words.old }
+{
+    let at = (n / WORD_BITS) as usize;
+    words[at] |= 1 << (n % WORD_BITS);
+}
+
+// Clears bit `n` of the words.
+pub(crate) fn clear_bit(words: &mut [u64], n: u32)
+    requires { n < 64 * length words.old }
+    ensures puts { PutsBit words.old words.new n false }
+    ensures fits { (j : ℕ) → slice_index words.new j < 2 ^ 64 }
+    ensures others { (j : ℕ) → j ≢ n / 64 → slice_index words.new j ≡ slice_index words.old j }
+    ensures long { length words.new ≡ length words.old }
+{
+    let at = (n / WORD_BITS) as usize;
+    words[at] &= !(1 << (n % WORD_BITS));
+}
+
+// Whether a word is zero.
+pub(crate) fn is_zero(words: &[u64], place: u32) -> bool
+    requires { place < length words.now }
+    ensures { result ≡ nat_eq (slice_index words.now place) 0 }
+{
+    words[place as usize] == 0
+}
+
+// The least bit of a word at or above `from`.
+pub(crate) fn least_in(word: u64, from: u32) -> Option<u32>
+    requires { from < 64 }
+    ensures { IsLeast (bit word) from 64 result }
+{
+    let rest = word >> from;
+    if rest == 0 {
+        return None;
+    }
+    Some(from + rest.trailing_zeros())
+}
+
+// The least bit of the words at or above `from`.
+pub(crate) fn least_of(words: &[u64], from: u32) -> Option<u32>
+    requires { 64 * length words.now ≤ 65536 }
+    ensures { IsLeast (has words.now) from (64 * length words.now) result }
+{
+    let mut low = from % WORD_BITS;
+    for place in from / WORD_BITS..words.len() as u32 {
+        if let Some(bit) = least_in(words[place as usize], low) {
+            return Some(place * WORD_BITS + bit);
+        }
+        low = 0;
+    }
+    None
+}

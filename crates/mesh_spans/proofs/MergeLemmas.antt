@@ -1,0 +1,63 @@
+-- What a merge keeps, and what it makes of the table.
+use Rattle.std.proofs.Common.{◌≡◌, ◌≢◌, ℕ, ◌+◌, ◌<◌, ◌≤◌, find, map, List, ◌∷◌, [], Option, Some, None, length, slice_index, slice_set, ap, subst, refl, sym, ◌∙◌, arith}
+use Rattle.std.proofs.Common.{Bool, not, ◌&&◌, nat_eq, inl, inr}
+use Rattle.std.proofs.Math.ListN.{length-set}
+use Rattle.std.proofs.lemmas.Bool.Decides.{eqb_tells}
+use Rattle.std.specs.Option.{option_map}
+use Rattle.std.proofs.lemmas.List.{get_or-set_other, get_or-set_same}
+use Rattle.mesh_model.specs.Mesh.{merged}
+use Rattle.mesh_model.specs.Table.{Group, has_number}
+use Rattle.mesh_spans.specs.Changes.{IsMergeable, Merges, Regroups, merged_entry, merged_groups}
+use Rattle.mesh_spans.specs.Groups.{is_in_mesh, groups_from, groups_of, table_group}
+use Rattle.mesh_spans.specs.Index.{GroupEntry, Index, IsIndex, IsOwned, SpanEntry, group_at}
+use Rattle.mesh_spans.proofs.IndexLemmas.{group_below}
+use Rattle.mesh_spans.proofs.MergedIndex.{IsIndex_merged, IsOwned_merged}
+use Rattle.mesh_spans.proofs.MergedTable.{group_found, groups_merged}
+
+-- the groups after one was taken out and another one took its members and slots
+abbrev pub absorbed : List (Option GroupEntry) → ℕ → ℕ → GroupEntry → List (Option GroupEntry)
+absorbed groups s d a = slice_set (slice_set groups s None) d (option_map (merged_entry a) (group_at (slice_set groups s None) d))
+
+pub absorbed_is : (groups : List (Option GroupEntry)) (s d : ℕ) (a b : GroupEntry) → s ≢ d → group_at groups d ≡ Some b
+    → absorbed groups s d a ≡ merged_groups groups s d a b
+absorbed_is groups s d a b two at =
+    ap (λ (o : Option GroupEntry). slice_set (slice_set groups s None) d (option_map (merged_entry a) o))
+    (get_or-set_other groups s d None None (λ e. two (sym e)) ∙ at)
+
+module _ (spans spans' : List SpanEntry) (groups after : List (Option GroupEntry)) (s d : ℕ) (a : GroupEntry)
+    (pair : IsMergeable (record { spans = spans; groups = groups }) d s) (at : group_at groups s ≡ Some a) (is : after ≡ absorbed groups s d a)
+    (moved : Regroups spans spans' a.members (length a.members) d) where
+  pub source_is : a ≡ pair.a
+  source_is = let both : Some a ≡ Some pair.a = sym at ∙ pair.source in cc both
+
+  after_is : after ≡ merged_groups groups s d a pair.b
+  after_is = is ∙ absorbed_is groups s d a pair.b pair.two pair.destination
+
+  pub merge_keeps : (owners : List (Option ℕ)) → IsIndex spans groups × IsOwned spans groups owners → IsIndex spans' after × IsOwned spans' after owners
+  merge_keeps owners sound =
+      let class : a.class ≡ pair.b.class = ap (λ (g : GroupEntry). g.class) source_is ∙ pair.same_class in
+      let few : length a.members + length pair.b.members ≤ 8 = (let f = pair.few in let e = ap (λ (g : GroupEntry). length g.members) source_is in omega (arith, f, e)) in
+      rw after_is (
+        IsIndex_merged spans spans' groups s d a pair.b sound.0 pair.two at pair.destination class few moved,
+        IsOwned_merged spans spans' groups s d a pair.b sound.0 pair.two at pair.destination class few moved owners sound.1,
+      )
+
+  pub merge_table : (g : Group) → find (has_number s) (groups_from spans 0 groups) ≡ Some g → groups_from spans' 0 after ≡ merged (groups_from spans 0 groups) g d
+  merge_table g found =
+      let one : Some (table_group spans s a) ≡ Some g = sym (group_found spans 0 s s groups a at (omega arith)) ∙ found in
+      let same : table_group spans s a ≡ g = cc one in
+      rw (after_is, ← same) (groups_merged spans spans' groups s d a pair.b at pair.destination pair.two (group_below groups s a at) moved.firsts)
+
+  -- which groups are in a mesh
+  pub merge_closed : (m : ℕ) → is_in_mesh (group_at after m) ≡ (not (nat_eq m s) && is_in_mesh (group_at groups m))
+  merge_closed m = ap (λ (gs : List (Option GroupEntry)). is_in_mesh (group_at gs m)) after_is ∙ elim (eqb_tells m s) [
+    | inl same ↦ rw (same.0, same.1) (ap is_in_mesh (get_or-set_other (slice_set groups s None) d s (Some (merged_entry a pair.b)) None pair.two
+        ∙ get_or-set_same groups s None None (group_below groups s a at)))
+    | inr not_s ↦ rw not_s.0 (elim (eqb_tells m d) [
+      | inl same ↦ rw same.1 (ap is_in_mesh (get_or-set_same (slice_set groups s None) d (Some (merged_entry a pair.b)) None
+          (let below = group_below groups d pair.b pair.destination in omega (arith, below, length-set {A = Option GroupEntry} groups s None)))
+          ∙ ap is_in_mesh (sym pair.destination))
+      | inr not_d ↦ ap is_in_mesh (get_or-set_other (slice_set groups s None) d m (Some (merged_entry a pair.b)) None not_d.1
+          ∙ get_or-set_other groups s m None None not_s.1)
+    ])
+  ]

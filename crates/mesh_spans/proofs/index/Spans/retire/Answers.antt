@@ -1,0 +1,36 @@
+use Rattle.std.proofs.Common.{◌≡◌, ◌<◌, length, None, List, Option, ap, sym, subst, arith, slice_set}
+use Rattle.std.specs.Prelude.{IsSome}
+use Rattle.std.proofs.Common.{◌∙◌}
+use Rattle.std.proofs.lemmas.List.{get_or-set_other}
+use Rattle.mesh_spans.proofs.FilingLemmas.{number_fits, refiled_is}
+use Rattle.mesh_spans.specs.Groups.{groups_of}
+use Rattle.mesh_spans.specs.Index.{GroupEntry, Index, group_at}
+use Rattle.mesh_spans.proofs.FlagLemmas.{IsIndex_replaced, IsOwned_replaced, replaced_none, some_below}
+use Rattle.mesh_spans.proofs.MergedTable.{groups_without}
+use Rattle.mesh_spans.proofs.index.Spans.retire.Goals as goal
+
+pub refile-requires-clause-number : goal.refile-requires-clause-number
+refile-requires-clause-number c =
+    let some = subst (λ (x : Index). IsSome (group_at x.groups c.args.n)) (sym c.self.view_is) c.requires in
+    number_fits c.self.inside.spans.items c.self.inside.groups.items c.args.n c.self.invariant.0.0 (some_below c.self.inside.groups.items c.args.n some)
+
+pub invariant_of-self : goal.invariant_of-self
+invariant_of-self c =
+    let some = subst (λ (x : Index). IsSome (group_at x.groups c.args.n)) (sym c.self.view_is) c.requires in
+    let is = replaced_none c.self.inside.groups.items c.args.n (some_below c.self.inside.groups.items c.args.n some) in (
+      rw c.remove.ensures.groups (
+        IsIndex_replaced c.self.inside.spans.items c.self.inside.groups.items (slice_set c.self.inside.groups.items c.args.n None) c.args.n is c.self.invariant.0.0,
+        IsOwned_replaced c.self.inside.spans.items c.self.inside.groups.items (slice_set c.self.inside.groups.items c.args.n None) c.self.inside.owners.items c.args.n is
+            c.self.invariant.0.1,
+      ),
+      refiled_is c.self.inside.groups.items c.remove.new.groups.items c.as_slice.result.now c.as_slice-2.result.now c.self.inside.bins.items c.refile.new.bins.items c.args.n c.file_at-before.result c.self.invariant.1
+          c.as_slice.ensures.value c.as_slice-2.ensures.value c.file_at-before.ensures.file c.refile.ensures
+          (λ m apart. ap (λ (gs : List (Option GroupEntry)). group_at gs m) c.remove.ensures.groups ∙ get_or-set_other c.self.inside.groups.items c.args.n m _ None apart),
+    )
+
+pub returns-clause-table : goal.returns-clause-table
+unfolding groups_of
+returns-clause-table c =
+    let some = subst (λ (x : Index). IsSome (group_at x.groups c.args.n)) (sym c.self.view_is) c.requires in
+    rw (← c.self.view_is, c.remove.ensures.groups) (groups_without c.self.inside.spans.items 0 c.args.n c.args.n c.self.inside.groups.items
+    (some_below c.self.inside.groups.items c.args.n some) (omega arith))

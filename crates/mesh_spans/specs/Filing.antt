@@ -1,0 +1,63 @@
+-- In which bin a group is: three for each class, of the groups that are empty, partly filled and full.
+use Rattle.std.specs.Prelude.{◌≡◌, ℕ, ◌+◌, ◌*◌, ◌<◌, Bool, true, false, not, ◌&&◌, if◌then◌else◌, nat_eq, nat_le, nat_lt, count_by, is_some, List, Option, Some, None, length, slice_index_or, slice_set}
+use Rattle.std.specs.Ordering.{nat_cmp}
+use Rattle.std.specs.FinSet as set
+use Rattle.mesh_model.specs.Table.{Group, object_count}
+use Rattle.mesh_spans.specs.Index.{GroupEntry, group_at}
+
+-- the place of a class in the class table
+unfoldable pub class_place : ℕ → ℕ
+class_place size =
+    if nat_eq size 16 then 0 else (if nat_eq size 32 then 1 else (if nat_eq size 64 then 2 else (if nat_eq size 128 then 3 else (if nat_eq size 256 then 4 else
+    (if nat_eq size 384 then 5 else (if nat_eq size 512 then 6 else (if nat_eq size 1024 then 7 else (if nat_eq size 1536 then 8 else 9))))))))
+
+-- how full a group is
+abbrev pub kind_of : ℕ → ℕ → ℕ
+kind_of count total = if nat_eq count 0 then 0 else (if nat_lt count total then 1 else 2)
+
+-- the bin in which a group is, where it is in one
+abbrev pub file_of : Option GroupEntry → Option ℕ
+file_of None = None
+file_of (Some group) =
+    if group.in_mesh then None else Some (3 * class_place group.class + kind_of (count_by is_some group.slots) (length group.slots))
+
+-- the bin is the one at the place
+abbrev pub is_at : Option ℕ → ℕ → Bool
+is_at None place = false
+is_at (Some file) place = nat_eq file place
+
+-- the bin at a place
+abbrev pub bin_at : List (set.FinSet nat_cmp) → ℕ → set.FinSet nat_cmp
+bin_at bins place = slice_index_or bins place set.empty
+
+-- the bins without a number in one of them
+abbrev pub unfiled : List (set.FinSet nat_cmp) → ℕ → Option ℕ → List (set.FinSet nat_cmp)
+unfiled bins n None = bins
+unfiled bins n (Some place) = slice_set bins place (set.remove (bin_at bins place) n)
+
+-- the bins with a number in one of them
+abbrev pub filed : List (set.FinSet nat_cmp) → ℕ → Option ℕ → List (set.FinSet nat_cmp)
+filed bins n None = bins
+filed bins n (Some place) = slice_set bins place (set.insert (bin_at bins place) n)
+
+-- each group is in its bin, and in no other
+pub record IsFiled (groups : List (Option GroupEntry)) (bins : List (set.FinSet nat_cmp)) : Type 0 where
+  pub sized : length bins ≡ 30
+  pub each : (place n : ℕ) → place < 30 → set.contains (bin_at bins place) n ≡ is_at (file_of (group_at groups n)) place
+
+-- the lower of two numbers
+abbrev pub lower_of : Option ℕ → Option ℕ → Option ℕ
+lower_of None b = b
+lower_of (Some a) None = Some a
+lower_of (Some a) (Some b) = if nat_lt a b then Some a else Some b
+
+-- whether the number is a group of the class that is in no mesh, and neither empty nor full
+abbrev pub is_partial : Option GroupEntry → ℕ → Bool
+is_partial None class = false
+is_partial (Some group) class =
+    nat_eq group.class class && not group.in_mesh && nat_lt 0 (count_by is_some group.slots) && nat_lt (count_by is_some group.slots) (length group.slots)
+
+-- the group may be paired, and its number is `from` or above
+abbrev pub candidate_from : (ℕ → Bool) → ℕ → ℕ → Group → Bool
+candidate_from closed class from group =
+    nat_le from group.number && (nat_eq group.class class && not (closed group.number) && nat_lt 0 (object_count group) && nat_lt (object_count group) (length group.slots))

@@ -1,0 +1,142 @@
+//! The bins: for each class the groups in no mesh that are empty, partly filled and full.
+ghost use Rattle.std.specs.Prelude.{◌≡◌, ℕ, ◌+◌, ◌*◌, ◌<◌, ◌≤◌, ◌||◌, length, IfOk, IfSome, replicate};
+ghost use Rattle.std.specs.FinSet as set;
+ghost use Rattle.mesh_bins.specs.Words.{IsLeast};
+ghost use Rattle.mesh_class.specs.Classes.{IsClass};
+ghost use Rattle.mesh_spans.specs.Filing.{bin_at, class_place, file_of, filed, lower_of, unfiled};
+ghost use Rattle.mesh_spans.specs.Index.{group_at};
+
+use crate::groups::Group;
+use mesh_bins::Bin;
+use mesh_class::Class;
+use std::alloc::{AllocError, Global};
+
+// How many bins there are: three for each of the ten classes.
+const BINS: usize = 30;
+
+/// The bins, with no group in any of them. They take all the memory that they will ever use.
+pub(crate) fn new_bins(alloc: Global) -> Result<Vec<Bin>, AllocError>
+    ensures long { IfOk result (λ bins. length bins.items ≡ 30) }
+    ensures none { IfOk result (λ bins. (place : ℕ) → bin_at bins.items place ≡ set.empty) }
+{
+    let mut bins = Vec::new(alloc);
+    for _ in 0..BINS {
+        bins.push(Bin::new(alloc)?)?;
+    }
+    Ok(bins)
+}
+
+/// The place of a class in the class table.
+#[tactic(auto, unfolding(crate::specs::Filing::class_place))]
+pub(crate) fn class_place(class: Class) -> u32
+    ensures value { result ≡ class_place class }
+    ensures few { result < 10 }
+    ensures class { IsClass class }
+{
+    match class.size() {
+        16 => 0,
+        32 => 1,
+        64 => 2,
+        128 => 3,
+        256 => 4,
+        384 => 5,
+        512 => 6,
+        1024 => 7,
+        1536 => 8,
+        _ => 9,
+    }
+}
+
+/// The bin of a group.
+pub(crate) fn file_of(group: &Option<Group>) -> Option<u32>
+    ensures file { result ≡ file_of group.now }
+    ensures few { IfSome result (λ place. place < 30) }
+{
+    let group = group.as_ref()?;
+    if group.in_mesh() {
+        return None;
+    }
+    Some(3 * class_place(group.class()) + group.kind())
+}
+
+/// The bin of the group of a number.
+pub(crate) fn file_at(groups: &[Option<Group>], n: u32) -> Option<u32>
+    requires { n < length groups.now }
+    ensures file { result ≡ file_of (group_at groups.now n) }
+    ensures few { IfSome result (λ place. place < 30) }
+{
+    file_of(&groups[n as usize])
+}
+
+/// Takes a number out of the bin where it was, and puts it into the bin of its group.
+pub(crate) fn refile(bins: &mut Vec<Bin>, groups: &[Option<Group>], n: u32, before: Option<u32>)
+    requires there { n < length groups.now }
+    requires number { n < 65536 }
+    requires sized { length bins.old.items ≡ 30 }
+    requires few { IfSome before (λ place. place < 30) }
+    ensures { bins.new.items ≡ filed (unfiled bins.old.items n before) n (file_of (group_at groups.now n)) }
+{
+    unfile(bins, n, before);
+    file(bins, n, file_at(groups, n));
+}
+
+// Takes a number out of a bin.
+fn unfile(bins: &mut Vec<Bin>, n: u32, place: Option<u32>)
+    requires number { n < 65536 }
+    requires sized { length bins.old.items ≡ 30 }
+    requires few { IfSome place (λ p. p < 30) }
+    ensures bins { bins.new.items ≡ unfiled bins.old.items n place }
+    ensures sized { length bins.new.items ≡ 30 }
+{
+    if let Some(place) = place {
+        bins[place as usize].remove(n);
+    }
+}
+
+// Puts a number into a bin.
+fn file(bins: &mut Vec<Bin>, n: u32, place: Option<u32>)
+    requires number { n < 65536 }
+    requires sized { length bins.old.items ≡ 30 }
+    requires few { IfSome place (λ p. p < 30) }
+    ensures bins { bins.new.items ≡ filed bins.old.items n place }
+    ensures sized { length bins.new.items ≡ 30 }
+{
+    if let Some(place) = place {
+        bins[place as usize].insert(n);
+    }
+}
+
+/// The lowest group of the class that is in no mesh and has a free slot.
+pub(crate) fn lowest_open(bins: &[Bin], class: Class) -> Option<u32>
+    requires sized { length bins.now ≡ 30 }
+    ensures class { IsClass class }
+    ensures place { class_place class < 10 }
+    ensures least { IsLeast (λ n. set.contains (bin_at bins.now (3 * class_place class)) n || set.contains (bin_at bins.now (3 * class_place class + 1)) n) 0 65536 result }
+{
+    let place = 3 * class_place(class) as usize;
+    let empty = bins[place].least(0);
+    let partial = bins[place + 1].least(0);
+    lower(empty, partial)
+}
+
+/// The lowest group of the class from a number on that is in no mesh, not empty and not full.
+pub(crate) fn lowest_partial(bins: &[Bin], class: Class, from: u32) -> Option<u32>
+    requires sized { length bins.now ≡ 30 }
+    ensures class { IsClass class }
+    ensures place { class_place class < 10 }
+    ensures least { IsLeast (set.contains (bin_at bins.now (3 * class_place class + 1))) from 65536 result }
+{
+    let place = 3 * class_place(class) as usize;
+    bins[place + 1].least(from)
+}
+
+// The lower of two numbers.
+fn lower(a: Option<u32>, b: Option<u32>) -> Option<u32>
+    ensures { result ≡ lower_of a b }
+{
+    match (a, b) {
+        (None, b) => b,
+        (Some(a), None) => Some(a),
+        (Some(a), Some(b)) => Some(if a < b { a } else { b }),
+    }
+}
