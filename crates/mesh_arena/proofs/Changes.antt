@@ -36,11 +36,9 @@ unfolding blank_page
 get_or-blank_page o = get_or-zeros 4096 o
 
 -- a page that was filled with zeros is blank
-pub refilled : (n : ℕ) (filled old bytes : List ℕ) → filled ≡ replicate (length old) 0 → old ≡ bytes → length bytes ≡ 4096 → n ≡ 4096 → take n (filled ++ drop (length filled) bytes) ≡ blank_page
+pub refilled : (filled old : List ℕ) → filled ≡ replicate (length old) 0 → length old ≡ 4096 → filled ≡ blank_page
 unfolding blank_page
-refilled n filled old bytes e same sized size =
-    let count : length filled ≡ n = ap length e ∙ length-replicate (length old) 0 ∙ ap length same ∙ sized ∙ sym size in
-    take_at filled (drop (length filled) bytes) n count ∙ e ∙ ap (λ m. replicate m 0) (ap length same ∙ sized)
+refilled filled old e sized = e ∙ ap (λ m. replicate m 0) sized
 
 -- new bytes for a taken page leave the count of free pages
 pub free_count-set_some : (a : Pages) (p : ℕ) (bytes : List ℕ) → IsTaken a p → free_count (set a p (Some bytes)) ≡ free_count a

@@ -2,7 +2,7 @@
 ghost use Rattle.std.specs.Prelude.{◌≡◌, ◌≢◌, ℕ, ◌+◌, ◌<◌, ◌≤◌, length, replicate, IfOk, IfSome, IfNone, IsSome, false, slice_set, slice_range, unwrap_or, []};
 ghost use Rattle.mesh_arena.specs.Pages.{IsTaken, is_taken, byte_at, free_count, lowest_free, content, bytes_of, blank_page, with_run, with_copy, run_of, Takes, Gives, Writes};
 
-use crate::frame::Frame;
+use crate::frames::Frames;
 use crate::page::Page;
 use std::alloc::{AllocError, Global};
 use std::marker::Model;
@@ -14,7 +14,7 @@ pub const MAX_PAGES: u32 = 4096;
 #[derive(Drop)]
 pub struct Arena {
     /// A frame for each page, in the order of their numbers.
-    frames: Vec<Frame>,
+    frames: Frames,
     /// How many frames are free.
     free: u32,
     /// No frame below this place is free, so the search for one starts here.
@@ -28,70 +28,9 @@ impl Model for Arena {
 
     ghost use Rattle.mesh_arena.specs.Tied.{IsTied};
 
-    ghost view = { λ arena. arena.frames.items };
+    ghost view = { λ arena. arena.frames };
 
-    ghost invariant = { λ arena. IsTied arena.frames.items arena.free arena.all_taken_below };
-}
-
-/// The first place of a free frame from `from` on, or how many frames there are.
-fn first_free(frames: &[Frame], from: usize) -> usize
-    requires { from ≤ length frames.now }
-    ensures from { from ≤ result }
-    ensures within { result ≤ length frames.now }
-    ensures passed { (k : ℕ) → from ≤ k → k < result → IsTaken frames.now k }
-    ensures found { result < length frames.now → is_taken frames.now result ≡ false }
-{
-    let mut place = from;
-    while place < frames.len() && frames[place].is_taken() {
-        place += 1;
-    }
-    place
-}
-
-/// Copies `len` bytes from one taken frame into another.
-fn copy_frame(from: &Frame, from_off: usize, to: &mut Frame, to_off: usize, len: usize)
-    requires from_taken { IsSome from.now }
-    requires to_taken { IsSome to.old }
-    requires from_fits { from_off + len ≤ 4096 }
-    requires to_fits { to_off + len ≤ 4096 }
-    ensures copied { to.new ≡ Some
-        (with_copy (unwrap_or to.old []) to_off (unwrap_or from.now []) from_off len) }
-    ensures from_sized { length (unwrap_or from.now []) ≡ 4096 }
-    ensures to_sized { length (unwrap_or to.old []) ≡ 4096 }
-{
-    let bytes = from.bytes();
-    let end = from_off + len;
-    to.write(to_off, &bytes[from_off..end]);
-}
-
-/// Copies `len` bytes from one of the frames to another, both taken.
-fn copy_between(
-    frames: &mut [Frame],
-    from: usize,
-    from_off: usize,
-    to: usize,
-    to_off: usize,
-    len: usize,
-)
-    requires from_below { from < length frames.old }
-    requires to_below { to < length frames.old }
-    requires from_taken { IsSome (content frames.old from) }
-    requires to_taken { IsSome (content frames.old to) }
-    requires apart { from ≢ to }
-    requires from_fits { from_off + len ≤ 4096 }
-    requires to_fits { to_off + len ≤ 4096 }
-    ensures copied { frames.new ≡ slice_set frames.old to (Some
-        (with_copy (bytes_of frames.old to) to_off (bytes_of frames.old from) from_off len)) }
-    ensures from_sized { length (bytes_of frames.old from) ≡ 4096 }
-    ensures to_sized { length (bytes_of frames.old to) ≡ 4096 }
-{
-    if from < to {
-        let (low, high) = frames.split_at_mut(to);
-        copy_frame(&low[from], from_off, &mut high[0], to_off, len);
-    } else {
-        let (low, high) = frames.split_at_mut(from);
-        copy_frame(&high[0], from_off, &mut low[to], to_off, len);
-    }
+    ghost invariant = { λ arena. IsTied arena.frames arena.free arena.all_taken_below };
 }
 
 impl Arena {
@@ -106,12 +45,8 @@ impl Arena {
         ensures free { IfOk result (λ arena. free_count arena ≡ pages) }
         ensures untaken { IfOk result (λ arena. (p : ℕ) → is_taken arena p ≡ false) }
     {
-        let mut frames = Vec::with_capacity(alloc, pages as usize)?;
-        for _ in 0..pages {
-            frames.push(Frame::new(alloc)?)?;
-        }
         Ok(Arena {
-            frames,
+            frames: Frames::new(alloc, pages as usize)?,
             free: pages,
             all_taken_below: 0,
         })
@@ -132,8 +67,8 @@ impl Arena {
         if self.free == 0 {
             return None;
         }
-        let place = first_free(self.frames.as_slice(), self.all_taken_below);
-        self.frames[place].take();
+        let place = self.frames.first_free(self.all_taken_below);
+        self.frames.take(place);
         self.free -= 1;
         self.all_taken_below = place + 1;
         Some(Page::numbered(place as u16))
@@ -146,7 +81,7 @@ impl Arena {
         ensures gives { Gives self.old self.new page }
     {
         let place = page.index();
-        self.frames[place].give();
+        self.frames.give(place);
         self.free += 1;
         self.all_taken_below = self.all_taken_below.min(place);
     }
@@ -161,7 +96,7 @@ impl Arena {
         ensures sized { length (bytes_of self.now page) ≡ 4096 }
     {
         let start = off as usize;
-        let bytes = self.frames[page.index()].bytes();
+        let bytes = self.frames.bytes(page.index());
         out.copy_from_slice(&bytes[start..start + out.len()]);
     }
 
@@ -174,7 +109,7 @@ impl Arena {
         ensures writes { Writes self.old self.new page off bytes.now }
     {
         let place = page.index();
-        self.frames[place].write(off as usize, bytes);
+        self.frames.write(place, off as usize, bytes);
     }
 
     /// Copies `len` bytes from one taken page to another.
@@ -189,8 +124,7 @@ impl Arena {
         ensures writes { Writes self.old self.new to to_off
             (run_of (byte_at self.old from) from_off len) }
     {
-        copy_between(
-            self.frames.as_mut_slice(),
+        self.frames.copy(
             from.index(),
             from_off as usize,
             to.index(),

@@ -1,8 +1,7 @@
 //! One physical page's memory.
-ghost use Rattle.std.specs.Prelude.{◌≡◌, ◌+◌, ◌≤◌, length, IfOk, IsSome, is_some, unwrap_or, []};
+ghost use Rattle.std.specs.Prelude.{◌≡◌, ◌+◌, ◌≤◌, length, IsSome, is_some, unwrap_or, []};
 ghost use Rattle.mesh_arena.specs.Pages.{blank_page, with_run};
 
-use std::alloc::{AllocError, Global};
 use std::marker::Model;
 
 /// How many bytes a page has, physical or virtual. This project's own choice.
@@ -12,7 +11,7 @@ pub const PAGE_BYTES: usize = 4096;
 #[derive(Drop)]
 pub(crate) struct Frame {
     taken: bool,
-    bytes: Vec<u8>,
+    bytes: [u8; PAGE_BYTES],
 }
 
 impl Model for Frame {
@@ -20,21 +19,20 @@ impl Model for Frame {
 
     ghost Value = { Option (List ℕ) };
 
-    ghost view = { λ frame. if frame.taken then Some frame.bytes.items else None };
+    ghost view = { λ frame. if frame.taken then Some frame.bytes else None };
 
-    ghost invariant = { λ frame. length frame.bytes.items ≡ 4096 };
+    ghost invariant = { λ frame. length frame.bytes ≡ 4096 };
 }
 
 impl Frame {
-    /// A free frame, its memory taken.
-    pub(crate) fn new(alloc: Global) -> Result<Frame, AllocError>
-        ensures { IfOk result (λ frame. frame ≡ None) }
+    /// A taken frame, with zeros in all its bytes.
+    pub(crate) fn blank() -> Frame
+        ensures { result ≡ Some blank_page }
     {
-        let bytes = vec![in alloc; 0u8; PAGE_BYTES]?;
-        Ok(Frame {
-            taken: false,
-            bytes,
-        })
+        Frame {
+            taken: true,
+            bytes: [0; PAGE_BYTES],
+        }
     }
 
     pub(crate) fn is_taken(&self) -> bool
@@ -47,7 +45,7 @@ impl Frame {
     pub(crate) fn take(&mut self)
         ensures { self.new ≡ Some blank_page }
     {
-        self.bytes.as_mut_slice().fill(0);
+        self.bytes.fill(0);
         self.taken = true;
     }
 
@@ -64,7 +62,7 @@ impl Frame {
         ensures bytes { self.now ≡ Some result.now }
         ensures sized { length result.now ≡ 4096 }
     {
-        self.bytes.as_slice()
+        &self.bytes
     }
 
     /// Writes bytes into the taken frame from an offset on.
@@ -75,6 +73,6 @@ impl Frame {
         ensures sized { length (unwrap_or self.old []) ≡ 4096 }
     {
         let end = off + bytes.len();
-        self.bytes.as_mut_slice()[off..end].copy_from_slice(bytes);
+        self.bytes[off..end].copy_from_slice(bytes);
     }
 }

@@ -8,6 +8,7 @@
 
 mod arena;
 mod frame;
+mod frames;
 mod page;
 
 pub use arena::{Arena, MAX_PAGES};

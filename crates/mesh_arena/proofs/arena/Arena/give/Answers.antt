@@ -1,11 +1,10 @@
 use Rattle.std.proofs.Common.{arith}
 use Rattle.mesh_arena.proofs.Changes.{gives}
-use Rattle.mesh_arena.proofs.Taken.{taken-below}
 use Rattle.mesh_arena.proofs.Ties.{tied_by_give, tied-small}
 use Rattle.mesh_arena.proofs.arena.Arena.give.Goals as goal
 
-pub index_mut-requires : goal.index_mut-requires
-index_mut-requires c = omega (arith, c.index-place.ensures, taken-below c.self.inside.frames.items c.args.page (rw (← c.self.view_is) at c.requires))
+pub give-requires : goal.give-requires
+give-requires c = rw (c.index-place.ensures, c.self.view_is) c.requires
 
 pub overflow_add-self : goal.overflow_add-self
 overflow_add-self c = omega (arith, tied-small _ _ _ c.self.invariant)

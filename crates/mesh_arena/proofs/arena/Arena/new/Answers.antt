@@ -6,15 +6,15 @@ use Rattle.mesh_arena.proofs.Counts.{free_count-replicate}
 use Rattle.mesh_arena.proofs.Taken.{is_taken-replicate}
 use Rattle.mesh_arena.proofs.arena.Arena.new.Goals as goal
 
-free_of : (a : Pages) (n m : ℕ) → a ≡ replicate m None → m ≡ n → free_count a ≡ n
-free_of a n m e same = ap free_count e ∙ free_count-replicate m ∙ same
+free_of : (a : Pages) (n : ℕ) → a ≡ replicate n None → free_count a ≡ n
+free_of a n e = ap free_count e ∙ free_count-replicate n
 
-new_tied : (a : Pages) (n m : ℕ) → n ≤ 4096 → a ≡ replicate m None → m ≡ n → IsTied a n 0
-new_tied a n m few e same =
-    let count : length a ≡ m = ap length e ∙ length-replicate m None in
+new_tied : (a : Pages) (n : ℕ) → n ≤ 4096 → a ≡ replicate n None → IsTied a n 0
+new_tied a n few e =
+    let count : length a ≡ n = ap length e ∙ length-replicate n None in
     record {
       few = omega arith;
-      counted = sym (free_of a n m e same);
+      counted = sym (free_of a n e);
       within = omega arith;
       below = λ p l. absurd (omega arith);
     }
@@ -23,10 +23,10 @@ untaken : (a : Pages) (m : ℕ) → a ≡ replicate m None → (p : ℕ) → is_
 untaken a m e p = ap (λ (s : Pages). is_taken s p) e ∙ is_taken-replicate m p
 
 pub invariant_of-result : goal.invariant_of-result
-invariant_of-result c = new_tied c.loop.frames.items c.args.pages c.loop.counter c.requires.few c.loop.invariant (omega arith)
+invariant_of-result c = new_tied _ c.args.pages c.requires.few c.in_ok-new.ensures
 
 pub returns-clause-free : goal.returns-clause-free
-returns-clause-free c = free_of c.loop.frames.items c.args.pages c.loop.counter c.loop.invariant (omega arith)
+returns-clause-free c = free_of _ c.args.pages c.in_ok-new.ensures
 
 pub returns-clause-untaken : goal.returns-clause-untaken
-returns-clause-untaken c = untaken c.loop.frames.items c.loop.counter c.loop.invariant
+returns-clause-untaken c = untaken _ c.args.pages c.in_ok-new.ensures

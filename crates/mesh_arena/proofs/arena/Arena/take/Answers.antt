@@ -13,37 +13,38 @@ record IsLowest (a : Pages) (p : ℕ) : Type 0 where
   free : is_taken a p ≡ false
   below : (q : ℕ) → q < p → IsTaken a q
 
-lowest : (a s : Pages) (free place p : ℕ) → s ≡ a → IsTied a free place → 0 < free → p ≤ length s → ((q : ℕ) → place ≤ q → q < p → IsTaken s q) → (p < length s → is_taken s p ≡ false) → IsLowest a p
-lowest a s free place p same tied some within passed here =
-    let inside : p ≤ length a = rw same at within in
-    let taken = rw same at passed in
-    let h : p < length a = found a free place p tied some inside taken in
+lowest : (a : Pages) (free place p : ℕ) → IsTied a free place → 0 < free → p ≤ length a → ((q : ℕ) → q < p → IsTaken a q) → (p < length a → is_taken a p ≡ false) → IsLowest a p
+lowest a free place p tied some within passed here =
+    let h : p < length a = found a free place p tied some within (λ q _ l. passed q l) in
     record {
       within = h;
-      free = (let at = rw same at here in at h);
-      below = λ q l. ⊎_elim (λ (m : q < place). tied.below q m) (λ (n : place ≤ q). taken q n l) (cases_lt q place);
+      free = here h;
+      below = passed;
     }
 
 pub returns-then-self-eq0-clause-page : goal.returns-then-self-eq0-clause-page
 returns-then-self-eq0-clause-page c =
-    rw (← c.self.view_is) (sym (lowest_free-none c.self.inside.frames.items (omega (arith, c.self.invariant.counted))))
+    rw (← c.self.view_is) (sym (lowest_free-none c.self.inside.frames (omega (arith, c.self.invariant.counted))))
 
-pub index_mut-requires : goal.index_mut-requires
-index_mut-requires c =
-    let at = lowest c.self.inside.frames.items c.as_slice.result.now _ _ c.first_free-place.result c.as_slice.ensures.value c.self.invariant (omega arith) c.first_free-place.ensures.within c.first_free-place.ensures.passed c.first_free-place.ensures.found in
-    omega (arith, at.within, c.as_slice.ensures.len, ap length c.as_slice.ensures.value)
+pub first_free-place-requires : goal.first_free-place-requires
+first_free-place-requires c = c.self.invariant.below
+
+pub take-requires-clause-within : goal.take-requires-clause-within
+take-requires-clause-within c =
+    let at = lowest c.self.inside.frames _ _ c.first_free-place.result c.self.invariant (omega arith) c.first_free-place.ensures.within c.first_free-place.ensures.passed c.first_free-place.ensures.found in
+    at.within
 
 pub invariant_of-self : goal.invariant_of-self
 invariant_of-self c =
-    let at = lowest c.self.inside.frames.items c.as_slice.result.now _ _ c.first_free-place.result c.as_slice.ensures.value c.self.invariant (omega arith) c.first_free-place.ensures.within c.first_free-place.ensures.passed c.first_free-place.ensures.found in
+    let at = lowest c.self.inside.frames _ _ c.first_free-place.result c.self.invariant (omega arith) c.first_free-place.ensures.within c.first_free-place.ensures.passed c.first_free-place.ensures.found in
     rw c.take.ensures (tied_by_take _ _ _ _ c.self.invariant at.within at.free at.below)
 
 pub returns-clause-page : goal.returns-clause-page
 returns-clause-page c =
-    let at = lowest c.self.inside.frames.items c.as_slice.result.now _ _ c.first_free-place.result c.as_slice.ensures.value c.self.invariant (omega arith) c.first_free-place.ensures.within c.first_free-place.ensures.passed c.first_free-place.ensures.found in
-    rw (c.numbered.ensures, ← c.self.view_is) (sym (lowest_free-is c.self.inside.frames.items c.first_free-place.result at.within at.free at.below))
+    let at = lowest c.self.inside.frames _ _ c.first_free-place.result c.self.invariant (omega arith) c.first_free-place.ensures.within c.first_free-place.ensures.passed c.first_free-place.ensures.found in
+    rw (c.numbered.ensures, ← c.self.view_is) (sym (lowest_free-is c.self.inside.frames c.first_free-place.result at.within at.free at.below))
 
 pub returns-clause-takes : goal.returns-clause-takes
 returns-clause-takes c =
-    let at = lowest c.self.inside.frames.items c.as_slice.result.now _ _ c.first_free-place.result c.as_slice.ensures.value c.self.invariant (omega arith) c.first_free-place.ensures.within c.first_free-place.ensures.passed c.first_free-place.ensures.found in
-    rw (c.take.ensures, c.numbered.ensures, ← c.self.view_is) (takes c.self.inside.frames.items c.first_free-place.result at.within at.free at.below)
+    let at = lowest c.self.inside.frames _ _ c.first_free-place.result c.self.invariant (omega arith) c.first_free-place.ensures.within c.first_free-place.ensures.passed c.first_free-place.ensures.found in
+    rw (c.take.ensures, c.numbered.ensures, ← c.self.view_is) (takes c.self.inside.frames c.first_free-place.result at.within at.free at.below)

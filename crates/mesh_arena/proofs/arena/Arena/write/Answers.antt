@@ -1,16 +1,10 @@
 use Rattle.std.proofs.Common.{arith}
 use Rattle.mesh_arena.proofs.Changes.{writes}
-use Rattle.mesh_arena.proofs.Taken.{taken-below, taken-is_some, content_read}
 use Rattle.mesh_arena.proofs.Ties.{tied_by_write}
 use Rattle.mesh_arena.proofs.arena.Arena.write.Goals as goal
 
-pub index_mut-requires : goal.index_mut-requires
-index_mut-requires c = omega (arith, c.index-place.ensures, taken-below c.self.inside.frames.items c.args.page (rw (← c.self.view_is) at c.requires.taken))
-
 pub write-requires-clause-taken : goal.write-requires-clause-taken
-write-requires-clause-taken c =
-    let taken = rw (← c.self.view_is) at c.requires.taken in
-    rw (content_read c.self.inside.frames.items c.args.page c.index-place.result c.index_mut.result.now taken c.index-place.ensures c.index_mut.ensures.value) (taken-is_some _ _ taken)
+write-requires-clause-taken c = rw (c.index-place.ensures, c.self.view_is) c.requires.taken
 
 pub invariant_of-self : goal.invariant_of-self
 invariant_of-self c =
@@ -19,6 +13,5 @@ invariant_of-self c =
 pub returns-clause-writes : goal.returns-clause-writes
 returns-clause-writes c =
     let taken = rw (← c.self.view_is) at c.requires.taken in
-    let was = content_read c.self.inside.frames.items c.args.page c.index-place.result c.index_mut.result.now taken c.index-place.ensures c.index_mut.ensures.value in
-    let sized = rw was at c.write.ensures.sized in
-    rw (c.write.ensures.written, was, c.index-place.ensures, ← c.self.view_is) (writes _ _ _ _ taken (omega arith))
+    let sized = rw (c.index-place.ensures) at c.write.ensures.sized in
+    rw (c.write.ensures.written, c.index-place.ensures, ← c.self.view_is) (writes _ _ _ _ taken (omega arith))

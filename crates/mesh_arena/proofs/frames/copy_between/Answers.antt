@@ -1,7 +1,7 @@
 use Rattle.std.proofs.Common.{◌≡◌, ℕ, ◌-◌, ◌<◌, ◌++◌, arith, length, List, Option, None, set, get_or, ap, sym, ◌∙◌}
 use Rattle.std.proofs.lemmas.List.{get_or_default, get_or_append_left, get_or-append_right, set-append_left, set-append_right}
 use Rattle.mesh_arena.specs.Pages.{Pages, content}
-use Rattle.mesh_arena.proofs.arena.copy_between.Goals as goal
+use Rattle.mesh_arena.proofs.frames.copy_between.Goals as goal
 
 -- a frame of the first part
 low_is : (a low high : Pages) (i : ℕ) (d : Option (List ℕ)) → a ≡ low ++ high → i < length low → get_or low i d ≡ content a i

@@ -1,7 +1,7 @@
 use Rattle.std.proofs.Common.{◌≡◌, ◌≢◌, arith, sym, ◌∙◌, ⊎_elim}
 use Rattle.std.proofs.lemmas.Bool.{cases_eq}
 use Rattle.mesh_arena.proofs.Taken.{is_taken_read}
-use Rattle.mesh_arena.proofs.arena.first_free.Goals as goal
+use Rattle.mesh_arena.proofs.frames.first_free.Goals as goal
 
 pub loop-place-preserved : goal.loop-place-preserved
 loop-place-preserved c =

@@ -1,6 +1,6 @@
 use Rattle.std.proofs.Common.{ℕ, ◌-◌, ◌<◌, ◌≤◌, length}
 use Rattle.mesh_arena.specs.Pages.{Pages, IsTaken}
-use Rattle.mesh_arena.proofs.arena.first_free.Given as goal
+use Rattle.mesh_arena.proofs.frames.first_free.Given as goal
 
 -- every frame from the start to the place is taken
 pub record AllPassed (frames : Pages) (start place : ℕ) : Type 0 where

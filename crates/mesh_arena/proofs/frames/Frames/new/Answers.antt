@@ -1,0 +1,13 @@
+use Rattle.std.proofs.Common.{◌≡◌, ℕ, ◌+◌, ◌-◌, ◌<◌, ◌≤◌, arith, length, refl, [], sym, ap, ◌∙◌, Some, None, replicate, set, ⊎_elim}
+use Rattle.mesh_arena.proofs.Unmade.{content-made, is_taken-made, is_taken-unmade, made-below, taken-made, lowest-made, length-with_unmade, set-made, set-next}
+use Rattle.mesh_arena.proofs.Taken.{taken-below, taken-is_some, content_read}
+use Rattle.mesh_arena.specs.Pages.{Pages, IsTaken, is_taken, content, bytes_of}
+use Rattle.mesh_arena.specs.Tied.{with_unmade}
+use Rattle.mesh_arena.proofs.frames.Frames.new.Goals as goal
+
+new_is : (a : Pages) (n : ℕ) → a ≡ [] → with_unmade a n ≡ replicate n None
+unfolding with_unmade
+new_is a n e = let none : n - 0 ≡ n = omega arith in rw e (ap (λ m. replicate m None) none)
+
+pub returns : goal.returns
+returns c = new_is _ _ c.in_ok-made.ensures.items
