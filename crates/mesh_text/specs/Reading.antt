@@ -1,7 +1,7 @@
 -- The lines and fields of a text, and what the reader tells of a text that it can't read.
 use Rattle.std.specs.Prelude.{◌≡◌, ◌⊎◌, ℕ, ◌+◌, ◌-◌, Bool, true, false, nat_eq, List, [], ◌∷◌, Result, Err, codes, drop, is_some, map, slice_index_or}
 use Rattle.std.specs.List.{list_any, slice_split}
-use Rattle.mesh_model.specs.Files.{Draft, InPlan, are_same, fault_at, has_ended, hex_value, lines_in, plan_line, read_text, take_fields}
+use Rattle.mesh_model.specs.Files.{Draft, InPlan, are_same, fault_at, has_ended, hex_value, is_between, lines_in, plan_line, read_text, take_fields}
 use Rattle.mesh_model.specs.declared.faults.FaultKind.{FaultKind}
 use Rattle.mesh_model.specs.declared.faults.FaultKind.TheVariants.{Word}
 use Rattle.mesh_model.specs.declared.faults.TextFault.{TextFault}
@@ -16,6 +16,10 @@ texts fields = map (λ field. field.now) fields
 -- the byte is a hexadecimal digit in lower case
 abbrev pub is_hex_digit : ℕ → Bool
 is_hex_digit byte = is_some (hex_value byte)
+
+-- the byte is a decimal digit
+abbrev pub is_decimal_digit : ℕ → Bool
+is_decimal_digit byte = is_between 48 57 byte
 
 -- the lines of a text, the last of them what follows the last line end
 abbrev pub text_lines : List ℕ → List (List ℕ)

@@ -86,7 +86,7 @@ pub(crate) fn address(field: &[u8]) -> Result<u32, FaultKind>
 }
 
 /// Whether some digits begin with a 0 and are more than that.
-fn has_leading_zero(digits: &[u8]) -> bool
+pub(crate) fn has_leading_zero(digits: &[u8]) -> bool
     ensures { IsTrue result ↔ (2 ≤ length digits.now) × (slice_index digits.now 0 ≡ 48) }
 {
     match digits {

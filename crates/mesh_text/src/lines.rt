@@ -1,5 +1,5 @@
 //! A text cut into lines, and a line cut into its fields.
-ghost use Rattle.std.specs.Prelude.{◌≡◌, ◌<◌, ◌≤◌, ◌⊎◌, ◌∷◌, [], Ok, Err, true, false, ◌++◌, length, nat_eq, IfSome, IfOk, IfErr, IsNone, OnOk, OnErr};
+ghost use Rattle.std.specs.Prelude.{◌≡◌, ◌<◌, ◌≤◌, ◌⊎◌, ◌∷◌, [], Ok, Err, true, false, ◌++◌, length, take, nat_eq, IfSome, IfOk, IfErr, IsNone, OnOk, OnErr};
 ghost use Rattle.std.specs.List.{list_all, list_any, slice_split};
 ghost use Rattle.mesh_model.specs.Files.{are_same, header_in, is_empty, is_printable, no_field, one_field, three_fields, two_fields};
 ghost use Rattle.mesh_text.specs.Reading.{IsFaultyLine, line_fields, text_lines, texts};
@@ -39,6 +39,34 @@ fn is_printable(byte: u8) -> bool
 /// LONG_LINE where its first 1,025 bytes hold no line end, CUT where the text ends before it does, and BYTE where one of its bytes
 /// isn't from 20 to 7e.
 pub(crate) fn next_line(text: &[u8]) -> Result<(&[u8], &[u8]), FaultKind>
+    ensures lines { IfOk result (λ pieces. text_lines text.now ≡ pieces.0.now ∷ text_lines pieces.1.now) }
+    ensures short { IfOk result (λ pieces. length pieces.0.now ≤ 1024) }
+    ensures printable { IfOk result (λ pieces. list_all is_printable pieces.0.now ≡ true) }
+    ensures shorter { IfOk result (λ pieces. length pieces.1.now < length text.now) }
+    ensures err { IfErr result (λ kind. IsFaultyLine text.now kind) }
+{
+    let place = printable_front(text);
+    if place <= MOST_LINE_BYTES && place < text.len() && text[place] == b'\n' {
+        return Ok((&text[..place], &text[place + 1..]));
+    }
+    tested_line(text)
+}
+
+/// How many bytes at the front of the text may stand in a line, counted up to 1,025.
+fn printable_front(text: &[u8]) -> usize
+    ensures within { result ≤ length text.now }
+    ensures printable { list_all is_printable (take result text.now) ≡ true }
+{
+    let most = text.len().min(MOST_LINE_BYTES + 1);
+    let mut place = 0;
+    while place < most && is_printable(text[place]) {
+        place += 1;
+    }
+    place
+}
+
+/// The same as `next_line`, which needs it where the line has a fault.
+fn tested_line(text: &[u8]) -> Result<(&[u8], &[u8]), FaultKind>
     ensures lines { IfOk result (λ pieces. text_lines text.now ≡ pieces.0.now ∷ text_lines pieces.1.now) }
     ensures short { IfOk result (λ pieces. length pieces.0.now ≤ 1024) }
     ensures printable { IfOk result (λ pieces. list_all is_printable pieces.0.now ≡ true) }

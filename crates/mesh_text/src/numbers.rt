@@ -1,27 +1,49 @@
 //! Decimal fields.
-ghost use Rattle.std.specs.Prelude.{◌≡◌, ◌≢◌, ◌<◌, ◌≤◌, ◌^◌, ℕ, decimal, IfSome, IfOk, IsNone};
-ghost use Rattle.mesh_model.specs.Files.{cell_in, number_in};
+ghost use Rattle.std.specs.Prelude.{◌≡◌, ◌≢◌, ◌+◌, ◌<◌, ◌≤◌, ◌^◌, ◌⊎◌, ℕ, true, false, decimal, IfSome, IfOk, IsNone};
+ghost use Rattle.std.specs.List.{list_all};
+ghost use Rattle.mesh_model.specs.Files.{cell_in, decimal_value, number_in};
+ghost use Rattle.mesh_text.specs.Reading.{is_decimal_digit};
 
-use itoa::Buffer;
+use crate::hex::has_leading_zero;
 use mesh_model::FaultKind;
-use std::str;
 
 /// The number whose decimal spelling the field is: digits without a leading zero, at most 18446744073709551615.
 fn decimal_of(field: &[u8]) -> Option<u64>
     ensures some { IfSome result (λ number. field.now ≡ decimal number) }
     ensures none { IsNone result → (n : ℕ) → n < 2 ^ 64 → field.now ≢ decimal n }
 {
-    let Ok(text) = str::from_utf8(field) else {
+    if field.is_empty() {
         return None;
-    };
-    let Ok(number) = text.parse::<u64>() else {
+    }
+    if has_leading_zero(field) {
         return None;
-    };
-    let mut spelling = Buffer::new();
-    if spelling.format(number).as_bytes() == field {
-        Some(number)
-    } else {
-        None
+    }
+    let number = digits_value(field)?;
+    Some(number)
+}
+
+/// The value of decimal digits, where they are nothing else and the value fits 64 bits.
+fn digits_value(digits: &[u8]) -> Option<u64>
+    ensures digits { IfSome result (λ value. list_all is_decimal_digit digits.now ≡ true) }
+    ensures value { IfSome result (λ value. value ≡ decimal_value digits.now) }
+    ensures none { IsNone result → (list_all is_decimal_digit digits.now ≡ false) ⊎ (2 ^ 64 ≤ decimal_value digits.now) }
+{
+    let mut value = 0u64;
+    for byte in digits {
+        let next = digit(*byte)?;
+        value = value.checked_mul(10)?.checked_add(u64::from(next))?;
+    }
+    Some(value)
+}
+
+/// The value of a decimal digit.
+fn digit(byte: u8) -> Option<u8>
+    ensures some { IfSome result (λ value. (48 + value ≡ byte) × (is_decimal_digit byte ≡ true)) }
+    ensures none { IsNone result → is_decimal_digit byte ≡ false }
+{
+    match byte {
+        b'0'..=b'9' => Some(byte - b'0'),
+        _ => None,
     }
 }
 

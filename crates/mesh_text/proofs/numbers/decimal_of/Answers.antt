@@ -1,14 +1,25 @@
-use Rattle.std.proofs.Common.{sym, ◌∙◌}
-use Rattle.mesh_text.proofs.Decimals.{no_text, unparsed, spelt_otherwise}
+use Rattle.std.proofs.Common.{◌≤◌, length, arith, inl, inr, sym, ap, ◌∙◌, rules}
+use Rattle.std.specs.Fmt.{decimal}
+use Rattle.std.proofs.lemmas.Bool.{true≢false}
+use Rattle.mesh_text.proofs.Decimals.{digits_spell, no_byte, other_bytes, too_many, zero_first}
 use Rattle.mesh_text.proofs.numbers.decimal_of.Goals as goal
 
-pub returns-in_default-clause-none : goal.returns-in_default-clause-none
-returns-in_default-clause-none c = λ _. no_text c.args.field.now c.in_default.ensures.cases.0
+pub returns-then-is_empty-clause-none : goal.returns-then-is_empty-clause-none
+returns-then-is_empty-clause-none c = λ _. no_byte c.args.field.now (search rules)
 
-pub returns-in_default-parse-clause-none : goal.returns-in_default-parse-clause-none
-returns-in_default-parse-clause-none c = λ _. let parses = rw c.in-Ok.ensures.cases.0 at c.in_default-parse.ensures.value.0 in unparsed c.args.field.now parses
+pub returns-then-has_leading_zero-clause-none : goal.returns-then-has_leading_zero-clause-none
+returns-then-has_leading_zero-clause-none c = λ _.
+    let leads = c.has_leading_zero.ensures.0 c.if-has_leading_zero.true in zero_first c.args.field.now leads.0 leads.1
 
-pub returns-else-eq-clause-none : goal.returns-else-eq-clause-none
-returns-else-eq-clause-none c = λ _. let parses = rw c.in-Ok.ensures.cases.0 at c.in-Ok-parse.ensures.value.0 in
-    let text = c.as_bytes.ensures.value ∙ c.format.ensures.text in
-    spelt_otherwise c.args.field.now c.in-Ok-parse.number parses (rw text at (sym c.if-eq.ensures))
+pub returns-in_err-number-clause-none : goal.returns-in_err-number-clause-none
+returns-in_err-number-clause-none c = λ _. elim (c.in_err-number.ensures.none (search rules)) [
+  | inl other ↦ other_bytes c.args.field.now other
+  | inr large ↦ too_many c.args.field.now large
+]
+
+pub returns-clause-some : goal.returns-clause-some
+returns-clause-some c =
+    let some : 1 ≤ length c.args.field.now = search rules in
+    let spelt = digits_spell c.args.field.now c.in_ok-number.ensures.digits some (λ leads. true≢false (sym (c.has_leading_zero.ensures.1 leads) ∙ c.if-has_leading_zero.false))
+    (omega (arith, c.in_ok-number.ensures.value)) in
+    spelt ∙ ap decimal (sym c.in_ok-number.ensures.value)
