@@ -1,5 +1,5 @@
 pub mod AnsweredCommands
-mod Apart
+pub mod Apart
 mod Chains
 mod CommandLines
 mod FieldReadings
@@ -12,19 +12,19 @@ mod JobHistories
 mod LineReadings
 pub mod MadeObjects
 pub mod Meanings
-mod MeshLists
+pub mod MeshLists
 pub mod NewApart
 pub mod NewObjects
 pub mod OneSlot
 mod Placing
 mod Readings
 pub mod Records
-mod Searches
+pub mod Searches
 mod Seating
 mod Spelling
 pub mod TableChanges
 mod TextReadings
 pub mod TiedMemories
 pub mod TiedNewObjects
-mod TiedTables
+pub mod TiedTables
 mod WholeMeshes

@@ -6,71 +6,95 @@ use Rattle.std.proofs.lemmas.List.{length-append, get_or-drop, get_or-take, get_
 use Rattle.std.proofs.Math.ListN.{get_or-append}
 use Rattle.std.proofs.Math.Nat.{mul-le-mul_left, mod-eq_of_lt, add-mod-mod, add-mod_right, mod-lt}
 use Rattle.std.proofs.lemmas.Bool.{true≢false}
+use Rattle.std.specs.Prelude.{All, is_some}
+use Rattle.std.specs.List.{Contains}
+use Rattle.std.proofs.lemmas.List.Elements.{All-append, All-filter, All-take, All-drop, All-contains_itself, All-nil, All-cons, All-head, All-tail}
+use Rattle.mesh_bits.specs.Bits.{are_meshable, member_count}
 use Rattle.mesh_model.specs.Mesh.{do_overlap}
-use Rattle.mesh_model.specs.Search.{Pairing, split_search, rounds_from, pairs_of_round, tries, are_meshable, turned, unpaired, pairs_group, rotated}
-use Rattle.mesh_model.specs.Table.{Slot, Group, object_count}
-use Rattle.mesh_model.specs.Laws.{AreAllMeshable, times, times_paired}
+use Rattle.mesh_model.specs.Search.{Candidate, Pairing, split_search, rounds_from, pairs_of_round, tries, meshes, turned, unpaired, pairs_group, rotated}
+use Rattle.mesh_model.specs.Table.{Slot}
+use Rattle.mesh_model.specs.Laws.{IsMeshableIn, times, times_paired}
 
--- overlapping is symmetric
-overlap-comm : (xs ys : List (Option Slot)) → do_overlap xs ys ≡ do_overlap ys xs
-overlap-comm [] [] = refl
-overlap-comm [] (y ∷ ys) = refl
-overlap-comm (x ∷ xs) [] = refl
-overlap-comm (Some x ∷ xs) (Some y ∷ ys) = refl
-overlap-comm (Some x ∷ xs) (None ∷ ys) = overlap-comm xs ys
-overlap-comm (None ∷ xs) (Some y ∷ ys) = overlap-comm xs ys
-overlap-comm (None ∷ xs) (None ∷ ys) = overlap-comm xs ys
+-- overlapping is that the sets of the occupied slots are not meshable
+pub overlap_by_sets : (xs ys : List (Option Slot)) → do_overlap xs ys ≡ not (are_meshable (map is_some xs) (map is_some ys))
+overlap_by_sets [] ys = refl
+overlap_by_sets (x ∷ xs) [] = refl
+overlap_by_sets (Some x ∷ xs) (Some y ∷ ys) = refl
+overlap_by_sets (Some x ∷ xs) (None ∷ ys) = overlap_by_sets xs ys
+overlap_by_sets (None ∷ xs) (Some y ∷ ys) = overlap_by_sets xs ys
+overlap_by_sets (None ∷ xs) (None ∷ ys) = overlap_by_sets xs ys
 
-meshable-append : (ps qs : List Pairing) → AreAllMeshable ps → AreAllMeshable qs → AreAllMeshable (ps ++ qs)
-meshable-append [] qs h g = g
-meshable-append (p ∷ ps) qs h g = (h.0, meshable-append ps qs h.1 g)
+-- meshable is symmetric
+meshable-comm : (xs ys : List Bool) → are_meshable xs ys ≡ true → are_meshable ys xs ≡ true
+meshable-comm [] [] h = refl
+meshable-comm [] (y ∷ ys) h = refl
+meshable-comm (x ∷ xs) [] h = refl
+meshable-comm (true ∷ xs) (true ∷ ys) h = h
+meshable-comm (true ∷ xs) (false ∷ ys) h = meshable-comm xs ys h
+meshable-comm (false ∷ xs) (true ∷ ys) h = meshable-comm xs ys h
+meshable-comm (false ∷ xs) (false ∷ ys) h = meshable-comm xs ys h
 
 -- a test is true or false
 tells : (b : Bool) → (b ≡ true) ⊎ (b ≡ false)
 tells true = inl refl
 tells false = inr refl
 
-false-from_not : (b : Bool) → not b ≡ true → b ≡ false
-false-from_not true h = sym h
-false-from_not false h = refl
-
-as_is : Group × Group → Pairing
-as_is pair = record { source = pair.0; destination = pair.1 }
-
-swapped : Group × Group → Pairing
-swapped pair = record { source = pair.1; destination = pair.0 }
-
-either_way : (b : Bool) (pair : Group × Group) (P : Pairing → Type 0) → P (record { source = pair.0; destination = pair.1 })
-    → P (record { source = pair.1; destination = pair.0 })
-    → P (cond b (record { source = pair.0; destination = pair.1 }) (record { source = pair.1; destination = pair.0 }))
+either_way : (b : Bool) (pair : Candidate × Candidate) (P : Pairing → Type 0) → P (record { source = pair.0.number; destination = pair.1.number })
+    → P (record { source = pair.1.number; destination = pair.0.number })
+    → P (cond b (record { source = pair.0.number; destination = pair.1.number }) (record { source = pair.1.number; destination = pair.0.number }))
 either_way true pair P h g = h
 either_way false pair P h g = g
 
--- a meshable try turned is a meshable pair
-turned_meshable : (pair : Group × Group) → are_meshable pair ≡ true → do_overlap (turned pair).source.slots (turned pair).destination.slots ≡ false
-turned_meshable pair h =
-    let apart : do_overlap pair.0.slots pair.1.slots ≡ false = false-from_not (do_overlap pair.0.slots pair.1.slots) h in
-    either_way (nat_lt (object_count pair.0) (object_count pair.1)) pair (λ p. do_overlap p.source.slots p.destination.slots ≡ false) apart
-    (overlap-comm pair.1.slots pair.0.slots ∙ apart)
+-- both of a try are in the order
+abbrev TriedIn : List Candidate → Candidate × Candidate → Type 0
+TriedIn order try = Contains order try.0 × Contains order try.1
 
-tries_meshable : (ts : List (Group × Group)) → AreAllMeshable (map turned (filter are_meshable ts))
-tries_meshable [] = tt
-tries_meshable (t ∷ ts) = elim (tells (are_meshable t)) [
-  | inl mesh ↦ rw mesh (turned_meshable t mesh, tries_meshable ts)
-  | inr other ↦ rw other (tries_meshable ts)
+zip_all : (order gs hs : List Candidate) → All (Contains order) gs → All (Contains order) hs → All (TriedIn order) (zip gs hs)
+zip_all order [] hs a b = All-nil (TriedIn order)
+zip_all order (g ∷ gs) [] a b = All-nil (TriedIn order)
+zip_all order (g ∷ gs) (h ∷ hs) a b =
+    All-cons (TriedIn order) (g, h) (zip gs hs) (All-head (Contains order) g gs a, All-head (Contains order) h hs b)
+    (zip_all order gs hs (All-tail (Contains order) g gs a) (All-tail (Contains order) h hs b))
+
+turned_meshable : (order : List Candidate) (try : Candidate × Candidate) → TriedIn order try → meshes try ≡ true → IsMeshableIn order (turned try)
+turned_meshable order try within h =
+    either_way (nat_lt (member_count try.0.occupied) (member_count try.1.occupied)) try (IsMeshableIn order)
+    (try.0, try.1, within.0, within.1, refl, refl, h)
+    (try.1, try.0, within.1, within.0, refl, refl, meshable-comm try.0.occupied try.1.occupied h)
+
+tries_meshable : (order : List Candidate) (ts : List (Candidate × Candidate)) → All (TriedIn order) ts → All (IsMeshableIn order) (map turned (filter meshes ts))
+tries_meshable order [] h = All-nil (IsMeshableIn order)
+tries_meshable order (t ∷ ts) h = elim (tells (meshes t)) [
+  | inl mesh ↦ rw mesh (All-cons (IsMeshableIn order) (turned t) (map turned (filter meshes ts))
+      (turned_meshable order t (All-head (TriedIn order) t ts h) mesh) (tries_meshable order ts (All-tail (TriedIn order) t ts h)))
+  | inr other ↦ rw other (tries_meshable order ts (All-tail (TriedIn order) t ts h))
 ]
 
 -- the pairs of all rounds are meshable
-pub rounds_meshable : (rounds i : ℕ) (left right : List Group) → AreAllMeshable (rounds_from rounds i left right).pairs
-rounds_meshable zero i left right = tt
-rounds_meshable (suc rounds) i [] right = tt
-rounds_meshable (suc rounds) i (x ∷ left) right =
-    meshable-append (pairs_of_round i (x ∷ left) right)
-    (rounds_from rounds (i + 1) (unpaired (pairs_of_round i (x ∷ left) right) (x ∷ left)) (unpaired (pairs_of_round i (x ∷ left) right) right)).pairs
-    (tries_meshable (tries i (x ∷ left) right))
-    (rounds_meshable rounds (i + 1) (unpaired (pairs_of_round i (x ∷ left) right) (x ∷ left)) (unpaired (pairs_of_round i (x ∷ left) right) right))
+pub rounds_meshable : (order : List Candidate) (rounds i : ℕ) (left right : List Candidate) → All (Contains order) left → All (Contains order) right
+    → All (IsMeshableIn order) (rounds_from rounds i left right).pairs
+rounds_meshable order zero i left right a b = All-nil (IsMeshableIn order)
+rounds_meshable order (suc rounds) i [] right a b = All-nil (IsMeshableIn order)
+rounds_meshable order (suc rounds) i (x ∷ left) right a b =
+    let pairs : List Pairing = pairs_of_round i (x ∷ left) right in
+    let k : ℕ = i % length right in
+    let both : All (TriedIn order) (tries i (x ∷ left) right) = zip_all order (x ∷ left) (rotated k right) a
+    (All-append (Contains order) (drop k right) (take k right) (All-drop (Contains order) k right b) (All-take (Contains order) k right b)) in
+    let stays : Candidate → Bool = λ c. not (list_any (pairs_group c) pairs) in
+    All-append (IsMeshableIn order) pairs (rounds_from rounds (i + 1) (unpaired pairs (x ∷ left)) (unpaired pairs right)).pairs
+    (tries_meshable order (tries i (x ∷ left) right) both)
+    (rounds_meshable order rounds (i + 1) (unpaired pairs (x ∷ left)) (unpaired pairs right)
+    (All-filter stays (Contains order) (x ∷ left) a) (All-filter stays (Contains order) right b))
 
-length-filter : (test : Group → Bool) (gs : List Group) → length (filter test gs) ≤ length gs
+-- the pairs of a search are meshable
+pub search_meshable : (order : List Candidate) (t : ℕ) → All (IsMeshableIn order) (split_search order t).pairs
+search_meshable order t =
+    let own : All (Contains order) order = All-contains_itself order in
+    let half : ℕ = length order / 2 in
+    rounds_meshable order t 0 (take half order) (take half (drop half order)) (All-take (Contains order) half order own)
+    (All-take (Contains order) half (drop half order) (All-drop (Contains order) half order own))
+
+length-filter : (test : Candidate → Bool) (gs : List Candidate) → length (filter test gs) ≤ length gs
 length-filter test [] = omega arith
 length-filter test (g ∷ gs) = elim (test g) as (λ b. length (cond b (g ∷ filter test gs) (filter test gs)) ≤ length (g ∷ gs)) [
   | true ↦ let rest = length-filter test gs in omega (arith, rest)
@@ -78,7 +102,7 @@ length-filter test (g ∷ gs) = elim (test g) as (λ b. length (cond b (g ∷ fi
 ]
 
 -- a round makes a probe for each group of the first list, which never grows
-pub rounds_probes : (rounds i : ℕ) (left right : List Group) → (rounds_from rounds i left right).probes ≤ rounds * length left
+pub rounds_probes : (rounds i : ℕ) (left right : List Candidate) → (rounds_from rounds i left right).probes ≤ rounds * length left
 rounds_probes zero i left right = omega arith
 rounds_probes (suc rounds) i [] right = omega arith
 rounds_probes (suc rounds) i (x ∷ left) right =
@@ -88,27 +112,31 @@ rounds_probes (suc rounds) i (x ∷ left) right =
     = rounds_probes rounds (i + 1) (unpaired pairs (x ∷ left)) (unpaired pairs right) in
     grind (arith, mul-le-mul_left rounds fewer)
 
--- a number's weight at a group
-abbrev weight : ℕ → Group → ℕ
+-- a number counted where it is the one
+abbrev counted : ℕ → ℕ → ℕ
+counted n m = cond (nat_eq m n) 1 0
+
+-- a number's weight at a candidate
+abbrev weight : ℕ → Candidate → ℕ
 weight n group = cond (nat_eq group.number n) 1 0
 
-times-append : (n : ℕ) (gs hs : List Group) → times n (gs ++ hs) ≡ times n gs + times n hs
+times-append : (n : ℕ) (gs hs : List Candidate) → times n (gs ++ hs) ≡ times n gs + times n hs
 times-append n [] hs = sym (zero-add (times n hs))
 times-append n (g ∷ gs) hs = let rest = times-append n gs hs in omega (arith, rest)
 
-times-split : (n k : ℕ) (gs : List Group) → times n (take k gs) + times n (drop k gs) ≡ times n gs
+times-split : (n k : ℕ) (gs : List Candidate) → times n (take k gs) + times n (drop k gs) ≡ times n gs
 times-split n zero gs = zero-add (times n gs)
 times-split n (suc k) [] = omega arith
 times-split n (suc k) (g ∷ gs) = let rest = times-split n k gs in omega (arith, rest)
 
-times-filter : (n : ℕ) (test : Group → Bool) (gs : List Group) → times n (filter test gs) ≤ times n gs
+times-filter : (n : ℕ) (test : Candidate → Bool) (gs : List Candidate) → times n (filter test gs) ≤ times n gs
 times-filter n test [] = omega arith
 times-filter n test (g ∷ gs) = elim (test g) as (λ b. times n (cond b (g ∷ filter test gs) (filter test gs)) ≤ times n (g ∷ gs)) [
   | true ↦ let rest = times-filter n test gs in omega (arith, rest)
   | false ↦ let rest = times-filter n test gs in omega (arith, rest)
 ]
 
-times-rotated : (n k : ℕ) (gs : List Group) → times n (rotated k gs) ≡ times n gs
+times-rotated : (n k : ℕ) (gs : List Candidate) → times n (rotated k gs) ≡ times n gs
 times-rotated n k gs = let parts = times-append n (drop k gs) (take k gs) in let whole = times-split n k gs in omega (arith, parts, whole)
 
 paired-append : (n : ℕ) (ps qs : List Pairing) → times_paired n (ps ++ qs) ≡ times_paired n ps + times_paired n qs
@@ -116,32 +144,32 @@ paired-append n [] qs = sym (zero-add (times_paired n qs))
 paired-append n (p ∷ ps) qs = let rest = paired-append n ps qs in omega (arith, rest)
 
 -- how many of the tries' groups have the number
-abbrev times_tried : ℕ → List (Group × Group) → ℕ
+abbrev times_tried : ℕ → List (Candidate × Candidate) → ℕ
 times_tried n [] = 0
 times_tried n (t ∷ ts) = weight n t.0 + weight n t.1 + times_tried n ts
 
-tried-zip : (n : ℕ) (gs hs : List Group) → times_tried n (zip gs hs) ≤ times n gs + times n hs
+tried-zip : (n : ℕ) (gs hs : List Candidate) → times_tried n (zip gs hs) ≤ times n gs + times n hs
 tried-zip n [] hs = omega arith
 tried-zip n (g ∷ gs) [] = omega arith
 tried-zip n (g ∷ gs) (h ∷ hs) = let rest = tried-zip n gs hs in omega (arith, rest)
 
-turned_weight : (n : ℕ) (t : Group × Group) → weight n (turned t).source + weight n (turned t).destination ≡ weight n t.0 + weight n t.1
-turned_weight n t = either_way (nat_lt (object_count t.0) (object_count t.1)) t
-    (λ p. weight n p.source + weight n p.destination ≡ weight n t.0 + weight n t.1) refl (add_comm (weight n t.1) (weight n t.0))
+turned_weight : (n : ℕ) (t : Candidate × Candidate) → counted n (turned t).source + counted n (turned t).destination ≡ weight n t.0 + weight n t.1
+turned_weight n t = either_way (nat_lt (member_count t.0.occupied) (member_count t.1.occupied)) t
+    (λ p. counted n p.source + counted n p.destination ≡ weight n t.0 + weight n t.1) refl (add_comm (weight n t.1) (weight n t.0))
 
-paired-tries : (n : ℕ) (ts : List (Group × Group)) → times_paired n (map turned (filter are_meshable ts)) ≤ times_tried n ts
+paired-tries : (n : ℕ) (ts : List (Candidate × Candidate)) → times_paired n (map turned (filter meshes ts)) ≤ times_tried n ts
 paired-tries n [] = omega arith
-paired-tries n (t ∷ ts) = elim (tells (are_meshable t)) [
+paired-tries n (t ∷ ts) = elim (tells (meshes t)) [
   | inl mesh ↦ rw mesh (let rest = paired-tries n ts in let same = turned_weight n t in omega (arith, rest, same))
   | inr other ↦ rw other (let rest = paired-tries n ts in omega (arith, rest))
 ]
 
 -- a group that no pair has is in no pair
-unpaired_group : (g : Group) (ps : List Pairing) → list_any (pairs_group g) ps ≡ false → times_paired g.number ps ≡ 0
+unpaired_group : (g : Candidate) (ps : List Pairing) → list_any (pairs_group g) ps ≡ false → times_paired g.number ps ≡ 0
 unpaired_group g [] h = refl
-unpaired_group g (p ∷ ps) h = elim (tells (nat_eq p.source.number g.number)) [
+unpaired_group g (p ∷ ps) h = elim (tells (nat_eq p.source g.number)) [
   | inl is ↦ let clash : true ≡ false = rw is at h in absurd (true≢false clash)
-  | inr source ↦ elim (tells (nat_eq p.destination.number g.number)) [
+  | inr source ↦ elim (tells (nat_eq p.destination g.number)) [
     | inl is ↦ let clash : true ≡ false = rw (source, is) at h in absurd (true≢false clash)
     | inr destination ↦ let rest : list_any (pairs_group g) ps ≡ false = rw (source, destination) at h in
         rw (source, destination) (let none = unpaired_group g ps rest in omega (arith, none))
@@ -149,7 +177,7 @@ unpaired_group g (p ∷ ps) h = elim (tells (nat_eq p.source.number g.number)) [
 ]
 
 -- a number that is paired leaves the lists
-paired_leaves : (n : ℕ) (ps : List Pairing) (gs : List Group) → 0 < times_paired n ps → times n (unpaired ps gs) ≡ 0
+paired_leaves : (n : ℕ) (ps : List Pairing) (gs : List Candidate) → 0 < times_paired n ps → times n (unpaired ps gs) ≡ 0
 paired_leaves n ps [] h = refl
 paired_leaves n ps (g ∷ gs) h = elim (tells (list_any (pairs_group g) ps)) [
   | inl gone ↦ rw gone (paired_leaves n ps gs h)
@@ -160,7 +188,7 @@ paired_leaves n ps (g ∷ gs) h = elim (tells (list_any (pairs_group g) ps)) [
 ]
 
 -- a number is paired at most as often as it is in the lists
-pub rounds_once : (rounds i n : ℕ) (left right : List Group) → times_paired n (rounds_from rounds i left right).pairs ≤ times n left + times n right
+pub rounds_once : (rounds i n : ℕ) (left right : List Candidate) → times_paired n (rounds_from rounds i left right).pairs ≤ times n left + times n right
 rounds_once zero i n left right = omega arith
 rounds_once (suc rounds) i n [] right = omega arith
 rounds_once (suc rounds) i n (x ∷ left) right =
@@ -184,7 +212,7 @@ rounds_once (suc rounds) i n (x ∷ left) right =
     ]
 
 -- and so at most as often as it is in the order
-pub search_once : (order : List Group) (t n : ℕ) → times_paired n (split_search order t).pairs ≤ times n order
+pub search_once : (order : List Candidate) (t n : ℕ) → times_paired n (split_search order t).pairs ≤ times n order
 search_once order t n =
     let half : ℕ = length order / 2 in
     let both = rounds_once t 0 n (take half order) (take half (drop half order)) in
@@ -192,17 +220,17 @@ search_once order t n =
     let rest = times-split n half (drop half order) in
     omega (arith, both, whole, rest)
 
-zip_at : (gs hs : List Group) (j : ℕ) (d : Group) → j < length gs → j < length hs
+pub zip_at : (gs hs : List Candidate) (j : ℕ) (d : Candidate) → j < length gs → j < length hs
     → slice_index_or (zip gs hs) j (d, d) ≡ (slice_index_or gs j d, slice_index_or hs j d)
 zip_at [] hs j d h g = absurd (omega (arith, h))
 zip_at (x ∷ gs) [] j d h g = absurd (omega (arith, g))
 zip_at (x ∷ gs) (y ∷ hs) zero d h g = refl
 zip_at (x ∷ gs) (y ∷ hs) (suc j) d h g = zip_at gs hs j d (omega (arith, h)) (omega (arith, g))
 
-length-rotated : (k : ℕ) (gs : List Group) → length (rotated k gs) ≡ length gs
+pub length-rotated : (k : ℕ) (gs : List Candidate) → length (rotated k gs) ≡ length gs
 length-rotated k gs = length-append (drop k gs) (take k gs) ∙ omega (arith, length-drop k gs, length-take k gs)
 
-rotated_at : (k j : ℕ) (gs : List Group) (d : Group) → k < length gs → j < length gs
+pub rotated_at : (k j : ℕ) (gs : List Candidate) (d : Candidate) → k < length gs → j < length gs
     → slice_index_or (rotated k gs) j d ≡ slice_index_or gs ((j + k) % length gs) d
 rotated_at k j gs d h g = elim (leb_tells (length gs) (j + k)) [
   | inr below ↦ let inside : j < length (drop k gs) = omega (arith, long, below.1, h) in
@@ -220,7 +248,7 @@ rotated_at k j gs d h g = elim (leb_tells (length gs) (j + k)) [
     long = length-drop k gs
 
 -- the tries of a round are those of the index formula
-pub tries_at : (i j : ℕ) (left right : List Group) (d : Group) → length right ≡ length left → j < length left
+pub tries_at : (i j : ℕ) (left right : List Candidate) (d : Candidate) → length right ≡ length left → j < length left
     → slice_index_or (tries i left right) j (d, d) ≡ (slice_index_or left j d, slice_index_or right ((j + i) % length right) d)
 tries_at i j left right d same h =
     let shift : i % length right < length right = mod-lt i (omega (arith, same, h)) in
@@ -231,10 +259,10 @@ tries_at i j left right d same h =
     let at : (j + i % length right) % length right ≡ (j + i) % length right = add-mod-mod j i (length right) in
     let second : slice_index_or (rotated (i % length right) right) j d ≡ slice_index_or right ((j + i) % length right) d
     = turn ∙ ap (λ (n : ℕ). slice_index_or right n d) at in
-    zip_at left (rotated (i % length right) right) j d h (omega (arith, long, inside)) ∙ ap (λ (g : Group). (slice_index_or left j d, g)) second
+    zip_at left (rotated (i % length right) right) j d h (omega (arith, long, inside)) ∙ ap (λ (g : Candidate). (slice_index_or left j d, g)) second
 
 -- a search makes at most a probe a round for each group of the first half
-pub search_probes : (order : List Group) (t : ℕ) → (split_search order t).probes ≤ t * (length order / 2)
+pub search_probes : (order : List Candidate) (t : ℕ) → (split_search order t).probes ≤ t * (length order / 2)
 search_probes order t =
     let half : length (take (length order / 2) order) ≡ length order / 2 = length-take-le (length order / 2) order (omega arith) in
     subst (λ (n : ℕ). (split_search order t).probes ≤ t * n) half

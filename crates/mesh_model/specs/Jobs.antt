@@ -3,7 +3,7 @@ use Rattle.std.specs.Prelude.{ℕ, ◌+◌, Bool, true, false, if◌then◌else�
 use Rattle.mesh_model.specs.Memory.{Memory, empty_memory, next_serial}
 use Rattle.mesh_model.specs.Mesh.{any_mesh, begin, step, cancel, mesh_whole, first_mesh, is_blocked, Stepped}
 use Rattle.mesh_model.specs.Plain.{Named, named_by, plain, Entry}
-use Rattle.mesh_model.specs.Search.{Found, search}
+use Rattle.mesh_model.specs.Search.{Found, search, view_of}
 use Rattle.mesh_model.specs.Table.{Table, Counted, Placed, Report, empty_table, place_new, report_of, sweep, without_object}
 use Rattle.mesh_model.specs.declared.commands.Command.{Command}
 use Rattle.mesh_model.specs.declared.commands.Command.TheVariants.{New, Put, Free, Poke}
@@ -156,7 +156,7 @@ step_answered state (Ok x) = record { answer = StepMade x.kind x.left; state = r
 -- the answer to a line of the plan, and where the job stands after it
 abbrev pub answer : Job → State → Line → Next
 answer job state (RunWorker worker) = run_next job state worker (slice_index_or state.scripts worker [])
-answer job state (PairClass class t words) = told state (PairsFound (search state.table class words t))
+answer job state (PairClass class t words) = told state (PairsFound (search (view_of state.table class) words t))
 answer job state (BeginMesh source destination) = counted state StepsLeft (begin any_mesh state.table source destination)
 answer job state StepMesh = step_answered state (step state.table (first_mesh state.table))
 answer job state CancelMesh = counted state StepsLeft (cancel state.table (first_mesh state.table))

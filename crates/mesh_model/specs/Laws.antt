@@ -1,8 +1,11 @@
 -- What follows from the definitions, and is proved of them.
 use Rattle.std.specs.Prelude.{◌≡◌, ◌↔◌, ℕ, zero, suc, ◌+◌, ◌-◌, ◌*◌, ◌<◌, ◌≤◌, ◌/◌, ◌%◌, min, Bool, true, false, if◌then◌else◌, nat_eq, length, slice_index_or, List, [], ◌∷◌, ◌++◌, Option, Some, None, map, replicate, slice_get, Result, Ok, Err}
+use Rattle.std.specs.Prelude.{All, not, is_some}
+use Rattle.std.specs.List.{Contains}
+use Rattle.mesh_bits.specs.Bits.{are_meshable}
 use Rattle.mesh_model.specs.Memory.{Memory, empty_memory}
 use Rattle.mesh_model.specs.Mesh.{any_mesh, begin, cancelled, step_count, table_after, table_unwound, do_overlap, first_mesh, is_protected, mesh_whole, step}
-use Rattle.mesh_model.specs.Search.{Pairing, split_search, tries}
+use Rattle.mesh_model.specs.Search.{Candidate, Pairing, split_search, tries}
 use Rattle.mesh_model.specs.Seats.{Call, DifferFirstAt, has_stranger, missing_seat}
 use Rattle.mesh_model.specs.Places.{Place, Target, byte_of, holds, meaning, place_of, records_from, with_protection}
 use Rattle.mesh_model.specs.Plain.{plain, PlainStep, IsVacantRange, IsLegal, Entry}
@@ -67,37 +70,42 @@ abbrev pub UnwindsNext : Type 0
 UnwindsNext = (mp s q u j : ℕ) → u < q
     → is_protected mp s (Unwinding q (u + 1)) j ≡ (if nat_eq j u then false else is_protected mp s (Unwinding q u) j)
 
--- no slot number is occupied in both groups of any pair
-abbrev pub AreAllMeshable : List Pairing → Type 0
-AreAllMeshable [] = Unit {0}
-AreAllMeshable (pair ∷ pairs) = (do_overlap pair.source.slots pair.destination.slots ≡ false) × AreAllMeshable pairs
+-- the pair is of two candidates that are in the order, with no common slot number
+abbrev pub IsMeshableIn : List Candidate → Pairing → Type 0
+IsMeshableIn order pair =
+    (x y : Candidate) × Contains order x × Contains order y × (x.number ≡ pair.source) × (y.number ≡ pair.destination)
+    × (are_meshable x.occupied y.occupied ≡ true)
 
 -- the pairs of a search are meshable
 abbrev pub PairsAreMeshable : Type 0
-PairsAreMeshable = (order : List Group) (t : ℕ) → AreAllMeshable (split_search order t).pairs
+PairsAreMeshable = (order : List Candidate) (t : ℕ) → All (IsMeshableIn order) (split_search order t).pairs
+
+-- two groups overlap exactly where their sets of occupied slots are not meshable
+abbrev pub OverlapIsBySets : Type 0
+OverlapIsBySets = (xs ys : List (Option Slot)) → do_overlap xs ys ≡ not (are_meshable (map is_some xs) (map is_some ys))
 
 -- how many of the groups have the number
-abbrev pub times : ℕ → List Group → ℕ
+abbrev pub times : ℕ → List Candidate → ℕ
 times n [] = 0
-times n (group ∷ groups) = (if nat_eq group.number n then 1 else 0) + times n groups
+times n (candidate ∷ candidates) = (if nat_eq candidate.number n then 1 else 0) + times n candidates
 
 -- how many of the pairs' groups have the number
 abbrev pub times_paired : ℕ → List Pairing → ℕ
 times_paired n [] = 0
 times_paired n (pair ∷ pairs) =
-    (if nat_eq pair.source.number n then 1 else 0) + (if nat_eq pair.destination.number n then 1 else 0) + times_paired n pairs
+    (if nat_eq pair.source n then 1 else 0) + (if nat_eq pair.destination n then 1 else 0) + times_paired n pairs
 
 -- no group is in two pairs: a number is paired at most as often as it is in the order
 abbrev pub GroupsPairOnce : Type 0
-GroupsPairOnce = (order : List Group) (t n : ℕ) → times_paired n (split_search order t).pairs ≤ times n order
+GroupsPairOnce = (order : List Candidate) (t n : ℕ) → times_paired n (split_search order t).pairs ≤ times n order
 
 -- at most one probe a round for each group of the first half
 abbrev pub ProbesAreFew : Type 0
-ProbesAreFew = (order : List Group) (t : ℕ) → (split_search order t).probes ≤ t * (length order / 2)
+ProbesAreFew = (order : List Candidate) (t : ℕ) → (split_search order t).probes ≤ t * (length order / 2)
 
 -- round i tries the j-th of the first list with the ((j + i) mod length)-th of the second
 abbrev pub TriesAreIndexed : Type 0
-TriesAreIndexed = (i j : ℕ) (left right : List Group) (d : Group) → length right ≡ length left → j < length left
+TriesAreIndexed = (i j : ℕ) (left right : List Candidate) (d : Candidate) → length right ≡ length left → j < length left
     → slice_index_or (tries i left right) j (d, d) ≡ (slice_index_or left j d, slice_index_or right ((j + i) % length right) d)
 
 -- the table after so many steps of its first mesh, or the refusal

@@ -112,7 +112,7 @@ left_text n = codes "left" ++ number_field n
 
 -- a pair's field: source, colon, destination
 abbrev pub pair_text : Pairing → List ℕ
-pair_text pair = field (decimal pair.source.number ++ codes ":" ++ decimal pair.destination.number)
+pair_text pair = field (decimal pair.source ++ codes ":" ++ decimal pair.destination)
 
 -- a search's line
 abbrev pub found_text : Found → List ℕ

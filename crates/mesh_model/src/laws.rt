@@ -1,5 +1,5 @@
 //! Laws of the definitions. Each is the contract of a function that does nothing: a theorem that other crates may rely on.
-ghost use Rattle.mesh_model.specs.Laws.{PlainIsStep, PlainRefusalIsStep, StepDetermined, LegalGoesOn, LegalHasOneEnd, ProtectsNext, HoldsWhileCopying, UnprotectsNext, CancelHolds, UnwindsNext, TriesAreIndexed, ProbesAreFew, PairsAreMeshable, GroupsPairOnce, WholeIsAllSteps, RefusedByAddresses, PlacesAreByPage, NoObjectMeansNone, ObjectsMeanTheirBytes, SlotsHaveRecords, ObjectsAreHeld, StepsLeaveGroups, UnwindingLeavesGroups, CancelLeavesGroups, ProtectionLeavesPlaces, SeatsAreAll, SwappedSeatsAreMissing, StrangersAreMissing, EntriesHaveSeats, FirstDifferenceIsOne};
+ghost use Rattle.mesh_model.specs.Laws.{PlainIsStep, PlainRefusalIsStep, StepDetermined, LegalGoesOn, LegalHasOneEnd, ProtectsNext, HoldsWhileCopying, UnprotectsNext, CancelHolds, UnwindsNext, TriesAreIndexed, ProbesAreFew, PairsAreMeshable, OverlapIsBySets, GroupsPairOnce, WholeIsAllSteps, RefusedByAddresses, PlacesAreByPage, NoObjectMeansNone, ObjectsMeanTheirBytes, SlotsHaveRecords, ObjectsAreHeld, StepsLeaveGroups, UnwindingLeavesGroups, CancelLeavesGroups, ProtectionLeavesPlaces, SeatsAreAll, SwappedSeatsAreMissing, StrangersAreMissing, EntriesHaveSeats, FirstDifferenceIsOne};
 
 /// What the plain function answers and leaves is a plain step, and so is its refusal.
 pub fn plain_is_step()
@@ -37,6 +37,11 @@ pub fn search_tries()
 pub fn search_pairs()
     ensures meshable { PairsAreMeshable }
     ensures once { GroupsPairOnce }
+{}
+
+/// Two groups overlap exactly where their sets of occupied slots are not meshable.
+pub fn overlap_is_by_sets()
+    ensures { OverlapIsBySets }
 {}
 
 /// A whole mesh is `begin` and all its steps.

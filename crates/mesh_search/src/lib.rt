@@ -1,0 +1,30 @@
+//! The split search: which groups of a class a mesher may pair.
+//!
+//! A `ClassView` has the candidates of one class. `search_one` shuffles them, cuts the order into two lists and tries them against one another in
+//! rounds; `search` makes each round by scoped threads, and gives the same pairs. A contract sees a view as the definition does: its candidates, each
+//! a number and a set of slots.
+#![tactic(auto)]
+
+mod candidate;
+mod gate;
+mod parallel;
+mod parts;
+mod picking;
+mod rounds;
+mod searching;
+mod split;
+mod view;
+
+pub use candidate::{Candidate, Pair};
+pub use gate::{Actor, Gate, NoGate, Point};
+pub use mesh_model::StepKind;
+pub use parallel::SearchError;
+pub use parts::part;
+pub use picking::shuffle;
+pub use rounds::Found;
+pub use searching::search;
+pub use split::search_one;
+pub use view::ClassView;
+
+#[cfg(test)]
+mod tests;
