@@ -1,0 +1,6 @@
+//! How groups lie in memory while meshes run: where each virtual page leads, which pages are read-only, which physical pages are taken, and which
+//! objects are copied, for any running meshes, at most one a class, at any step.
+//!
+//! A crate of definitions (`specs/`) and of lemmas about them (`proofs/`): what each step of a mesh, a cancel, a store, a new object, a free and a
+//! sweep leave of it. It has no code; the heap's contracts will stand on it.
+#![tactic(auto)]
