@@ -1,5 +1,5 @@
 -- What the heap answers a command over cells, and what the plain memory answers it.
-use Rattle.std.proofs.Common.{◌≡◌, ℕ, zero, suc, ◌+◌, ◌-◌, ◌<◌, ◌≤◌, Bool, true, false, List, [], ◌∷◌, ◌++◌, length, replicate, slice_index, slice_index_or, slice_range, slice_set, Option, Some, None, Result, Ok, Err, is_ok, nat_eq, ap, subst, refl, sym, ◌∙◌, arith, ◌⊎◌, inl, inr}
+use Rattle.std.proofs.Common.{◌≡◌, ◌≢◌, ℕ, zero, suc, ◌+◌, ◌-◌, ◌<◌, ◌≤◌, Bool, true, false, List, [], ◌∷◌, ◌++◌, length, replicate, slice_index, slice_index_or, slice_range, slice_set, Option, Some, None, Result, Ok, Err, is_ok, nat_eq, ap, subst, refl, sym, ◌∙◌, arith, ◌⊎◌, inl, inr}
 use Rattle.std.specs.List.{list_any, range_with_len}
 use Rattle.std.specs.Option.{option_map}
 use Rattle.std.proofs.Math.ListN.{get_or-append, get_or-map, length-append, length-set}
@@ -22,10 +22,10 @@ use Rattle.mesh_model.specs.declared.commands.Reply.TheVariants.{Object as Made,
 use Rattle.mesh_model.specs.declared.refusals.Refusal.{Refusal}
 use Rattle.mesh_model.specs.declared.refusals.Refusal.TheVariants.{Empty, Freed, Outside, Stray}
 use Rattle.mesh_mutator.proofs.Chains.{GoAlike, after_same, refused_too, test_same, went_on}
-use Rattle.mesh_mutator.specs.Book.{AreRooted, Cells, IsLooked, IsNamedBy, IsOutcome, IsPerformed, attempt_of, cell_at, is_held_back, memory_in, serial_of, serials_of}
-use Rattle.mesh_mutator.specs.declared.attempts.Attempt.TheVariants.{Done, OutOfMemory}
+use Rattle.mesh_mutator.specs.Book.{AreRooted, Cells, IsAnswered, IsLooked, IsNamedBy, IsOutcome, IsPerformed, KeepsHeap, attempt_of, cell_at, is_held_back, memory_in, serial_of, serials_of}
+use Rattle.mesh_mutator.specs.declared.attempts.Attempt.TheVariants.{Done}
 use Rattle.mesh_steps.specs.Ground.{Ground, bytes_in, table_of, targets_of}
-use Rattle.mesh_steps.specs.Heap.{Heap, IsFree, IsMade, IsStore, IsUnchanged, NeedsSpan, byte_at_address, bytes_at, freed_at, live_records, plain_of, referred, stored_at, stored_at_address}
+use Rattle.mesh_steps.specs.Heap.{Heap, IsFree, IsMade, IsStore, byte_at_address, bytes_at, freed_at, live_records, plain_of, referred, stored_at, stored_at_address}
 use Rattle.mesh_steps.specs.declared.answers.Ref.{Ref}
 use Rattle.mesh_steps.specs.declared.answers.Stored.{Stored}
 use Rattle.mesh_steps.specs.declared.answers.Stored.TheVariants.{Blocked as StoreBlocked, Done as StoreDone, Refused as StoreRefused}
@@ -157,28 +157,55 @@ poke_alike h cells addr byte =
     after_same R (holding (plain_of h) addr) (λ named. Ok (stored (plain_of h) named (addr - named.object.address) (byte ∷ [])))
     (λ named. Ok (ReplyDone, stored (memory_in h cells) named (addr - named.object.address) (byte ∷ []))) (λ named. refl)
 
+-- a reply that is no refusal, taken for one
+pub no_refusal : {A : Type 0} → false ≡ true → A
+no_refusal e = absurd (cc e)
+
+-- a heap that stays as it is keeps what any command leaves
+keeps_same : (command : Command) (h : Heap) → KeepsHeap command h h
+keeps_same (New cell len word) h = tt
+keeps_same (Put cell off bytes) h = tt
+keeps_same (Get cell off len) h = refl
+keeps_same (Free cell) h = (refl, refl)
+keeps_same (Alias to from) h = refl
+keeps_same (Addr cell) h = refl
+keeps_same (Peek addr) h = refl
+keeps_same (Poke addr byte) h = tt
+
+-- a command that is answered with a refusal and changes nothing
+answered_refused : (h h' : Heap) (cells : Cells) (command : Command) (reply : Reply)
+    → IsOutcome h' cells (answered (memory_in h cells) (table_of h.base) command) reply → h' ≡ h → IsAnswered h h' cells cells command reply
+answered_refused h h' cells command reply outcome same = record {
+  outcome = outcome;
+  not_held = held_by_none (memory_in h cells) h.base command reply;
+  refused = λ _. (same, refl);
+  other_cells = λ cell apart. refl;
+  kept = subst (λ (x : Heap). KeepsHeap command h x) (sym same) (keeps_same command h);
+}
+
 -- a store as an attempt at a command that goes on as the store does
 pub store_performed : (h h' : Heap) (cells : Cells) (command : Command) (after : Result Memory Refusal) (addr len : ℕ) (stored : Stored)
     → answered (memory_in h cells) (table_of h.base) command
     ≡ others_answered (memory_in h cells) (table_of h.base) (table_of h.base) (plain (memory_in h cells) 0 command)
     → GoAlike (λ n y. y ≡ (ReplyDone, with_roots n (serials_of cells))) after (plain (memory_in h cells) 0 command)
-    → IsStore h h' after (is_blocked (table_of h.base) addr len) stored → IsPerformed h h' cells cells command (attempt_of stored)
-store_performed h h' cells command after addr len StoreDone is alike store =
-    let on = went_on (λ n y. y ≡ (ReplyDone, with_roots n (serials_of cells))) after (plain (memory_in h cells) 0 command) (plain_of h') alike store.0 in (
-      subst (λ (o : Outcome). IsOutcome h' cells o ReplyDone) (sym is)
+    → KeepsHeap command h h' → IsStore h h' after (is_blocked (table_of h.base) addr len) stored → IsPerformed h h' cells cells command (attempt_of stored)
+store_performed h h' cells command after addr len StoreDone is alike kept store =
+    let on = went_on (λ n y. y ≡ (ReplyDone, with_roots n (serials_of cells))) after (plain (memory_in h cells) 0 command) (plain_of h') alike store.0 in record {
+      outcome = subst (λ (o : Outcome). IsOutcome h' cells o ReplyDone) (sym is)
           (outcome_done h' cells (memory_in h cells) (memory_in h' cells) (table_of h.base) (table_of h.base) ReplyDone (plain (memory_in h cells) 0 command)
-          (on.is ∙ ap (λ (y : Reply × Memory). Ok y) on.related) refl store.2),
-      held_by_none (memory_in h cells) h.base command ReplyDone,
-    )
-store_performed h h' cells command after addr len StoreBlocked is alike store = absurd (blocked_by_none h.base addr len store.1)
-store_performed h h' cells command after addr len (StoreRefused refusal) is alike store =
-    let same : h' ≡ h = store.1 in (
-      subst (λ (o : Outcome). IsOutcome h' cells o (ReplyRefused refusal)) (sym is)
-          (outcome_refused h' cells (memory_in h cells) (table_of h.base) (table_of h.base) refusal (plain (memory_in h cells) 0 command)
-          (refused_too (λ n y. y ≡ (ReplyDone, with_roots n (serials_of cells))) after (plain (memory_in h cells) 0 command) refusal alike store.0)
-          (ap (λ (x : Heap). memory_in x cells) same) (ap (λ (x : Heap). table_of x.base) same)),
-      held_by_none (memory_in h cells) h.base command (ReplyRefused refusal),
-    )
+          (on.is ∙ ap (λ (y : Reply × Memory). Ok y) on.related) refl store.2);
+      not_held = held_by_none (memory_in h cells) h.base command ReplyDone;
+      refused = no_refusal;
+      other_cells = λ cell apart. refl;
+      kept = kept;
+    }
+store_performed h h' cells command after addr len StoreBlocked is alike kept store = absurd (blocked_by_none h.base addr len store.1)
+store_performed h h' cells command after addr len (StoreRefused refusal) is alike kept store =
+    let same : h' ≡ h = store.1 in
+    answered_refused h h' cells command (ReplyRefused refusal) (subst (λ (o : Outcome). IsOutcome h' cells o (ReplyRefused refusal)) (sym is)
+    (outcome_refused h' cells (memory_in h cells) (table_of h.base) (table_of h.base) refusal (plain (memory_in h cells) 0 command)
+    (refused_too (λ n y. y ≡ (ReplyDone, with_roots n (serials_of cells))) after (plain (memory_in h cells) 0 command) refusal alike store.0)
+    (ap (λ (x : Heap). memory_in x cells) same) (ap (λ (x : Heap). table_of x.base) same))) same
 
 -- each object that is live now was live, at the address where it is
 abbrev pub KeepAddresses : Memory → Memory → Type 0
@@ -322,12 +349,15 @@ pub free_performed : (h h' : Heap) (cells : Cells) (cell : ℕ) (object : Ref) �
     → IsPerformed h h' cells cells (Free cell) (Done ReplyDone)
 free_performed h h' cells cell object rooted at free =
     let on = went_on (λ n y. y ≡ (ReplyDone, with_roots n (serials_of cells))) (freed_at (plain_of h) object) (plain (memory_in h cells) 0 (Free cell))
-    (plain_of h') (free_alike h cells cell object rooted at) free.memory in (
-      outcome_done h' cells (memory_in h cells) (memory_in h' cells) (table_of h.base) (table_freed (table_of h.base) (named_by (memory_in h cells) cell))
+    (plain_of h') (free_alike h cells cell object rooted at) free.memory in record {
+      outcome = outcome_done h' cells (memory_in h cells) (memory_in h' cells) (table_of h.base) (table_freed (table_of h.base) (named_by (memory_in h cells) cell))
           ReplyDone (plain (memory_in h cells) 0 (Free cell)) (on.is ∙ ap (λ (y : Reply × Memory). Ok y) on.related) refl
-          (free.table ∙ freed_table (named_is h cells cell object rooted at)),
-      held_by_none (memory_in h cells) h.base (Free cell) ReplyDone,
-    )
+          (free.table ∙ freed_table (named_is h cells cell object rooted at));
+      not_held = held_by_none (memory_in h cells) h.base (Free cell) ReplyDone;
+      refused = no_refusal;
+      other_cells = λ other apart. refl;
+      kept = (free.arena, free.map);
+    }
   where
     named_serial : (r : Result Named Refusal) → referred (plain_of h) object ≡ r → freed_at (plain_of h) object ≡ Ok (plain_of h')
         → without_object (table_of h.base) object.serial ≡ table_freed (table_of h.base) r
@@ -342,14 +372,13 @@ free_performed h h' cells cell object rooted at free =
 -- a free that is refused
 pub free_refused : (h h' : Heap) (cells : Cells) (cell : ℕ) (object : Ref) (refusal : Refusal) → AreRooted h cells → cell_at cells cell ≡ Some object
     → freed_at (plain_of h) object ≡ Err refusal → h' ≡ h → IsPerformed h h' cells cells (Free cell) (Done (ReplyRefused refusal))
-free_refused h h' cells cell object refusal rooted at is same = (
-  outcome_refused h' cells (memory_in h cells) (table_of h.base) (table_freed (table_of h.base) (named_by (memory_in h cells) cell)) refusal
-      (plain (memory_in h cells) 0 (Free cell))
-      (refused_too (λ n y. y ≡ (ReplyDone, with_roots n (serials_of cells))) (freed_at (plain_of h) object) (plain (memory_in h cells) 0 (Free cell)) refusal
-      (free_alike h cells cell object rooted at) is)
-      (ap (λ (x : Heap). memory_in x cells) same) (ap (λ (x : Heap). table_of x.base) same),
-  held_by_none (memory_in h cells) h.base (Free cell) (ReplyRefused refusal),
-)
+free_refused h h' cells cell object refusal rooted at is same = answered_refused h h' cells (Free cell) (ReplyRefused refusal) (
+    outcome_refused h' cells (memory_in h cells) (table_of h.base) (table_freed (table_of h.base) (named_by (memory_in h cells) cell)) refusal
+    (plain (memory_in h cells) 0 (Free cell))
+    (refused_too (λ n y. y ≡ (ReplyDone, with_roots n (serials_of cells))) (freed_at (plain_of h) object) (plain (memory_in h cells) 0 (Free cell)) refusal
+    (free_alike h cells cell object rooted at) is)
+    (ap (λ (x : Heap). memory_in x cells) same) (ap (λ (x : Heap). table_of x.base) same)
+    ) same
 
 -- what a look-up is answered, where the heap gives something, and where it refuses
 looked_done : (h : Heap) (cells : Cells) (command : Command) (reply : Reply) → plain (memory_in h cells) 0 command ≡ Ok (reply, memory_in h cells)
@@ -388,22 +417,20 @@ get_empty h cells cell off len at =
 
 pub put_empty : (h : Heap) (cells : Cells) (cell off : ℕ) (bytes : List ℕ) → cell_at cells cell ≡ None
     → IsPerformed h h cells cells (Put cell off (record { items = bytes })) (Done (ReplyRefused Empty))
-put_empty h cells cell off bytes at = (
-  outcome_refused h cells (memory_in h cells) (table_of h.base) (table_of h.base) Empty
-      (plain (memory_in h cells) 0 (Put cell off (record { items = bytes })))
-      (empty_refused (named_by (memory_in h cells) cell) (λ named. refuse_if Outside (ends_outside named.object off (length bytes)) >>= λ _.
-      Ok (ReplyDone, stored (memory_in h cells) named off bytes)) Empty (named_none h cells cell at)) refl refl,
-  held_by_none (memory_in h cells) h.base (Put cell off (record { items = bytes })) (ReplyRefused Empty),
-)
+put_empty h cells cell off bytes at = answered_refused h h cells (Put cell off (record { items = bytes })) (ReplyRefused Empty) (
+    outcome_refused h cells (memory_in h cells) (table_of h.base) (table_of h.base) Empty
+    (plain (memory_in h cells) 0 (Put cell off (record { items = bytes })))
+    (empty_refused (named_by (memory_in h cells) cell) (λ named. refuse_if Outside (ends_outside named.object off (length bytes)) >>= λ _.
+    Ok (ReplyDone, stored (memory_in h cells) named off bytes)) Empty (named_none h cells cell at)) refl refl
+    ) refl
 
 pub free_empty : (h : Heap) (cells : Cells) (cell : ℕ) → cell_at cells cell ≡ None → IsPerformed h h cells cells (Free cell) (Done (ReplyRefused Empty))
-free_empty h cells cell at = (
-  outcome_refused h cells (memory_in h cells) (table_of h.base) (table_freed (table_of h.base) (named_by (memory_in h cells) cell)) Empty
-      (plain (memory_in h cells) 0 (Free cell))
-      (empty_refused (named_by (memory_in h cells) cell) (λ named. Ok (ReplyDone, with_object (memory_in h cells) named.serial None)) Empty
-      (named_none h cells cell at)) refl refl,
-  held_by_none (memory_in h cells) h.base (Free cell) (ReplyRefused Empty),
-)
+free_empty h cells cell at = answered_refused h h cells (Free cell) (ReplyRefused Empty) (
+    outcome_refused h cells (memory_in h cells) (table_of h.base) (table_freed (table_of h.base) (named_by (memory_in h cells) cell)) Empty
+    (plain (memory_in h cells) 0 (Free cell))
+    (empty_refused (named_by (memory_in h cells) cell) (λ named. Ok (ReplyDone, with_object (memory_in h cells) named.serial None)) Empty
+    (named_none h cells cell at)) refl refl
+    ) refl
 
 -- a `peek`
 pub peek_done : (h : Heap) (cells : Cells) (addr byte : ℕ) → byte_at_address (plain_of h) addr ≡ Ok byte → IsLooked h cells (Peek addr) (Byte byte)
@@ -465,24 +492,32 @@ addr_refused h cells cell refusal is =
 roots_set : (cells : Cells) (cell : ℕ) (object : Ref) → serials_of (slice_set cells cell (Some object)) ≡ slice_set (serials_of cells) cell (Some object.serial)
 roots_set cells cell object = map-set (option_map serial_of) cells cell (Some object)
 
+-- the other cells hold what they held
+other_cell : (cells : Cells) (cell other : ℕ) (object : Ref) → Some cell ≢ Some other
+    → cell_at (slice_set cells cell (Some object)) other ≡ cell_at cells other
+other_cell cells cell other object apart =
+    get_or-set_other cells cell other (Some object) None (λ e. apart (ap (λ (c : ℕ). Some c) (sym e)))
+
 -- an `alias`
 pub alias_done : (h : Heap) (cells : Cells) (to from : ℕ) (object : Ref) → IsNamedBy h cells from object
     → IsPerformed h h cells (slice_set cells to (Some object)) (Alias to from) (Done ReplyDone)
 alias_done h cells to from object is =
     let whole : plain (memory_in h cells) 0 (Alias to from) ≡ Ok (ReplyDone, with_root (memory_in h cells) to object.serial)
-    = ap (λ (n : Result Named Refusal). n >>= λ named. Ok (ReplyDone, with_root (memory_in h cells) to named.serial)) is.named in (
-      outcome_done h (slice_set cells to (Some object)) (memory_in h cells) (with_root (memory_in h cells) to object.serial) (table_of h.base) (table_of h.base)
-          ReplyDone (plain (memory_in h cells) 0 (Alias to from)) whole (ap (λ (rs : List (Option ℕ)). with_roots (plain_of h) rs) (roots_set cells to object)) refl,
-      held_by_none (memory_in h cells) h.base (Alias to from) ReplyDone,
-    )
+    = ap (λ (n : Result Named Refusal). n >>= λ named. Ok (ReplyDone, with_root (memory_in h cells) to named.serial)) is.named in record {
+      outcome = outcome_done h (slice_set cells to (Some object)) (memory_in h cells) (with_root (memory_in h cells) to object.serial) (table_of h.base) (table_of h.base)
+          ReplyDone (plain (memory_in h cells) 0 (Alias to from)) whole (ap (λ (rs : List (Option ℕ)). with_roots (plain_of h) rs) (roots_set cells to object)) refl;
+      not_held = held_by_none (memory_in h cells) h.base (Alias to from) ReplyDone;
+      refused = no_refusal;
+      other_cells = λ other apart. other_cell cells to other object apart;
+      kept = refl;
+    }
 
 pub alias_refused : (h : Heap) (cells : Cells) (to from : ℕ) (refusal : Refusal) → named_by (memory_in h cells) from ≡ Err refusal
     → IsPerformed h h cells cells (Alias to from) (Done (ReplyRefused refusal))
-alias_refused h cells to from refusal is = (
-  outcome_refused h cells (memory_in h cells) (table_of h.base) (table_of h.base) refusal (plain (memory_in h cells) 0 (Alias to from))
-      (empty_refused (named_by (memory_in h cells) from) (λ named. Ok (ReplyDone, with_root (memory_in h cells) to named.serial)) refusal is) refl refl,
-  held_by_none (memory_in h cells) h.base (Alias to from) (ReplyRefused refusal),
-)
+alias_refused h cells to from refusal is = answered_refused h h cells (Alias to from) (ReplyRefused refusal) (
+    outcome_refused h cells (memory_in h cells) (table_of h.base) (table_of h.base) refusal (plain (memory_in h cells) 0 (Alias to from))
+    (empty_refused (named_by (memory_in h cells) from) (λ named. Ok (ReplyDone, with_root (memory_in h cells) to named.serial)) refusal is) refl refl
+    ) refl
 
 -- what a cell holds after one has taken a reference
 cell_set : (cells : Cells) (cell other : ℕ) (object held : Ref) → cell_at (slice_set cells cell (Some object)) other ≡ Some held
@@ -535,14 +570,17 @@ made_performed h h' cells cell len word object is =
     let memory : memory_in h' (slice_set cells cell (Some object)) ≡ made m cell len is.placed.address
     = ap (λ (n : Memory). with_roots n (serials_of (slice_set cells cell (Some object)))) is.memory
     ∙ ap (λ (rs : List (Option ℕ)). with_roots (with_new (plain_of h) len is.placed.address) rs) (roots_set cells cell object)
-    ∙ ap (λ (s : ℕ). with_roots (with_new (plain_of h) len is.placed.address) (slice_set (serials_of cells) cell (Some s))) (is.serial ∙ sym next) in (
-      subst (λ (o : Outcome). IsOutcome h' (slice_set cells cell (Some object)) o (Made object.serial object.addr)) (sym whole) (record {
+    ∙ ap (λ (s : ℕ). with_roots (with_new (plain_of h) len is.placed.address) (slice_set (serials_of cells) cell (Some s))) (is.serial ∙ sym next) in record {
+      outcome = subst (λ (o : Outcome). IsOutcome h' (slice_set cells cell (Some object)) o (Made object.serial object.addr)) (sym whole) (record {
         reply_is = ap (λ (s : ℕ). Made s object.addr) (is.serial ∙ sym next) ∙ ap (λ (a : ℕ). Made (next_serial m) a) is.address;
         memory = memory;
         table = is.table;
-      }),
-      held_by_none m h.base (New cell len word) (Made object.serial object.addr),
-    )
+      });
+      not_held = held_by_none m h.base (New cell len word) (Made object.serial object.addr);
+      refused = no_refusal;
+      other_cells = λ other apart. other_cell cells cell other object apart;
+      kept = tt;
+    }
 
 -- a `new` that the table refuses
 pub new_refused : (h h' : Heap) (cells : Cells) (cell len word : ℕ) (refusal : Refusal) → place_new (table_of h.base) len word h.next_serial ≡ Err refusal
@@ -552,26 +590,14 @@ new_refused h h' cells cell len word refusal is same =
     let t : Table = table_of h.base in
     let whole : answered m t (New cell len word) ≡ record { reply = ReplyRefused refusal; memory = m; table = t }
     = ap (λ (s : ℕ). new_answered m t (New cell len word) (place_new t len word s)) (next_is h cells)
-    ∙ ap (λ (r : Result Placed Refusal). new_answered m t (New cell len word) r) is in (
-      subst (λ (o : Outcome). IsOutcome h' cells o (ReplyRefused refusal)) (sym whole) (record {
-        reply_is = refl;
-        memory = ap (λ (x : Heap). memory_in x cells) same;
-        table = ap (λ (x : Heap). table_of x.base) same;
-      }),
-      held_by_none m h.base (New cell len word) (ReplyRefused refusal),
-    )
-
--- a `new` for which memory was refused
-pub new_without_memory : (h h' : Heap) (cells : Cells) (cell len word : ℕ) → NeedsSpan h len word → IsUnchanged h h'
-    → IsPerformed h h' cells cells (New cell len word) OutOfMemory
-new_without_memory h h' cells cell len word needs same = (needs, record { memory = same.memory (serials_of cells); table = same.table })
-
--- the references are good still where nothing changed
-pub rooted_unchanged : (h h' : Heap) (cells : Cells) → IsUnchanged h h' → AreRooted h cells → AreRooted h' cells
-rooted_unchanged h h' cells same rooted cell object at = (
-  (let below = (rooted cell object at).0 in let next = same.serial in omega (arith, below, next)),
-  λ live is. (rooted cell object at).1 live (ap (λ (m : Memory). object_of m object.serial) (sym (same.memory [])) ∙ is),
-)
+    ∙ ap (λ (r : Result Placed Refusal). new_answered m t (New cell len word) r) is in
+    answered_refused h h' cells (New cell len word) (ReplyRefused refusal) (
+    subst (λ (o : Outcome). IsOutcome h' cells o (ReplyRefused refusal)) (sym whole) (record {
+      reply_is = refl;
+      memory = ap (λ (x : Heap). memory_in x cells) same;
+      table = ap (λ (x : Heap). table_of x.base) same;
+    })
+    ) same
 
 -- the objects with a new one
 object_new : (m : Memory) (len address serial : ℕ) (live : Object) → object_of (with_new m len address) serial ≡ Some live
@@ -620,10 +646,13 @@ pub looked_performed : (h : Heap) (cells : Cells) (command : Command) (reply : R
     → answered (memory_in h cells) (table_of h.base) command
     ≡ others_answered (memory_in h cells) (table_of h.base) (table_of h.base) (plain (memory_in h cells) 0 command)
     → IsLooked h cells command reply → IsPerformed h h cells cells command (Done reply)
-looked_performed h cells command reply is looked = (
-  subst (λ (o : Outcome). IsOutcome h cells o reply) (sym is) (go (plain (memory_in h cells) 0 command) looked),
-  held_by_none (memory_in h cells) h.base command reply,
-)
+looked_performed h cells command reply is looked = record {
+  outcome = subst (λ (o : Outcome). IsOutcome h cells o reply) (sym is) (go (plain (memory_in h cells) 0 command) looked);
+  not_held = held_by_none (memory_in h cells) h.base command reply;
+  refused = λ _. (refl, refl);
+  other_cells = λ cell apart. refl;
+  kept = keeps_same command h;
+}
   where
     go : (r : Result (Reply × Memory) Refusal) → Follows r (memory_in h cells) reply (memory_in h cells)
         → IsOutcome h cells (others_answered (memory_in h cells) (table_of h.base) (table_of h.base) r) reply

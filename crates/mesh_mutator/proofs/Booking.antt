@@ -9,7 +9,6 @@ use Rattle.mesh_model.specs.Plain.{Entry, IsLegal, PlainStep}
 use Rattle.mesh_model.specs.Sound.{IsTied}
 use Rattle.mesh_model.specs.declared.commands.Command.{Command}
 use Rattle.mesh_model.specs.declared.commands.Reply.{Reply}
-use Rattle.mesh_mutator.specs.Attempts.{IsUnrecorded}
 use Rattle.mesh_mutator.specs.Book.{AreRooted, Book, Cells, IsAttempt, IsBook, IsPerformed, memory_in, memory_of_book}
 use Rattle.mesh_mutator.specs.declared.attempts.Attempt.{Attempt}
 use Rattle.mesh_mutator.specs.declared.attempts.Attempt.TheVariants.{Blocked, Done, HistoryFull, OutOfMemory}
@@ -32,6 +31,11 @@ IsTied_roots h cells tied = record {
   objects = tied.objects;
 }
 
+-- a book is known by its heap and cells where the rest is the same
+book_is : (b : Book) (h : Heap) (cells : Cells) → h ≡ b.heap → cells ≡ b.cells
+    → ◌≡◌ {A = Book} (record { heap = h; cells = cells; entries = b.entries; room = b.room }) b
+book_is b h cells same_heap same_cells = rw (same_heap, same_cells) refl
+
 -- a command that was answered and recorded leaves a book
 pub IsBook_answered : (b : Book) (h : Heap) (cells : Cells) (worker : ℕ) (command : Command) (reply : Reply) → AnsweredIsStep → LegalGoesOn → IsHeap b.heap
     → IsBook b → length b.entries < b.room → IsPerformed b.heap h b.cells cells command (Done reply) → AreRooted h cells → length cells ≡ 256
@@ -41,7 +45,7 @@ IsBook_answered b h cells worker command reply steps goes_on heap book short don
     let tied : IsTied m (table_of b.heap.base) = IsTied_roots b.heap b.cells heap.tied in
     let step : PlainStep m command (answered m (table_of b.heap.base) command).reply (answered m (table_of b.heap.base) command).memory
     = steps m (table_of b.heap.base) command heap.sound tied in
-    let outcome = done.0 in
+    let outcome = done.outcome in
     let step' : PlainStep m command reply (memory_in h cells)
     = subst (λ (r : Reply). PlainStep m command r (memory_in h cells)) (sym outcome.reply_is)
     (subst (λ (n : Memory). PlainStep m command (answered m (table_of b.heap.base) command).reply n) (sym outcome.memory) step) in
@@ -60,44 +64,24 @@ pub attempt_answered : (b : Book) (h : Heap) (cells : Cells) (worker : ℕ) (com
     → IsAttempt b (answered_book b h cells (entry_of worker command reply)) worker command attempt
 attempt_answered b h cells worker command reply attempt short is done =
     subst (λ (a : Attempt). IsAttempt b (answered_book b h cells (entry_of worker command reply)) worker command a) (sym is)
-    (let answered = subst (λ (a : Attempt). IsPerformed b.heap h b.cells cells command a) is done in
-    (short, answered.0, answered.1, refl, refl))
+    (record { had_room = short; answered = subst (λ (a : Attempt). IsPerformed b.heap h b.cells cells command a) is done; entries = refl; room = refl })
 
--- an attempt that isn't recorded leaves a book
-pub IsBook_same : (b : Book) (h : Heap) (cells : Cells) → IsBook b → memory_in h cells ≡ memory_of_book b → AreRooted h cells → length cells ≡ 256
-    → h.next_serial ≡ b.heap.next_serial → IsBook (record { heap = h; cells = cells; entries = b.entries; room = b.room })
-IsBook_same b h cells book memory rooted long next = record {
-  cells = long;
-  rooted = rooted;
-  legal = subst (λ (m : Memory). IsLegal b.entries m) (sym memory) book.legal;
-  short = book.short;
-  limit = book.limit;
-  serials = let more = book.serials in omega (arith, more, next);
-}
-
--- what it leaves
-pub unrecorded_memory : (b : Book) (h : Heap) (cells : Cells) (command : Command) (attempt : Attempt) → ((reply : Reply) → attempt ≡ Done reply → ⊥)
-    → IsPerformed b.heap h b.cells cells command attempt → memory_in h cells ≡ memory_of_book b
-unrecorded_memory b h cells command (Done reply) not_done done = absurd (not_done reply refl)
-unrecorded_memory b h cells command Blocked not_done done = done.1.memory
-unrecorded_memory b h cells command HistoryFull not_done done = absurd done
-unrecorded_memory b h cells command OutOfMemory not_done done = done.1.memory
-
--- and that it is unrecorded
-pub unrecorded_is : (attempt : Attempt) → ((reply : Reply) → attempt ≡ Done reply → ⊥) → IsUnrecorded attempt
-unrecorded_is (Done reply) not_done = absurd (not_done reply refl)
-unrecorded_is Blocked not_done = tt
-unrecorded_is HistoryFull not_done = tt
-unrecorded_is OutOfMemory not_done = tt
+-- an attempt that isn't recorded leaves heap and cells as they were
+pub unrecorded_same : (b : Book) (h : Heap) (cells : Cells) (command : Command) (attempt : Attempt) → ((reply : Reply) → attempt ≡ Done reply → ⊥)
+    → IsPerformed b.heap h b.cells cells command attempt → record { heap = h; cells = cells; entries = b.entries; room = b.room } ≡ b
+unrecorded_same b h cells command (Done reply) not_done done = absurd (not_done reply refl)
+unrecorded_same b h cells command Blocked not_done done = book_is b h cells done.1 done.2
+unrecorded_same b h cells command HistoryFull not_done done = absurd done
+unrecorded_same b h cells command OutOfMemory not_done done = book_is b h cells done.1 done.2
 
 -- what it comes to
 pub attempt_unrecorded : (b : Book) (h : Heap) (cells : Cells) (worker : ℕ) (command : Command) (attempt : Attempt) → length b.entries < b.room
     → ((reply : Reply) → attempt ≡ Done reply → ⊥) → IsPerformed b.heap h b.cells cells command attempt
     → IsAttempt b (record { heap = h; cells = cells; entries = b.entries; room = b.room }) worker command attempt
 attempt_unrecorded b h cells worker command (Done reply) short not_done done = absurd (not_done reply refl)
-attempt_unrecorded b h cells worker command Blocked short not_done done = (short, done.0, done.1, refl, refl)
+attempt_unrecorded b h cells worker command Blocked short not_done done = (short, done.0, book_is b h cells done.1 done.2)
 attempt_unrecorded b h cells worker command HistoryFull short not_done done = absurd done
-attempt_unrecorded b h cells worker command OutOfMemory short not_done done = (short, done.0, done.1, refl, refl)
+attempt_unrecorded b h cells worker command OutOfMemory short not_done done = (short, done.0, book_is b h cells done.1 done.2)
 
 -- an attempt with room in the journal doesn't find it full
 pub not_full : (b : Book) (h : Heap) (cells : Cells) (command : Command) (attempt : Attempt) → IsPerformed b.heap h b.cells cells command attempt

@@ -1,8 +1,6 @@
--- Which commands only look, and which attempts leave no trace.
+-- Which commands only look.
 use Rattle.mesh_model.specs.declared.commands.Command.{Command}
 use Rattle.mesh_model.specs.declared.commands.Command.TheVariants.{New, Put, Get, Free, Alias, Addr, Peek, Poke}
-use Rattle.mesh_mutator.specs.declared.attempts.Attempt.{Attempt}
-use Rattle.mesh_mutator.specs.declared.attempts.Attempt.TheVariants.{Done, Blocked, HistoryFull, OutOfMemory}
 use Rattle.std.specs.Prelude.{◌≤◌}
 
 -- the command reads and changes nothing
@@ -15,10 +13,3 @@ IsLook (Alias to from) = ⊥
 IsLook (Addr cell) = Unit {0}
 IsLook (Peek addr) = Unit {0}
 IsLook (Poke addr byte) = ⊥
-
--- the attempt is not recorded
-abbrev pub IsUnrecorded : Attempt → Type 0
-IsUnrecorded (Done reply) = ⊥
-IsUnrecorded Blocked = Unit {0}
-IsUnrecorded HistoryFull = Unit {0}
-IsUnrecorded OutOfMemory = Unit {0}

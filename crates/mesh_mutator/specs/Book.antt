@@ -1,5 +1,5 @@
 -- A book: a heap with its root cells and the journal of what was answered, and what an attempt at a command comes to.
-use Rattle.std.specs.Prelude.{◌≡◌, ℕ, ◌<◌, ◌≤◌, Bool, true, false, if◌then◌else◌, List, [], ◌∷◌, ◌++◌, length, map, slice_index_or, Option, Some, None, Ok, refl}
+use Rattle.std.specs.Prelude.{◌≡◌, ◌≢◌, ℕ, ◌<◌, ◌≤◌, Bool, true, false, if◌then◌else◌, List, [], ◌∷◌, ◌++◌, length, map, slice_index_or, Option, Some, None, Ok, refl}
 use Rattle.std.specs.Option.{option_map}
 use Rattle.std.specs.Coded.{Coded, code_by, coded×, coded_list, coded_option, coded_ℕ}
 use Rattle.mesh_model.specs.Jobs.{Outcome, answered, is_refusal, touches_read_only}
@@ -7,7 +7,7 @@ use Rattle.mesh_model.specs.Memory.{Memory, Object, object_of}
 use Rattle.mesh_model.specs.Plain.{Entry, Follows, IsLegal, named_by, plain}
 use Rattle.mesh_model.specs.Table.{Table}
 use Rattle.mesh_model.specs.declared.commands.Command.{Command}
-use Rattle.mesh_model.specs.declared.commands.Command.TheVariants.{New}
+use Rattle.mesh_model.specs.declared.commands.Command.TheVariants.{Addr, Alias, Free, Get, New, Peek, Poke, Put}
 use Rattle.mesh_model.specs.declared.commands.Reply.{Reply}
 use Rattle.mesh_model.specs.declared.commands.Reply.TheVariants.{Done as ReplyDone, Refused as ReplyRefused}
 use Rattle.mesh_mutator.specs.Codes.{entry_code, ref_code}
@@ -55,25 +55,43 @@ abbrev pub IsNewForSpan : Heap → Command → Type 0
 IsNewForSpan h (New cell len word) = NeedsSpan h len word
 IsNewForSpan h command = ⊥
 
--- nothing that a caller could see has changed
-pub record IsSame (h h' : Heap) (cells cells' : Cells) : Type 0 where
-  pub memory : memory_in h' cells' ≡ memory_in h cells
-  pub table : table_of h'.base ≡ table_of h.base
-
 -- the command is held back by a read-only page, and it isn't refused
 abbrev pub is_held_back : Memory → Table → Command → Reply → Bool
 is_held_back m t command reply = if is_refusal reply then false else touches_read_only m t command
 
+-- the cell in which a command stores a reference
+abbrev pub stored_cell : Command → Option ℕ
+stored_cell (New cell len word) = Some cell
+stored_cell (Alias to from) = Some to
+stored_cell command = None
+
+-- what a command leaves of the heap, whatever it is answered: all of it where it looks or takes a reference, and all pages where it frees
+abbrev pub KeepsHeap : Command → Heap → Heap → Type 0
+KeepsHeap (New cell len word) h h' = Unit {0}
+KeepsHeap (Put cell off bytes) h h' = Unit {0}
+KeepsHeap (Get cell off len) h h' = h' ≡ h
+KeepsHeap (Free cell) h h' = (h'.base.arena ≡ h.base.arena) × (h'.base.map ≡ h.base.map)
+KeepsHeap (Alias to from) h h' = h' ≡ h
+KeepsHeap (Addr cell) h h' = h' ≡ h
+KeepsHeap (Peek addr) h h' = h' ≡ h
+KeepsHeap (Poke addr byte) h h' = Unit {0}
+
+-- what an answered command does to heap and cells: what the definition says, held back by nothing; and where it is refused, nothing
+pub record IsAnswered (h h' : Heap) (cells cells' : Cells) (command : Command) (reply : Reply) : Type 0 where
+  pub outcome : IsOutcome h' cells' (answered (memory_in h cells) (table_of h.base) command) reply
+  pub not_held : is_held_back (memory_in h cells) (table_of h.base) command reply ≡ false
+  pub refused : is_refusal reply ≡ true → (h' ≡ h) × (cells' ≡ cells)
+  pub other_cells : (cell : ℕ) → stored_cell command ≢ Some cell → cell_at cells' cell ≡ cell_at cells cell
+  pub kept : KeepsHeap command h h'
+
 -- what an attempt at a command does to heap and cells
 abbrev pub IsPerformed : Heap → Heap → Cells → Cells → Command → Attempt → Type 0
-IsPerformed h h' cells cells' command (Done reply) =
-    IsOutcome h' cells' (answered (memory_in h cells) (table_of h.base) command) reply
-    × (is_held_back (memory_in h cells) (table_of h.base) command reply ≡ false)
+IsPerformed h h' cells cells' command (Done reply) = IsAnswered h h' cells cells' command reply
 IsPerformed h h' cells cells' command Blocked =
     (is_held_back (memory_in h cells) (table_of h.base) command (answered (memory_in h cells) (table_of h.base) command).reply ≡ true)
-    × IsSame h h' cells cells'
+    × (h' ≡ h) × (cells' ≡ cells)
 IsPerformed h h' cells cells' command HistoryFull = ⊥
-IsPerformed h h' cells cells' command OutOfMemory = IsNewForSpan h command × IsSame h h' cells cells'
+IsPerformed h h' cells cells' command OutOfMemory = IsNewForSpan h command × (h' ≡ h) × (cells' ≡ cells)
 
 -- a book: heap, cells, the answered commands, and how many there is room for
 pub record Book : Type 0 where
@@ -105,21 +123,22 @@ pub record IsBook (b : Book) : Type 0 where
   pub limit : b.room ≤ 65536
   pub serials : b.heap.next_serial ≤ length b.entries
 
+-- an answered command, and its entry, which is the only new one
+pub record IsRecorded (old new : Book) (worker : ℕ) (command : Command) (reply : Reply) : Type 0 where
+  pub had_room : length old.entries < old.room
+  pub answered : IsAnswered old.heap new.heap old.cells new.cells command reply
+  pub entries : new.entries ≡ old.entries ++ record { worker = worker; command = command; reply = reply } ∷ []
+  pub room : new.room ≡ old.room
+
 -- what an attempt of a worker comes to: recorded as it was answered where it is done, else nothing changes
 abbrev pub IsAttempt : Book → Book → ℕ → Command → Attempt → Type 0
-IsAttempt old new worker command (Done reply) =
-    (length old.entries < old.room)
-    × IsOutcome new.heap new.cells (answered (memory_of_book old) (table_of_book old) command) reply
-    × (is_held_back (memory_of_book old) (table_of_book old) command reply ≡ false)
-    × (new.entries ≡ old.entries ++ record { worker = worker; command = command; reply = reply } ∷ []) × (new.room ≡ old.room)
+IsAttempt old new worker command (Done reply) = IsRecorded old new worker command reply
 IsAttempt old new worker command Blocked =
     (length old.entries < old.room)
     × (is_held_back (memory_of_book old) (table_of_book old) command (answered (memory_of_book old) (table_of_book old) command).reply ≡ true)
-    × IsSame old.heap new.heap old.cells new.cells × (new.entries ≡ old.entries) × (new.room ≡ old.room)
+    × (new ≡ old)
 IsAttempt old new worker command HistoryFull = (old.room ≤ length old.entries) × (new ≡ old)
-IsAttempt old new worker command OutOfMemory =
-    (length old.entries < old.room) × IsNewForSpan old.heap command
-    × IsSame old.heap new.heap old.cells new.cells × (new.entries ≡ old.entries) × (new.room ≡ old.room)
+IsAttempt old new worker command OutOfMemory = (length old.entries < old.room) × IsNewForSpan old.heap command × (new ≡ old)
 
 -- what a command is answered that changes nothing
 abbrev pub IsLooked : Heap → Cells → Command → Reply → Type 0

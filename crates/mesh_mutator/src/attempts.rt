@@ -2,7 +2,6 @@
 ghost use Rattle.std.specs.Prelude.{◌≡◌, ◌+◌, ◌-◌, ◌^◌, ◌<◌, ◌≤◌, Err, length, IfOk, IfErr};
 ghost use Rattle.mesh_model.specs.Commands.{IsInRange};
 ghost use Rattle.mesh_model.specs.Plain.{named_by};
-ghost use Rattle.mesh_mutator.specs.Attempts.{IsUnrecorded};
 ghost use Rattle.mesh_mutator.specs.Book.{AreRooted, IsLooked, IsNamedBy, IsPerformed, attempt_of, memory_in};
 
 use crate::roots::Roots;
@@ -32,7 +31,6 @@ pub fn perform(heap: &mut Heap, roots: &mut Roots, command: &Command) -> Attempt
     ensures rooted { AreRooted heap.new roots.new }
     ensures cells { length roots.new ≡ 256 }
     ensures serials { heap.new.next_serial ≤ heap.old.next_serial + 1 }
-    ensures same { IsUnrecorded result → heap.new.next_serial ≡ heap.old.next_serial }
 {
     match command {
         Command::New(cell, len, word) => make(heap, roots, *cell, *len, *word),
@@ -55,7 +53,6 @@ fn make(heap: &mut Heap, roots: &mut Roots, cell: u8, len: u32, word: u64) -> At
     ensures rooted { AreRooted heap.new roots.new }
     ensures cells { length roots.new ≡ 256 }
     ensures serials { heap.new.next_serial ≤ heap.old.next_serial + 1 }
-    ensures same { IsUnrecorded result → heap.new.next_serial ≡ heap.old.next_serial }
 {
     match heap.new(len, word) {
         Ok(object) => {

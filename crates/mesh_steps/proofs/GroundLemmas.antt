@@ -10,9 +10,9 @@ use Rattle.mesh_pagemap.specs.Entries.{Entries, is_mapped, IsMapped, page_of, is
 use Rattle.std.specs.FinMap as map
 use Rattle.mesh_model.specs.Table.{Slot}
 use Rattle.mesh_spans.specs.Index.{Index, IsIndex, SpanEntry, span_at, no_span, address_in, new_group, new_span, with_entry, IsSpan, IsVacant}
-use Rattle.mesh_store.specs.Places.{AreBacked, IsBlocked, IsOpen}
-use Rattle.mesh_steps.specs.Growth.{TakesAll, GivesFirst, MapsFirst}
-use Rattle.mesh_steps.specs.Ground.{IsCovered, IsGround}
+use Rattle.mesh_store.specs.Places.{AreBacked, IsOpen}
+use Rattle.mesh_steps.specs.Growth.{TakesAll, MapsFirst}
+use Rattle.mesh_steps.specs.Ground.{Ground, IsCovered, IsGround}
 use Rattle.mesh_steps.proofs.Layouts.{IsHome_entry, IsHome_grow, IsHome_open}
 
 -- a slot ends within the pages that the slots fill
@@ -129,23 +129,6 @@ IsGround_entry arena map index index' next n k entry same groups ground = record
 free_apart : (arena : Pages) (p q : ℕ) → IsTaken arena p → is_taken arena q ≡ false → q ≢ p
 free_apart arena p q taken free same = let at : is_taken arena p ≡ false = ap (λ (n : ℕ). is_taken arena n) (sym same) ∙ free in cc
 
--- pages taken and given back leave a ground
-pub IsGround_give : (arena taken given : Pages) (map : Entries) (index : Index) (next : ℕ) (pages : List ℕ) → TakesAll arena taken pages
-    → GivesFirst taken given pages (length pages) → IsGround arena map index next → IsGround given map index next
-IsGround_give arena taken given map index next pages takes gives ground = record {
-  some = ground.some;
-  most = ground.most;
-  unused = ground.unused;
-  fresh = ground.fresh;
-  mapped = ground.mapped;
-  taken = λ v mapped. gives.kept (page_of map v)
-      (λ k below. free_apart arena (page_of map v) (slice_index pages k) (ground.taken v mapped) (takes.were_free k below))
-      ∙ takes.kept (page_of map v) (ground.taken v mapped);
-  apart = ground.apart;
-  writable = ground.writable;
-  home = ground.home;
-}
-
 -- a new span's pages, taken and mapped, leave a ground
 pub IsGround_grow : (arena taken : Pages) (map map' : Entries) (index index' : Index) (next end class group : ℕ) (pages : List ℕ)
     → TakesAll arena taken pages → MapsFirst map map' next pages (length pages) → length pages ≡ pages_of class → next + length pages ≡ end → end ≤ 65536
@@ -212,11 +195,8 @@ IsGround_grow arena taken map map' index index' next end class group pages takes
       ]
     ]
 
--- no store is blocked where no page is read-only
-pub not_blocked : (arena : Pages) (map : Entries) (index : Index) (next addr len : ℕ) (b : Bool) → IsGround arena map index next
-    → (IsTrue b → IsBlocked map addr len) → b ≡ false
-not_blocked arena map index next addr len false ground tells = refl
-not_blocked arena map index next addr len true ground tells = absurd (clash (tells refl))
-  where
-    clash : IsBlocked map addr len → ⊥
-    clash blocked = let two : true ≡ false = sym blocked.read_only ∙ ground.writable (blocked.address / 4096) in cc two
+-- a ground is known by its parts
+pub ground_is : (map : Entries) (next : ℕ) (arena arena' : Pages) (index index' : Index) → arena ≡ arena' → index ≡ index'
+    → ◌≡◌ {A = Ground} (record { arena = arena; map = map; index = index; next_page = next })
+    (record { arena = arena'; map = map; index = index'; next_page = next })
+ground_is map next arena arena' index index' same_arena same_index = rw (same_arena, same_index) refl

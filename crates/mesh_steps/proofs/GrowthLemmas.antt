@@ -1,12 +1,13 @@
 -- One page more taken, given or mapped.
-use Rattle.std.proofs.Common.{◌≡◌, ◌≢◌, ℕ, zero, suc, ◌+◌, ◌<◌, ◌≤◌, true, false, List, [], ◌∷◌, ◌++◌, length, slice_index, ap, subst, refl, sym, ◌∙◌, arith, ◌⊎◌, inl, inr}
+use Rattle.std.proofs.Common.{◌≡◌, ◌≢◌, ℕ, suc, ◌+◌, ◌<◌, ◌≤◌, Bool, true, false, List, [], ◌∷◌, ◌++◌, Option, Some, None, is_some, drop, length, set, slice_index, slice_index_or, ap, refl, sym, ◌∙◌, arith, inl, inr}
 use Rattle.std.proofs.Math.ListN.{get_or-append, length-append}
-use Rattle.std.proofs.Math.Seq.{get_or-append_seam}
+use Rattle.std.proofs.Math.Seq.{drop-cons, get_or-append_seam}
 use Rattle.std.proofs.lemmas.Bool.Decides.{eqb_tells, leb_tells}
+use Rattle.std.proofs.lemmas.List.{drop_all, get_or-set_other, set-get_or, set-set, set_comm}
 use Rattle.mesh_arena.specs.Pages.{Pages, is_taken, IsTaken, byte_at, Takes, Gives}
 use Rattle.mesh_pagemap.specs.Entries.{Entries, Maps}
 use Rattle.mesh_pagemap.specs.declared.prot.Prot.TheVariants.{ReadWrite}
-use Rattle.mesh_steps.specs.Growth.{TakesAll, GivesFirst, MapsFirst, AreTaken, AreUnmapped}
+use Rattle.mesh_steps.specs.Growth.{TakesAll, MapsFirst, AreTaken, AreUnmapped, given_back}
 
 -- no page taken
 pub TakesAll_none : (a : Pages) → TakesAll a a []
@@ -72,34 +73,62 @@ TakesAll_more old mid new pages page were takes = record {
       | false ↦ λ e. refl
     ] refl
 
--- no page given
-pub GivesFirst_none : (a : Pages) (pages : List ℕ) → GivesFirst a a pages 0
-GivesFirst_none a pages = record { freed = λ k h. absurd (omega (arith, h)); kept = λ p h. refl; same_bytes = λ p o h. refl; more = omega arith; same_length = refl }
+-- a page that isn't taken has no bytes
+free_content : (a : Pages) (p : ℕ) → is_taken a p ≡ false → slice_index_or a p None ≡ None
+unfolding is_taken
+free_content a p h = elim (slice_index_or a p None) as (λ (o : Option (List ℕ)). slice_index_or a p None ≡ o → o ≡ None) [
+  | None ↦ λ e. refl
+  | Some bytes ↦ λ e. let two : true ≡ false = sym (ap (λ (o : Option (List ℕ)). is_some o) e) ∙ h in cc two
+] refl
 
--- one page more given
-pub GivesFirst_more : (old mid new : Pages) (pages : List ℕ) (n page : ℕ) → slice_index pages n ≡ page → GivesFirst old mid pages n
-    → Gives mid new page → GivesFirst old new pages (n + 1)
-GivesFirst_more old mid new pages n page at were gives = record {
-  freed = λ k h. elim (eqb_tells (slice_index pages k) page) [
-    | inl same ↦ rw same.1 gives.free
-    | inr other ↦ gives.other_pages (slice_index pages k) other.1
-        ∙ were.freed k (elim (eqb_tells k n) [
-          | inl last ↦ absurd (other.1 (ap (λ (i : ℕ). slice_index pages i) last.1 ∙ at))
-          | inr before ↦ let apart = before.1 in omega (arith, h)
-        ])
-  ];
-  kept = λ p h. gives.other_pages p (λ e. h n (omega arith) (at ∙ sym e)) ∙ were.kept p (λ k below. h k (omega (arith, below)));
-  same_bytes = λ p o h. gives.other_bytes p o (λ e. h n (omega arith) (at ∙ sym e)) ∙ were.same_bytes p o (λ k below. h k (omega (arith, below)));
-  more = omega (arith, were.more, gives.more);
-  same_length = gives.same_length ∙ were.same_length;
+-- a free page that is freed stays as it is
+freed_again : (a : Pages) (p : ℕ) (x : Option (List ℕ)) → slice_index_or a p None ≡ None → set (set a p x) p None ≡ a
+freed_again a p x free = set-set a p x None ∙ ap (λ (o : Option (List ℕ)). set a p o) (sym free) ∙ set-get_or a p None
+
+-- a page that was free, whatever it became, is free again after it was given back last
+given_last : (a : Pages) (pages : List ℕ) (page : ℕ) (x : Option (List ℕ)) → slice_index_or a page None ≡ None
+    → given_back (set a page x) (pages ++ page ∷ []) ≡ given_back a pages
+given_last a [] page x free = freed_again a page x free
+given_last a (p ∷ pages) page x free = elim (eqb_tells p page) [
+  | inl same ↦ rw same.1 (ap (λ (b : Pages). given_back b (pages ++ page ∷ [])) (set-set a page x None)
+      ∙ given_last a pages page None free
+      ∙ ap (λ (b : Pages). given_back b pages) (sym (freed_again a page None free) ∙ set-set a page None None))
+  | inr other ↦ ap (λ (b : Pages). given_back b (pages ++ page ∷ [])) (set_comm a page p x None (λ e. other.1 (sym e)))
+      ∙ given_last (set a p None) pages page x (get_or-set_other a p page None None (λ e. other.1 (sym e)) ∙ free)
+]
+
+-- one page more is given back as the others are
+pub given_back_more : (old mid new : Pages) (pages : List ℕ) (page : ℕ) (bytes : List ℕ) → given_back mid pages ≡ old → is_taken mid page ≡ false
+    → new ≡ set mid page (Some bytes) → given_back new (pages ++ page ∷ []) ≡ old
+given_back_more old mid new pages page bytes back free is =
+    ap (λ (a : Pages). given_back a (pages ++ page ∷ [])) is ∙ given_last mid pages page (Some bytes) (free_content mid page free) ∙ back
+
+-- the pages from the n-th on are taken
+pub record AreTakenFrom (a : Pages) (pages : List ℕ) (n : ℕ) : Type 0 where
+  pub each : (k : ℕ) → n ≤ k → k < length pages → IsTaken a (slice_index pages k)
+
+-- the others stay taken where one of them is given
+pub taken_after : (old mid new : Pages) (pages : List ℕ) (n page : ℕ) → AreTaken old pages → slice_index pages n ≡ page → n < length pages
+    → AreTakenFrom mid pages n → Gives mid new page → AreTakenFrom new pages (n + 1)
+taken_after old mid new pages n page taken at below were gives = record {
+  each = λ k from h. gives.other_pages (slice_index pages k)
+      (λ e. taken.apart k n h below (λ same. absurd (omega (arith, same, from))) (e ∙ sym at)) ∙ were.each k (omega (arith, from)) h;
 }
 
--- the next page to give is taken still
-pub next_taken : (old mid : Pages) (pages : List ℕ) (n page : ℕ) → slice_index pages n ≡ page → n < length pages → AreTaken old pages
-    → GivesFirst old mid pages n → IsTaken mid page
-next_taken old mid pages n page at below taken were =
-    were.kept page (λ k h e. taken.apart k n (omega (arith, h, below)) below (λ same. absurd (omega (arith, same, h))) (e ∙ sym at))
-    ∙ subst (λ (p : ℕ). IsTaken old p) at (taken.each n below)
+-- what is left to give after one page more
+pub given_step : (mid new : Pages) (pages : List ℕ) (n page : ℕ) → n < length pages → slice_index pages n ≡ page → new ≡ set mid page None
+    → given_back new (drop (n + 1) pages) ≡ given_back mid (drop n pages)
+given_step mid new pages n page below at is =
+    ap (λ (a : Pages). given_back a (drop (n + 1) pages)) (is ∙ ap (λ (p : ℕ). set mid p None) (sym at))
+    ∙ ap (λ (k : ℕ). given_back (set mid (slice_index pages n) None) (drop k pages)) next
+    ∙ ap (λ (ps : List ℕ). given_back mid ps) (sym (drop-cons pages n 0 below))
+  where
+    next : n + 1 ≡ suc n
+    next = omega arith
+
+-- no page is left to give after the last
+pub given_all : (mid : Pages) (pages : List ℕ) (n : ℕ) → length pages ≤ n → given_back mid (drop n pages) ≡ mid
+given_all mid pages n past = ap (λ (ps : List ℕ). given_back mid ps) (drop_all n pages past)
 
 -- no page mapped
 pub MapsFirst_none : (m : Entries) (first : ℕ) (pages : List ℕ) → AreUnmapped m first → MapsFirst m m first pages 0
@@ -139,31 +168,3 @@ MapsFirst_more old mid new first pages n vpage page at here were maps = record {
   where
     earlier : (k v : ℕ) → k < n + 1 → first + k ≡ v → v ≢ vpage → k < n
     earlier k v h e o = omega (arith, h, e, o, here)
-
--- a page is one of the pages, or none of them
-pub where_in : (pages : List ℕ) (p : ℕ) → ((k : ℕ) × (k < length pages) × (slice_index pages k ≡ p)) ⊎ ((k : ℕ) → k < length pages → slice_index pages k ≢ p)
-where_in [] p = inr (λ k below. absurd (omega (arith, below)))
-where_in (x ∷ pages) p = elim (eqb_tells x p) [
-  | inl same ↦ inl (0, omega arith, same.1)
-  | inr other ↦ elim (where_in pages p) [
-    | inl later ↦ inl (suc later.0, omega (arith, later.1), later.2)
-    | inr none ↦ inr (λ k. elim k as (λ j. j < length (x ∷ pages) → slice_index (x ∷ pages) j ≢ p) [
-      | zero ↦ λ below. other.1
-      | suc j ↦ λ below. none j (omega (arith, below))
-    ])
-  ]
-]
-
--- pages taken and given back are as they were
-pub back_taken : (old taken given : Pages) (pages : List ℕ) → TakesAll old taken pages → GivesFirst taken given pages (length pages) → (p : ℕ)
-    → is_taken given p ≡ is_taken old p
-back_taken old taken given pages takes gives p = elim (where_in pages p) [
-  | inl at ↦ rw (← at.2) (gives.freed at.0 at.1 ∙ sym (takes.were_free at.0 at.1))
-  | inr none ↦ gives.kept p none ∙ takes.others p none
-]
-
--- what was taken holds what it held
-pub back_bytes : (old taken given : Pages) (pages : List ℕ) → TakesAll old taken pages → GivesFirst taken given pages (length pages) → (p o : ℕ)
-    → IsTaken old p → byte_at given p o ≡ byte_at old p o
-back_bytes old taken given pages takes gives p o is = gives.same_bytes p o (λ k below e. different old p (slice_index pages k) is (takes.were_free k below) (sym e))
-    ∙ takes.same_bytes p o is

@@ -33,7 +33,7 @@ use Rattle.mesh_spans.specs.Groups.{first_of, groups_from, groups_of, is_closed,
 use Rattle.mesh_spans.specs.Index.{GroupEntry, Index, IsIndex, SpanEntry, address_in, group_at, span_at}
 use Rattle.mesh_store.specs.Places.{AreBacked, IsBacked, IsOutside, Saves, byte_of as byte_in}
 use Rattle.mesh_steps.proofs.GroundLemmas.{covered_backed, slot_backed}
-use Rattle.mesh_steps.specs.Ground.{Ground, IsAsBefore, IsCovered, IsGround, IsPlace, IsPlaceFault, KeepsBytes, bytes_in, open_group, table_of, targets_of}
+use Rattle.mesh_steps.specs.Ground.{Ground, IsCovered, IsGround, IsPlace, IsPlaceFault, KeepsBytes, bytes_in, open_group, table_of, targets_of}
 use Rattle.mesh_steps.specs.Heap.{Heap, IsFree, IsHeap, IsMade, IsNotMade, IsObjectAt, live_records, memory_of, plain_of, referred}
 use Rattle.mesh_steps.specs.declared.answers.NewFault.{NewFault}
 use Rattle.mesh_steps.specs.declared.answers.NewFault.TheVariants.{Memory as NoMemory, Refused}
@@ -274,6 +274,8 @@ freed_is old new object o heap at same first out = record {
       ∙ ap (λ (m : Memory). Ok m) (sym (freed_memory old new object.addr o heap at out));
   table = freed_table old new object.addr o heap at out ∙ ap (λ (s : ℕ). without_object (table_of old.base) s) same;
   serial = refl;
+  arena = out.arena;
+  map = out.map;
 }
 
 -- each element of a run of zeros is zero
@@ -471,43 +473,10 @@ new_is old mid new class len word span slot addr made = record {
   next = refl;
 }
 
--- nothing but bytes of free pages changed: live bytes stay
-as_before_byte : (old new : Ground) (x : ℕ) → IsAsBefore old new → IsBacked old.arena old.map x
-    → byte_of (targets_of new.map) (bytes_in new.arena) x ≡ byte_of (targets_of old.map) (bytes_in old.arena) x
-as_before_byte old new x same backed = ap (λ (m : Entries). byte_of (targets_of m) (bytes_in new.arena) x) same.map
-    ∙ same.bytes (page_of old.map (x / 4096)) (x % 4096) backed.taken
-
--- nothing but bytes of free pages changed: the table stays
-as_before_table : (old new : Ground) → IsAsBefore old new → table_of new ≡ table_of old
-as_before_table old new same = table_is new (length old.index.spans) old.next_page (free_count old.arena) (groups_of old.index)
-    (ap (λ (i : Index). length i.spans) same.index) same.next_page same.free (ap (λ (i : Index). groups_of i) same.index)
-
--- nothing but bytes of free pages changed: the memory stays
-as_before_memory : (old : Heap) (new : Ground) (roots : List (Option ℕ)) → IsHeap old
-    → IsGround old.base.arena old.base.map old.base.index old.base.next_page → IsIndex old.base.index.spans old.base.index.groups
-    → IsAsBefore old.base new → memory_of (record { base = new; next_serial = old.next_serial }) roots ≡ memory_of old roots
-as_before_memory old new roots heap sound index same =
-    memory_is new old.next_serial (table_of old.base) new.map new.arena roots (as_before_table old.base new same) refl refl
-    ∙ means_kept old.next_serial (live_records old) (targets_of old.base.map) (targets_of new.map) (bytes_in old.base.arena) (bytes_in new.arena) roots
-    (λ s x r found within. as_before_byte old.base new x same (live_backed old.base s x r sound index heap.sound found within))
-
--- nothing but bytes of free pages changed: it is a heap still
-as_before_heap : (old : Heap) (new : Ground) → IsHeap old → IsGround old.base.arena old.base.map old.base.index old.base.next_page
-    → IsIndex old.base.index.spans old.base.index.groups → IsAsBefore old.base new → IsHeap (record { base = new; next_serial = old.next_serial })
-as_before_heap old new heap sound index same = record {
-  sound = subst IsSound (sym (as_before_table old.base new same)) heap.sound;
-  tied = subst (λ (m : Memory). IsTied m (table_of new)) (sym (as_before_memory old new [] heap sound index same))
-      (subst (λ (t : Table). IsTied (plain_of old) t) (sym (as_before_table old.base new same)) heap.tied);
-  calm = λ n. ap (λ (i : Index). is_closed i n) same.index ∙ heap.calm n;
-}
-
 -- where no slot was found, it is a heap still
-pub fault_heap : (old : Heap) (new : Ground) (class : ℕ) (fault : NewFault) → IsHeap old
-    → IsGround old.base.arena old.base.map old.base.index old.base.next_page → IsIndex old.base.index.spans old.base.index.groups
-    → IsPlaceFault old.base new class fault → IsHeap (record { base = new; next_serial = old.next_serial })
-fault_heap old new class (Refused refusal) heap sound index fault =
-    subst (λ (g : Ground). IsHeap (record { base = g; next_serial = old.next_serial })) (sym fault.1.1) heap
-fault_heap old new class NoMemory heap sound index fault = as_before_heap old new heap sound index fault.1.1
+pub fault_heap : (old : Heap) (new : Ground) (class : ℕ) (fault : NewFault) → IsHeap old → IsPlaceFault old.base new class fault
+    → IsHeap (record { base = new; next_serial = old.next_serial })
+fault_heap old new class fault heap is = subst (λ (g : Ground). IsHeap (record { base = g; next_serial = old.next_serial })) (sym is.same) heap
 
 -- where no group of the class is open, a new object is placed in a new span, if there is room for one
 spanned_new : (g : Ground) (len word serial class : ℕ) (room : Result (Unit {0}) Refusal) → class_for len ≡ Some class → 1 ≤ len
@@ -521,27 +490,22 @@ spanned_new g len word serial class room class_is some none is = placed_new g le
     (fresh_group (length g.index.spans) class g.next_page) word serial len)) is)
 
 -- where no slot was found, no object is made
-pub fault_is : (old : Heap) (new : Ground) (class len word : ℕ) (fault : NewFault) → IsHeap old
-    → IsGround old.base.arena old.base.map old.base.index old.base.next_page → IsIndex old.base.index.spans old.base.index.groups
-    → class_for len ≡ Some class → 1 ≤ len → IsPlaceFault old.base new class fault
-    → IsNotMade old (record { base = new; next_serial = old.next_serial }) len word fault
-fault_is old new class len word (Refused refusal) heap sound index class_is some fault = (
-  spanned_new old.base len word old.next_serial class (Err refusal) class_is some fault.0 fault.1.0,
-  ap {B = Heap} (λ (g : Ground). record { base = g; next_serial = old.next_serial }) fault.1.1,
+pub fault_is : (old : Heap) (new : Ground) (class len word : ℕ) (fault : NewFault) → class_for len ≡ Some class → 1 ≤ len
+    → IsPlaceFault old.base new class fault → IsNotMade old (record { base = new; next_serial = old.next_serial }) len word fault
+fault_is old new class len word (Refused refusal) class_is some fault = (
+  spanned_new old.base len word old.next_serial class (Err refusal) class_is some fault.none_open fault.room,
+  ap {B = Heap} (λ (g : Ground). record { base = g; next_serial = old.next_serial }) fault.same,
 )
-fault_is old new class len word NoMemory heap sound index class_is some fault = (
+fault_is old new class len word NoMemory class_is some fault = (
   record {
     class = class;
+    class_is = class_is;
     placed = placed_in (with_span (table_of old.base) class) (fresh_group (length old.base.index.spans) class old.base.next_page) word
         old.next_serial len;
-    placed_is = spanned_new old.base len word old.next_serial class (Ok tt) class_is some fault.0 fault.1.0;
-    none_open = fault.0;
+    placed_is = spanned_new old.base len word old.next_serial class (Ok tt) class_is some fault.none_open fault.room;
+    none_open = fault.none_open;
   },
-  record {
-    memory = λ roots. as_before_memory old new roots heap sound index fault.1.1;
-    table = as_before_table old.base new fault.1.1;
-    serial = refl;
-  },
+  ap {B = Heap} (λ (g : Ground). record { base = g; next_serial = old.next_serial }) fault.same,
 )
 
 -- what holds of a fault holds where it is handed on

@@ -1,14 +1,16 @@
 -- What always holds of a heap.
-use Rattle.std.proofs.Common.{◌≡◌, ℕ, zero, suc, ◌+◌, ◌/◌, ◌%◌, ◌<◌, ◌≤◌, Bool, true, false, ◌||◌, nat_eq, Some, ap, subst, sym, ◌∙◌, arith, inl, inr}
+use Rattle.std.proofs.Common.{◌≡◌, ℕ, zero, suc, ◌+◌, ◌/◌, ◌%◌, ◌<◌, ◌≤◌, Bool, true, false, ◌||◌, nat_eq, Some, ap, subst, refl, sym, ◌∙◌, arith, inl, inr}
 use Rattle.std.specs.List.{list_any, range_with_len}
 use Rattle.std.proofs.lemmas.Bool.Decides.{eqb_tells}
 use Rattle.mesh_arena.specs.Pages.{IsTaken}
 use Rattle.mesh_model.proofs.Holders.{objects_apart}
 use Rattle.mesh_model.specs.MeaningLaws.{IsIn, record_with}
+use Rattle.mesh_model.specs.Mesh.{is_blocked, read_only_pages}
 use Rattle.mesh_model.specs.Places.{Place, Record, place_of}
 use Rattle.mesh_pagemap.specs.Entries.{IsMapped, page_of}
 use Rattle.mesh_spans.specs.Index.{IsIndex}
 use Rattle.mesh_steps.proofs.Objects.{has_in, live_found, live_mapped, live_place}
+use Rattle.mesh_store.specs.Places.{IsOpen}
 use Rattle.mesh_steps.specs.Always.{HasHeldPagesTaken, HasObjectsApart, HasPlacesApart, HasReadOnlyOfMeshes}
 use Rattle.mesh_steps.specs.Ground.{Ground, IsGround, table_of, targets_of}
 use Rattle.mesh_steps.specs.Heap.{Heap, IsHeap, live_records, object_in, plain_of}
@@ -62,3 +64,14 @@ heap_held_taken h heap ground index serial page r is held =
 -- the read-only virtual pages are those of the running meshes: there is neither
 pub heap_read_only : (h : Heap) → IsGround h.base.arena h.base.map h.base.index h.base.next_page → HasReadOnlyOfMeshes h
 heap_read_only h ground v = ground.writable v
+
+-- no number of a run passes a test that each of them fails
+any_false : (test : ℕ → Bool) (a n : ℕ) → ((x : ℕ) → a ≤ x → x < a + n → test x ≡ false) → list_any test (range_with_len a n) ≡ false
+any_false test a zero none = refl
+any_false test a (suc n) none =
+    rw (none a (omega arith) (omega arith)) (any_false test (a + 1) n (λ x low high. none x (omega (arith, low)) (omega (arith, high))))
+
+-- where no touched page is read-only, the table blocks no store
+pub open_is : (h : Heap) (addr len : ℕ) → HasReadOnlyOfMeshes h → IsOpen h.base.map addr len → is_blocked (table_of h.base) addr len ≡ false
+open_is h addr len read_only may = any_false (λ x. list_any (nat_eq (x / 4096)) (read_only_pages (table_of h.base))) addr len
+    (λ x low high. sym (read_only (x / 4096)) ∙ may.each x low high)

@@ -95,15 +95,6 @@ store_is h arena r off bytes heap ground index found fits saves =
 pub store_table : (h : Heap) (arena : Pages) → free_count arena ≡ free_count h.base.arena → table_of (with_arena h arena).base ≡ table_of h.base
 store_table h arena same = rw same refl
 
--- nothing of none is any
-none_any : (a n : ℕ) → list_any (λ (x : ℕ). false) (range_with_len a n) ≡ false
-none_any a zero = refl
-none_any a (suc n) = none_any (a + 1) n
-
--- where no mesh is running, no store is blocked
-pub calm_open : (g : Ground) (addr len : ℕ) → is_blocked (table_of g) addr len ≡ false
-calm_open g addr len = none_any addr len
-
 -- a store in an object of this serial and address
 pub stored_in_is : (h : Heap) (serial address off len : ℕ) (bytes : List ℕ) → IsHeap h
     → record_with serial (live_records h) ≡ Some (live_record serial address len) → off + length bytes ≤ len
@@ -189,11 +180,11 @@ ground_same a m m' i i' n n' x y z = rw (x, y, z) refl
 pub stored_whole : (h : Heap) (g : Ground) (serial address off : ℕ) (bytes : List ℕ) → IsHeap h
     → IsGround h.base.arena h.base.map h.base.index h.base.next_page → IsIndex h.base.index.spans h.base.index.groups
     → IsLiveFor h serial address (off + length bytes) → g.map ≡ h.base.map → g.index ≡ h.base.index → g.next_page ≡ h.base.next_page
-    → Saves h.base.arena g.arena h.base.map (address + off) bytes
+    → is_blocked (table_of h.base) (address + off) (length bytes) ≡ false → Saves h.base.arena g.arena h.base.map (address + off) bytes
     → IsHeap (record { base = g; next_serial = h.next_serial })
     × IsStore h (record { base = g; next_serial = h.next_serial }) (stored_in h serial address off bytes)
     (is_blocked (table_of h.base) (address + off) (length bytes)) Done
-stored_whole h g serial address off bytes heap ground index live map same next saves =
+stored_whole h g serial address off bytes heap ground index live map same next open_ saves =
     let whole : record h.base { arena = g.arena } ≡ g
     = ground_same g.arena h.base.map g.map h.base.index g.index h.base.next_page g.next_page (sym map) (sym same) (sym next) in
     let r : Record = live_record serial address live.len in
@@ -203,7 +194,7 @@ stored_whole h g serial address off bytes heap ground index live map same next s
     × IsStore h (record { base = x; next_serial = h.next_serial }) (stored_in h serial address off bytes)
     (is_blocked (table_of h.base) (address + off) (length bytes)) Done) whole (
       IsHeap_stored h g.arena r off bytes heap ground index live.recorded live.enough saves,
-      (done ∙ ap (λ (m : Memory). Ok m) (sym memory), calm_open h.base (address + off) (length bytes), store_table h g.arena saves.same_free, refl),
+      (done ∙ ap (λ (m : Memory). Ok m) (sym memory), open_, store_table h g.arena saves.same_free, refl),
     )
 
 -- a part of a live object is covered by its slot

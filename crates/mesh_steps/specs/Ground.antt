@@ -1,11 +1,12 @@
 -- Physical pages, page map and span index together, and how they change as objects come and go.
-use Rattle.std.specs.Prelude.{◌≡◌, ◌≢◌, ℕ, ◌+◌, ◌<◌, ◌≤◌, false, [], find, length, Option, None, Ok, Err, refl}
+use Rattle.std.specs.Prelude.{◌≡◌, ◌≢◌, ℕ, ◌+◌, ◌<◌, ◌≤◌, false, [], find, length, Option, None, Result, Ok, Err, refl}
 use Rattle.std.specs.Coded.{Coded, code_by, coded×, coded_ℕ, coded_list, coded_option}
 use Rattle.std.specs.FinMap as map
 use Rattle.mesh_arena.specs.Pages.{Pages, IsTaken, byte_at, free_count, is_taken}
 use Rattle.mesh_class.specs.Classes.{pages_of, slots_of}
 use Rattle.mesh_model.specs.Places.{Place, Target}
 use Rattle.mesh_model.specs.Table.{Group, Table, is_open, place_in, placed_in, room_for_span, with_span}
+use Rattle.mesh_model.specs.declared.refusals.Refusal.{Refusal}
 use Rattle.mesh_steps.specs.declared.answers.NewFault.{NewFault}
 use Rattle.mesh_steps.specs.declared.answers.NewFault.TheVariants.{Memory, Refused}
 use Rattle.mesh_pagemap.specs.Entries.{Entries, IsMapped, entry_code, is_mapped, is_read_only, page_of}
@@ -93,15 +94,6 @@ pub record KeepsBytes (old new : Ground) : Type 0 where
   pub pages : (v : ℕ) → IsMapped old.map v → page_of new.map v ≡ page_of old.map v
   pub bytes : (p o : ℕ) → IsTaken old.arena p → byte_at new.arena p o ≡ byte_at old.arena p o
 
--- nothing but bytes of free pages changed
-pub record IsAsBefore (old new : Ground) : Type 0 where
-  pub map : new.map ≡ old.map
-  pub index : new.index ≡ old.index
-  pub next_page : new.next_page ≡ old.next_page
-  pub free : free_count new.arena ≡ free_count old.arena
-  pub taken : (p : ℕ) → is_taken new.arena p ≡ is_taken old.arena p
-  pub bytes : (p o : ℕ) → IsTaken old.arena p → byte_at new.arena p o ≡ byte_at old.arena p o
-
 -- the lowest open group of the class
 abbrev pub open_group : Ground → ℕ → Option Group
 open_group g class = find (is_open (table_of g) class) (groups_of g.index)
@@ -127,11 +119,18 @@ pub record IsFreshSpan (old new : Ground) (class span : ℕ) : Type 0 where
   pub closed : (n : ℕ) → is_closed old.index n ≡ false → is_closed new.index n ≡ false
   pub kept : KeepsBytes old new
 
--- why no span was added: there is no room for it and nothing changed, or memory was refused and the pages that it took are free again
-abbrev pub IsSpanFault : Ground → Ground → ℕ → NewFault → Type 0
-IsSpanFault old new class (Refused refusal) = (room_for_span (table_of old) class ≡ Err refusal) × (new ≡ old)
-IsSpanFault old new class Memory = (room_for_span (table_of old) class ≡ Ok tt) × IsAsBefore old new
+-- what room there is for a span where none was added: none, or room for which memory was refused
+abbrev pub room_at : NewFault → Result (Unit {0}) Refusal
+room_at (Refused refusal) = Err refusal
+room_at Memory = Ok tt
 
--- why no slot was found: a new span is needed, and it can't be had
-abbrev pub IsPlaceFault : Ground → Ground → ℕ → NewFault → Type 0
-IsPlaceFault old new class fault = (open_group old class ≡ None) × IsSpanFault old new class fault
+-- why no span was added: there is no room for it, or memory was refused; nothing changed
+pub record IsSpanFault (old new : Ground) (class : ℕ) (fault : NewFault) : Type 0 where
+  pub room : room_for_span (table_of old) class ≡ room_at fault
+  pub same : new ≡ old
+
+-- why no slot was found: a new span is needed, and it can't be had; nothing changed
+pub record IsPlaceFault (old new : Ground) (class : ℕ) (fault : NewFault) : Type 0 where
+  pub none_open : open_group old class ≡ None
+  pub room : room_for_span (table_of old) class ≡ room_at fault
+  pub same : new ≡ old

@@ -1,6 +1,7 @@
 -- A heap: pages, page map and index with the next serial, the plain memory that it stands for, and what its calls do to both.
 use Rattle.std.specs.Prelude.{◌≡◌, ℕ, ◌+◌, ◌-◌, ◌<◌, ◌≤◌, Bool, true, false, not, nat_eq, List, [], ◌∷◌, length, Option, Some, None, Result, Ok, Err, IsOk, slice_index, slice_range, refl}
 use Rattle.std.specs.Coded.{Coded, code_by, coded×, coded_ℕ}
+use Rattle.mesh_model.specs.Classes.{class_for}
 use Rattle.mesh_model.specs.MeaningLaws.{record_with, with_new}
 use Rattle.mesh_model.specs.Memory.{Memory, Object, object_of, with_object}
 use Rattle.mesh_model.specs.Places.{Record, meaning, object_at, records_of}
@@ -80,11 +81,13 @@ IsStore old new after blocked Done =
 IsStore old new after blocked Blocked = IsOk after × (blocked ≡ true) × (new ≡ old)
 IsStore old new after blocked (Refused refusal) = (after ≡ Err refusal) × (new ≡ old)
 
--- what a free comes to
+-- what a free comes to: the object is gone, and its bytes and all pages stay
 pub record IsFree (old new : Heap) (object : Ref) : Type 0 where
   pub memory : freed_at (plain_of old) object ≡ Ok (plain_of new)
   pub table : table_of new.base ≡ without_object (table_of old.base) object.serial
   pub serial : new.next_serial ≡ old.next_serial
+  pub arena : new.base.arena ≡ old.base.arena
+  pub map : new.base.map ≡ old.base.map
 
 -- what a new object comes to: it stands where the table places it, and holds zeros
 pub record IsMade (old new : Heap) (len word : ℕ) (object : Ref) : Type 0 where
@@ -96,23 +99,18 @@ pub record IsMade (old new : Heap) (len word : ℕ) (object : Ref) : Type 0 wher
   pub memory : plain_of new ≡ with_new (plain_of old) len placed.address
   pub next : new.next_serial ≡ old.next_serial + 1
 
--- a new object needs a new span: no group of its class is open
+-- a new object needs a new span, for which there is room: no group of its class, which its length tells, is open
 pub record NeedsSpan (old : Heap) (len word : ℕ) : Type 0 where
   pub class : ℕ
+  pub class_is : class_for len ≡ Some class
   pub placed : Placed
   pub placed_is : place_new (table_of old.base) len word old.next_serial ≡ Ok placed
   pub none_open : open_group old.base class ≡ None
 
--- nothing that a caller could see has changed
-pub record IsUnchanged (old new : Heap) : Type 0 where
-  pub memory : (roots : List (Option ℕ)) → memory_of new roots ≡ memory_of old roots
-  pub table : table_of new.base ≡ table_of old.base
-  pub serial : new.next_serial ≡ old.next_serial
-
--- why no object was made: the table refuses it and nothing changed, or the memory for a new span was refused
+-- why no object was made, and nothing changed: the table refuses it, or the memory for a new span was refused
 abbrev pub IsNotMade : Heap → Heap → ℕ → ℕ → NewFault → Type 0
 IsNotMade old new len word (NewRefused refusal) = (place_new (table_of old.base) len word old.next_serial ≡ Err refusal) × (new ≡ old)
-IsNotMade old new len word NoMemory = NeedsSpan old len word × IsUnchanged old new
+IsNotMade old new len word NoMemory = NeedsSpan old len word × (new ≡ old)
 
 -- the object in whose slot an address is, by its record
 pub record IsObjectAt (h : Heap) (addr : ℕ) (o : Occupied) : Type 0 where

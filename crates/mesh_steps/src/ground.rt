@@ -1,12 +1,13 @@
 //! `Ground`: physical pages, page map and span index together, without serials or meaning.
-ghost use Rattle.std.specs.Prelude.{◌≡◌, ℕ, ◌+◌, ◌<◌, ◌≤◌, Some, map, replicate, length, false, slice_get, slice_index, IfOk, IfErr, IfSome, IsSome, IsSomeAnd};
+ghost use Rattle.std.specs.Prelude.{◌≡◌, ℕ, ◌+◌, ◌<◌, ◌≤◌, ◌↔◌, Some, map, replicate, length, IsTrue, slice_get, slice_index, IfOk, IfErr, IfSome, IsSome, IsSomeAnd};
+ghost use Rattle.std.specs.Bool.{OnFalse};
 ghost use Rattle.mesh_arena.specs.Pages.{run_of};
 ghost use Rattle.mesh_class.specs.Classes.{slots_of};
 ghost use Rattle.mesh_model.specs.MeaningLaws.{emptied_at};
 ghost use Rattle.mesh_model.specs.Table.{changed_at, empty_table, slot_address, with_object_in};
 ghost use Rattle.mesh_spans.specs.Groups.{groups_of, is_closed};
 ghost use Rattle.mesh_spans.specs.Index.{GroupEntry, IsIndex, IsVacant, address_in, group_at, record_at, span_at};
-ghost use Rattle.mesh_store.specs.Places.{AreBacked, IsOpen, Saves, byte_of};
+ghost use Rattle.mesh_store.specs.Places.{AreBacked, IsBlocked, IsOpen, Saves, byte_of};
 ghost use Rattle.mesh_steps.specs.Ground.{IsCalm, IsCovered, IsFreshSpan, IsGround, IsInSlotOf, IsPlace, IsPlaceFault, IsSpanFault, table_of};
 
 use crate::answers::{NewFault, Occupied};
@@ -186,14 +187,16 @@ impl Ground {
     pub fn blocked(&self, addr: u32, len: u32) -> bool
         requires some { 1 ≤ len }
         requires covered { IsCovered self.now.index addr len }
-        ensures { result ≡ false }
+        ensures blocked { IsTrue result ↔ IsBlocked self.now.map addr len }
+        ensures open { OnFalse result (IsOpen self.now.map addr len) }
     {
         self.store.blocked(addr, len)
     }
 
-    /// Lets addresses of one slot hold these bytes.
+    /// Lets addresses of one slot hold these bytes, where a store to them isn't blocked.
     pub fn save(&mut self, addr: u32, bytes: &[u8])
         requires some { 1 ≤ length bytes.now }
+        requires writable { IsOpen self.old.map addr (length bytes.now) }
         requires covered { IsCovered self.old.index addr (length bytes.now) }
         ensures map { self.new.map ≡ self.old.map }
         ensures index { self.new.index ≡ self.old.index }

@@ -1,7 +1,7 @@
 //! Physical pages for a new span.
 ghost use Rattle.std.specs.Prelude.{◌≡◌, ◌+◌, ◌<◌, ◌≤◌, length};
 ghost use Rattle.mesh_arena.specs.Pages.{free_count};
-ghost use Rattle.mesh_steps.specs.Growth.{TakesAll, GivesFirst, MapsFirst, AreTaken, AreUnmapped};
+ghost use Rattle.mesh_steps.specs.Growth.{TakesAll, MapsFirst, AreTaken, AreUnmapped, given_back};
 
 use arrayvec::ArrayVec;
 use mesh_arena::{Arena, Page};
@@ -14,6 +14,7 @@ pub fn take_pages(arena: &mut Arena, count: u32) -> ArrayVec<Page, MAX_SPAN_PAGE
     requires room { count ≤ free_count arena.old }
     ensures count { length result.items ≡ count }
     ensures taken { TakesAll arena.old arena.new result.items }
+    ensures back { given_back arena.new result.items ≡ arena.old }
 {
     let mut pages = ArrayVec::new();
     'pages: for _taken in 0..count {
@@ -26,7 +27,7 @@ pub fn take_pages(arena: &mut Arena, count: u32) -> ArrayVec<Page, MAX_SPAN_PAGE
 /// Gives taken pages back.
 pub fn give_pages(arena: &mut Arena, pages: &[Page])
     requires { AreTaken arena.old pages.now }
-    ensures { GivesFirst arena.old arena.new pages.now (length pages.now) }
+    ensures { arena.new ≡ given_back arena.old pages.now }
 {
     for page in pages {
         arena.give(*page);

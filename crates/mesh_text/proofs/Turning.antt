@@ -141,12 +141,12 @@ turn_taken job state book book' places script worker command attempt at is here 
     go : (attempt : Attempt) (commands : List Command) → slice_index_or state.scripts worker [] ≡ command ∷ commands → IsAttempt book book' worker command attempt
         → HasMemory attempt → IsNextAt job (answer job state (RunWorker worker)) book' (passed_by attempt places worker) (given_to attempt)
     go (Done reply) commands left done some =
-        let outcome = done.1 in
+        let outcome = done.answered.outcome in
         let same : answered (memory_of_book book) (table_of_book book) command ≡ answered state.memory state.table command
         = outcome_at (memory_of_book book) state.memory (table_of_book book) state.table command at.memory at.table in
-        let free = held_at state (memory_of_book book) (table_of_book book) command reply false at.memory at.table outcome.reply_is done.2 in
+        let free = held_at state (memory_of_book book) (table_of_book book) command reply false at.memory at.table outcome.reply_is done.answered.not_held in
         let whole : answer job state (RunWorker worker) ≡ attempted state worker command false (answered state.memory state.table command)
-        = ap (λ cs. run_next job state worker cs) left ∙ open_room commands false done.0 free in
+        = ap (λ cs. run_next job state worker cs) left ∙ open_room commands false done.had_room free in
         let reply_is : reply ≡ (answered state.memory state.table command).reply = outcome.reply_is ∙ ap (λ (o : Outcome). o.reply) same in
         subst (λ next. IsNextAt job next book' (passed_by (Done reply) places worker) (Replied reply)) (sym whole)
         (record {
@@ -154,9 +154,9 @@ turn_taken job state book book' places script worker command attempt at is here 
           at = record {
             memory = outcome.memory ∙ ap (λ (o : Outcome). o.memory) same;
             table = outcome.table ∙ ap (λ (o : Outcome). o.table) same;
-            entries = done.3 ∙ ap (λ (xs : List Entry). xs ++ record { worker = worker; command = command; reply = reply } ∷ []) at.entries
+            entries = done.entries ∙ ap (λ (xs : List Entry). xs ++ record { worker = worker; command = command; reply = reply } ∷ []) at.entries
                 ∙ ap (λ (r : Reply). state.entries ++ record { worker = worker; command = command; reply = r } ∷ []) reply_is;
-            room = done.4 ∙ at.room;
+            room = done.room ∙ at.room;
             workers = length-set state.scripts worker (later_commands (slice_index_or state.scripts worker [])) ∙ at.workers;
             scripts = replied_scripts job state book places script worker command (later_commands (slice_index_or state.scripts worker [])) at is here long below refl;
           };
@@ -165,19 +165,8 @@ turn_taken job state book book' places script worker command attempt at is here 
         let held = held_at state (memory_of_book book) (table_of_book book) command (answered (memory_of_book book) (table_of_book book) command).reply true at.memory at.table refl done.1 in
         let whole : answer job state (RunWorker worker) ≡ attempted state worker command true (answered state.memory state.table command)
         = ap (λ cs. run_next job state worker cs) left ∙ open_room commands true done.0 held in
-        let same = done.2 in
         subst (λ next. IsNextAt job next book' places Blocked) (sym whole)
-        (record {
-          answer_is = refl;
-          at = record {
-            memory = same.memory ∙ at.memory;
-            table = same.table ∙ at.table;
-            entries = done.3 ∙ at.entries;
-            room = done.4 ∙ at.room;
-            workers = at.workers;
-            scripts = at.scripts;
-          };
-        })
+        (record { answer_is = refl; at = subst (λ b. IsAt job state b places) (sym done.2) at })
     go NoRoom commands left done some =
         let whole : answer job state (RunWorker worker) ≡ record { answer = JournalFull; state = state }
         = ap (λ cs. run_next job state worker cs) left ∙ full true (no_room done.0) commands in

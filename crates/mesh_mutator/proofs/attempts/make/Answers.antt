@@ -1,7 +1,7 @@
-use Rattle.std.proofs.Common.{sym, subst}
+use Rattle.std.proofs.Common.{refl, sym, subst}
 use Rattle.mesh_mutator.specs.Book.{AreRooted}
 use Rattle.mesh_steps.specs.Heap.{Heap}
-use Rattle.mesh_mutator.proofs.Answering.{made_performed, made_rooted, new_refused, new_without_memory, rooted_unchanged}
+use Rattle.mesh_mutator.proofs.Answering.{made_performed, made_rooted, new_refused}
 use Rattle.mesh_mutator.proofs.attempts.make.Goals as goal
 
 pub returns-in-Ok-clause-performed : goal.returns-in-Ok-clause-performed
@@ -26,9 +26,9 @@ returns-in-Err-Refused-clause-rooted c =
 pub returns-in-Err-Memory-clause-performed : goal.returns-in-Err-Memory-clause-performed
 returns-in-Err-Memory-clause-performed c =
     let fault = rw c.in-Err-Memory.field-0-is at c.in-Err-Memory.ensures.fault in
-    new_without_memory c.args.heap.now c.new.new.self c.args.roots.now c.args.cell c.args.len c.args.word fault.0 fault.1
+    (fault.0, fault.1, refl)
 
 pub returns-in-Err-Memory-clause-rooted : goal.returns-in-Err-Memory-clause-rooted
 returns-in-Err-Memory-clause-rooted c =
     let fault = rw c.in-Err-Memory.field-0-is at c.in-Err-Memory.ensures.fault in
-    rooted_unchanged c.args.heap.now c.new.new.self c.args.roots.now fault.1 c.requires.rooted
+    subst (λ (h : Heap). AreRooted h c.args.roots.now) (sym fault.1) c.requires.rooted

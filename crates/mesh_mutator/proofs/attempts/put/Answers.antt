@@ -11,7 +11,7 @@ returns-in-Some-clause-performed c =
     rw c.stored.ensures (store_performed c.args.heap.now c.write.new.self c.args.roots.now (Put c.args.cell c.args.off (record { items = c.args.bytes.now }))
     (stored_at (plain_of c.args.heap.now) c.in-Some.object c.args.off c.args.bytes.now) (c.in-Some.object.addr + c.args.off) (length c.args.bytes.now)
     c.write.result refl
-    (put_alike c.args.heap.now c.args.roots.now c.args.cell c.args.off c.args.bytes.now c.in-Some.object c.requires.rooted at) c.write.ensures)
+    (put_alike c.args.heap.now c.args.roots.now c.args.cell c.args.off c.args.bytes.now c.in-Some.object c.requires.rooted at) tt c.write.ensures)
 
 pub returns-in-Some-clause-rooted : goal.returns-in-Some-clause-rooted
 returns-in-Some-clause-rooted c =

@@ -1,11 +1,14 @@
-use Rattle.std.proofs.Common.{arith}
-use Rattle.mesh_arena.specs.Pages.{Takes}
-use Rattle.mesh_steps.proofs.GrowthLemmas.{TakesAll_more}
+use Rattle.std.proofs.Common.{◌≡◌, Some, arith, slice_set}
+use Rattle.mesh_arena.specs.Pages.{Takes, blank_page}
+use Rattle.mesh_steps.proofs.GrowthLemmas.{TakesAll_more, given_back_more}
 use Rattle.mesh_steps.proofs.growth.take_pages.Goals as goal
 
 pub pages-preserved : goal.pages-preserved
 pages-preserved c =
-    let takes : Takes c.pages.arena c.take.new.self c.unwrap-page.result = rw c.unwrap-page.ensures at c.take.ensures.takes in (
+    let takes : Takes c.pages.arena c.take.new.self c.unwrap-page.result = rw c.unwrap-page.ensures at c.take.ensures.takes in
+    let taken : c.take.new.self ≡ slice_set c.pages.arena c.unwrap-page.result (Some blank_page) = rw c.unwrap-page.ensures at c.take.ensures.taken in (
       omega (arith, c.push.ensures.len, c.pages.invariant.0),
       rw c.push.ensures.items (TakesAll_more c.args.arena.now c.pages.arena c.take.new.self c.pages.pages.items c.unwrap-page.result c.pages.invariant.1 takes),
+      rw c.push.ensures.items (given_back_more c.args.arena.now c.pages.arena c.take.new.self c.pages.pages.items c.unwrap-page.result blank_page
+          c.pages.invariant.2 takes.was_free taken),
     )

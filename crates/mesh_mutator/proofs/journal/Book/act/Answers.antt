@@ -1,6 +1,7 @@
-use Rattle.std.proofs.Common.{◌≡◌, ◌<◌, ◌++◌, ◌∷◌, [], length, arith}
+use Rattle.std.proofs.Common.{◌≡◌, ◌<◌, ◌++◌, ◌∷◌, [], length, subst, sym, arith}
 use Rattle.std.proofs.lemmas.Grind.{common_steps}
-use Rattle.mesh_mutator.proofs.Booking.{IsBook_answered, IsBook_same, attempt_answered, attempt_unrecorded, entry_of, not_full, unrecorded_is, unrecorded_memory}
+use Rattle.mesh_mutator.proofs.Booking.{IsBook_answered, attempt_answered, attempt_unrecorded, entry_of, not_full, unrecorded_same}
+use Rattle.mesh_mutator.specs.Book.{Book, IsBook}
 use Rattle.mesh_mutator.proofs.journal.Book.act.Goals as goal
 
 pub invariant_of-self : goal.invariant_of-self
@@ -40,14 +41,10 @@ returns-in-Done c =
 
 pub invariant_of-self-in_default : goal.invariant_of-self-in_default
 invariant_of-self-in_default c =
-    let done = c.perform-attempt.ensures.performed in
-    let memory = unrecorded_memory (record { heap = c.self.inside.heap; cells = c.self.inside.roots; entries = c.self.inside.journal.items; room = c.self.inside.reserved }) c.perform-attempt.new.heap
-    c.perform-attempt.new.roots c.args.command.now c.perform-attempt.result c.in_default.not-Done done in (
-      IsBook_same (record { heap = c.self.inside.heap; cells = c.self.inside.roots; entries = c.self.inside.journal.items; room = c.self.inside.reserved }) c.perform-attempt.new.heap c.perform-attempt.new.roots
-          c.self.invariant.0 memory c.perform-attempt.ensures.rooted c.perform-attempt.ensures.cells
-          (c.perform-attempt.ensures.same (unrecorded_is c.perform-attempt.result c.in_default.not-Done)),
-      c.self.invariant.1,
-    )
+    let same = unrecorded_same (record { heap = c.self.inside.heap; cells = c.self.inside.roots; entries = c.self.inside.journal.items; room = c.self.inside.reserved })
+    c.perform-attempt.new.heap c.perform-attempt.new.roots c.args.command.now c.perform-attempt.result c.in_default.not-Done
+    c.perform-attempt.ensures.performed in
+    (subst (λ (b : Book). IsBook b) (sym same) c.self.invariant.0, c.self.invariant.1)
 
 pub returns-in_default : goal.returns-in_default
 returns-in_default c =

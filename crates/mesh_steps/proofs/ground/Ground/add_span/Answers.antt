@@ -1,10 +1,9 @@
 use Rattle.std.proofs.Common.{◌≡◌, ℕ, List, ◌+◌, ◌≤◌, length, ap, subst, refl, ◌∙◌, arith}
 use Rattle.mesh_arena.specs.Pages.{free_count}
 use Rattle.mesh_class.specs.Classes.{pages_of}
-use Rattle.mesh_steps.specs.Growth.{GivesFirst, MapsFirst}
+use Rattle.mesh_steps.specs.Growth.{MapsFirst, given_back}
 use Rattle.mesh_steps.specs.Ground.{table_of}
-use Rattle.mesh_steps.proofs.GroundLemmas.{IsGround_give, IsGround_grow}
-use Rattle.mesh_steps.proofs.GrowthLemmas.{back_bytes, back_taken}
+use Rattle.mesh_steps.proofs.GroundLemmas.{IsGround_grow, ground_is}
 use Rattle.mesh_steps.proofs.Placing.{IsFreshSpan_added, room_is}
 use Rattle.mesh_steps.proofs.ground.Ground.add_span.Goals as goal
 
@@ -23,12 +22,10 @@ invariant_of-self c =
 
 pub invariant_of-self-in-Err : goal.invariant_of-self-in-Err
 invariant_of-self-in-Err c =
-    let pages : List ℕ = c.take_pages-pages.result.items in
-    let gives : GivesFirst c.take_pages-pages.new.arena c.give_pages.new.arena pages (length pages)
-    = subst (λ (ps : List ℕ). GivesFirst c.take_pages-pages.new.arena c.give_pages.new.arena ps (length ps)) c.as_slice-in-Err.ensures.value
-    c.give_pages.ensures in
-    rw c.in-Err.ensures.err (IsGround_give c.self.inside.store.arena c.take_pages-pages.new.arena c.give_pages.new.arena c.self.inside.store.map
-    c.self.inside.spans c.self.inside.next_page pages c.take_pages-pages.ensures.taken gives c.self.invariant)
+    let back : c.give_pages.new.arena ≡ c.self.inside.store.arena
+    = c.give_pages.ensures ∙ ap (λ (ps : List ℕ). given_back c.take_pages-pages.new.arena ps) c.as_slice-in-Err.ensures.value
+    ∙ c.take_pages-pages.ensures.back in
+    rw (back, c.in-Err.ensures.err) c.self.invariant
 
 pub returns-in-Ok-clause-ok : goal.returns-in-Ok-clause-ok
 returns-in-Ok-clause-ok c =
@@ -49,24 +46,18 @@ pub returns-in-Err-clause-err : goal.returns-in-Err-clause-err
 returns-in-Err-clause-err c =
     let pages : List ℕ = c.take_pages-pages.result.items in
     let count : length pages ≡ pages_of c.args.class = c.take_pages-pages.ensures.count ∙ c.pages-count.ensures.value in
-    let gives : GivesFirst c.take_pages-pages.new.arena c.give_pages.new.arena pages (length pages)
-    = subst (λ (ps : List ℕ). GivesFirst c.take_pages-pages.new.arena c.give_pages.new.arena ps (length ps)) c.as_slice-in-Err.ensures.value
-    c.give_pages.ensures in
+    let back : c.give_pages.new.arena ≡ c.self.inside.store.arena
+    = c.give_pages.ensures ∙ ap (λ (ps : List ℕ). given_back c.take_pages-pages.new.arena ps) c.as_slice-in-Err.ensures.value
+    ∙ c.take_pages-pages.ensures.back in
     let last : c.self.inside.next_page + pages_of c.args.class ≤ 65536 = omega (arith, c.pages-count.ensures.value, c.self.invariant.most) in
     let room : pages_of c.args.class ≤ free_count c.self.inside.store.arena = omega (arith, c.pages-count.ensures.value, c.free_pages.ensures) in
-    rw (← c.self.view_is) (
-      room_is (table_of (record {
+    rw (← c.self.view_is) (record {
+      room = room_is (table_of (record {
         arena = c.self.inside.store.arena;
         map = c.self.inside.store.map;
         index = c.self.inside.spans;
         next_page = c.self.inside.next_page;
-      })) c.args.class room last,
-      record {
-        map = refl;
-        index = c.in-Err.ensures.err;
-        next_page = refl;
-        free = omega (arith, c.take_pages-pages.ensures.taken.fewer, gives.more);
-        taken = back_taken c.self.inside.store.arena c.take_pages-pages.new.arena c.give_pages.new.arena pages c.take_pages-pages.ensures.taken gives;
-        bytes = back_bytes c.self.inside.store.arena c.take_pages-pages.new.arena c.give_pages.new.arena pages c.take_pages-pages.ensures.taken gives;
-      },
-    )
+      })) c.args.class room last;
+      same = ground_is c.self.inside.store.map c.self.inside.next_page c.give_pages.new.arena c.self.inside.store.arena c.add_span.new.self
+          c.self.inside.spans back c.in-Err.ensures.err;
+    })

@@ -22,7 +22,8 @@ returns-in_err-span-in-None-clause-err c =
     let none : open_group c.args.self.now c.args.class ≡ None = sym (open_is c.args.self.now c.args.class c.requires)
     ∙ subst (λ (g : Ground). find (takes_objects (is_closed g.index) c.args.class) (groups_of g.index) ≡ None) c.self.view_is c.in-None.ensures.none in
     handed_on c.from_residual.result c.in_err-span-in-None.field-0.0 (IsPlaceFault c.args.self.now c.add_span.new.self c.args.class)
-    c.from_residual.ensures.1 (none, c.in_err-span-in-None.ensures.err)
+    c.from_residual.ensures.1
+    (record { none_open = none; room = c.in_err-span-in-None.ensures.err.room; same = c.in_err-span-in-None.ensures.err.same })
 
 pub returns-in_ok-span-in-None-clause-ok : goal.returns-in_ok-span-in-None-clause-ok
 returns-in_ok-span-in-None-clause-ok c =

@@ -5,7 +5,7 @@ use Rattle.mesh_steps.proofs.heap.Heap.new.Goals as goal
 pub invariant_of-self : goal.invariant_of-self
 invariant_of-self c =
     fault_heap (record { base = c.self.inside.base; next_serial = c.self.inside.next_serial }) c.place.new.self c.in_ok-class.class
-    c.in_err-span.field-0.0 c.self.invariant c.sound.ensures.pages c.sound.ensures.index c.in_err-span.ensures.err
+    c.in_err-span.field-0.0 c.self.invariant c.in_err-span.ensures.err
 
 pub returns-in_err-span-clause-fault : goal.returns-in_err-span-clause-fault
 returns-in_err-span-clause-fault c =
@@ -13,8 +13,8 @@ returns-in_err-span-clause-fault c =
     let new : Heap = record { base = c.place.new.self; next_serial = c.self.inside.next_serial } in
     rw (← c.self.view_is) (handed_on c.from_residual-in_err-span.result c.in_err-span.field-0.0 (IsNotMade heap new c.args.len c.args.word)
     c.from_residual-in_err-span.ensures.1
-    (fault_is heap c.place.new.self c.in_ok-class.class c.args.len c.args.word c.in_err-span.field-0.0 c.self.invariant c.sound.ensures.pages
-    c.sound.ensures.index c.in_ok-class.ensures.least c.in_ok-class.ensures.some c.in_err-span.ensures.err))
+    (fault_is heap c.place.new.self c.in_ok-class.class c.args.len c.args.word c.in_err-span.field-0.0 c.in_ok-class.ensures.least
+    c.in_ok-class.ensures.some c.in_err-span.ensures.err))
 
 pub invariant_of-self-2 : goal.invariant_of-self-2
 invariant_of-self-2 c =
