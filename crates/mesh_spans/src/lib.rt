@@ -1,7 +1,7 @@
 //! The span index: which virtual spans there are, which group each belongs to, and the record of every object.
 //!
 //! A span is a run of virtual pages of one size class, cut into slots. A group is one physical span with the virtual spans that are
-//! mapped to it, its members. A contract sees the index as two lists: the spans with their slot records, and the groups.
+//! mapped to it, its members. A contract sees the index as two lists: the spans, and the groups with what stands in their slots.
 #![tactic(auto)]
 
 mod extent;
