@@ -11,3 +11,4 @@ pub mod Always
 pub mod Ground
 pub mod Heap
 pub mod Layout
+pub mod Progress
