@@ -409,6 +409,17 @@ member_class index spans groups n place group e sound at within =
     let member = sound.members n place group (ap (λ (xs : List (Option GroupEntry)). group_at xs n) gs ∙ at) within in
     ap (λ (xs : List SpanEntry). (span_at xs (slice_index group.members place)).class) (sym ss) ∙ member.same_class
 
+-- and its group is this one
+pub member_there : (index : Index) (spans : List SpanEntry) (groups : List (Option GroupEntry)) (n place : ℕ) (group : GroupEntry)
+    → record { spans = spans; groups = groups } ≡ index → IsIndex spans groups → group_at index.groups n ≡ Some group → place < length group.members
+    → group_at index.groups (span_at index.spans (slice_index group.members place)).group ≡ Some group
+member_there index spans groups n place group e sound at within =
+    let gs : groups ≡ index.groups = ap (λ (x : Index). x.groups) e in
+    let ss : spans ≡ index.spans = ap (λ (x : Index). x.spans) e in
+    let member = sound.members n place group (ap (λ (xs : List (Option GroupEntry)). group_at xs n) gs ∙ at) within in
+    ap (λ (m : ℕ). group_at index.groups m)
+    (ap (λ (xs : List SpanEntry). (span_at xs (slice_index group.members place)).group) (sym ss) ∙ member.same_group) ∙ at
+
 -- what a slot named so holds
 named_is : (member serial len : ℕ) (o : Option Slot) → named_in member o ≡ Some (serial, len)
     → o ≡ Some (record { member = member; serial = serial; len = len })

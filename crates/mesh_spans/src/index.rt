@@ -235,10 +235,11 @@ impl Spans {
         group.object_of(extent.first(), slot)
     }
 
-    /// The span, the slot and the offset in the slot of an address. None only where the address is in no member of a group.
+    /// The span, the slot and the offset in the slot of an address. None exactly where the address is in no member of a group.
     pub fn find(&self, addr: u32) -> Option<(Span, Slot, u32)>
         ensures span { IfSome result (λ r. r.0 < length self.now.spans) }
         ensures sound { IfSome result (λ r. IsSpan (span_at self.now.spans r.0)) }
+        ensures live { IfSome result (λ r. IsSome (group_at self.now.groups (span_at self.now.spans r.0).group)) }
         ensures slot { IfSome result (λ r. r.1 < slots_of (span_at self.now.spans r.0).class) }
         ensures offset { IfSome result (λ r. r.2 < (span_at self.now.spans r.0).class) }
         ensures address { IfSome result (λ r. address_in (span_at self.now.spans r.0) r.1 + r.2 ≡ addr) }
@@ -248,7 +249,9 @@ impl Spans {
             → IsFoundAt self.now n (slice_index group.members place) k o result }
     {
         let span = owner_of(self.owners.as_slice(), addr)?;
-        let (slot, offset) = self.spans.get(span.index())?.find(addr)?;
+        let extent = self.spans.get(span.index())?;
+        self.group(extent.group())?;
+        let (slot, offset) = extent.find(addr)?;
         Some((span, slot, offset))
     }
 
