@@ -7,7 +7,7 @@ use Rattle.mesh_model.specs.Memory.{Memory, empty_memory}
 use Rattle.mesh_model.specs.Mesh.{any_mesh, begin, cancelled, step_count, table_after, table_unwound, do_overlap, first_mesh, is_protected, mesh_whole, step}
 use Rattle.mesh_model.specs.Search.{Candidate, Pairing, split_search, tries}
 use Rattle.mesh_model.specs.Seats.{Call, DifferFirstAt, has_stranger, missing_seat}
-use Rattle.mesh_model.specs.Places.{Place, Target, byte_of, holds, meaning, place_of, records_from, with_protection}
+use Rattle.mesh_model.specs.Places.{Place, Record, Target, byte_of, holds, meaning, place_of, records_from, with_protection}
 use Rattle.mesh_model.specs.Plain.{plain, PlainStep, IsVacantRange, IsLegal, Entry}
 use Rattle.mesh_model.specs.Words.{◌>>=◌}
 use Rattle.mesh_model.specs.Classes.{pages_of}
@@ -48,6 +48,10 @@ LegalGoesOn = (entries : List Entry) (m n : Memory) (entry : Entry)
 abbrev pub LegalHasOneEnd : Type 0
 LegalHasOneEnd = (entries : List Entry) (m n : Memory) → IsLegal entries m → IsLegal entries n → m ≡ n
 
+-- where no step was made no page is read-only
+abbrev pub StartsWritable : Type 0
+StartsWritable = (mp s j : ℕ) → is_protected mp s (Made 0) j ≡ false
+
 -- the page that the step after d steps changes: the d-th to be protected, or the one to be unprotected
 abbrev pub ProtectsNext : Type 0
 ProtectsNext = (mp s d j : ℕ) → d < mp → is_protected mp s (Made (d + 1)) j ≡ (if nat_eq j d then true else is_protected mp s (Made d) j)
@@ -61,6 +65,10 @@ abbrev pub UnprotectsNext : Type 0
 UnprotectsNext = (mp s d j : ℕ) → 2 * mp + s ≤ d → d < 3 * mp + s
     → is_protected mp s (Made (d + 1)) j ≡ (if nat_eq j (d - (2 * mp + s)) then false else is_protected mp s (Made d) j)
 
+-- from the last unprotect on no page is read-only, whatever is released
+abbrev pub ReleasesWritable : Type 0
+ReleasesWritable = (mp s d j : ℕ) → 3 * mp + s ≤ d → is_protected mp s (Made d) j ≡ false
+
 -- a cancel changes no page's protection
 abbrev pub CancelHolds : Type 0
 CancelHolds = (mp s d j : ℕ) → d ≤ mp + s → is_protected mp s (Unwinding (min d mp) 0) j ≡ is_protected mp s (Made d) j
@@ -69,6 +77,10 @@ CancelHolds = (mp s d j : ℕ) → d ≤ mp + s → is_protected mp s (Unwinding
 abbrev pub UnwindsNext : Type 0
 UnwindsNext = (mp s q u j : ℕ) → u < q
     → is_protected mp s (Unwinding q (u + 1)) j ≡ (if nat_eq j u then false else is_protected mp s (Unwinding q u) j)
+
+-- where all unprotects of a cancelled mesh were made no page is read-only
+abbrev pub UnwoundIsWritable : Type 0
+UnwoundIsWritable = (mp s q j : ℕ) → is_protected mp s (Unwinding q q) j ≡ false
 
 -- the pair is of two candidates that are in the order, with no common slot number
 abbrev pub IsMeshableIn : List Candidate → Pairing → Type 0
@@ -169,6 +181,11 @@ SlotsHaveRecords = (class : ℕ) (slot : Slot) → records_from class 0 (None �
 abbrev pub ObjectsAreHeld : Type 0
 ObjectsAreHeld = (read_only : Bool) → map (λ page. holds (λ v. record { page = v; read_only = read_only }) page
     (record { serial = 0; address = 8191; len = 2 })) (0 ∷ 1 ∷ 2 ∷ 3 ∷ []) ≡ false ∷ true ∷ true ∷ false ∷ []
+
+-- a page holds an object exactly where one of the object's addresses leads there
+abbrev pub HoldsWhereLed : Type 0
+HoldsWhereLed = (targets : ℕ → Target) (page : ℕ) (r : Record) → (holds targets page r ≡ true)
+    ↔ ((x : ℕ) × (r.address ≤ x) × (x < r.address + r.len) × ((place_of targets x).page ≡ page))
 
 -- protecting a page, or letting it be written, leaves the place of every address
 abbrev pub ProtectionLeavesPlaces : Type 0

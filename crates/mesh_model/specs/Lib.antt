@@ -5,8 +5,8 @@ pub mod Files
 pub mod HistoryLaws
 pub mod Jobs
 pub mod Laws
-pub mod Memory
 pub mod MeaningLaws
+pub mod Memory
 pub mod Mesh
 pub mod Places
 pub mod Plain

@@ -1,5 +1,5 @@
 //! Laws of the definitions. Each is the contract of a function that does nothing: a theorem that other crates may rely on.
-ghost use Rattle.mesh_model.specs.Laws.{PlainIsStep, PlainRefusalIsStep, StepDetermined, LegalGoesOn, LegalHasOneEnd, ProtectsNext, HoldsWhileCopying, UnprotectsNext, CancelHolds, UnwindsNext, TriesAreIndexed, ProbesAreFew, PairsAreMeshable, OverlapIsBySets, GroupsPairOnce, WholeIsAllSteps, RefusedByAddresses, PlacesAreByPage, NoObjectMeansNone, ObjectsMeanTheirBytes, SlotsHaveRecords, ObjectsAreHeld, StepsLeaveGroups, UnwindingLeavesGroups, CancelLeavesGroups, ProtectionLeavesPlaces, SeatsAreAll, SwappedSeatsAreMissing, StrangersAreMissing, EntriesHaveSeats, FirstDifferenceIsOne};
+ghost use Rattle.mesh_model.specs.Laws.{PlainIsStep, PlainRefusalIsStep, StepDetermined, LegalGoesOn, LegalHasOneEnd, StartsWritable, ProtectsNext, HoldsWhileCopying, UnprotectsNext, ReleasesWritable, CancelHolds, UnwindsNext, UnwoundIsWritable, TriesAreIndexed, ProbesAreFew, PairsAreMeshable, OverlapIsBySets, GroupsPairOnce, WholeIsAllSteps, RefusedByAddresses, PlacesAreByPage, NoObjectMeansNone, ObjectsMeanTheirBytes, SlotsHaveRecords, ObjectsAreHeld, HoldsWhereLed, StepsLeaveGroups, UnwindingLeavesGroups, CancelLeavesGroups, ProtectionLeavesPlaces, SeatsAreAll, SwappedSeatsAreMissing, StrangersAreMissing, EntriesHaveSeats, FirstDifferenceIsOne};
 
 /// What the plain function answers and leaves is a plain step, and so is its refusal.
 pub fn plain_is_step()
@@ -20,11 +20,14 @@ pub fn legal_histories()
 
 /// The read-only pages are what the steps do, one after another.
 pub fn read_only_by_steps()
+    ensures starts { StartsWritable }
     ensures protects { ProtectsNext }
     ensures holds { HoldsWhileCopying }
     ensures unprotects { UnprotectsNext }
+    ensures releases { ReleasesWritable }
     ensures cancel { CancelHolds }
     ensures unwinds { UnwindsNext }
+    ensures unwound { UnwoundIsWritable }
 {}
 
 /// The tries of a round are those of the index formula, and a search makes at most `t * floor(n / 2)` of them.
@@ -72,6 +75,7 @@ pub fn heaps_mean_their_objects()
     ensures bytes { ObjectsMeanTheirBytes }
     ensures slots { SlotsHaveRecords }
     ensures held { ObjectsAreHeld }
+    ensures led { HoldsWhereLed }
 {}
 
 /// A page's protection changes the place of no address.

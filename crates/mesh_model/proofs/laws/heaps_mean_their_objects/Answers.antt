@@ -1,4 +1,5 @@
 use Rattle.std.proofs.Common.{refl}
+use Rattle.mesh_model.proofs.Placing.{held_is_led, led_is_held}
 use Rattle.mesh_model.proofs.laws.heaps_mean_their_objects.Goals as goal
 
 pub returns-clause-none : goal.returns-clause-none
@@ -12,3 +13,6 @@ returns-clause-slots c class slot = refl
 
 pub returns-clause-held : goal.returns-clause-held
 returns-clause-held c read_only = refl
+
+pub returns-clause-led : goal.returns-clause-led
+returns-clause-led c targets page r = (held_is_led targets page r, λ h. led_is_held targets page r h.0 h.1 h.2 h.3)
