@@ -19,6 +19,7 @@ pub mod OneSlot
 mod Placing
 mod Readings
 pub mod Records
+mod Replies
 pub mod Searches
 mod Seating
 mod Spelling

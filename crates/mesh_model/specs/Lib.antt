@@ -15,6 +15,7 @@ pub mod Refusals
 pub mod Search
 pub mod Seats
 pub mod Sound
+pub mod StepLaws
 pub mod Table
 pub mod TableLaws
 pub mod TextLaws
