@@ -1,5 +1,6 @@
 pub mod AnsweredCommands
 pub mod Apart
+mod Calls
 mod Chains
 mod CommandLines
 mod FieldReadings
@@ -22,6 +23,7 @@ pub mod Records
 mod Replies
 pub mod Searches
 mod Seating
+mod Settling
 mod Spelling
 pub mod TableChanges
 mod TextReadings

@@ -13,6 +13,7 @@ pub mod Plain
 pub mod ReaderLaws
 pub mod Refusals
 pub mod Search
+pub mod SeatLaws
 pub mod Seats
 pub mod Sound
 pub mod StepLaws

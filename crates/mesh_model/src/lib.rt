@@ -11,6 +11,7 @@ pub mod laws;
 pub mod meaning_laws;
 pub mod reader_laws;
 mod refusals;
+pub mod seat_laws;
 pub mod step_laws;
 pub mod table_laws;
 pub mod text_laws;
