@@ -13,9 +13,11 @@ mod JobHistories
 mod LineReadings
 pub mod MadeObjects
 pub mod Meanings
+mod MeshClasses
 pub mod MeshLists
 pub mod NewApart
 pub mod NewObjects
+mod OneMesh
 pub mod OneSlot
 mod Placing
 mod Readings
@@ -25,6 +27,7 @@ pub mod Searches
 mod Seating
 mod Settling
 mod Spelling
+mod StepCounts
 pub mod TableChanges
 mod TextReadings
 pub mod TiedMemories

@@ -97,7 +97,7 @@ meshes_of-progress class this progress [] = refl
 meshes_of-progress class this progress (x ∷ xs) = rw (class_at this progress x, meshes_of-progress class this progress xs) refl
 
 -- the same mesh has the same source
-same_source : (this m : Mesh) → is_mesh this m ≡ true → this.source ≡ m.source
+pub same_source : (this m : Mesh) → is_mesh this m ≡ true → this.source ≡ m.source
 same_source this m h = elim (eqb_tells this.source m.source) [
   | inl same ↦ same.1
   | inr other ↦ let clash : false ≡ true = rw other.0 at h in absurd (cc)
@@ -129,7 +129,7 @@ meshes_progress t this progress [] fits sound = tt
 meshes_progress t this progress (x ∷ xs) fits sound = (mesh_progress t this progress x fits sound.0, meshes_progress t this progress xs fits sound.1)
 
 -- a mesh is the same as itself
-same_mesh : (m : Mesh) → is_mesh m m ≡ true
+pub same_mesh : (m : Mesh) → is_mesh m m ≡ true
 same_mesh m = elim (eqb_tells m.source m.source) [
   | inl source ↦ elim (eqb_tells m.destination m.destination) [
     | inl destination ↦ rw (source.0, destination.0) refl

@@ -8,6 +8,7 @@ pub mod Laws
 pub mod MeaningLaws
 pub mod Memory
 pub mod Mesh
+pub mod MeshLaws
 pub mod Places
 pub mod Plain
 pub mod ReaderLaws

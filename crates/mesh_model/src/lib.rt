@@ -9,6 +9,7 @@ mod faults;
 pub mod history_laws;
 pub mod laws;
 pub mod meaning_laws;
+pub mod mesh_laws;
 pub mod reader_laws;
 mod refusals;
 pub mod seat_laws;

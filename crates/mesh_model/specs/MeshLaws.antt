@@ -1,0 +1,104 @@
+-- How the steps of a mesh are counted, and that at most one mesh runs a class.
+use Rattle.std.specs.Prelude.{◌≡◌, ◌≢◌, ◌↔◌, ℕ, zero, suc, ◌+◌, ◌*◌, ◌≤◌, Bool, true, false, Option, Some, None, Result, Ok, length, slice_get}
+use Rattle.mesh_model.specs.Classes.{pages_of, slots_of}
+use Rattle.mesh_model.specs.Mesh.{Stepped, begin, cancel, left_of, mesh_in, mesh_of_class, mesh_whole, step}
+use Rattle.mesh_model.specs.Sound.{IsSound}
+use Rattle.mesh_model.specs.Table.{Counted, Group, Mesh, Progress, Table, group_of}
+use Rattle.mesh_model.specs.TableLaws.{IsBusyTest}
+use Rattle.mesh_model.specs.Words.{◌>>=◌}
+use Rattle.mesh_model.specs.declared.refusals.Refusal.{Refusal}
+
+-- the steps to come of a source, if there is one
+abbrev pub left_from : Progress → Option Group → ℕ
+left_from progress None = 0
+left_from progress (Some source) = left_of source progress
+
+-- the steps to come of a mesh, if there is one
+abbrev pub left_with : Table → Option Mesh → ℕ
+left_with t None = 0
+left_with t (Some mesh) = left_from mesh.progress (group_of t mesh.source)
+
+-- the steps to come of the running mesh of a class, and 0 where there is none
+abbrev pub left_in : Table → ℕ → ℕ
+left_in t class = left_with t (mesh_in t class)
+
+-- `begin` answers three steps for each virtual page of the source, one for each slot, and one for each physical page
+abbrev pub BeginAnswersAllSteps : Type 0
+BeginAnswersAllSteps = (busy : Table → ℕ → Bool) (t : Table) (source destination : ℕ) (group : Group) (begun : Counted)
+    → group_of t source ≡ Some group → begin busy t source destination ≡ Ok begun
+    → begun.count ≡ 3 * (length group.members * pages_of group.class) + slots_of group.class + pages_of group.class
+
+-- after `begin` as many steps are to come as it answered
+abbrev pub BeginLeavesSteps : Type 0
+BeginLeavesSteps = (busy : Table → ℕ → Bool) (t : Table) (source destination : ℕ) (group : Group) (begun : Counted) → IsBusyTest busy t → IsSound t
+    → group_of t source ≡ Some group → begin busy t source destination ≡ Ok begun → left_in begun.table group.class ≡ begun.count
+
+-- a step lowers the steps to come by one, and answers how many are left
+abbrev pub StepTakesOne : Type 0
+StepTakesOne = (t : Table) (class : ℕ) (stepped : Stepped) → IsSound t → step t (mesh_in t class) ≡ Ok stepped
+    → (stepped.left + 1 ≡ left_in t class) × (left_in stepped.table class ≡ stepped.left)
+
+-- the mesh is over exactly where a step answers that none is left
+abbrev pub LastStepEnds : Type 0
+LastStepEnds = (t : Table) (class : ℕ) (stepped : Stepped) → IsSound t → step t (mesh_in t class) ≡ Ok stepped
+    → (mesh_in stepped.table class ≡ None) ↔ (stepped.left ≡ 0)
+
+-- a cancel answers the steps that it leaves
+abbrev pub CancelAnswersLeft : Type 0
+CancelAnswersLeft = (t : Table) (class : ℕ) (cancelled : Counted) → IsSound t → cancel t (mesh_in t class) ≡ Ok cancelled
+    → left_in cancelled.table class ≡ cancelled.count
+
+-- the mesh is over exactly where a cancel answers that no step is left
+abbrev pub CancelOfNoneEnds : Type 0
+CancelOfNoneEnds = (t : Table) (class : ℕ) (cancelled : Counted) → IsSound t → cancel t (mesh_in t class) ≡ Ok cancelled
+    → (mesh_in cancelled.table class ≡ None) ↔ (cancelled.count ≡ 0)
+
+-- a step of another class leaves a mesh its steps
+abbrev pub OthersKeepTheirSteps : Type 0
+OthersKeepTheirSteps = (t : Table) (class other : ℕ) (stepped : Stepped) → IsSound t → other ≢ class → step t (mesh_in t class) ≡ Ok stepped
+    → left_in stepped.table other ≡ left_in t other
+
+-- the table after so many steps of the mesh of a class, or the refusal
+abbrev pub steps_of_class : ℕ → ℕ → Table → Result Table Refusal
+steps_of_class class zero t = Ok t
+steps_of_class class (suc n) t = step t (mesh_in t class) >>= λ stepped. steps_of_class class n stepped.table
+
+-- the steps to come and those made are as many as were to come
+abbrev pub StepsCountDown : Type 0
+StepsCountDown = (n class : ℕ) (t u : Table) → IsSound t → steps_of_class class n t ≡ Ok u → left_in u class + n ≡ left_in t class
+
+-- no two running meshes are of one class
+abbrev pub AtMostOneAClass : Table → Type 0
+AtMostOneAClass t = (i j : ℕ) (x y : Mesh) → slice_get t.meshes i ≡ Some x → slice_get t.meshes j ≡ Some y → x.class ≡ y.class → i ≡ j
+
+-- a sound table has at most one mesh a class
+abbrev pub SoundHasOneAClass : Type 0
+SoundHasOneAClass = (t : Table) → IsSound t → AtMostOneAClass t
+
+-- it has so after a `begin` of a class that has none
+abbrev pub BeginKeepsOneAClass : Type 0
+BeginKeepsOneAClass = (t : Table) (source destination : ℕ) (begun : Counted) → IsSound t → begin mesh_of_class t source destination ≡ Ok begun
+    → AtMostOneAClass begun.table
+
+-- after a whole mesh of such a class
+abbrev pub WholeKeepsOneAClass : Type 0
+WholeKeepsOneAClass = (t : Table) (source destination : ℕ) (whole : Counted) → IsSound t → mesh_whole mesh_of_class t source destination ≡ Ok whole
+    → AtMostOneAClass whole.table
+
+-- after a step of the mesh of a class
+abbrev pub StepKeepsOneAClass : Type 0
+StepKeepsOneAClass = (t : Table) (class : ℕ) (stepped : Stepped) → IsSound t → step t (mesh_in t class) ≡ Ok stepped → AtMostOneAClass stepped.table
+
+-- and after a cancel of it
+abbrev pub CancelKeepsOneAClass : Type 0
+CancelKeepsOneAClass = (t : Table) (class : ℕ) (cancelled : Counted) → IsSound t → cancel t (mesh_in t class) ≡ Ok cancelled
+    → AtMostOneAClass cancelled.table
+
+-- the mesh of a class is a running mesh, and of the class
+abbrev pub MeshInIsOfClass : Type 0
+MeshInIsOfClass = (t : Table) (class : ℕ) (mesh : Mesh) → mesh_in t class ≡ Some mesh
+    → (mesh.class ≡ class) × ((i : ℕ) × (slice_get t.meshes i ≡ Some mesh))
+
+-- a mesh of the class is running exactly where there is the mesh of the class
+abbrev pub ClassHasMesh : Type 0
+ClassHasMesh = (t : Table) (class : ℕ) → (mesh_of_class t class ≡ true) ↔ ((mesh : Mesh) × (mesh_in t class ≡ Some mesh))

@@ -1,0 +1,37 @@
+//! Laws of running meshes: how their steps are counted, and that at most one runs a class. Each is the contract of a function that does nothing.
+ghost use Rattle.mesh_model.specs.MeshLaws.{BeginAnswersAllSteps, BeginLeavesSteps, StepTakesOne, LastStepEnds, CancelAnswersLeft, CancelOfNoneEnds, OthersKeepTheirSteps, StepsCountDown, SoundHasOneAClass, BeginKeepsOneAClass, WholeKeepsOneAClass, StepKeepsOneAClass, CancelKeepsOneAClass, MeshInIsOfClass, ClassHasMesh};
+
+/// `begin` answers all steps of the mesh, and leaves as many to come.
+pub fn begin_answers_all_steps()
+    ensures answered { BeginAnswersAllSteps }
+    ensures to_come { BeginLeavesSteps }
+{}
+
+/// Each step lowers the steps to come of its class by one, and of no other; the mesh is over where none is left.
+pub fn steps_count_down()
+    ensures one { StepTakesOne }
+    ensures last { LastStepEnds }
+    ensures others { OthersKeepTheirSteps }
+    ensures many { StepsCountDown }
+{}
+
+/// A cancel answers the steps that it leaves; the mesh is over where it leaves none.
+pub fn cancel_answers_left()
+    ensures left { CancelAnswersLeft }
+    ensures none { CancelOfNoneEnds }
+{}
+
+/// At most one mesh runs a class, whatever the mesher does.
+pub fn at_most_one_a_class()
+    ensures sound { SoundHasOneAClass }
+    ensures begin { BeginKeepsOneAClass }
+    ensures whole { WholeKeepsOneAClass }
+    ensures step { StepKeepsOneAClass }
+    ensures cancel { CancelKeepsOneAClass }
+{}
+
+/// The mesh of a class is a running one of the class, and there is one exactly where one is running.
+pub fn mesh_of_class_is_found()
+    ensures is { MeshInIsOfClass }
+    ensures some { ClassHasMesh }
+{}
