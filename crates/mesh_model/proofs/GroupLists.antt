@@ -71,7 +71,7 @@ none_below n low high (x ∷ xs) below ascend = elim (eqb_tells x.number n) [
 ]
 
 -- the group found is the first one, and no other one has its number, or it is found among the others
-first_or_later : (n low high : ℕ) (x : Group) (xs : List Group) (g : Group) → AscendBetween low (x ∷ xs) high → find (has_number n) (x ∷ xs) ≡ Some g
+pub first_or_later : (n low high : ℕ) (x : Group) (xs : List Group) (g : Group) → AscendBetween low (x ∷ xs) high → find (has_number n) (x ∷ xs) ≡ Some g
     → ((nat_eq x.number n ≡ true) × (x ≡ g) × (find (has_number n) xs ≡ None)) ⊎ ((nat_eq x.number n ≡ false) × (find (has_number n) xs ≡ Some g))
 first_or_later n low high x xs g ascend h = elim (eqb_tells x.number n) [
   | inl same ↦ let is : Some x ≡ Some g = rw same.0 at h in let here : x ≡ g = cc in
@@ -104,7 +104,7 @@ changed_none n change (x ∷ xs) h = elim (eqb_tells x.number n) [
 ]
 
 -- where no group has the number, none is taken out
-without_none : (n : ℕ) (gs : List Group) → find (has_number n) gs ≡ None → filter (λ g. not (has_number n g)) gs ≡ gs
+pub without_none : (n : ℕ) (gs : List Group) → find (has_number n) gs ≡ None → filter (λ g. not (has_number n g)) gs ≡ gs
 without_none n [] h = refl
 without_none n (x ∷ xs) h = elim (eqb_tells x.number n) [
   | inl same ↦ let clash : Some x ≡ None = rw same.0 at h in absurd (cc)

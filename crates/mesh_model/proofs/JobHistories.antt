@@ -46,13 +46,13 @@ reply_running state worker command running =
     }
 
 -- an attempt keeps what the state and the one after the reply have in common
-attempt_keeps : (P : State → Type 0) (state : State) (worker : ℕ) (command : Command) (blocked : Bool) (done : Outcome) → P state
+pub attempt_keeps : (P : State → Type 0) (state : State) (worker : ℕ) (command : Command) (blocked : Bool) (done : Outcome) → P state
     → P (with_reply state worker command done) → P (attempted state worker command blocked done).state
 attempt_keeps P state worker command true done before after = before
 attempt_keeps P state worker command false done before after = after
 
 -- so does a worker's attempt at the next command, where the journal may be full
-run_keeps : (P : State → Type 0) (job : Job) (state : State) (worker : ℕ) (command : Command) (commands : List Command) → P state
+pub run_keeps : (P : State → Type 0) (job : Job) (state : State) (worker : ℕ) (command : Command) (commands : List Command) → P state
     → P (with_reply state worker command (answered state.memory state.table command)) → P (run_next job state worker (command ∷ commands)).state
 run_keeps P job state worker command commands before after = elim (tells (nat_le job.history (length state.entries))) [
   | inl full ↦ rw full before
@@ -79,7 +79,7 @@ step_running state (Err refusal) running keeps = running
 step_running state (Ok x) running keeps = let kept = keeps x refl in record { sound = kept.0; tied = kept.1; legal = running.legal }
 
 -- where no mesh runs, none of any class does
-busy : (t : Table) → IsBusyTest any_mesh t
+pub busy : (t : Table) → IsBusyTest any_mesh t
 busy t class h = any_tells class t.meshes h
 
 -- each line of a plan keeps it so
@@ -105,7 +105,7 @@ answer_running job state (SweepGroup group) running = counted_running state Page
 answer_running job state MakeReport running = running
 
 -- what each line keeps, all lines keep
-lines_keep : (P : State → Type 0) (job : Job) (state : State) (lines : List Line) → ((s : State) (line : Line) → P s → P (answer job s line).state)
+pub lines_keep : (P : State → Type 0) (job : Job) (state : State) (lines : List Line) → ((s : State) (line : Line) → P s → P (answer job s line).state)
     → P state → P (state_after job state lines)
 lines_keep P job state [] keeps before = before
 lines_keep P job state (line ∷ lines) keeps before = lines_keep P job (answer job state line).state lines keeps (keeps state line before)

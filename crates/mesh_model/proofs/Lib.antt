@@ -3,6 +3,7 @@ pub mod Apart
 mod Calls
 mod Chains
 mod CommandLines
+mod CountedPages
 mod FieldReadings
 mod Fields
 pub mod FreedObjects
@@ -10,6 +11,7 @@ pub mod GroupLists
 mod Histories
 pub mod Holders
 mod JobHistories
+mod JobPages
 mod LineReadings
 pub mod MadeObjects
 pub mod Meanings

@@ -12,7 +12,7 @@ use Rattle.mesh_model.specs.declared.refusals.Refusal.{Refusal}
 use Rattle.mesh_model.specs.declared.refusals.Refusal.TheVariants.{NoGroup, Same, Class, Busy, Overlap, Members}
 
 -- a release comes after all other steps
-free_next : (a : Group) (d f : ℕ) → free_after (kind_after a d) f + (d - (3 * page_count a + slots_of a.class)) ≡ f + (d + 1 - (3 * page_count a + slots_of a.class))
+pub free_next : (a : Group) (d f : ℕ) → free_after (kind_after a d) f + (d - (3 * page_count a + slots_of a.class)) ≡ f + (d + 1 - (3 * page_count a + slots_of a.class))
 free_next a d f = elim (leb_tells (suc d) (page_count a)) [
   | inl h ↦ rw h.0 (omega (arith, h.1))
   | inr n ↦ rw n.0 (elim (leb_tells (suc d) (page_count a + slots_of a.class)) [

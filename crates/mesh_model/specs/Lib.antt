@@ -9,6 +9,8 @@ pub mod MeaningLaws
 pub mod Memory
 pub mod Mesh
 pub mod MeshLaws
+pub mod PageCounts
+pub mod PageLaws
 pub mod Places
 pub mod Plain
 pub mod ReaderLaws

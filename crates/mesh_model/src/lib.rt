@@ -10,6 +10,7 @@ pub mod history_laws;
 pub mod laws;
 pub mod meaning_laws;
 pub mod mesh_laws;
+pub mod page_laws;
 pub mod reader_laws;
 mod refusals;
 pub mod seat_laws;

@@ -1,0 +1,68 @@
+-- Every transition keeps the count of physical pages: each is free, or of a group's span and not released.
+use Rattle.std.specs.Prelude.{◌≡◌, ℕ, ◌+◌, ◌-◌, ◌≤◌, Bool, List, Ok, find}
+use Rattle.mesh_model.specs.Jobs.{Job, Line, opening, state_after}
+use Rattle.mesh_model.specs.Mesh.{Stepped, begin, cancel, mesh_whole, step}
+use Rattle.mesh_model.specs.PageCounts.{AreCounted}
+use Rattle.mesh_model.specs.Sound.{IsSound}
+use Rattle.mesh_model.specs.Table.{Counted, Mesh, Placed, Table, empty_table, mapped_count, place_new, report_of, sweep, without_object}
+use Rattle.mesh_model.specs.TableLaws.{IsBusyTest}
+
+-- with no span all pages are free
+abbrev pub EmptyIsCounted : Type 0
+EmptyIsCounted = (pages : ℕ) → AreCounted pages (empty_table pages)
+
+-- a new object keeps the count
+abbrev pub NewKeepsCount : Type 0
+NewKeepsCount = (pages : ℕ) (t : Table) (len word serial : ℕ) (placed : Placed) → IsSound t → AreCounted pages t → place_new t len word serial ≡ Ok placed
+    → AreCounted pages placed.table
+
+-- an object freed keeps it
+abbrev pub FreeKeepsCount : Type 0
+FreeKeepsCount = (pages : ℕ) (t : Table) (serial : ℕ) → AreCounted pages t → AreCounted pages (without_object t serial)
+
+-- a sweep keeps it
+abbrev pub SweepKeepsCount : Type 0
+SweepKeepsCount = (pages : ℕ) (t : Table) (n : ℕ) (swept : Counted) → IsSound t → AreCounted pages t → sweep t n ≡ Ok swept
+    → AreCounted pages swept.table
+
+-- a mesh begun keeps it
+abbrev pub BeginKeepsCount : Type 0
+BeginKeepsCount = (pages : ℕ) (busy : Table → ℕ → Bool) (t : Table) (source destination : ℕ) (begun : Counted) → AreCounted pages t
+    → begin busy t source destination ≡ Ok begun → AreCounted pages begun.table
+
+-- a whole mesh keeps it
+abbrev pub WholeKeepsCount : Type 0
+WholeKeepsCount = (pages : ℕ) (busy : Table → ℕ → Bool) (t : Table) (source destination : ℕ) (whole : Counted) → IsBusyTest busy t → IsSound t
+    → AreCounted pages t → mesh_whole busy t source destination ≡ Ok whole → AreCounted pages whole.table
+
+-- a step keeps it, of the first mesh that passes any test
+abbrev pub StepKeepsCount : Type 0
+StepKeepsCount = (pages : ℕ) (t : Table) (test : Mesh → Bool) (stepped : Stepped) → IsSound t → AreCounted pages t
+    → step t (find test t.meshes) ≡ Ok stepped → AreCounted pages stepped.table
+
+-- a cancel keeps it, of the first mesh that passes any test
+abbrev pub CancelKeepsCount : Type 0
+CancelKeepsCount = (pages : ℕ) (t : Table) (test : Mesh → Bool) (cancelled : Counted) → IsSound t → AreCounted pages t
+    → cancel t (find test t.meshes) ≡ Ok cancelled → AreCounted pages cancelled.table
+
+-- the table of a job keeps it after any lines
+abbrev pub JobsKeepCount : Type 0
+JobsKeepCount = (job : Job) (lines : List Line) → AreCounted job.pages (state_after job (opening job) lines).table
+
+-- a sweep answers how many pages come free
+abbrev pub SweepAnswersPages : Type 0
+SweepAnswersPages = (t : Table) (n : ℕ) (swept : Counted) → sweep t n ≡ Ok swept → swept.table.free_pages ≡ t.free_pages + swept.count
+
+-- a whole mesh answers how many pages come free
+abbrev pub WholeAnswersPages : Type 0
+WholeAnswersPages = (busy : Table → ℕ → Bool) (t : Table) (source destination : ℕ) (whole : Counted)
+    → mesh_whole busy t source destination ≡ Ok whole → whole.table.free_pages ≡ t.free_pages + whole.count
+
+-- no more physical pages are taken than virtual pages are mapped
+abbrev pub TakenIsMapped : Type 0
+TakenIsMapped = (pages : ℕ) (t : Table) → IsSound t → AreCounted pages t → pages - t.free_pages ≤ mapped_count t
+
+-- what a job's report tells as saved and taken are the mapped pages
+abbrev pub ReportsAddUp : Type 0
+ReportsAddUp = (job : Job) (lines : List Line) → (report_of job.pages (state_after job (opening job) lines).table).saved
+    + (report_of job.pages (state_after job (opening job) lines).table).taken ≡ (report_of job.pages (state_after job (opening job) lines).table).mapped

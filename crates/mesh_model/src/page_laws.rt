@@ -1,0 +1,27 @@
+//! Laws of physical pages: none is lost or made, whatever happens to the table. Each is the contract of a function that does nothing.
+ghost use Rattle.mesh_model.specs.PageLaws.{EmptyIsCounted, NewKeepsCount, FreeKeepsCount, SweepKeepsCount, BeginKeepsCount, WholeKeepsCount, StepKeepsCount, CancelKeepsCount, JobsKeepCount, SweepAnswersPages, WholeAnswersPages, TakenIsMapped, ReportsAddUp};
+
+/// Free pages, and those of spans that no mesh has released, are as many as at the start after every transition.
+pub fn pages_are_counted()
+    ensures empty { EmptyIsCounted }
+    ensures made { NewKeepsCount }
+    ensures freed { FreeKeepsCount }
+    ensures swept { SweepKeepsCount }
+    ensures begun { BeginKeepsCount }
+    ensures whole { WholeKeepsCount }
+    ensures stepped { StepKeepsCount }
+    ensures cancelled { CancelKeepsCount }
+{}
+
+/// A sweep and a whole mesh answer how many pages come free.
+pub fn freed_pages_are_answered()
+    ensures swept { SweepAnswersPages }
+    ensures whole { WholeAnswersPages }
+{}
+
+/// No more pages are taken than mapped, so a report adds up.
+pub fn taken_is_mapped()
+    ensures table { TakenIsMapped }
+    ensures jobs { JobsKeepCount }
+    ensures reports { ReportsAddUp }
+{}
