@@ -3,6 +3,7 @@ pub mod Apart
 mod Calls
 mod Chains
 mod CommandLines
+mod CopiedBytes
 mod CountedPages
 mod FieldReadings
 mod Fields

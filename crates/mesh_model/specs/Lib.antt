@@ -1,5 +1,6 @@
 pub mod Classes
 pub mod Commands
+pub mod EffectLaws
 pub mod Faults
 pub mod Files
 pub mod HistoryLaws
@@ -19,6 +20,7 @@ pub mod Search
 pub mod SeatLaws
 pub mod Seats
 pub mod Sound
+pub mod StepEffects
 pub mod StepLaws
 pub mod Table
 pub mod TableLaws

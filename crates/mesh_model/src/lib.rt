@@ -5,6 +5,7 @@
 #![tactic(auto)]
 
 mod commands;
+pub mod effect_laws;
 mod faults;
 pub mod history_laws;
 pub mod laws;

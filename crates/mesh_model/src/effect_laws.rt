@@ -1,0 +1,32 @@
+//! Laws of what the steps of a mesh do to page map, bytes and free pages. Each is the contract of a function that does nothing.
+ghost use Rattle.mesh_model.specs.EffectLaws.{ProtectsOnePage, CopiesNothing, CopiesTwoBytes, CopiesOverPages, CopyLeavesPages, RemapsOnePage, UnprotectsOnePage, ReleasesOnePage, UnwindsOnePage, ProtectionIsOfOne, LeadIsOfOne, FreeIsOfOne, CopiedAreTheSame, OtherBytesStay};
+
+/// What each kind of step does, of a source of two members of one page and of one of two members of three pages.
+pub fn steps_have_effects()
+    ensures protects { ProtectsOnePage }
+    ensures remaps { RemapsOnePage }
+    ensures unprotects { UnprotectsOnePage }
+    ensures releases { ReleasesOnePage }
+    ensures unwinds { UnwindsOnePage }
+{}
+
+/// A copy writes the bytes of the slot's object, over the ends of pages too, and nothing where the slot has none.
+pub fn copies_have_effects()
+    ensures none { CopiesNothing }
+    ensures bytes { CopiesTwoBytes }
+    ensures pages { CopiesOverPages }
+    ensures alone { CopyLeavesPages }
+{}
+
+/// Page map and free pages change at one page.
+pub fn pages_change_alone()
+    ensures protection { ProtectionIsOfOne }
+    ensures lead { LeadIsOfOne }
+    ensures free { FreeIsOfOne }
+{}
+
+/// Bytes copied are those at the same offsets of the source, and all others stay.
+pub fn copied_bytes_are_the_same()
+    ensures copied { CopiedAreTheSame }
+    ensures others { OtherBytesStay }
+{}
