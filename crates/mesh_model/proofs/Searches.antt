@@ -1,11 +1,12 @@
 -- What the split search finds.
-use Rattle.std.proofs.Common.{◌≡◌, ℕ, zero, suc, ◌+◌, ◌-◌, ◌*◌, ◌/◌, ◌%◌, ◌<◌, ◌≤◌, Bool, true, false, cond, not, nat_eq, nat_lt, List, [], ◌∷◌, ◌++◌, length, map, filter, take, drop, slice_index_or, ap, subst, refl, sym, ◌∙◌, arith, ◌⊎◌, inl, inr, Option, Some, None, zero-add, add_comm}
+use Rattle.std.proofs.Common.{◌≡◌, ℕ, zero, suc, ◌+◌, ◌-◌, ◌*◌, ◌/◌, ◌%◌, ◌<◌, ◌≤◌, Bool, true, false, cond, not, nat_eq, nat_lt, List, [], ◌∷◌, ◌++◌, length, map, min, filter, take, drop, slice_index_or, ap, subst, refl, sym, ◌∙◌, arith, ◌⊎◌, inl, inr, Option, Some, None, zero-add, add_comm}
 use Rattle.std.specs.List.{list_any, zip}
 use Rattle.std.proofs.lemmas.Bool.Decides.{eqb_tells, leb_tells}
 use Rattle.std.proofs.lemmas.List.{length-append, get_or-drop, get_or-take, get_or-append_right, length-drop, length-take, length-take-le}
 use Rattle.std.proofs.Math.ListN.{get_or-append}
 use Rattle.std.proofs.Math.Nat.{mul-le-mul_left, mod-eq_of_lt, add-mod-mod, add-mod_right, mod-lt}
 use Rattle.std.proofs.lemmas.Bool.{true≢false}
+use Rattle.std.proofs.lemmas.Slice.Zip.{length-zip}
 use Rattle.std.specs.Prelude.{All, is_some}
 use Rattle.std.specs.List.{Contains}
 use Rattle.std.proofs.lemmas.List.Elements.{All-append, All-filter, All-take, All-drop, All-contains_itself, All-nil, All-cons, All-head, All-tail}
@@ -13,7 +14,8 @@ use Rattle.mesh_bits.specs.Bits.{are_meshable, member_count}
 use Rattle.mesh_model.specs.Mesh.{do_overlap}
 use Rattle.mesh_model.specs.Search.{Candidate, Pairing, split_search, rounds_from, pairs_of_round, tries, meshes, turned, unpaired, pairs_group, rotated}
 use Rattle.mesh_model.specs.Table.{Slot}
-use Rattle.mesh_model.specs.Laws.{IsMeshableIn, times, times_paired}
+use Rattle.mesh_model.specs.Laws.{IsMeshableIn, times_paired}
+use Rattle.mesh_model.specs.Sound.{times_in}
 
 -- overlapping is that the sets of the occupied slots are not meshable
 pub overlap_by_sets : (xs ys : List (Option Slot)) → do_overlap xs ys ≡ not (are_meshable (map is_some xs) (map is_some ys))
@@ -119,6 +121,10 @@ counted n m = cond (nat_eq m n) 1 0
 -- a number's weight at a candidate
 abbrev weight : ℕ → Candidate → ℕ
 weight n group = cond (nat_eq group.number n) 1 0
+
+-- how many of the candidates have the number
+abbrev times : ℕ → List Candidate → ℕ
+times n gs = times_in n (map (λ g. g.number) gs)
 
 times-append : (n : ℕ) (gs hs : List Candidate) → times n (gs ++ hs) ≡ times n gs + times n hs
 times-append n [] hs = sym (zero-add (times n hs))
@@ -248,11 +254,10 @@ rotated_at k j gs d h g = elim (leb_tells (length gs) (j + k)) [
     long = length-drop k gs
 
 -- the tries of a round are those of the index formula
-pub tries_at : (i j : ℕ) (left right : List Candidate) (d : Candidate) → length right ≡ length left → j < length left
+pub tries_at : (i j : ℕ) (left right : List Candidate) (d : Candidate) → j < length left → j < length right
     → slice_index_or (tries i left right) j (d, d) ≡ (slice_index_or left j d, slice_index_or right ((j + i) % length right) d)
-tries_at i j left right d same h =
-    let shift : i % length right < length right = mod-lt i (omega (arith, same, h)) in
-    let inside : j < length right = omega (arith, same, h) in
+tries_at i j left right d h inside =
+    let shift : i % length right < length right = mod-lt i (omega (arith, inside)) in
     let long : length (rotated (i % length right) right) ≡ length right = length-rotated (i % length right) right in
     let turn : slice_index_or (rotated (i % length right) right) j d ≡ slice_index_or right ((j + i % length right) % length right) d
     = rotated_at (i % length right) j right d shift inside in
@@ -260,6 +265,11 @@ tries_at i j left right d same h =
     let second : slice_index_or (rotated (i % length right) right) j d ≡ slice_index_or right ((j + i) % length right) d
     = turn ∙ ap (λ (n : ℕ). slice_index_or right n d) at in
     zip_at left (rotated (i % length right) right) j d h (omega (arith, long, inside)) ∙ ap (λ (g : Candidate). (slice_index_or left j d, g)) second
+
+-- a round has as many tries as the shorter list has groups
+pub tries_of_both : (i : ℕ) (left right : List Candidate) → length (tries i left right) ≡ min (length left) (length right)
+tries_of_both i left right =
+    let long = length-rotated (i % length right) right in length-zip left (rotated (i % length right) right) ∙ ap (λ (n : ℕ). min (length left) n) long
 
 -- a search makes at most a probe a round for each group of the first half
 pub search_probes : (order : List Candidate) (t : ℕ) → (split_search order t).probes ≤ t * (length order / 2)

@@ -9,6 +9,7 @@ use Rattle.mesh_model.specs.Search.{Candidate, Pairing, split_search, tries}
 use Rattle.mesh_model.specs.Seats.{Call, DifferFirstAt, has_stranger, missing_seat}
 use Rattle.mesh_model.specs.Places.{Place, Record, Target, byte_of, holds, meaning, place_of, records_from, with_protection}
 use Rattle.mesh_model.specs.Plain.{plain, PlainStep, IsVacantRange, IsLegal, Entry}
+use Rattle.mesh_model.specs.Sound.{times_in}
 use Rattle.mesh_model.specs.Words.{◌>>=◌}
 use Rattle.mesh_model.specs.Classes.{pages_of}
 use Rattle.mesh_model.specs.declared.refusals.Refusal.TheVariants.{NoAddresses}
@@ -96,11 +97,6 @@ PairsAreMeshable = (order : List Candidate) (t : ℕ) → All (IsMeshableIn orde
 abbrev pub OverlapIsBySets : Type 0
 OverlapIsBySets = (xs ys : List (Option Slot)) → do_overlap xs ys ≡ not (are_meshable (map is_some xs) (map is_some ys))
 
--- how many of the groups have the number
-abbrev pub times : ℕ → List Candidate → ℕ
-times n [] = 0
-times n (candidate ∷ candidates) = (if nat_eq candidate.number n then 1 else 0) + times n candidates
-
 -- how many of the pairs' groups have the number
 abbrev pub times_paired : ℕ → List Pairing → ℕ
 times_paired n [] = 0
@@ -109,7 +105,7 @@ times_paired n (pair ∷ pairs) =
 
 -- no group is in two pairs: a number is paired at most as often as it is in the order
 abbrev pub GroupsPairOnce : Type 0
-GroupsPairOnce = (order : List Candidate) (t n : ℕ) → times_paired n (split_search order t).pairs ≤ times n order
+GroupsPairOnce = (order : List Candidate) (t n : ℕ) → times_paired n (split_search order t).pairs ≤ times_in n (map (λ candidate. candidate.number) order)
 
 -- at most one probe a round for each group of the first half
 abbrev pub ProbesAreFew : Type 0
@@ -117,8 +113,12 @@ ProbesAreFew = (order : List Candidate) (t : ℕ) → (split_search order t).pro
 
 -- round i tries the j-th of the first list with the ((j + i) mod length)-th of the second
 abbrev pub TriesAreIndexed : Type 0
-TriesAreIndexed = (i j : ℕ) (left right : List Candidate) (d : Candidate) → length right ≡ length left → j < length left
+TriesAreIndexed = (i j : ℕ) (left right : List Candidate) (d : Candidate) → j < length left → j < length right
     → slice_index_or (tries i left right) j (d, d) ≡ (slice_index_or left j d, slice_index_or right ((j + i) % length right) d)
+
+-- a round has as many tries as the shorter list has groups
+abbrev pub TriesAreOfBoth : Type 0
+TriesAreOfBoth = (i : ℕ) (left right : List Candidate) → length (tries i left right) ≡ min (length left) (length right)
 
 -- the table after so many steps of its first mesh, or the refusal
 abbrev pub steps_made : ℕ → Table → Result Table Refusal
