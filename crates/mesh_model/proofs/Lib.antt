@@ -9,6 +9,7 @@ mod FieldReadings
 mod Fields
 pub mod FreedObjects
 pub mod GroupLists
+mod GroupPages
 mod Histories
 pub mod Holders
 mod JobHistories

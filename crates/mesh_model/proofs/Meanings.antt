@@ -88,6 +88,17 @@ pub record_same : (targets targets' : ℕ → Target) (bytes bytes' : Place → 
 record_same targets targets' bytes bytes' None h = refl
 record_same targets targets' bytes bytes' (Some r) h = ap Some (object_same targets targets' bytes bytes' r (λ x within. h x r refl within))
 
+-- where records and their bytes stay, so does what a heap means
+pub means_same : (next : ℕ) (records records' : List Record) (targets targets' : ℕ → Target) (bytes bytes' : Place → ℕ) (roots : List (Option ℕ))
+    → ((serial : ℕ) → record_with serial records' ≡ record_with serial records)
+    → ((serial x : ℕ) (r : Record) → record_with serial records ≡ Some r → IsIn r x → byte_of targets' bytes' x ≡ byte_of targets bytes x)
+    → meaning next records' targets' bytes' roots ≡ meaning next records targets bytes roots
+means_same next records records' targets targets' bytes bytes' roots same kept =
+    ap {B = Memory} (λ (os : List (Option Object)). record { objects = os; roots = roots })
+    (made_same (λ s. option_map (object_at targets' bytes') (record_with s records')) (λ s. option_map (object_at targets bytes) (record_with s records)) 0 next
+    (λ s low high. ap (option_map (object_at targets' bytes')) (same s)
+    ∙ record_same targets targets' bytes bytes' (record_with s records) (λ x r found within. kept s x r found within)))
+
 -- a list made from a range, where one number makes something else, is the list with that put there
 pub made_with : (f g : ℕ → Option Object) (n s : ℕ) (v : Option Object) → s < n → f s ≡ v → ((i : ℕ) → i ≢ s → f i ≡ g i)
     → map f (range_with_len 0 n) ≡ set (map g (range_with_len 0 n)) s v

@@ -208,6 +208,17 @@ open_gives t class g h =
       | inr past ↦ let clash : false ≡ true = rw past.0 at h in absurd (cc)
     ]
 
+-- a group that passes the tests is open
+pub gives_open : (t : Table) (class : ℕ) (g : Group) → g.class ≡ class → is_meshing t g.number ≡ false → object_count g < length g.slots
+    → is_open t class g ≡ true
+gives_open t class g class_is outside some = elim (eqb_tells g.class class) [
+  | inr other ↦ absurd (other.1 class_is)
+  | inl same ↦ elim (leb_tells (suc (object_count g)) (length g.slots)) [
+    | inl room ↦ rw (same.0, outside, room.0) refl
+    | inr full ↦ absurd (omega (arith, full.1, some))
+  ]
+]
+
 -- of the rows, the first that holds a length is of a class that holds it and is among them
 rows_fit : (len : ℕ) (rows : List Row) (class : ℕ) → option_map (λ r. r.size) (find (λ r. nat_le len r.size) rows) ≡ Some class
     → (len ≤ class) × (is_some (find (λ r. nat_eq r.size class) rows) ≡ true)

@@ -6,13 +6,10 @@ use Rattle.mesh_model.proofs.GroupLists.{tells, find_between, head_found}
 use Rattle.mesh_model.proofs.Meanings.{object_below, object_past}
 use Rattle.mesh_model.specs.MeaningLaws.{AreBelow, IsOfSlot, record_in, record_with}
 use Rattle.mesh_model.specs.Memory.{Object}
+pub use Rattle.mesh_model.specs.Places.{records_in}
 use Rattle.mesh_model.specs.Places.{Place, Record, Target, byte_of, has_serial, meaning, object_at, records_from, records_of}
 use Rattle.mesh_model.specs.Sound.{AscendBetween, IsLiveSlot, IsSound, IsTied}
 use Rattle.mesh_model.specs.Table.{Group, Slot, Table, group_of, has_number}
-
--- the records of a group
-abbrev pub records_in : Group → List Record
-records_in g = records_from g.class 0 g.slots
 
 -- a record found in two lists is found in one
 found_either : (test : Record → Bool) (xs ys : List Record) (r : Record) → find test (xs ++ ys) ≡ Some r

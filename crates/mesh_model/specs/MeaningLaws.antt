@@ -31,6 +31,13 @@ MeaningHasObjects = (next : ℕ) (records : List Record) (targets : ℕ → Targ
     → AreBelow next records
     → object_of (meaning next records targets bytes roots) serial ≡ option_map (object_at targets bytes) (record_with serial records)
 
+-- where serials keep their records, and the bytes of all records stay, so does what a heap means
+abbrev pub SameBytesSameMeaning : Type 0
+SameBytesSameMeaning = (next : ℕ) (records records' : List Record) (targets targets' : ℕ → Target) (bytes bytes' : Place → ℕ) (roots : List (Option ℕ))
+    → ((serial : ℕ) → record_with serial records' ≡ record_with serial records)
+    → ((serial x : ℕ) (r : Record) → record_with serial records ≡ Some r → IsIn r x → byte_of targets' bytes' x ≡ byte_of targets bytes x)
+    → meaning next records' targets' bytes' roots ≡ meaning next records targets bytes roots
+
 -- bytes stored at the places of a part of one object, while those of all other live bytes stay, are stored in the object
 abbrev pub StoreChangesMeaning : Type 0
 StoreChangesMeaning = (next : ℕ) (records : List Record) (targets : ℕ → Target) (bytes bytes' : Place → ℕ) (roots : List (Option ℕ)) (r : Record)

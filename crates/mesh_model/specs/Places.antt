@@ -3,7 +3,7 @@ use Rattle.std.specs.Prelude.{ℕ, ◌+◌, ◌/◌, ◌%◌, Bool, if◌then◌
 use Rattle.std.specs.List.{flat_map, list_any, range_with_len}
 use Rattle.std.specs.Option.{option_map}
 use Rattle.mesh_model.specs.Memory.{Object, Memory}
-use Rattle.mesh_model.specs.Table.{Slot, Table, slot_address}
+use Rattle.mesh_model.specs.Table.{Group, Slot, Table, slot_address}
 
 -- where a virtual page leads: its physical page, and whether it is read-only
 pub record Target : Type 0 where
@@ -40,9 +40,13 @@ records_from class k (None ∷ slots) = records_from class (k + 1) slots
 records_from class k (Some slot ∷ slots) =
     record { serial = slot.serial; address = slot_address slot.member class k; len = slot.len } ∷ records_from class (k + 1) slots
 
+-- the records of a group's objects
+abbrev pub records_in : Group → List Record
+records_in g = records_from g.class 0 g.slots
+
 -- the records of all live objects
 abbrev pub records_of : Table → List Record
-records_of t = flat_map (λ g. records_from g.class 0 g.slots) t.groups
+records_of t = flat_map records_in t.groups
 
 -- the record has the serial
 abbrev pub has_serial : ℕ → Record → Bool

@@ -1,10 +1,10 @@
 -- The table's transitions keep a sound table sound.
-use Rattle.std.specs.Prelude.{◌≡◌, ℕ, ◌+◌, ◌≤◌, ◌⊎◌, Bool, false, Some, Ok, slice_get}
+use Rattle.std.specs.Prelude.{◌≡◌, ◌↔◌, ℕ, ◌+◌, ◌<◌, ◌≤◌, ◌⊎◌, Bool, true, false, Some, Ok, find, length, slice_get}
 use Rattle.mesh_model.specs.Memory.{Memory}
-use Rattle.mesh_model.specs.Mesh.{any_mesh, begin, cancel, first_mesh, mesh_in, mesh_of_class, mesh_whole, step, Stepped}
+use Rattle.mesh_model.specs.Mesh.{any_mesh, begin, cancel, first_mesh, mesh_in, mesh_of_class, mesh_whole, step, virtual_pages, Stepped}
 use Rattle.mesh_model.specs.Plain.{IsVacantRange}
-use Rattle.mesh_model.specs.Sound.{IsSound, IsTied, meshes_of}
-use Rattle.mesh_model.specs.Table.{Counted, Group, Placed, Slot, Table, empty_table, group_of, place_new, slot_address, sweep, without_object}
+use Rattle.mesh_model.specs.Sound.{IsSound, IsSoundGroup, IsTied, meshes_of, times_in}
+use Rattle.mesh_model.specs.Table.{Counted, Group, Placed, Slot, Table, empty_table, group_of, is_meshing, is_open, object_count, place_new, slot_address, sweep, without_object}
 
 -- the table with no span is sound
 abbrev pub EmptyIsSound : Type 0
@@ -51,6 +51,32 @@ StepFirstKeepsSound = (t : Table) (stepped : Stepped) → IsSound t → step t (
 -- a new object keeps the table sound
 abbrev pub NewKeepsSound : Type 0
 NewKeepsSound = (t : Table) (len word serial : ℕ) (placed : Placed) → IsSound t → place_new t len word serial ≡ Ok placed → IsSound placed.table
+
+-- a group that is found in a sound table by any test is sound
+abbrev pub GroupsAreSound : Type 0
+GroupsAreSound = (t : Table) (test : Group → Bool) (g : Group) → IsSound t → find test t.groups ≡ Some g → IsSoundGroup g
+
+-- a virtual page is in a group once at most
+abbrev pub PageIsOnceInGroup : Type 0
+PageIsOnceInGroup = (t : Table) (v n : ℕ) (g : Group) → IsSound t → group_of t n ≡ Some g → times_in v (virtual_pages g) ≤ 1
+
+-- a virtual page is of one group
+abbrev pub PageIsOfOneGroup : Type 0
+PageIsOfOneGroup = (t : Table) (v m n : ℕ) (g h : Group) → IsSound t → group_of t m ≡ Some g → group_of t n ≡ Some h → 1 ≤ times_in v (virtual_pages g)
+    → 1 ≤ times_in v (virtual_pages h) → m ≡ n
+
+-- a group takes new objects exactly where it is of the class and in no mesh, and a slot is free
+abbrev pub OpenIsByTests : Type 0
+OpenIsByTests = (t : Table) (class : ℕ) (g : Group) → (is_open t class g ≡ true)
+    ↔ ((g.class ≡ class) × (is_meshing t g.number ≡ false) × (object_count g < length g.slots))
+
+-- the group that is found for a new object is such a one
+abbrev pub FoundIsOpen : Type 0
+FoundIsOpen = (t : Table) (class : ℕ) (g : Group) → find (is_open t class) t.groups ≡ Some g → is_open t class g ≡ true
+
+-- a new object that is not refused has 1 to 2,048 bytes
+abbrev pub NewHasLength : Type 0
+NewHasLength = (t : Table) (len word serial : ℕ) (placed : Placed) → place_new t len word serial ≡ Ok placed → (1 ≤ len) × (len ≤ 2048)
 
 -- the ranges of `m` addresses from `a` on and of `n` addresses from `b` on have none in common
 abbrev pub AreApart : ℕ → ℕ → ℕ → ℕ → Type 0

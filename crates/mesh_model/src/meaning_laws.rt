@@ -1,10 +1,15 @@
 //! Laws of what a heap means: what a read, a store, a free and a new object are to it. Each is the contract of a function that does nothing.
-ghost use Rattle.mesh_model.specs.MeaningLaws.{MeaningHasNext, MeaningHasObjects, StoreChangesMeaning, FreeChangesMeaning, NewChangesMeaning, ReadGivesBytes, ByteIsAtItsPlace, LiveObjectsAreApart, HolderIsOne, NoneIsHolder, SlotIsTheOnlyOne, TiedRecordsAreBelow, SlotHasRecord, RecordHasSlot};
+ghost use Rattle.mesh_model.specs.MeaningLaws.{MeaningHasNext, MeaningHasObjects, SameBytesSameMeaning, StoreChangesMeaning, FreeChangesMeaning, NewChangesMeaning, ReadGivesBytes, ByteIsAtItsPlace, LiveObjectsAreApart, HolderIsOne, NoneIsHolder, SlotIsTheOnlyOne, TiedRecordsAreBelow, SlotHasRecord, RecordHasSlot};
 
 /// What a heap means has the heap's next serial, and for each serial the object of its record.
 pub fn meaning_has_objects()
     ensures next { MeaningHasNext }
     ensures objects { MeaningHasObjects }
+{}
+
+/// A heap whose records and their bytes stay means what it meant, wherever the bytes lie.
+pub fn meaning_stays_with_bytes()
+    ensures { SameBytesSameMeaning }
 {}
 
 /// Bytes stored at the places of an object's addresses are stored in the object.

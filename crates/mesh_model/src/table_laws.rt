@@ -1,5 +1,5 @@
 //! Laws of the table: its transitions keep a sound table sound. Each is the contract of a function that does nothing.
-ghost use Rattle.mesh_model.specs.TableLaws.{EmptyIsSound, FreeKeepsSound, SweepKeepsSound, BeginKeepsSound, WholeKeepsSound, CancelInKeepsSound, CancelFirstKeepsSound, StepInKeepsSound, StepFirstKeepsSound, NewKeepsSound, NewIsApart, NewIsVacant, AnyTellsBusy, ClassTellsBusy};
+ghost use Rattle.mesh_model.specs.TableLaws.{EmptyIsSound, FreeKeepsSound, SweepKeepsSound, BeginKeepsSound, WholeKeepsSound, CancelInKeepsSound, CancelFirstKeepsSound, StepInKeepsSound, StepFirstKeepsSound, NewKeepsSound, GroupsAreSound, PageIsOnceInGroup, PageIsOfOneGroup, OpenIsByTests, FoundIsOpen, NewHasLength, NewIsApart, NewIsVacant, AnyTellsBusy, ClassTellsBusy};
 
 /// The table with no span is sound.
 pub fn empty_is_sound()
@@ -37,6 +37,24 @@ pub fn step_keeps_sound()
 /// A new object keeps the table sound.
 pub fn new_keeps_sound()
     ensures { NewKeepsSound }
+{}
+
+/// Each group of a sound table is sound, and its virtual pages are its own.
+pub fn groups_are_sound()
+    ensures found { GroupsAreSound }
+    ensures once { PageIsOnceInGroup }
+    ensures own { PageIsOfOneGroup }
+{}
+
+/// A group is open to new objects where it is of the class and in no mesh, and has a free slot; the one that is found is.
+pub fn groups_are_open()
+    ensures tests { OpenIsByTests }
+    ensures found { FoundIsOpen }
+{}
+
+/// A new object that is not refused has 1 to 2,048 bytes.
+pub fn new_has_length()
+    ensures { NewHasLength }
 {}
 
 /// A new object is apart from each object of the table, and where table and memory are tied, its range is vacant.
