@@ -1,12 +1,12 @@
 -- Table and memory stay tied, and so every history of a job is legal.
-use Rattle.std.specs.Prelude.{◌≡◌, ℕ, ◌+◌, ◌≤◌, Bool, if◌then◌else◌, nat_eq, List, [], ◌∷◌, ◌++◌, Some, None, Ok, length, slice_index_or, map}
+use Rattle.std.specs.Prelude.{◌≡◌, ℕ, ◌+◌, ◌≤◌, Bool, if◌then◌else◌, nat_eq, List, [], ◌∷◌, ◌++◌, Option, Some, None, Ok, find, length, slice_index_or, map}
 use Rattle.mesh_model.specs.Jobs.{Job, Line, State, answer, answered, opening, state_after}
 use Rattle.mesh_model.specs.Memory.{Memory, Object, next_serial, object_of, with_object, with_root}
-use Rattle.mesh_model.specs.Mesh.{Stepped, begin, cancel, first_mesh, mesh_in, mesh_whole, step}
+use Rattle.mesh_model.specs.Mesh.{Stepped, begin, cancel, mesh_whole, step}
 use Rattle.mesh_model.specs.Plain.{Entry, IsLegal, Named, PlainStep, made, stored}
 use Rattle.mesh_model.specs.Seats.{calls_of}
 use Rattle.mesh_model.specs.Sound.{IsSound, IsTied}
-use Rattle.mesh_model.specs.Table.{Counted, Placed, Table, place_new, sweep, without_object}
+use Rattle.mesh_model.specs.Table.{Counted, Mesh, Placed, Table, place_new, sweep, without_object}
 use Rattle.mesh_model.specs.declared.commands.Command.{Command}
 
 -- a sweep keeps table and memory tied
@@ -23,23 +23,15 @@ abbrev pub WholeKeepsTied : Type 0
 WholeKeepsTied = (m : Memory) (busy : Table → ℕ → Bool) (t : Table) (source destination : ℕ) (whole : Counted) → IsTied m t
     → mesh_whole busy t source destination ≡ Ok whole → IsTied m whole.table
 
--- a cancel of the mesh of a class keeps table and memory tied
-abbrev pub CancelInKeepsTied : Type 0
-CancelInKeepsTied = (m : Memory) (t : Table) (class : ℕ) (cancelled : Counted) → IsTied m t → cancel t (mesh_in t class) ≡ Ok cancelled
+-- a cancel keeps table and memory tied, of any mesh
+abbrev pub CancelKeepsTied : Type 0
+CancelKeepsTied = (m : Memory) (t : Table) (which : Option Mesh) (cancelled : Counted) → IsTied m t → cancel t which ≡ Ok cancelled
     → IsTied m cancelled.table
 
--- a cancel of the first mesh keeps table and memory tied
-abbrev pub CancelFirstKeepsTied : Type 0
-CancelFirstKeepsTied = (m : Memory) (t : Table) (cancelled : Counted) → IsTied m t → cancel t (first_mesh t) ≡ Ok cancelled → IsTied m cancelled.table
-
--- a step of the mesh of a class keeps the memory tied to a sound table
-abbrev pub StepInKeepsTied : Type 0
-StepInKeepsTied = (m : Memory) (t : Table) (class : ℕ) (stepped : Stepped) → IsSound t → IsTied m t → step t (mesh_in t class) ≡ Ok stepped
-    → IsTied m stepped.table
-
--- a step of the first mesh keeps the memory tied to a sound table
-abbrev pub StepFirstKeepsTied : Type 0
-StepFirstKeepsTied = (m : Memory) (t : Table) (stepped : Stepped) → IsSound t → IsTied m t → step t (first_mesh t) ≡ Ok stepped → IsTied m stepped.table
+-- a step keeps the memory tied to a sound table, of the first mesh that passes any test
+abbrev pub StepKeepsTied : Type 0
+StepKeepsTied = (m : Memory) (t : Table) (test : Mesh → Bool) (stepped : Stepped) → IsSound t → IsTied m t
+    → step t (find test t.meshes) ≡ Ok stepped → IsTied m stepped.table
 
 -- bytes stored within a live object keep table and memory tied
 abbrev pub StoreKeepsTied : Type 0

@@ -1,10 +1,10 @@
 -- The table's transitions keep a sound table sound.
 use Rattle.std.specs.Prelude.{◌≡◌, ◌↔◌, ℕ, ◌+◌, ◌<◌, ◌≤◌, ◌⊎◌, Bool, true, false, Some, Ok, find, length, slice_get}
 use Rattle.mesh_model.specs.Memory.{Memory}
-use Rattle.mesh_model.specs.Mesh.{any_mesh, begin, cancel, first_mesh, mesh_in, mesh_of_class, mesh_whole, step, virtual_pages, Stepped}
+use Rattle.mesh_model.specs.Mesh.{any_mesh, begin, cancel, mesh_of_class, mesh_whole, step, virtual_pages, Stepped}
 use Rattle.mesh_model.specs.Plain.{IsVacantRange}
 use Rattle.mesh_model.specs.Sound.{IsSound, IsSoundGroup, IsTied, meshes_of, times_in}
-use Rattle.mesh_model.specs.Table.{Counted, Group, Placed, Slot, Table, empty_table, group_of, is_meshing, is_open, object_count, place_new, slot_address, sweep, without_object}
+use Rattle.mesh_model.specs.Table.{Counted, Group, Mesh, Placed, Slot, Table, empty_table, group_of, is_meshing, is_open, object_count, place_new, slot_address, sweep, without_object}
 
 -- the table with no span is sound
 abbrev pub EmptyIsSound : Type 0
@@ -32,21 +32,14 @@ abbrev pub WholeKeepsSound : Type 0
 WholeKeepsSound = (busy : Table → ℕ → Bool) (t : Table) (source destination : ℕ) (whole : Counted) → IsBusyTest busy t → IsSound t
     → mesh_whole busy t source destination ≡ Ok whole → IsSound whole.table
 
--- a cancel of the mesh of a class keeps the table sound
-abbrev pub CancelInKeepsSound : Type 0
-CancelInKeepsSound = (t : Table) (class : ℕ) (cancelled : Counted) → IsSound t → cancel t (mesh_in t class) ≡ Ok cancelled → IsSound cancelled.table
+-- a cancel keeps the table sound, of the first mesh that passes any test
+abbrev pub CancelKeepsSound : Type 0
+CancelKeepsSound = (t : Table) (test : Mesh → Bool) (cancelled : Counted) → IsSound t → cancel t (find test t.meshes) ≡ Ok cancelled
+    → IsSound cancelled.table
 
--- a cancel of the first mesh keeps the table sound
-abbrev pub CancelFirstKeepsSound : Type 0
-CancelFirstKeepsSound = (t : Table) (cancelled : Counted) → IsSound t → cancel t (first_mesh t) ≡ Ok cancelled → IsSound cancelled.table
-
--- a step of the mesh of a class keeps the table sound
-abbrev pub StepInKeepsSound : Type 0
-StepInKeepsSound = (t : Table) (class : ℕ) (stepped : Stepped) → IsSound t → step t (mesh_in t class) ≡ Ok stepped → IsSound stepped.table
-
--- a step of the first mesh keeps the table sound
-abbrev pub StepFirstKeepsSound : Type 0
-StepFirstKeepsSound = (t : Table) (stepped : Stepped) → IsSound t → step t (first_mesh t) ≡ Ok stepped → IsSound stepped.table
+-- a step keeps the table sound, of the first mesh that passes any test
+abbrev pub StepKeepsSound : Type 0
+StepKeepsSound = (t : Table) (test : Mesh → Bool) (stepped : Stepped) → IsSound t → step t (find test t.meshes) ≡ Ok stepped → IsSound stepped.table
 
 -- a new object keeps the table sound
 abbrev pub NewKeepsSound : Type 0

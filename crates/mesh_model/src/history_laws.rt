@@ -1,5 +1,5 @@
 //! Laws of a job's walk: table and memory stay tied, and so every history is legal. Each is the contract of a function that does nothing.
-ghost use Rattle.mesh_model.specs.HistoryLaws.{SweepKeepsTied, BeginKeepsTied, WholeKeepsTied, CancelInKeepsTied, CancelFirstKeepsTied, StepInKeepsTied, StepFirstKeepsTied, StoreKeepsTied, RootKeepsTied, FreeKeepsTied, NewKeepsTied, AnsweredIsStep, OpeningIsRunning, AnswerKeepsRunning, LinesKeepRunning, HistoryIsLegal, EntriesBeginScripts, CallsHaveCommands};
+ghost use Rattle.mesh_model.specs.HistoryLaws.{SweepKeepsTied, BeginKeepsTied, WholeKeepsTied, CancelKeepsTied, StepKeepsTied, StoreKeepsTied, RootKeepsTied, FreeKeepsTied, NewKeepsTied, AnsweredIsStep, OpeningIsRunning, AnswerKeepsRunning, LinesKeepRunning, HistoryIsLegal, EntriesBeginScripts, CallsHaveCommands};
 
 /// A sweep keeps table and memory tied.
 pub fn sweep_keeps_tied()
@@ -12,16 +12,14 @@ pub fn begin_keeps_tied()
     ensures whole { WholeKeepsTied }
 {}
 
-/// A cancel keeps table and memory tied, of the mesh of a class and of the first one.
+/// A cancel keeps table and memory tied, whichever mesh is meant.
 pub fn cancel_keeps_tied()
-    ensures of_class { CancelInKeepsTied }
-    ensures of_first { CancelFirstKeepsTied }
+    ensures { CancelKeepsTied }
 {}
 
-/// A step keeps the memory tied to a sound table, of the mesh of a class and of the first one.
+/// A step keeps the memory tied to a sound table, whichever mesh is meant.
 pub fn step_keeps_tied()
-    ensures of_class { StepInKeepsTied }
-    ensures of_first { StepFirstKeepsTied }
+    ensures { StepKeepsTied }
 {}
 
 /// A store within an object keeps table and memory tied, and so does another serial in a cell.

@@ -1,7 +1,8 @@
 //! The words that every layer of Mesh speaks: what a mutator may ask, what it may be answered, and why it may be refused.
 //!
 //! This is the base crate: the plain enums that every layer speaks, the definitions that contracts cite (`specs/`), and what is
-//! proved of the definitions alone (`laws`, `table_laws`, `history_laws`, `meaning_laws`, `text_laws`, `reader_laws`). It has no other code.
+//! proved of the definitions alone, a file a thought: `laws`, `step_laws`, `seat_laws`, `table_laws`, `mesh_laws`, `page_laws`,
+//! `effect_laws`, `history_laws`, `meaning_laws`, `text_laws` and `reader_laws`. It has no other code.
 #![tactic(auto)]
 
 mod commands;

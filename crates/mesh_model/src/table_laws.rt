@@ -1,5 +1,5 @@
 //! Laws of the table: its transitions keep a sound table sound. Each is the contract of a function that does nothing.
-ghost use Rattle.mesh_model.specs.TableLaws.{EmptyIsSound, FreeKeepsSound, SweepKeepsSound, BeginKeepsSound, WholeKeepsSound, CancelInKeepsSound, CancelFirstKeepsSound, StepInKeepsSound, StepFirstKeepsSound, NewKeepsSound, GroupsAreSound, PageIsOnceInGroup, PageIsOfOneGroup, OpenIsByTests, FoundIsOpen, NewHasLength, NewIsApart, NewIsVacant, AnyTellsBusy, ClassTellsBusy};
+ghost use Rattle.mesh_model.specs.TableLaws.{EmptyIsSound, FreeKeepsSound, SweepKeepsSound, BeginKeepsSound, WholeKeepsSound, CancelKeepsSound, StepKeepsSound, NewKeepsSound, GroupsAreSound, PageIsOnceInGroup, PageIsOfOneGroup, OpenIsByTests, FoundIsOpen, NewHasLength, NewIsApart, NewIsVacant, AnyTellsBusy, ClassTellsBusy};
 
 /// The table with no span is sound.
 pub fn empty_is_sound()
@@ -22,16 +22,14 @@ pub fn begin_keeps_sound()
     ensures whole { WholeKeepsSound }
 {}
 
-/// A cancel keeps the table sound, of the mesh of a class and of the first one.
+/// A cancel keeps the table sound, whichever mesh is meant.
 pub fn cancel_keeps_sound()
-    ensures of_class { CancelInKeepsSound }
-    ensures of_first { CancelFirstKeepsSound }
+    ensures { CancelKeepsSound }
 {}
 
-/// A step keeps the table sound, of the mesh of a class and of the first one.
+/// A step keeps the table sound, whichever mesh is meant.
 pub fn step_keeps_sound()
-    ensures of_class { StepInKeepsSound }
-    ensures of_first { StepFirstKeepsSound }
+    ensures { StepKeepsSound }
 {}
 
 /// A new object keeps the table sound.
