@@ -1,5 +1,5 @@
 -- Every transition keeps the count of physical pages.
-use Rattle.std.proofs.Common.{◌≡◌, ◌≢◌, ℕ, zero, suc, ◌+◌, ◌-◌, ◌*◌, ◌<◌, ◌≤◌, Bool, true, false, not, min, nat_eq, nat_lt, List, [], ◌∷◌, ◌++◌, length, find, filter, map, sum_by, ap, subst, refl, sym, ◌∙◌, arith, inl, inr, Option, Some, None, Ok}
+use Rattle.std.proofs.Common.{◌≡◌, ◌≢◌, ℕ, suc, ◌+◌, ◌-◌, ◌*◌, ◌≤◌, Bool, true, false, not, min, nat_eq, nat_lt, List, [], ◌∷◌, ◌++◌, length, find, filter, map, sum_by, ap, subst, refl, sym, ◌∙◌, arith, inl, inr, Option, Some, None, Ok}
 use Rattle.std.specs.List.{list_any}
 use Rattle.std.proofs.lemmas.Bool.Decides.{eqb_tells, leb_tells}
 use Rattle.std.proofs.lemmas.Bool.{true≢false}
@@ -13,12 +13,12 @@ use Rattle.mesh_model.proofs.StepCounts.{merged_keeps}
 use Rattle.mesh_model.proofs.TableChanges.{differ, one_group}
 use Rattle.mesh_model.proofs.WholeMeshes.{free_next}
 use Rattle.mesh_model.specs.Classes.{class_for, pages_of, slots_of}
-use Rattle.mesh_model.specs.Mesh.{Stepped, begin, may_begin, cancel, cancelled, cancelled_at, free_after, is_mesh, kind_after, merged, merged_into, mesh_whole, page_count, step, step_count, stepped, table_after, table_unwound, with_progress, without_mesh}
+use Rattle.mesh_model.specs.Mesh.{Stepped, begin, may_begin, cancel, cancelled, cancelled_at, free_after, is_mesh, kind_after, merged, merged_into, mesh_whole, page_count, step, step_count, stepped, with_progress, without_mesh}
 use Rattle.mesh_model.specs.PageCounts.{AreCounted, released_by, released_pages, span_pages}
-use Rattle.mesh_model.specs.Sound.{AreSoundGroups, AreSoundMeshes, AscendBetween, IsSound, IsSoundMesh, IsWithinSteps, meshes_of}
+use Rattle.mesh_model.specs.Sound.{AreSoundGroups, AreSoundMeshes, AscendBetween, IsSound, IsWithinSteps, meshes_of}
 use Rattle.mesh_model.specs.Table.{Counted, Group, Made, Mesh, Placed, Progress, Slot, Table, Unwinding, changed_at, first_member, fresh_group, group_of, group_without, has_number, is_meshing, is_open, mapped_count, object_count, picked_slot, place_in, place_new, placed_in, room_for_span, sweep, takes_part, with_group, with_object_in, with_span, without_object}
 use Rattle.mesh_model.specs.TableLaws.{IsBusyTest}
-use Rattle.mesh_model.specs.declared.refusals.Refusal.TheVariants.{Busy, NoAddresses, NoGroup, NoMesh, NoPages, NotEmpty, TooLarge, TooLate, Zero}
+use Rattle.mesh_model.specs.declared.refusals.Refusal.TheVariants.{Busy, NoGroup, NoMesh, NoPages, NotEmpty, TooLarge, TooLate, Zero}
 
 -- the physical pages of a group
 abbrev span_of : Group → ℕ

@@ -1,5 +1,5 @@
 -- The groups of a sound table, and their virtual pages.
-use Rattle.std.proofs.Common.{◌≡◌, ℕ, ◌+◌, ◌≤◌, Bool, true, false, not, List, filter, find, sym, ◌∙◌, arith, inl, inr, Some}
+use Rattle.std.proofs.Common.{◌≡◌, ℕ, ◌≤◌, Bool, not, List, filter, find, sym, ◌∙◌, arith, inl, inr, Some}
 use Rattle.std.proofs.lemmas.Bool.Decides.{eqb_tells}
 use Rattle.mesh_model.proofs.GroupLists.{ascend_filtered, find_sound, find_without_other, pages_without}
 use Rattle.mesh_model.specs.Mesh.{virtual_pages}

@@ -1,5 +1,5 @@
 -- A job's walk keeps the count of physical pages, so its reports add up.
-use Rattle.std.proofs.Common.{◌≡◌, ℕ, ◌+◌, ◌-◌, ◌≤◌, true, List, [], ◌∷◌, Result, Ok, Err, slice_index_or, refl, arith}
+use Rattle.std.proofs.Common.{◌≡◌, ℕ, ◌+◌, true, List, [], ◌∷◌, Result, Ok, Err, slice_index_or, refl, arith}
 use Rattle.mesh_model.proofs.CountedPages.{begin_counted, cancel_counted, free_counted, new_counted, step_counted, sweep_counted, taken_mapped, whole_counted}
 use Rattle.mesh_model.proofs.JobHistories.{answer_running, busy, lines_keep, opening_running, run_keeps}
 use Rattle.mesh_model.specs.HistoryLaws.{IsRunning}
@@ -9,7 +9,7 @@ use Rattle.mesh_model.specs.Mesh.{Stepped, any_mesh, begin, cancel, first_mesh, 
 use Rattle.mesh_model.specs.PageCounts.{AreCounted}
 use Rattle.mesh_model.specs.Plain.{Named, named_by, plain}
 use Rattle.mesh_model.specs.Sound.{IsSound}
-use Rattle.mesh_model.specs.Table.{Counted, Placed, Table, mapped_count, place_new, report_of, sweep}
+use Rattle.mesh_model.specs.Table.{Counted, Placed, Table, place_new, report_of, sweep}
 use Rattle.mesh_model.specs.declared.commands.Command.{Command}
 use Rattle.mesh_model.specs.declared.commands.Command.TheVariants.{New, Put, Get, Free, Alias, Addr, Peek, Poke}
 use Rattle.mesh_model.specs.declared.commands.Reply.{Reply}

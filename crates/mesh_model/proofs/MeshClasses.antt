@@ -1,8 +1,7 @@
 -- At most one mesh runs a class, and it is found by its class.
-use Rattle.std.proofs.Common.{◌≡◌, ℕ, zero, suc, ◌+◌, ◌≤◌, Bool, true, false, nat_eq, List, [], ◌∷◌, find, slice_get, ap, subst, refl, sym, ◌∙◌, arith, inl, inr, Option, Some, None}
+use Rattle.std.proofs.Common.{◌≡◌, ℕ, zero, suc, ◌+◌, ◌≤◌, Bool, true, List, [], ◌∷◌, find, slice_get, ap, refl, sym, ◌∙◌, arith, inl, inr, Some}
 use Rattle.std.specs.List.{list_any}
 use Rattle.std.proofs.lemmas.Bool.Decides.{eqb_tells}
-use Rattle.mesh_model.proofs.OneMesh.{of_class}
 use Rattle.mesh_model.proofs.GroupLists.{tells}
 use Rattle.mesh_model.specs.MeshLaws.{AtMostOneAClass}
 use Rattle.mesh_model.specs.Sound.{IsSound, meshes_of}

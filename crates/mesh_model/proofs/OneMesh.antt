@@ -1,11 +1,11 @@
 -- What a change of one mesh leaves of a list of meshes of which no two are of its class.
-use Rattle.std.proofs.Common.{◌≡◌, ◌≢◌, ℕ, zero, suc, ◌+◌, ◌≤◌, Bool, true, false, not, nat_eq, List, [], ◌∷◌, ◌++◌, map, filter, find, sum_by, ap, subst, refl, sym, ◌∙◌, arith, ◌⊎◌, inl, inr, Option, Some, None}
+use Rattle.std.proofs.Common.{◌≡◌, ◌≢◌, ℕ, ◌+◌, ◌≤◌, Bool, true, false, nat_eq, List, [], ◌∷◌, ◌++◌, find, sum_by, ap, subst, refl, sym, ◌∙◌, arith, ◌⊎◌, inl, inr, Some, None}
 use Rattle.std.proofs.lemmas.Bool.Decides.{eqb_tells}
 use Rattle.std.proofs.lemmas.List.Sums.{sum_by-cons}
 use Rattle.mesh_model.proofs.GroupLists.{tells}
 use Rattle.mesh_model.proofs.MeshLists.{mesh_found, same_mesh, same_source}
 use Rattle.mesh_model.proofs.TableChanges.{one_group}
-use Rattle.mesh_model.specs.Mesh.{is_mesh, mesh_at, with_progress, without_mesh}
+use Rattle.mesh_model.specs.Mesh.{is_mesh, with_progress, without_mesh}
 use Rattle.mesh_model.specs.Sound.{AreSoundMeshes, IsSoundMesh, meshes_of}
 use Rattle.mesh_model.specs.Table.{Group, Mesh, Progress, Table, group_of}
 

@@ -1,10 +1,10 @@
 -- Seats are settled, or one differs.
-use Rattle.std.proofs.Common.{◌≡◌, ◌≢◌, ℕ, zero, suc, ◌+◌, ◌<◌, ◌≤◌, List, [], ◌∷◌, slice_get, slice_index_or, ap, refl, subst, arith, ◌⊎◌, inl, inr, Option, Some, None}
+use Rattle.std.proofs.Common.{◌≡◌, ◌≢◌, ℕ, zero, suc, ◌<◌, List, [], ◌∷◌, slice_get, slice_index_or, ap, refl, subst, arith, ◌⊎◌, inl, inr, Some}
 use Rattle.std.proofs.lemmas.Bool.Decides.{leb_tells}
 use Rattle.mesh_model.proofs.Calls.{same_call}
 use Rattle.mesh_model.specs.Plain.{Entry}
 use Rattle.mesh_model.specs.SeatLaws.{SomeDiffers}
-use Rattle.mesh_model.specs.Seats.{AreSettled, Call, DifferFirstAt, SeatDiffers, calls_of}
+use Rattle.mesh_model.specs.Seats.{AreSettled, Call, DifferFirstAt, calls_of}
 
 -- the place after equal calls at which the later ones differ first
 later_differ : (x y : Call) (xs ys : List Call) (i : ℕ) → x ≡ y → DifferFirstAt xs ys i → DifferFirstAt (x ∷ xs) (y ∷ ys) (suc i)

@@ -1,5 +1,5 @@
 -- The steps to come of the mesh of a class, and what a step and a cancel leave of them.
-use Rattle.std.proofs.Common.{◌≡◌, ◌≢◌, ◌↔◌, ℕ, zero, suc, ◌+◌, ◌-◌, ◌*◌, ◌<◌, ◌≤◌, Bool, true, false, not, min, nat_eq, nat_lt, List, [], ◌∷◌, ◌++◌, length, find, map, ap, subst, refl, sym, ◌∙◌, arith, ◌⊎◌, inl, inr, Option, Some, None, Result, Ok}
+use Rattle.std.proofs.Common.{◌≡◌, ◌≢◌, ◌↔◌, ℕ, zero, suc, ◌+◌, ◌-◌, ◌*◌, ◌≤◌, Bool, min, nat_lt, List, [], ◌∷◌, ◌++◌, length, find, map, ap, subst, refl, sym, ◌∙◌, arith, ◌⊎◌, inl, inr, Option, Some, None, Ok}
 use Rattle.std.proofs.lemmas.Bool.Decides.{eqb_tells, leb_tells}
 use Rattle.mesh_model.proofs.Chains.{or_refuse_went, went_on, refuse_if_went, may_begin_gives}
 use Rattle.mesh_model.proofs.GroupLists.{find_number, find_without_other, find_changed_other}
@@ -7,9 +7,9 @@ use Rattle.mesh_model.proofs.MeshLists.{mesh_found, without_fewer}
 use Rattle.mesh_model.proofs.OneMesh.{at, of_class, found_at, found_beside, found_class, found_more, found_without, none_found}
 use Rattle.mesh_model.proofs.TableChanges.{one_group, step_sound}
 use Rattle.mesh_model.specs.Classes.{pages_of, slots_of}
-use Rattle.mesh_model.specs.Mesh.{Pair, Stepped, begin, may_begin, cancel, cancelled, cancelled_at, left_of, merged, merged_into, mesh_in, page_count, step, step_count, stepped, with_progress, without_mesh}
-use Rattle.mesh_model.specs.MeshLaws.{left_from, left_in, left_with, steps_of_class}
-use Rattle.mesh_model.specs.Sound.{IsSound, IsSoundMesh, IsWithinSteps, meshes_of}
+use Rattle.mesh_model.specs.Mesh.{Stepped, begin, may_begin, cancel, cancelled, cancelled_at, left_of, merged, merged_into, mesh_in, page_count, step, step_count, stepped, with_progress, without_mesh}
+use Rattle.mesh_model.specs.MeshLaws.{left_in, steps_of_class}
+use Rattle.mesh_model.specs.Sound.{IsSound, IsSoundMesh, IsWithinSteps}
 use Rattle.mesh_model.specs.Table.{Counted, Group, Made, Mesh, Progress, Table, Unwinding, changed_at, group_of, has_number}
 use Rattle.mesh_model.specs.TableLaws.{IsBusyTest}
 use Rattle.mesh_model.specs.declared.refusals.Refusal.TheVariants.{NoMesh, TooLate}

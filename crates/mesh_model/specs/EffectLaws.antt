@@ -1,8 +1,8 @@
 -- The effects of steps, on two meshes written out, and what the words of the effects change.
-use Rattle.std.specs.Prelude.{◌≡◌, ◌≢◌, ℕ, ◌+◌, ◌<◌, Bool, true, false, List, [], ◌∷◌, ◌++◌, Option, Some, None, map, replicate, slice_index_or}
+use Rattle.std.specs.Prelude.{◌≡◌, ◌≢◌, ℕ, ◌+◌, ◌<◌, Bool, true, false, List, [], ◌∷◌, ◌++◌, Some, None, map, replicate}
 use Rattle.mesh_model.specs.Places.{Place, Target, with_protection}
 use Rattle.mesh_model.specs.StepEffects.{Sides, Under, effect, place_at, step_effect, with_copied, with_free, with_page}
-use Rattle.mesh_model.specs.Table.{Made, Slot, Unwinding}
+use Rattle.mesh_model.specs.Table.{Made, Unwinding}
 use Rattle.mesh_model.specs.declared.commands.StepKind.TheVariants.{Copy}
 
 -- a source of two members of one page each, with an object of two bytes in its second slot

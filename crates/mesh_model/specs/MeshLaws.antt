@@ -1,5 +1,5 @@
 -- How the steps of a mesh are counted, and that at most one mesh runs a class.
-use Rattle.std.specs.Prelude.{◌≡◌, ◌≢◌, ◌↔◌, ℕ, zero, suc, ◌+◌, ◌*◌, ◌≤◌, Bool, true, false, Option, Some, None, Result, Ok, length, slice_get}
+use Rattle.std.specs.Prelude.{◌≡◌, ◌≢◌, ◌↔◌, ℕ, zero, suc, ◌+◌, ◌*◌, Bool, true, Option, Some, None, Result, Ok, length, slice_get}
 use Rattle.mesh_model.specs.Classes.{pages_of, slots_of}
 use Rattle.mesh_model.specs.Mesh.{Stepped, begin, cancel, left_of, mesh_in, mesh_of_class, mesh_whole, step}
 use Rattle.mesh_model.specs.Sound.{IsSound}

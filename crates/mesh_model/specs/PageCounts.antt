@@ -2,7 +2,7 @@
 use Rattle.std.specs.Prelude.{◌≡◌, ℕ, ◌+◌, ◌-◌, ◌*◌, Option, Some, None, sum_by}
 use Rattle.mesh_model.specs.Classes.{pages_of, slots_of}
 use Rattle.mesh_model.specs.Mesh.{page_count}
-use Rattle.mesh_model.specs.Table.{Group, Made, Mesh, Progress, Table, Unwinding, group_of}
+use Rattle.mesh_model.specs.Table.{Group, Made, Progress, Table, Unwinding, group_of}
 
 -- the physical pages of the spans of all groups
 abbrev pub span_pages : Table → ℕ

@@ -1,5 +1,5 @@
 -- Which seat is missing, and where the calls of seats differ from the entries, in words that name no search.
-use Rattle.std.specs.Prelude.{◌≡◌, ◌≢◌, ◌↔◌, ℕ, ◌<◌, ◌≤◌, ◌⊎◌, List, Option, Some, None, length, slice_get}
+use Rattle.std.specs.Prelude.{◌≡◌, ◌≢◌, ◌↔◌, ℕ, ◌<◌, ◌≤◌, ◌⊎◌, List, Some, None, length, slice_get}
 use Rattle.mesh_model.specs.Plain.{Entry}
 use Rattle.mesh_model.specs.Seats.{AreSettled, Call, SeatDiffers, missing_seat}
 

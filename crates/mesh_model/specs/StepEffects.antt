@@ -1,6 +1,6 @@
 -- What a step of a mesh does to page map, bytes and free pages, and that it does nothing else. Protecting, copying and remapping are the
 -- publication's; their order is this project's own.
-use Rattle.std.specs.Prelude.{◌≡◌, ℕ, zero, suc, ◌+◌, ◌-◌, ◌*◌, ◌/◌, ◌%◌, Bool, true, false, ◌&&◌, if◌then◌else◌, nat_eq, List, Option, Some, None, slice_index, slice_index_or}
+use Rattle.std.specs.Prelude.{ℕ, zero, suc, ◌+◌, ◌-◌, ◌*◌, ◌/◌, ◌%◌, Bool, true, false, ◌&&◌, if◌then◌else◌, nat_eq, List, Option, Some, None, slice_index, slice_index_or}
 use Rattle.mesh_model.specs.Classes.{pages_of, slots_of}
 use Rattle.mesh_model.specs.Mesh.{kind_after, page_count, virtual_pages}
 use Rattle.mesh_model.specs.Places.{Place, Target, with_protection}

@@ -1,5 +1,5 @@
 -- What is no plain step, and how far a command determines its reply.
-use Rattle.std.specs.Prelude.{◌≡◌, ◌≢◌, ◌↔◌, ℕ, ◌+◌, ◌<◌, ◌≤◌, ◌⊎◌, Bool, true, false, ◌&&◌, nat_le, Some}
+use Rattle.std.specs.Prelude.{◌≡◌, ◌↔◌, ℕ, ◌+◌, ◌<◌, ◌≤◌, ◌⊎◌, Bool, true, false, ◌&&◌, nat_le, Some}
 use Rattle.mesh_model.specs.Memory.{Memory, Object, has_address, next_serial, object_of}
 use Rattle.mesh_model.specs.Plain.{PlainStep}
 use Rattle.mesh_model.specs.declared.commands.Command.{Command}
