@@ -21,11 +21,11 @@ use Rattle.mesh_model.specs.TableLaws.{IsBusyTest}
 use Rattle.mesh_model.specs.declared.refusals.Refusal.TheVariants.{Busy, NoGroup, NoMesh, NoPages, NotEmpty, TooLarge, TooLate, Zero}
 
 -- the physical pages of a group
-abbrev span_of : Group → ℕ
+abbrev pub span_of : Group → ℕ
 span_of g = pages_of g.class
 
 -- the physical pages that a mesh has released
-abbrev given : Table → Mesh → ℕ
+abbrev pub given : Table → Mesh → ℕ
 given t mesh = released_by mesh.progress (group_of t mesh.source)
 
 -- changed groups of the same classes have as many pages
@@ -36,7 +36,7 @@ span_mapped change (x ∷ xs) keeps =
     let same : span_of (change x) ≡ span_of x = ap pages_of (keeps x) in omega (arith, rest, old, new, same)
 
 -- without a group its pages are less
-span_without : (n low high : ℕ) (gs : List Group) (g : Group) → AscendBetween low gs high → find (has_number n) gs ≡ Some g
+pub span_without : (n low high : ℕ) (gs : List Group) (g : Group) → AscendBetween low gs high → find (has_number n) gs ≡ Some g
     → sum_by span_of (filter (λ x. not (has_number n x)) gs) + span_of g ≡ sum_by span_of gs
 span_without n low high [] g ascend h = absurd (cc)
 span_without n low high (x ∷ xs) g ascend h = elim (first_or_later n low high x xs g ascend h) [

@@ -10,6 +10,7 @@ mod Fields
 pub mod FreedObjects
 pub mod GroupLists
 mod GroupPages
+mod HeldPages
 mod Histories
 pub mod Holders
 mod JobHistories

@@ -2,7 +2,7 @@
 use Rattle.std.specs.Prelude.{◌≡◌, ℕ, ◌+◌, ◌-◌, ◌≤◌, Bool, List, Ok, find}
 use Rattle.mesh_model.specs.Jobs.{Job, Line, opening, state_after}
 use Rattle.mesh_model.specs.Mesh.{Stepped, begin, cancel, mesh_whole, step}
-use Rattle.mesh_model.specs.PageCounts.{AreCounted}
+use Rattle.mesh_model.specs.PageCounts.{AreCounted, released_pages, span_pages}
 use Rattle.mesh_model.specs.Sound.{IsSound}
 use Rattle.mesh_model.specs.Table.{Counted, Mesh, Placed, Table, empty_table, mapped_count, place_new, report_of, sweep, without_object}
 use Rattle.mesh_model.specs.TableLaws.{IsBusyTest}
@@ -57,6 +57,10 @@ SweepAnswersPages = (t : Table) (n : ℕ) (swept : Counted) → sweep t n ≡ Ok
 abbrev pub WholeAnswersPages : Type 0
 WholeAnswersPages = (busy : Table → ℕ → Bool) (t : Table) (source destination : ℕ) (whole : Counted)
     → mesh_whole busy t source destination ≡ Ok whole → whole.table.free_pages ≡ t.free_pages + whole.count
+
+-- meshes have released no more pages than groups have, so no more are free than there are
+abbrev pub FreeIsWithin : Type 0
+FreeIsWithin = (pages : ℕ) (t : Table) → IsSound t → AreCounted pages t → (released_pages t ≤ span_pages t) × (t.free_pages ≤ pages)
 
 -- no more physical pages are taken than virtual pages are mapped
 abbrev pub TakenIsMapped : Type 0

@@ -1,5 +1,5 @@
 //! Laws of physical pages: none is lost or made, whatever happens to the table. Each is the contract of a function that does nothing.
-ghost use Rattle.mesh_model.specs.PageLaws.{EmptyIsCounted, NewKeepsCount, FreeKeepsCount, SweepKeepsCount, BeginKeepsCount, WholeKeepsCount, StepKeepsCount, CancelKeepsCount, JobsKeepCount, SweepAnswersPages, WholeAnswersPages, TakenIsMapped, ReportsAddUp};
+ghost use Rattle.mesh_model.specs.PageLaws.{EmptyIsCounted, NewKeepsCount, FreeKeepsCount, SweepKeepsCount, BeginKeepsCount, WholeKeepsCount, StepKeepsCount, CancelKeepsCount, JobsKeepCount, SweepAnswersPages, WholeAnswersPages, FreeIsWithin, TakenIsMapped, ReportsAddUp};
 
 /// Free pages, and those of spans that no mesh has released, are as many as at the start after every transition.
 pub fn pages_are_counted()
@@ -19,8 +19,9 @@ pub fn freed_pages_are_answered()
     ensures whole { WholeAnswersPages }
 {}
 
-/// No more pages are taken than mapped, so a report adds up.
+/// No more pages are free than there are, and no more are taken than mapped, so a report adds up.
 pub fn taken_is_mapped()
+    ensures free { FreeIsWithin }
     ensures table { TakenIsMapped }
     ensures jobs { JobsKeepCount }
     ensures reports { ReportsAddUp }
