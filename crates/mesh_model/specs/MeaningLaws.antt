@@ -1,24 +1,15 @@
 -- What a heap means, as its objects are read, stored to, freed and made.
-use Rattle.std.specs.Prelude.{◌≡◌, ◌≢◌, ℕ, ◌+◌, ◌<◌, ◌≤◌, ◌⊎◌, true, false, List, [], ◌∷◌, ◌++◌, Option, Some, None, Ok, length, map, find, replicate, slice_get, slice_index, slice_range, slice_set}
+use Rattle.std.specs.Prelude.{◌≡◌, ◌≢◌, ℕ, ◌+◌, ◌<◌, ◌≤◌, ◌⊎◌, true, false, List, Option, Some, None, Ok, length, map, slice_get, slice_index, slice_range}
 use Rattle.std.specs.List.{range_with_len}
 use Rattle.std.specs.Option.{option_map}
+pub use Rattle.mesh_model.specs.Memory.{with_new}
+pub use Rattle.mesh_model.specs.Places.{AreBelow, IsIn, record_in, record_with}
+pub use Rattle.mesh_model.specs.Table.{emptied_at}
 use Rattle.mesh_model.specs.Memory.{Memory, Object, are_apart, has_address, holder_of, next_serial, object_of, with_object}
-use Rattle.mesh_model.specs.Places.{Place, Record, Target, byte_of, has_serial, meaning, object_at, records_of}
+use Rattle.mesh_model.specs.Places.{Place, Record, Target, byte_of, meaning, object_at, records_of}
 use Rattle.mesh_model.specs.Plain.{stored}
 use Rattle.mesh_model.specs.Sound.{IsSound, IsTied}
-use Rattle.mesh_model.specs.Table.{Group, Placed, Slot, Table, changed_at, group_of, group_without, place_new, slot_address, without_object}
-
--- the record of a serial
-abbrev pub record_with : ℕ → List Record → Option Record
-record_with serial records = find (has_serial serial) records
-
--- the address is one of the record's object
-abbrev pub IsIn : Record → ℕ → Type 0
-IsIn r x = (r.address ≤ x) × (x < r.address + r.len)
-
--- no record has the next serial, or one above it
-abbrev pub AreBelow : ℕ → List Record → Type 0
-AreBelow next records = (serial : ℕ) → next ≤ serial → record_with serial records ≡ None
+use Rattle.mesh_model.specs.Table.{Group, Placed, Slot, Table, changed_at, group_of, group_without, place_new, without_object}
 
 -- the next serial of what a heap means is its own
 abbrev pub MeaningHasNext : Type 0
@@ -55,10 +46,6 @@ FreeChangesMeaning = (next : ℕ) (t : Table) (targets : ℕ → Target) (bytes 
     → meaning next (records_of (without_object t serial)) targets bytes roots
     ≡ with_object (meaning next (records_of t) targets bytes roots) serial None
 
--- the memory with a new object of `len` zeros, which no cell names
-abbrev pub with_new : Memory → ℕ → ℕ → Memory
-with_new m len address = record m { objects = m.objects ++ Some (record { address = address; bytes = replicate len 0 }) ∷ [] }
-
 -- an object placed in a sound table, whose places hold zeros while those of all live bytes stay, is made
 abbrev pub NewChangesMeaning : Type 0
 NewChangesMeaning = (next : ℕ) (t : Table) (targets targets' : ℕ → Target) (bytes bytes' : Place → ℕ) (roots : List (Option ℕ)) (len word : ℕ)
@@ -93,10 +80,6 @@ abbrev pub NoneIsHolder : Type 0
 NoneIsHolder = (m : Memory) (address : ℕ)
     → ((serial : ℕ) (object : Object) → object_of m serial ≡ Some object → has_address object address ≡ false) → holder_of m address ≡ None
 
--- the group with nothing in a slot
-abbrev pub emptied_at : ℕ → Group → Group
-emptied_at k group = record group { slots = slice_set group.slots k None }
-
 -- an object stands in one slot, so emptying this slot takes the object out
 abbrev pub SlotIsTheOnlyOne : Type 0
 SlotIsTheOnlyOne = (m : Memory) (t : Table) (n k : ℕ) (group : Group) (slot : Slot) → IsSound t → IsTied m t → group_of t n ≡ Some group
@@ -106,10 +89,6 @@ SlotIsTheOnlyOne = (m : Memory) (t : Table) (n k : ℕ) (group : Group) (slot : 
 abbrev pub TiedRecordsAreBelow : Type 0
 TiedRecordsAreBelow = (next : ℕ) (t : Table) (targets : ℕ → Target) (bytes : Place → ℕ) (roots : List (Option ℕ)) → IsSound t
     → IsTied (meaning next (records_of t) targets bytes roots) t → AreBelow next (records_of t)
-
--- the record of an object in a slot
-abbrev pub record_in : ℕ → ℕ → Slot → Record
-record_in class k slot = record { serial = slot.serial; address = slot_address slot.member class k; len = slot.len }
 
 -- the object of a filled slot has the slot's record
 abbrev pub SlotHasRecord : Type 0

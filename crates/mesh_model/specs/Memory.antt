@@ -53,6 +53,10 @@ overwritten bytes off new = take off bytes ++ new ++ drop (off + length new) byt
 abbrev pub with_object : Memory → ℕ → Option Object → Memory
 with_object m serial object = record m { objects = slice_set m.objects serial object }
 
+-- the memory with a new object of `len` zeros, which no cell names
+abbrev pub with_new : Memory → ℕ → ℕ → Memory
+with_new m len address = record m { objects = m.objects ++ Some (record { address = address; bytes = replicate len 0 }) ∷ [] }
+
 -- the memory with another serial in a cell
 abbrev pub with_root : Memory → ℕ → ℕ → Memory
 with_root m cell serial = record m { roots = slice_set m.roots cell (Some serial) }

@@ -1,5 +1,5 @@
 -- Where a byte of an address lies, and the plain memory that a heap with roots stands for. This project's own choice.
-use Rattle.std.specs.Prelude.{ℕ, ◌+◌, ◌/◌, ◌%◌, Bool, if◌then◌else◌, nat_eq, List, [], ◌∷◌, Option, Some, None, map, find}
+use Rattle.std.specs.Prelude.{◌≡◌, ℕ, ◌+◌, ◌<◌, ◌≤◌, ◌/◌, ◌%◌, Bool, if◌then◌else◌, nat_eq, List, [], ◌∷◌, Option, Some, None, map, find}
 use Rattle.std.specs.List.{flat_map, list_any, range_with_len}
 use Rattle.std.specs.Option.{option_map}
 use Rattle.mesh_model.specs.Memory.{Object, Memory}
@@ -33,12 +33,15 @@ pub record Record : Type 0 where
   pub address : ℕ
   pub len : ℕ
 
+-- the record of an object in a slot
+abbrev pub record_in : ℕ → ℕ → Slot → Record
+record_in class k slot = record { serial = slot.serial; address = slot_address slot.member class k; len = slot.len }
+
 -- the records of a group's slots from slot `k` on
 abbrev pub records_from : ℕ → ℕ → List (Option Slot) → List Record
 records_from class k [] = []
 records_from class k (None ∷ slots) = records_from class (k + 1) slots
-records_from class k (Some slot ∷ slots) =
-    record { serial = slot.serial; address = slot_address slot.member class k; len = slot.len } ∷ records_from class (k + 1) slots
+records_from class k (Some slot ∷ slots) = record_in class k slot ∷ records_from class (k + 1) slots
 
 -- the records of a group's objects
 abbrev pub records_in : Group → List Record
@@ -52,6 +55,18 @@ records_of t = flat_map records_in t.groups
 abbrev pub has_serial : ℕ → Record → Bool
 has_serial serial r = nat_eq r.serial serial
 
+-- the record of a serial
+abbrev pub record_with : ℕ → List Record → Option Record
+record_with serial records = find (has_serial serial) records
+
+-- no record has the next serial, or one above it
+abbrev pub AreBelow : ℕ → List Record → Type 0
+AreBelow next records = (serial : ℕ) → next ≤ serial → record_with serial records ≡ None
+
+-- the address is one of the record's object
+abbrev pub IsIn : Record → ℕ → Type 0
+IsIn r x = (r.address ≤ x) × (x < r.address + r.len)
+
 -- the object that a record stands for: the bytes at the places of its addresses
 abbrev pub object_at : (ℕ → Target) → (Place → ℕ) → Record → Object
 object_at targets bytes r = record { address = r.address; bytes = map (byte_of targets bytes) (range_with_len r.address r.len) }
@@ -59,7 +74,7 @@ object_at targets bytes r = record { address = r.address; bytes = map (byte_of t
 -- the plain memory that a heap with roots stands for: for each serial below the next the object of its record, if there is one
 abbrev pub meaning : ℕ → List Record → (ℕ → Target) → (Place → ℕ) → List (Option ℕ) → Memory
 meaning next_serial records targets bytes roots = record {
-  objects = map (λ serial. option_map (object_at targets bytes) (find (has_serial serial) records)) (range_with_len 0 next_serial);
+  objects = map (λ serial. option_map (object_at targets bytes) (record_with serial records)) (range_with_len 0 next_serial);
   roots = roots;
 }
 

@@ -1,6 +1,6 @@
 -- The plain step: what one command may answer and leave on a plain memory. This project's own choice.
-use Rattle.std.specs.Prelude.{◌≡◌, ℕ, ◌+◌, ◌-◌, ◌<◌, ◌≤◌, Bool, false, nat_eq, nat_lt, List, [], ◌∷◌, ◌++◌, Some, None, Result, Ok, Err, length, replicate, slice_index, slice_range}
-use Rattle.mesh_model.specs.Memory.{Object, Memory, empty_memory, next_serial, object_of, root_of, has_address, holder_of, overwritten, with_object, with_root}
+use Rattle.std.specs.Prelude.{◌≡◌, ℕ, ◌+◌, ◌-◌, ◌<◌, ◌≤◌, Bool, false, nat_eq, nat_lt, List, [], ◌∷◌, Some, None, Result, Ok, Err, length, slice_index, slice_range}
+use Rattle.mesh_model.specs.Memory.{Object, Memory, empty_memory, next_serial, object_of, root_of, has_address, holder_of, overwritten, with_new, with_object, with_root}
 use Rattle.mesh_model.specs.Words.{◌>>=◌, or_refuse, refuse_if}
 use Rattle.mesh_model.specs.declared.commands.Command.{Command}
 use Rattle.mesh_model.specs.declared.commands.Command.TheVariants.{New, Put, Get, Free, Alias, Addr, Peek, Poke}
@@ -34,8 +34,7 @@ stored m named off bytes = with_object m named.serial (Some (record named.object
 
 -- the memory with a new object of `len` zeros, named by the cell
 abbrev pub made : Memory → ℕ → ℕ → ℕ → Memory
-made m cell len address =
-    with_root (record m { objects = m.objects ++ Some (record { address = address; bytes = replicate len 0 }) ∷ [] }) cell (next_serial m)
+made m cell len address = with_root (with_new m len address) cell (next_serial m)
 
 -- the reply and the memory after a command, or its refusal; a new object is put at the address
 abbrev pub plain : Memory → ℕ → Command → Result (Reply × Memory) Refusal

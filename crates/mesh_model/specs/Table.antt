@@ -94,6 +94,10 @@ slot_address member class k = 4096 * member + k * class
 abbrev pub with_object_in : ℕ → Slot → Group → Group
 with_object_in k slot group = record group { slots = slice_set group.slots k (Some slot) }
 
+-- the group with nothing in a slot
+abbrev pub emptied_at : ℕ → Group → Group
+emptied_at k group = record group { slots = slice_set group.slots k None }
+
 -- the group of the number changed, and every other one as it was
 abbrev pub changed_at : ℕ → (Group → Group) → Group → Group
 changed_at n change group = if has_number n group then change group else group
