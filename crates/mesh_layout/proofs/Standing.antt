@@ -5,9 +5,8 @@ use Rattle.std.proofs.lemmas.Bool.Decides.{eqb_tells, leb_tells}
 use Rattle.mesh_arena.specs.Pages.{Pages, IsTaken}
 use Rattle.mesh_class.specs.Classes.{pages_of, slots_of}
 use Rattle.mesh_model.proofs.GroupLists.{tells}
-use Rattle.mesh_model.specs.MeaningLaws.{IsIn, record_with}
 use Rattle.mesh_model.specs.Mesh.{is_blocked, read_only_pages}
-use Rattle.mesh_model.specs.Places.{Place, Record, place_of, records_of}
+use Rattle.mesh_model.specs.Places.{Place, Record, place_of, records_of, IsIn, record_with}
 use Rattle.mesh_model.specs.Table.{Mesh, Table, slot_address}
 use Rattle.mesh_pagemap.specs.Entries.{Entries, is_read_only, page_of}
 use Rattle.mesh_spans.specs.Index.{Index, IsIndex}

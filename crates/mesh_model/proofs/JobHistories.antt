@@ -9,7 +9,7 @@ use Rattle.mesh_model.proofs.MeshLists.{any_tells}
 use Rattle.mesh_model.proofs.TableChanges.{begin_sound, cancel_sound, empty_sound, step_sound, sweep_sound, whole_sound}
 use Rattle.mesh_model.proofs.TiedTables.{begin_tied, cancel_tied, step_tied, sweep_tied, whole_tied}
 use Rattle.mesh_model.specs.HistoryLaws.{IsRunning, commands_of}
-use Rattle.mesh_model.specs.Jobs.{Answer, Job, Line, Outcome, PagesMeshed, PagesSwept, State, StepsLeft, answer, answered, attempted, blocked_now, counted, later_commands, opening, run_next, state_after, step_answered, with_reply, RunWorker, PairClass, BeginMesh, StepMesh, CancelMesh, WholeMesh, SweepGroup, MakeReport}
+use Rattle.mesh_model.specs.Jobs.{Answer, Job, Line, Outcome, PagesMeshed, PagesSwept, State, StepsLeft, answer, answered, attempted, is_held_back, counted, later_commands, opening, run_next, state_after, step_answered, with_reply, RunWorker, PairClass, BeginMesh, StepMesh, CancelMesh, WholeMesh, SweepGroup, MakeReport}
 use Rattle.mesh_model.specs.Memory.{Object, empty_memory, object_of}
 use Rattle.mesh_model.specs.Mesh.{Stepped, any_mesh, begin, cancel, first_mesh, mesh_whole, step}
 use Rattle.mesh_model.specs.Plain.{Entry, IsLegal}
@@ -56,7 +56,7 @@ pub run_keeps : (P : State → Type 0) (job : Job) (state : State) (worker : ℕ
     → P (with_reply state worker command (answered state.memory state.table command)) → P (run_next job state worker (command ∷ commands)).state
 run_keeps P job state worker command commands before after = elim (tells (nat_le job.history (length state.entries))) [
   | inl full ↦ rw full before
-  | inr room ↦ rw room (attempt_keeps P state worker command (blocked_now state command (answered state.memory state.table command))
+  | inr room ↦ rw room (attempt_keeps P state worker command (is_held_back state.memory state.table command (answered state.memory state.table command).reply)
       (answered state.memory state.table command) before after)
 ]
 

@@ -4,9 +4,8 @@ use Rattle.std.specs.List.{range_with_len}
 use Rattle.std.proofs.lemmas.Bool.Decides.{eqb_tells, leb_tells}
 use Rattle.std.proofs.lemmas.List.{get_or-set_same, get_or-set_other, get_or_past, get_or-take, get_or-drop, get_or_append_left, get_or-append_right, length-take, length-drop, length-set}
 use Rattle.std.proofs.lemmas.List.FromFn.{length-map-range_with_len, get_or-map-range_with_len}
-use Rattle.mesh_model.specs.MeaningLaws.{AreBelow, IsIn, record_with}
 use Rattle.mesh_model.specs.Memory.{Memory, Object, next_serial, object_of, overwritten}
-use Rattle.mesh_model.specs.Places.{Place, Record, Target, byte_of, meaning, object_at}
+use Rattle.mesh_model.specs.Places.{Place, Record, Target, byte_of, meaning, object_at, AreBelow, IsIn, record_with}
 use Rattle.mesh_model.specs.Plain.{stored}
 
 -- the next serial of what a heap means is its own

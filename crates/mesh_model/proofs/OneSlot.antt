@@ -5,10 +5,9 @@ use Rattle.mesh_model.proofs.Apart.{places_apart, filled_place}
 use Rattle.mesh_model.proofs.GroupLists.{find_sound, head_found}
 use Rattle.mesh_model.proofs.Records.{found_later}
 use Rattle.mesh_model.proofs.TableChanges.{one_group}
-use Rattle.mesh_model.specs.MeaningLaws.{emptied_at}
 use Rattle.mesh_model.specs.Memory.{Memory, Object, object_of}
 use Rattle.mesh_model.specs.Sound.{AscendBetween, IsLiveSlot, IsSound, IsSoundSlot, IsTied}
-use Rattle.mesh_model.specs.Table.{Group, Slot, Table, changed_at, emptied_of, group_of, group_without, has_number, slot_address}
+use Rattle.mesh_model.specs.Table.{Group, Slot, Table, changed_at, emptied_of, group_of, group_without, has_number, slot_address, emptied_at}
 use Rattle.mesh_model.specs.TableLaws.{AreApart}
 
 -- two changes that agree on each of ascending groups leave the same groups

@@ -129,15 +129,15 @@ attempted state worker command blocked done =
     else record { answer = Replied done.reply; state = with_reply state worker command done }
 
 -- the command is blocked: it touches a read-only page, and it isn't refused
-abbrev pub blocked_now : State → Command → Outcome → Bool
-blocked_now state command done = if is_refusal done.reply then false else touches_read_only state.memory state.table command
+abbrev pub is_held_back : Memory → Table → Command → Reply → Bool
+is_held_back m t command reply = if is_refusal reply then false else touches_read_only m t command
 
 -- a worker's attempt at the next of these commands
 abbrev pub run_next : Job → State → ℕ → List Command → Next
 run_next job state worker [] = record { answer = ScriptOver; state = state }
 run_next job state worker (command ∷ commands) =
     if nat_le job.history (length state.entries) then record { answer = JournalFull; state = state }
-    else (let done = answered state.memory state.table command in attempted state worker command (blocked_now state command done) done)
+    else (let done = answered state.memory state.table command in attempted state worker command (is_held_back state.memory state.table command done.reply) done)
 
 -- an answer of the mesher that changes nothing
 abbrev pub told : State → Answer → Next

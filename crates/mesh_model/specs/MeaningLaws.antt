@@ -2,14 +2,11 @@
 use Rattle.std.specs.Prelude.{◌≡◌, ◌≢◌, ℕ, ◌+◌, ◌<◌, ◌≤◌, ◌⊎◌, true, false, List, Option, Some, None, Ok, length, map, slice_get, slice_index, slice_range}
 use Rattle.std.specs.List.{range_with_len}
 use Rattle.std.specs.Option.{option_map}
-pub use Rattle.mesh_model.specs.Memory.{with_new}
-pub use Rattle.mesh_model.specs.Places.{AreBelow, IsIn, record_in, record_with}
-pub use Rattle.mesh_model.specs.Table.{emptied_at}
-use Rattle.mesh_model.specs.Memory.{Memory, Object, are_apart, has_address, holder_of, next_serial, object_of, with_object}
-use Rattle.mesh_model.specs.Places.{Place, Record, Target, byte_of, meaning, object_at, records_of}
+use Rattle.mesh_model.specs.Memory.{Memory, Object, are_apart, has_address, holder_of, next_serial, object_of, with_object, with_new}
+use Rattle.mesh_model.specs.Places.{Place, Record, Target, byte_of, meaning, object_at, records_of, AreBelow, IsIn, record_in, record_with}
 use Rattle.mesh_model.specs.Plain.{stored}
 use Rattle.mesh_model.specs.Sound.{IsSound, IsTied}
-use Rattle.mesh_model.specs.Table.{Group, Placed, Slot, Table, changed_at, group_of, group_without, place_new, without_object}
+use Rattle.mesh_model.specs.Table.{Group, Placed, Slot, Table, changed_at, group_of, group_without, place_new, without_object, emptied_at}
 
 -- the next serial of what a heap means is its own
 abbrev pub MeaningHasNext : Type 0

@@ -68,9 +68,13 @@ takes_part n mesh = nat_eq mesh.source n || nat_eq mesh.destination n
 abbrev pub is_meshing : Table → ℕ → Bool
 is_meshing t n = list_any (takes_part n) t.meshes
 
--- the group takes new objects of the class: it is in no mesh, and a slot is free
+-- the group takes new objects of the class: its number is not closed, and a slot is free
+abbrev pub takes_objects : (ℕ → Bool) → ℕ → Group → Bool
+takes_objects closed class group = nat_eq group.class class && not (closed group.number) && nat_lt (object_count group) (length group.slots)
+
+-- the same where the groups that are in a mesh are closed
 abbrev pub is_open : Table → ℕ → Group → Bool
-is_open t class group = nat_eq group.class class && not (is_meshing t group.number) && nat_lt (object_count group) (length group.slots)
+is_open t class group = takes_objects (is_meshing t) class group
 
 -- the numbers of the group's free slots, ascending, from `k` on
 abbrev pub free_from : ℕ → List (Option Slot) → List ℕ

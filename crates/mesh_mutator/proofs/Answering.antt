@@ -8,9 +8,8 @@ use Rattle.std.proofs.lemmas.List.{get_or-set_other, get_or-set_same, get_or_pas
 use Rattle.std.proofs.lemmas.Bool.Decides.{eqb_tells, leb_tells}
 use Rattle.mesh_model.proofs.AnsweredCommands.{new_length}
 use Rattle.mesh_model.proofs.Meanings.{meaning_next}
-use Rattle.mesh_model.specs.Jobs.{Outcome, answered, is_refusal, new_answered, new_at, others_answered, put_blocked, table_freed, touches_read_only}
-use Rattle.mesh_model.specs.MeaningLaws.{with_new}
-use Rattle.mesh_model.specs.Memory.{Memory, Object, holder_of, next_serial, object_of, overwritten, root_of, with_object, with_root}
+use Rattle.mesh_model.specs.Jobs.{Outcome, answered, is_refusal, new_answered, new_at, others_answered, put_blocked, table_freed, touches_read_only, is_held_back}
+use Rattle.mesh_model.specs.Memory.{Memory, Object, holder_of, next_serial, object_of, overwritten, root_of, with_object, with_root, with_new}
 use Rattle.mesh_model.specs.Mesh.{is_blocked}
 use Rattle.mesh_model.specs.Plain.{Named, Follows, ends_outside, holding, made, named_by, plain, stored}
 use Rattle.mesh_model.specs.Table.{Placed, Table, place_new, without_object}
@@ -22,7 +21,7 @@ use Rattle.mesh_model.specs.declared.commands.Reply.TheVariants.{Object as Made,
 use Rattle.mesh_model.specs.declared.refusals.Refusal.{Refusal}
 use Rattle.mesh_model.specs.declared.refusals.Refusal.TheVariants.{Empty, Freed, Outside, Stray}
 use Rattle.mesh_mutator.proofs.Chains.{GoAlike, after_same, refused_too, test_same, went_on}
-use Rattle.mesh_mutator.specs.Book.{AreRooted, Cells, IsAnswered, IsLooked, IsNamedBy, IsOutcome, IsPerformed, KeepsHeap, attempt_of, cell_at, is_held_back, memory_in, serial_of, serials_of}
+use Rattle.mesh_mutator.specs.Book.{AreRooted, Cells, IsAnswered, IsLooked, IsNamedBy, IsOutcome, IsPerformed, KeepsHeap, attempt_of, cell_at, memory_in, serial_of, serials_of}
 use Rattle.mesh_mutator.specs.declared.attempts.Attempt.TheVariants.{Done}
 use Rattle.mesh_steps.specs.Ground.{Ground, bytes_in, table_of, targets_of}
 use Rattle.mesh_steps.specs.Heap.{Heap, IsFree, IsMade, IsStore, byte_at_address, bytes_at, freed_at, live_records, plain_of, referred, stored_at, stored_at_address}

@@ -1,8 +1,8 @@
 -- A book: a heap with its root cells and the journal of what was answered, and what an attempt at a command comes to.
-use Rattle.std.specs.Prelude.{◌≡◌, ◌≢◌, ℕ, ◌<◌, ◌≤◌, Bool, true, false, if◌then◌else◌, List, [], ◌∷◌, ◌++◌, length, map, slice_index_or, Option, Some, None, Ok, refl}
+use Rattle.std.specs.Prelude.{◌≡◌, ◌≢◌, ℕ, ◌<◌, ◌≤◌, true, false, List, [], ◌∷◌, ◌++◌, length, map, slice_index_or, Option, Some, None, Ok, refl}
 use Rattle.std.specs.Option.{option_map}
 use Rattle.std.specs.Coded.{Coded, code_by, coded×, coded_list, coded_option, coded_ℕ}
-use Rattle.mesh_model.specs.Jobs.{Outcome, answered, is_refusal, touches_read_only}
+use Rattle.mesh_model.specs.Jobs.{Outcome, answered, is_held_back, is_refusal}
 use Rattle.mesh_model.specs.Memory.{Memory, Object, object_of}
 use Rattle.mesh_model.specs.Plain.{Entry, Follows, IsLegal, named_by, plain}
 use Rattle.mesh_model.specs.Table.{Table}
@@ -54,10 +54,6 @@ pub record IsOutcome (h : Heap) (cells : Cells) (done : Outcome) (reply : Reply)
 abbrev pub IsNewForSpan : Heap → Command → Type 0
 IsNewForSpan h (New cell len word) = NeedsSpan h len word
 IsNewForSpan h command = ⊥
-
--- the command is held back by a read-only page, and it isn't refused
-abbrev pub is_held_back : Memory → Table → Command → Reply → Bool
-is_held_back m t command reply = if is_refusal reply then false else touches_read_only m t command
 
 -- the cell in which a command stores a reference
 abbrev pub stored_cell : Command → Option ℕ

@@ -9,7 +9,7 @@ use Rattle.std.proofs.lemmas.Bool.Decides.{eqb_tells, leb_tells}
 use Rattle.std.proofs.lemmas.Option.{get_or_from_slice_get, slice_get-get_or, slice_get_within}
 use Rattle.mesh_class.specs.Classes.{pages_of, slots_of}
 use Rattle.mesh_model.specs.Table.{Slot, slot_address}
-use Rattle.mesh_spans.specs.Index.{SpanEntry, GroupEntry, Index, span_at, group_at, no_span, with_entry, with_slot, new_span, new_group, address_in, IsGroup, IsSpan, IsIndex, IsMember, IsObject, IsOwned, IsVacant, IsFoundAt, IsRecorded, AreUnused, named_in, record_at, record_in, slot_in}
+use Rattle.mesh_spans.specs.Index.{SpanEntry, GroupEntry, Index, span_at, group_at, no_span, with_entry, with_slot, new_span, new_group, address_in, IsGroup, IsSpan, IsIndex, IsMember, IsObject, IsOwned, IsVacant, IsFoundAt, IsRecorded, AreUnused, named_in, record_at, span_record, slot_in}
 use Rattle.mesh_spans.proofs.SlotLemmas.{IsGroup_new, IsGroup_put}
 
 -- no group stands at any place of an empty list
@@ -332,7 +332,7 @@ unnamed member some = let two : false ≡ true = some in cc two
 nothing : (member k : ℕ) → IsSome (named_in member (slot_in None k)) → ⊥
 nothing member k some = let two : false ≡ true = some in cc two
 
-no_record : (groups : List (Option GroupEntry)) (k : ℕ) → IsSome (record_in None groups k) → ⊥
+no_record : (groups : List (Option GroupEntry)) (k : ℕ) → IsSome (span_record None groups k) → ⊥
 no_record groups k some = let two : false ≡ true = some in cc two
 
 recorded_in : (index : Index) (span k : ℕ) (o : Option GroupEntry) → span < length index.spans → group_at index.groups (span_at index.spans span).group ≡ o
@@ -349,7 +349,7 @@ recorded_in index span k (Some group) below at some = record {
   ];
 }
 
-recorded_of : (index : Index) (span k : ℕ) (o : Option SpanEntry) → slice_get index.spans span ≡ o → IsSome (record_in o index.groups k) → Recorded index span k
+recorded_of : (index : Index) (span k : ℕ) (o : Option SpanEntry) → slice_get index.spans span ≡ o → IsSome (span_record o index.groups k) → Recorded index span k
 recorded_of index span k None at some = absurd (no_record index.groups k some)
 recorded_of index span k (Some entry) at some =
     let same : span_at index.spans span ≡ entry = get_or_from_slice_get index.spans span entry no_span at in
@@ -451,7 +451,7 @@ recorded_is index spans groups span k serial len e sound is =
     let there = recorded index span k (rw is refl) in
     let at : slice_get index.spans span ≡ Some (span_at index.spans span) = slice_get-get_or index.spans span no_span there.below in
     let named : named_in (span_at index.spans span).first (slot_in (group_at index.groups (span_at index.spans span).group) k) ≡ Some (serial, len)
-    = ap (λ (o : Option SpanEntry). record_in o index.groups k) (sym at) ∙ is in
+    = ap (λ (o : Option SpanEntry). span_record o index.groups k) (sym at) ∙ is in
     let slot : slice_index_or there.group.slots k None ≡ Some (record { member = (span_at index.spans span).first; serial = serial; len = len })
     = named_is (span_at index.spans span).first serial len (slice_index_or there.group.slots k None)
     (ap (λ (o : Option GroupEntry). named_in (span_at index.spans span).first (slot_in o k)) (sym there.there) ∙ named) in

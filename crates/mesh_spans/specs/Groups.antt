@@ -30,10 +30,6 @@ is_in_mesh (Some group) = group.in_mesh
 abbrev pub is_closed : Index → ℕ → Bool
 is_closed index n = is_in_mesh (group_at index.groups n)
 
--- the group takes new objects of the class: it is in no mesh, and a slot is free
-abbrev pub takes_objects : (ℕ → Bool) → ℕ → Group → Bool
-takes_objects closed class group = nat_eq group.class class && not (closed group.number) && nat_lt (object_count group) (length group.slots)
-
 -- the slot that the word picks in the group, of its first member
 pub record IsPicked (index : Index) (group : Group) (word span k : ℕ) : Type 0 where
   pub number : (span_at index.spans span).group ≡ group.number

@@ -78,13 +78,13 @@ named_in member None = None
 named_in member (Some slot) = if nat_eq slot.member member then Some (slot.serial, slot.len) else None
 
 -- the record of a slot of a span: what stands in this slot of its group, where it is an object of the span
-abbrev pub record_in : Option SpanEntry → List (Option GroupEntry) → ℕ → Option (ℕ × ℕ)
-record_in None groups k = None
-record_in (Some span) groups k = named_in span.first (slot_in (group_at groups span.group) k)
+abbrev pub span_record : Option SpanEntry → List (Option GroupEntry) → ℕ → Option (ℕ × ℕ)
+span_record None groups k = None
+span_record (Some span) groups k = named_in span.first (slot_in (group_at groups span.group) k)
 
 -- the record of a slot of the span of a number
 abbrev pub record_at : Index → ℕ → ℕ → Option (ℕ × ℕ)
-record_at index span k = record_in (slice_get index.spans span) index.groups k
+record_at index span k = span_record (slice_get index.spans span) index.groups k
 
 -- a span's pages are virtual pages
 pub record IsSpan (span : SpanEntry) : Type 0 where

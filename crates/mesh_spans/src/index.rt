@@ -2,9 +2,8 @@
 ghost use Rattle.std.specs.Prelude.{◌≡◌, ℕ, ◌+◌, true, false, not, nat_eq, ◌&&◌, ◌||◌, filter, slice_set, ◌<◌, ◌≤◌, Some, None, [], ◌∷◌, ◌++◌, find, length, map, slice_index, slice_index_or, ◌/◌, IfOk, IfSome, IfNone, IsSome, IsSomeAnd, OnErr, position, option_copied};
 ghost use Rattle.std.specs.Option.{option_map};
 ghost use Rattle.mesh_class.specs.Classes.{pages_of, slots_of};
-ghost use Rattle.mesh_model.specs.MeaningLaws.{emptied_at};
-ghost use Rattle.mesh_model.specs.Table.{changed_at, fresh_group, slot_address, with_object_in};
-ghost use Rattle.mesh_spans.specs.Groups.{IsPicked, groups_of, is_closed, takes_objects};
+ghost use Rattle.mesh_model.specs.Table.{changed_at, fresh_group, slot_address, with_object_in, emptied_at, takes_objects};
+ghost use Rattle.mesh_spans.specs.Groups.{IsPicked, groups_of, is_closed};
 ghost use Rattle.mesh_spans.specs.Index.{AreUnused, GroupEntry, IsFoundAt, IsIndex, IsObject, IsRecorded, IsSpan, IsVacant, OwnsUpTo, address_in, group_at, has_room, is_open, new_group, new_span, record_at, span_at, with_entry};
 ghost use Rattle.mesh_model.specs.Mesh.{merged};
 ghost use Rattle.mesh_model.specs.Table.{Group as TableGroup, has_number};

@@ -18,12 +18,11 @@ use Rattle.mesh_model.proofs.TableChanges.{free_sound}
 use Rattle.mesh_model.proofs.TiedMemories.{free_tied}
 use Rattle.mesh_model.proofs.TiedNewObjects.{new_tied}
 use Rattle.mesh_model.specs.Classes.{class_for}
-use Rattle.mesh_model.specs.MeaningLaws.{AreBelow, IsIn, emptied_at, record_with, with_new}
-use Rattle.mesh_model.specs.Memory.{Memory, Object, next_serial, object_of, with_object}
-use Rattle.mesh_model.specs.Places.{Place, Record, Target, byte_of, meaning, object_at, records_of}
+use Rattle.mesh_model.specs.Memory.{Memory, Object, next_serial, object_of, with_object, with_new}
+use Rattle.mesh_model.specs.Places.{Place, Record, Target, byte_of, meaning, object_at, records_of, AreBelow, IsIn, record_with}
 use Rattle.mesh_model.specs.Plain.{Named}
 use Rattle.mesh_model.specs.Sound.{IsSound, IsTied, times_in}
-use Rattle.mesh_model.specs.Table.{Group, Placed, Table, changed_at, first_member, fresh_group, group_of, group_without, has_number, is_open, picked_slot, place_in, place_new, placed_in, room_for_span, slot_address, with_object_in, with_span, without_object}
+use Rattle.mesh_model.specs.Table.{Group, Placed, Table, changed_at, first_member, fresh_group, group_of, group_without, has_number, is_open, picked_slot, place_in, place_new, placed_in, room_for_span, slot_address, with_object_in, with_span, without_object, emptied_at}
 use Rattle.mesh_model.specs.TableLaws.{AreApart}
 use Rattle.mesh_model.specs.Words.{◌>>=◌, or_refuse, refuse_if}
 use Rattle.mesh_model.specs.declared.refusals.Refusal.{Refusal}

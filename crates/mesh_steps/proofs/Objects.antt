@@ -11,9 +11,8 @@ use Rattle.mesh_model.proofs.GroupLists.{find_sound}
 use Rattle.mesh_model.proofs.Holders.{no_holder, one_holder}
 use Rattle.mesh_model.proofs.Meanings.{bytes_read, meaning_objects}
 use Rattle.mesh_model.proofs.Records.{record_slot, slot_record, tied_below}
-use Rattle.mesh_model.specs.MeaningLaws.{IsIn, record_in, record_with}
 use Rattle.mesh_model.specs.Memory.{Object, has_address, object_of}
-use Rattle.mesh_model.specs.Places.{Record, object_at, place_of}
+use Rattle.mesh_model.specs.Places.{Record, object_at, place_of, IsIn, record_in, record_with}
 use Rattle.mesh_model.specs.Plain.{Named, ends_outside, holding}
 use Rattle.mesh_model.specs.Sound.{IsSound, times_in}
 use Rattle.mesh_model.specs.Table.{Group, Slot, group_of, has_number, slot_address}

@@ -8,11 +8,11 @@ use Rattle.mesh_arena.specs.Pages.{Pages, free_count}
 use Rattle.mesh_class.specs.Classes.{pages_of, slots_of, IsClass}
 use Rattle.mesh_model.proofs.GroupLists.{find_passes}
 use Rattle.mesh_model.proofs.NewObjects.{open_gives}
-use Rattle.mesh_model.specs.Table.{Group, Table, object_count, free_from, fresh_group, is_open, picked_slot, place_in, placed_in, room_for_span, with_span}
+use Rattle.mesh_model.specs.Table.{Group, Table, object_count, free_from, fresh_group, is_open, picked_slot, place_in, placed_in, room_for_span, with_span, takes_objects}
 use Rattle.mesh_model.specs.Words.{◌>>=◌}
 use Rattle.mesh_model.specs.declared.refusals.Refusal.{Refusal}
 use Rattle.mesh_pagemap.specs.Entries.{Entries, IsMapped}
-use Rattle.mesh_spans.specs.Groups.{IsPicked, groups_of, is_closed, is_in_mesh, takes_objects}
+use Rattle.mesh_spans.specs.Groups.{IsPicked, groups_of, is_closed, is_in_mesh}
 use Rattle.mesh_spans.specs.Index.{GroupEntry, Index, IsFoundAt, IsVacant, SpanEntry, group_at, new_group, new_span, no_span, record_at, span_at}
 use Rattle.mesh_steps.specs.Growth.{MapsFirst, TakesAll}
 use Rattle.mesh_steps.specs.Ground.{Ground, IsCalm, IsFreshSpan, IsGround, IsPlace, KeepsBytes, open_group, table_of}

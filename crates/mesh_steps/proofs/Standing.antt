@@ -4,9 +4,8 @@ use Rattle.std.specs.List.{list_any, range_with_len}
 use Rattle.std.proofs.lemmas.Bool.Decides.{eqb_tells}
 use Rattle.mesh_arena.specs.Pages.{IsTaken}
 use Rattle.mesh_model.proofs.Holders.{objects_apart}
-use Rattle.mesh_model.specs.MeaningLaws.{IsIn, record_with}
 use Rattle.mesh_model.specs.Mesh.{is_blocked, read_only_pages}
-use Rattle.mesh_model.specs.Places.{Place, Record, place_of}
+use Rattle.mesh_model.specs.Places.{Place, Record, place_of, IsIn, record_with}
 use Rattle.mesh_pagemap.specs.Entries.{IsMapped, page_of}
 use Rattle.mesh_spans.specs.Index.{IsIndex}
 use Rattle.mesh_steps.proofs.Objects.{has_in, live_found, live_mapped, live_place}

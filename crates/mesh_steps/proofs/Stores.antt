@@ -7,10 +7,9 @@ use Rattle.mesh_model.proofs.Holders.{objects_apart}
 use Rattle.mesh_model.proofs.Meanings.{byte_read, store_means}
 use Rattle.mesh_model.proofs.Records.{tied_below}
 use Rattle.mesh_model.proofs.TiedMemories.{stored_tied}
-use Rattle.mesh_model.specs.MeaningLaws.{IsIn, record_with}
 use Rattle.mesh_model.specs.Memory.{Memory}
 use Rattle.mesh_model.specs.Mesh.{is_blocked}
-use Rattle.mesh_model.specs.Places.{Record, meaning}
+use Rattle.mesh_model.specs.Places.{Record, meaning, IsIn, record_with}
 use Rattle.mesh_model.specs.Plain.{Named, ends_outside, holding, stored}
 use Rattle.mesh_model.specs.Sound.{IsSound, IsTied}
 use Rattle.mesh_model.specs.Table.{Table}

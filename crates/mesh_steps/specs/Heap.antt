@@ -2,9 +2,8 @@
 use Rattle.std.specs.Prelude.{◌≡◌, ℕ, ◌+◌, ◌-◌, ◌<◌, ◌≤◌, Bool, true, false, not, nat_eq, List, [], ◌∷◌, length, Option, Some, None, Result, Ok, Err, IsOk, slice_index, slice_range, refl}
 use Rattle.std.specs.Coded.{Coded, code_by, coded×, coded_ℕ}
 use Rattle.mesh_model.specs.Classes.{class_for}
-use Rattle.mesh_model.specs.MeaningLaws.{record_with, with_new}
-use Rattle.mesh_model.specs.Memory.{Memory, Object, object_of, with_object}
-use Rattle.mesh_model.specs.Places.{Record, meaning, object_at, records_of}
+use Rattle.mesh_model.specs.Memory.{Memory, Object, object_of, with_object, with_new}
+use Rattle.mesh_model.specs.Places.{Record, meaning, object_at, records_of, record_with}
 use Rattle.mesh_model.specs.Plain.{Named, ends_outside, holding, stored}
 use Rattle.mesh_model.specs.Sound.{IsSound, IsTied}
 use Rattle.mesh_model.specs.Table.{Placed, place_new, without_object}

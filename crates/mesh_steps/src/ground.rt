@@ -3,8 +3,7 @@ ghost use Rattle.std.specs.Prelude.{◌≡◌, ℕ, ◌+◌, ◌<◌, ◌≤◌,
 ghost use Rattle.std.specs.Bool.{OnFalse};
 ghost use Rattle.mesh_arena.specs.Pages.{run_of};
 ghost use Rattle.mesh_class.specs.Classes.{slots_of};
-ghost use Rattle.mesh_model.specs.MeaningLaws.{emptied_at};
-ghost use Rattle.mesh_model.specs.Table.{changed_at, empty_table, slot_address, with_object_in};
+ghost use Rattle.mesh_model.specs.Table.{changed_at, empty_table, slot_address, with_object_in, emptied_at};
 ghost use Rattle.mesh_spans.specs.Groups.{groups_of, is_closed};
 ghost use Rattle.mesh_spans.specs.Index.{GroupEntry, IsIndex, IsVacant, address_in, group_at, record_at, span_at};
 ghost use Rattle.mesh_store.specs.Places.{AreBacked, IsBlocked, IsOpen, Saves, byte_of};

@@ -1,9 +1,8 @@
 //! `Heap`: making, reading, writing and freeing objects.
 ghost use Rattle.std.specs.Prelude.{◌≡◌, ℕ, ◌+◌, ◌-◌, ◌^◌, ◌<◌, ◌≤◌, Ok, Err, Some, [], ◌∷◌, length, List, Option, IfOk, IfErr, IfSome, IfNone, IsSomeAnd, is_ok};
 ghost use Rattle.std.specs.Bool.{OnFalse, OnTrue};
-ghost use Rattle.mesh_model.specs.MeaningLaws.{IsIn, record_with};
 ghost use Rattle.mesh_model.specs.Mesh.{is_blocked};
-ghost use Rattle.mesh_model.specs.Places.{Record};
+ghost use Rattle.mesh_model.specs.Places.{Record, IsIn, record_with};
 ghost use Rattle.mesh_model.specs.Plain.{holding};
 ghost use Rattle.mesh_model.specs.Table.{empty_table};
 ghost use Rattle.mesh_steps.specs.Always.{HasHeldPagesTaken, HasObjectsApart, HasPlacesApart, HasReadOnlyOfMeshes};

@@ -3,13 +3,13 @@ use Rattle.std.proofs.Common.{◌≡◌, ℕ, zero, suc, ◌+◌, ◌<◌, ◌�
 use Rattle.std.proofs.lemmas.Bool.Decides.{eqb_tells, leb_tells}
 use Rattle.std.proofs.lemmas.List.{get_or-set_other, get_or-set_same, get_or_default}
 use Rattle.std.proofs.Math.ListN.{length-set}
-use Rattle.mesh_model.specs.Jobs.{Job, Outcome, Replied as PlainReplied, RunWorker, State, JournalFull, answer, answered, attempted, blocked_now, later_commands, opening, run_next}
+use Rattle.mesh_model.specs.Jobs.{Job, Outcome, Replied as PlainReplied, RunWorker, State, JournalFull, answer, answered, attempted, later_commands, opening, run_next, is_held_back}
 use Rattle.mesh_model.specs.Memory.{Memory, empty_memory}
 use Rattle.mesh_model.specs.Plain.{Entry}
 use Rattle.mesh_model.specs.Table.{Table, empty_table}
 use Rattle.mesh_model.specs.declared.commands.Command.{Command}
 use Rattle.mesh_model.specs.declared.commands.Reply.{Reply}
-use Rattle.mesh_mutator.specs.Book.{Book, IsAttempt, is_held_back, memory_of_book, table_of_book}
+use Rattle.mesh_mutator.specs.Book.{Book, IsAttempt, memory_of_book, table_of_book}
 use Rattle.mesh_mutator.specs.declared.attempts.Attempt.{Attempt}
 use Rattle.mesh_mutator.specs.declared.attempts.Attempt.TheVariants.{Blocked as HeldBack, Done, HistoryFull as NoRoom, OutOfMemory}
 use Rattle.mesh_text.specs.Turns.{IsAt, IsNextAt}
@@ -58,7 +58,7 @@ outcome_at m m' t t' command memory table = rw (memory, table) refl
 -- a command that is not held back is not blocked, and one that is held back is
 held_at : (state : State) (m : Memory) (t : Table) (command : Command) (reply : Reply) (held : Bool) → m ≡ state.memory → t ≡ state.table
     → reply ≡ (answered m t command).reply → is_held_back m t command reply ≡ held
-    → blocked_now state command (answered state.memory state.table command) ≡ held
+    → is_held_back state.memory state.table command (answered state.memory state.table command).reply ≡ held
 held_at state m t command reply held memory table is h =
     let here : is_held_back m t command (answered m t command).reply ≡ held = subst (λ r. is_held_back m t command r ≡ held) is h in
     let there : is_held_back state.memory t command (answered state.memory t command).reply ≡ held = subst (λ n. is_held_back n t command (answered n t command).reply ≡ held) memory here in
@@ -119,7 +119,7 @@ turn_taken job state book book' places script worker command attempt at is here 
   where
     full : (b : Bool) → nat_le job.history (length state.entries) ≡ b → (commands : List Command) → run_next job state worker (command ∷ commands)
         ≡ (if b then record { answer = JournalFull; state = state }
-        else attempted state worker command (blocked_now state command (answered state.memory state.table command)) (answered state.memory state.table command))
+        else attempted state worker command (is_held_back state.memory state.table command (answered state.memory state.table command).reply) (answered state.memory state.table command))
     full b is commands = rw is refl
 
     room_left : length book.entries < book.room → nat_le job.history (length state.entries) ≡ false
@@ -134,7 +134,7 @@ turn_taken job state book book' places script worker command attempt at is here 
       | inr under ↦ absurd (let less = under.1 in let room = at.room in let entries = at.entries in omega (arith, past, less, room, ap (λ (xs : List Entry). length xs) entries))
     ]
 
-    open_room : (commands : List Command) (held : Bool) → length book.entries < book.room → blocked_now state command (answered state.memory state.table command) ≡ held
+    open_room : (commands : List Command) (held : Bool) → length book.entries < book.room → is_held_back state.memory state.table command (answered state.memory state.table command).reply ≡ held
         → run_next job state worker (command ∷ commands) ≡ attempted state worker command held (answered state.memory state.table command)
     open_room commands held short is = full false (room_left short) commands ∙ ap (λ b. attempted state worker command b (answered state.memory state.table command)) is
 

@@ -1,10 +1,11 @@
 use Rattle.std.proofs.Common.{◌≡◌, ◌%◌, None, Result, Ok, Err, IfErr, find, refl, sym, subst, ◌∙◌}
 use Rattle.std.specs.Result.{IsErrAnd}
 use Rattle.mesh_class.specs.Classes.{slots_of}
-use Rattle.mesh_spans.specs.Groups.{groups_of, is_closed, takes_objects}
+use Rattle.mesh_spans.specs.Groups.{groups_of, is_closed}
 use Rattle.mesh_steps.specs.Ground.{Ground, IsCalm, IsPlaceFault, open_group}
 use Rattle.mesh_steps.specs.declared.answers.NewFault.{NewFault}
 use Rattle.mesh_steps.proofs.Placing.{open_is, place_fresh, place_open}
+use Rattle.mesh_model.specs.Table.{takes_objects}
 use Rattle.mesh_steps.proofs.ground.Ground.place.Goals as goal
 
 -- what holds of a fault holds where it is handed on
