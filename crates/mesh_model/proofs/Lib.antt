@@ -25,6 +25,7 @@ pub mod NewObjects
 mod OneMesh
 pub mod OneSlot
 mod Placing
+mod ProtectedPages
 mod Readings
 pub mod Records
 mod Replies

@@ -1,8 +1,11 @@
 -- The effects of steps, on two meshes written out, and what the words of the effects change.
-use Rattle.std.specs.Prelude.{◌≡◌, ◌≢◌, ℕ, ◌+◌, ◌<◌, Bool, true, false, List, [], ◌∷◌, ◌++◌, Some, None, map, replicate}
+use Rattle.std.specs.Prelude.{◌≡◌, ◌≢◌, ℕ, ◌+◌, ◌<◌, ◌≤◌, Bool, true, false, List, [], ◌∷◌, ◌++◌, Some, None, map, replicate}
+use Rattle.mesh_model.specs.Classes.{slots_of}
+use Rattle.mesh_model.specs.Mesh.{is_protected, page_count}
 use Rattle.mesh_model.specs.Places.{Place, Target, with_protection}
-use Rattle.mesh_model.specs.StepEffects.{Sides, Under, effect, place_at, step_effect, with_copied, with_free, with_page}
-use Rattle.mesh_model.specs.Table.{Made, Unwinding}
+use Rattle.mesh_model.specs.Sound.{IsWithinSteps}
+use Rattle.mesh_model.specs.StepEffects.{Sides, Under, effect, place_at, source_page, step_effect, with_copied, with_free, with_page}
+use Rattle.mesh_model.specs.Table.{Made, Progress, Unwinding}
 use Rattle.mesh_model.specs.declared.commands.StepKind.TheVariants.{Copy}
 
 -- a source of two members of one page each, with an object of two bytes in its second slot
@@ -117,3 +120,28 @@ CopiedAreTheSame = (from into : List ℕ) (offset len o : ℕ) (bytes : Place �
 abbrev pub OtherBytesStay : Type 0
 OtherBytesStay = (from into : List ℕ) (offset len : ℕ) (bytes : Place → ℕ) (place : Place)
     → ((o : ℕ) → o < len → place ≢ place_at into (offset + o)) → with_copied from into offset len bytes place ≡ bytes place
+
+-- no two virtual pages of the source are one, as in a sound table
+abbrev pub ArePagesApart : Sides → Type 0
+ArePagesApart sides = (i j : ℕ) → i < page_count sides.source → j < page_count sides.source → source_page sides i ≡ source_page sides j → i ≡ j
+
+-- the virtual pages of the source are read-only where the formula on the progress says so
+abbrev pub AreProtected : Sides → Progress → Under → Type 0
+AreProtected sides progress under = (j : ℕ) → j < page_count sides.source
+    → (under.targets (source_page sides j)).read_only ≡ is_protected (page_count sides.source) (slots_of sides.source.class) progress j
+
+-- each step leaves the read-only pages that the formula tells of the progress after it
+abbrev pub StepsProtect : Type 0
+StepsProtect = (sides : Sides) (d : ℕ) (under : Under) → ArePagesApart sides → AreProtected sides (Made d) under
+    → AreProtected sides (Made (d + 1)) (step_effect sides (Made d) under)
+
+-- so does each unprotect of a cancelled mesh
+abbrev pub UnwindingProtects : Type 0
+UnwindingProtects = (sides : Sides) (q u : ℕ) (under : Under) → ArePagesApart sides → q ≤ page_count sides.source → u < q
+    → AreProtected sides (Unwinding q u) under → AreProtected sides (Unwinding q (u + 1)) (step_effect sides (Unwinding q u) under)
+
+-- no step changes the protection of a page that is not the source's
+abbrev pub OthersKeepProtection : Type 0
+OthersKeepProtection = (sides : Sides) (progress : Progress) (under : Under) (v : ℕ) → IsWithinSteps sides.source progress
+    → ((j : ℕ) → j < page_count sides.source → v ≢ source_page sides j)
+    → ((step_effect sides progress under).targets v).read_only ≡ (under.targets v).read_only

@@ -1,5 +1,5 @@
 //! Laws of what the steps of a mesh do to page map, bytes and free pages. Each is the contract of a function that does nothing.
-ghost use Rattle.mesh_model.specs.EffectLaws.{ProtectsOnePage, CopiesNothing, CopiesTwoBytes, CopiesOverPages, CopyLeavesPages, RemapsOnePage, UnprotectsOnePage, ReleasesOnePage, UnwindsOnePage, ProtectionIsOfOne, LeadIsOfOne, FreeIsOfOne, CopiedAreTheSame, OtherBytesStay};
+ghost use Rattle.mesh_model.specs.EffectLaws.{ProtectsOnePage, CopiesNothing, CopiesTwoBytes, CopiesOverPages, CopyLeavesPages, RemapsOnePage, UnprotectsOnePage, ReleasesOnePage, UnwindsOnePage, ProtectionIsOfOne, LeadIsOfOne, FreeIsOfOne, StepsProtect, UnwindingProtects, OthersKeepProtection, CopiedAreTheSame, OtherBytesStay};
 
 /// What each kind of step does, of a source of two members of one page and of one of two members of three pages.
 pub fn steps_have_effects()
@@ -16,6 +16,13 @@ pub fn copies_have_effects()
     ensures bytes { CopiesTwoBytes }
     ensures pages { CopiesOverPages }
     ensures alone { CopyLeavesPages }
+{}
+
+/// The formula of the read-only pages is what the steps do to the page map, one after another, and they protect no page beside.
+pub fn effects_are_by_formula()
+    ensures steps { StepsProtect }
+    ensures unwinding { UnwindingProtects }
+    ensures others { OthersKeepProtection }
 {}
 
 /// Page map and free pages change at one page.
