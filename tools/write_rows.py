@@ -24,7 +24,7 @@ def text(content):
     if len(body) > 100 and len(set(body)) == 1:
         end = " ++ 10 ∷ []" * (len(content) - len(body))
         return f"replicate {len(body)} {ord(body[0])}{end}"
-    escaped = content.replace("\\", "\\\\").replace('"', '\\"').replace("\n", "\\n").replace("\r", "\\r")
+    escaped = content.replace("\\", "\\\\").replace('"', '\\"').replace("\n", "\\n").replace("\r", "\\r").replace("\t", "\\t")
     return f'codes "{escaped}"'
 
 

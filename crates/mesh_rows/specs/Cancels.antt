@@ -2,6 +2,12 @@
 use Rattle.std.specs.Prelude.{ℕ, List, Result, Ok, codes}
 use Rattle.mesh_model.specs.declared.faults.TextFault.{TextFault}
 
+abbrev pub cancel_after_three_protects_file : List ℕ
+cancel_after_three_protects_file = codes "mesh 1\npages 16\nhistory 64\nworkers 3\nworker 0\nnew 0 1500 0\nnew 1 1500 0\nnew 2 1500 0\nnew 3 1500 0\nnew 4 1500 0\nnew 5 1500 0\nnew 6 1500 0\nnew 7 1500 0\nnew 8 1500 2\nnew 9 1500 4\nfree 2\nfree 5\nput 8 0 c1\nput 8 1 c2\nget 9 0 1\nget 9 512 1\nget 8 0 2\nworker 1\nput 9 0 a1\nput 9 0 a2\nworker 2\nput 9 512 b1\nput 9 512 b2\nput 9 512 b3\nplan\nrun 0\nrun 0\nrun 0\nrun 0\nrun 0\nrun 0\nrun 0\nrun 0\nrun 0\nrun 0\nrun 0\nrun 0\nbegin 1 0\nstep\nrun 1\nrun 2\nstep\nrun 1\nrun 2\nstep\nrun 2\ncancel\nrun 0\nrun 1\nstep\nrun 0\nrun 1\nrun 2\ncancel\nrun 0\nrun 1\nstep\nrun 1\nrun 2\nstep\nrun 2\ncancel\nrun 0\nwhole 1 0\nrun 0\nrun 0\nreport\nend\n"
+
+abbrev pub cancel_after_three_protects_answer : Result (List ℕ) TextFault
+cancel_after_three_protects_answer = Ok (codes "object 0 at 1000\nobject 1 at 1600\nobject 2 at 1c00\nobject 3 at 2200\nobject 4 at 2800\nobject 5 at 2e00\nobject 6 at 3400\nobject 7 at 3a00\nobject 8 at 4c00\nobject 9 at 5e00\ndone\ndone\nleft 20\nprotect left 19\ndone\ndone\nprotect left 18\nblocked\ndone\nprotect left 17\nblocked\nleft 3\nblocked\nblocked\nunprotect left 2\ndone\nblocked\nblocked\nleft 2\ndone\nblocked\nunprotect left 1\ndone\nblocked\nunprotect left 0\ndone\nrefused 15 NO_MESH\nbytes a2\nmeshed 3\nbytes b3\nbytes c1c2\nreport objects 8 bytes 12000 mapped 6 taken 3 saved 3\n")
+
 abbrev pub cancel_at_once_file : List ℕ
 cancel_at_once_file = codes "mesh 1\npages 16\nhistory 64\nworkers 1\nworker 0\nnew 0 2048 0\nnew 1 2048 0\nnew 2 2048 0\nnew 3 2048 0\nfree 0\nfree 3\nplan\nrun 0\nrun 0\nrun 0\nrun 0\nrun 0\nrun 0\nbegin 1 0\ncancel\nstep\nbegin 1 0\nstep\ncancel\ncancel\nstep\ncancel\nend\n"
 

@@ -14,6 +14,12 @@ history_full_file = codes "mesh 1\npages 16\nhistory 1\nworkers 1\nworker 0\nnew
 abbrev pub history_full_answer : Result (List ℕ) TextFault
 history_full_answer = Ok (codes "object 0 at 1000\nhistory full\n")
 
+abbrev pub largest_numbers_file : List ℕ
+largest_numbers_file = codes "mesh 1\npages 4096\nhistory 65536\nworkers 1\nworker 0\nnew 255 2048 18446744073709551615\nput 255 2016 000102030405060708090a0b0c0d0e0f101112131415161718191a1b1c1d1e1f\nget 255 2016 32\nget 255 65535 32\nput 255 65535 ff\nnew 0 65535 0\nalias 0 255\npoke 1fff ff\nget 0 2047 1\npeek fffffff\nplan\nrun 0\nrun 0\nrun 0\nrun 0\nrun 0\nrun 0\nrun 0\nrun 0\nrun 0\nrun 0\nend\n"
+
+abbrev pub largest_numbers_answer : Result (List ℕ) TextFault
+largest_numbers_answer = Ok (codes "object 0 at 1800\ndone\nbytes 000102030405060708090a0b0c0d0e0f101112131415161718191a1b1c1d1e1f\nrefused 7 OUTSIDE\nrefused 7 OUTSIDE\nrefused 2 TOO_LARGE\ndone\ndone\nbytes ff\nrefused 8 STRAY\n")
+
 abbrev pub last_bytes_file : List ℕ
 last_bytes_file = codes "mesh 1\npages 16\nhistory 64\nworkers 1\nworker 0\nnew 0 2048 0\nget 0 2040 8\nget 0 2041 8\nplan\nrun 0\nrun 0\nrun 0\nend\n"
 
@@ -38,6 +44,18 @@ one_page_file = codes "mesh 1\npages 1\nhistory 64\nworkers 1\nworker 0\nnew 0 2
 abbrev pub one_page_answer : Result (List ℕ) TextFault
 one_page_answer = Ok (codes "object 0 at 1000\nobject 1 at 1800\nrefused 3 NO_PAGES\nrefused 5 EMPTY\n")
 
+abbrev pub refusals_take_room_in_history_file : List ℕ
+refusals_take_room_in_history_file = codes "mesh 1\npages 1\nhistory 2\nworkers 2\nworker 0\nget 0 0 1\nfree 0\naddr 0\nworker 1\nplan\nrun 0\nrun 1\nrun 0\nrun 0\nrun 1\nrun 0\nend\n"
+
+abbrev pub refusals_take_room_in_history_answer : Result (List ℕ) TextFault
+refusals_take_room_in_history_answer = Ok (codes "refused 5 EMPTY\nover\nrefused 5 EMPTY\nhistory full\nover\nhistory full\n")
+
+abbrev pub refused_commands_change_nothing_file : List ℕ
+refused_commands_change_nothing_file = codes "mesh 1\npages 16\nhistory 64\nworkers 1\nworker 0\nnew 0 1000 0\nnew 1 1024 0\nput 0 999 7e\npeek 13e7\npeek 13e8\npoke 13e8 01\npeek 13ff\nfree 1\nalias 0 1\nalias 0 2\naddr 0\nalias 5 1\nget 5 0 1\nnew 0 0 0\nnew 0 2049 0\nput 0 999 0102\nget 0 998 2\nnew 2 512 0\nplan\nrun 0\nrun 0\nrun 0\nrun 0\nrun 0\nrun 0\nrun 0\nrun 0\nrun 0\nrun 0\nrun 0\nrun 0\nrun 0\nrun 0\nrun 0\nrun 0\nrun 0\nrun 0\nend\n"
+
+abbrev pub refused_commands_change_nothing_answer : Result (List ℕ) TextFault
+refused_commands_change_nothing_answer = Ok (codes "object 0 at 1000\nobject 1 at 1400\ndone\nbyte 7e\nrefused 8 STRAY\nrefused 8 STRAY\nrefused 8 STRAY\ndone\nrefused 6 FREED\nrefused 5 EMPTY\nat 1000\nrefused 6 FREED\nrefused 5 EMPTY\nrefused 1 ZERO\nrefused 2 TOO_LARGE\nrefused 7 OUTSIDE\nbytes 007e\nobject 2 at 2000\n")
+
 abbrev pub script_over_file : List ℕ
 script_over_file = codes "mesh 1\npages 16\nhistory 64\nworkers 1\nworker 0\nplan\nrun 0\nend\n"
 
@@ -55,3 +73,9 @@ store_across_pages_file = codes "mesh 1\npages 16\nhistory 64\nworkers 1\nworker
 
 abbrev pub store_across_pages_answer : Result (List ℕ) TextFault
 store_across_pages_answer = Ok (codes "object 0 at 1f00\ndone\nbytes aabbccddeeff0011\nrefused 7 OUTSIDE\n")
+
+abbrev pub words_pick_free_slots_file : List ℕ
+words_pick_free_slots_file = codes "mesh 1\npages 16\nhistory 64\nworkers 1\nworker 0\nnew 0 1024 1\nnew 1 1024 4294967297\nnew 2 1024 18446744073709551615\nnew 3 1024 7\nnew 4 1024 18446744073709551613\nplan\nrun 0\nrun 0\nrun 0\nrun 0\nrun 0\nend\n"
+
+abbrev pub words_pick_free_slots_answer : Result (List ℕ) TextFault
+words_pick_free_slots_answer = Ok (codes "object 0 at 1400\nobject 1 at 1c00\nobject 2 at 1800\nobject 3 at 1000\nobject 4 at 2400\n")

@@ -3,6 +3,10 @@ use Rattle.std.specs.Fmt.{digits}
 use Rattle.mesh_model.specs.Classes.{pages_of, slots_of}
 use Rattle.mesh_rows.proofs.cancels_rows.cancels.Goals as goal
 
+pub returns-clause-cancel_after_three_protects : goal.returns-clause-cancel_after_three_protects
+unfolding pages_of slots_of digits
+returns-clause-cancel_after_three_protects c = refl
+
 pub returns-clause-cancel_at_once : goal.returns-clause-cancel_at_once
 unfolding pages_of slots_of digits
 returns-clause-cancel_at_once c = refl

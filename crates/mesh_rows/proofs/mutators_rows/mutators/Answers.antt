@@ -11,6 +11,10 @@ pub returns-clause-history_full : goal.returns-clause-history_full
 unfolding pages_of slots_of digits
 returns-clause-history_full c = refl
 
+pub returns-clause-largest_numbers : goal.returns-clause-largest_numbers
+unfolding pages_of slots_of digits
+returns-clause-largest_numbers c = refl
+
 pub returns-clause-last_bytes : goal.returns-clause-last_bytes
 unfolding pages_of slots_of digits
 returns-clause-last_bytes c = refl
@@ -27,6 +31,14 @@ pub returns-clause-one_page : goal.returns-clause-one_page
 unfolding pages_of slots_of digits
 returns-clause-one_page c = refl
 
+pub returns-clause-refusals_take_room_in_history : goal.returns-clause-refusals_take_room_in_history
+unfolding pages_of slots_of digits
+returns-clause-refusals_take_room_in_history c = refl
+
+pub returns-clause-refused_commands_change_nothing : goal.returns-clause-refused_commands_change_nothing
+unfolding pages_of slots_of digits
+returns-clause-refused_commands_change_nothing c = refl
+
 pub returns-clause-script_over : goal.returns-clause-script_over
 unfolding pages_of slots_of digits
 returns-clause-script_over c = refl
@@ -38,3 +50,7 @@ returns-clause-stale_cells c = refl
 pub returns-clause-store_across_pages : goal.returns-clause-store_across_pages
 unfolding pages_of slots_of digits
 returns-clause-store_across_pages c = refl
+
+pub returns-clause-words_pick_free_slots : goal.returns-clause-words_pick_free_slots
+unfolding pages_of slots_of digits
+returns-clause-words_pick_free_slots c = refl

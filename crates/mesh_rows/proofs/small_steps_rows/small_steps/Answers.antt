@@ -11,6 +11,10 @@ pub returns-clause-begin_refusals : goal.returns-clause-begin_refusals
 unfolding pages_of slots_of digits
 returns-clause-begin_refusals c = refl
 
+pub returns-clause-blocked_takes_no_room_in_history : goal.returns-clause-blocked_takes_no_room_in_history
+unfolding pages_of slots_of digits
+returns-clause-blocked_takes_no_room_in_history c = refl
+
 pub returns-clause-busy_before_overlap : goal.returns-clause-busy_before_overlap
 unfolding pages_of slots_of digits
 returns-clause-busy_before_overlap c = refl
@@ -18,6 +22,10 @@ returns-clause-busy_before_overlap c = refl
 pub returns-clause-free_while_meshing : goal.returns-clause-free_while_meshing
 unfolding pages_of slots_of digits
 returns-clause-free_while_meshing c = refl
+
+pub returns-clause-members_in_their_order : goal.returns-clause-members_in_their_order
+unfolding pages_of slots_of digits
+returns-clause-members_in_their_order c = refl
 
 pub returns-clause-objects_across_pages : goal.returns-clause-objects_across_pages
 unfolding pages_of slots_of digits
@@ -35,13 +43,25 @@ pub returns-clause-reads_while_meshing : goal.returns-clause-reads_while_meshing
 unfolding pages_of slots_of digits
 returns-clause-reads_while_meshing c = refl
 
+pub returns-clause-refusals_in_their_order : goal.returns-clause-refusals_in_their_order
+unfolding pages_of slots_of digits
+returns-clause-refusals_in_their_order c = refl
+
 pub returns-clause-reuse_after_meshing : goal.returns-clause-reuse_after_meshing
 unfolding pages_of slots_of digits
 returns-clause-reuse_after_meshing c = refl
 
+pub returns-clause-slots_freed_while_meshing : goal.returns-clause-slots_freed_while_meshing
+unfolding pages_of slots_of digits
+returns-clause-slots_freed_while_meshing c = refl
+
 pub returns-clause-source_of_two_members : goal.returns-clause-source_of_two_members
 unfolding pages_of slots_of digits
 returns-clause-source_of_two_members c = refl
+
+pub returns-clause-store_across_pages_while_meshing : goal.returns-clause-store_across_pages_while_meshing
+unfolding pages_of slots_of digits
+returns-clause-store_across_pages_while_meshing c = refl
 
 pub returns-clause-stores_while_meshing : goal.returns-clause-stores_while_meshing
 unfolding pages_of slots_of digits
