@@ -6,6 +6,7 @@ that is no job. A subject becomes a spec file, a function whose clauses are its 
 repository after a row was added or changed; what it writes is committed.
 """
 import pathlib
+import re
 import shutil
 
 ROWS = pathlib.Path("jobs/rows")
@@ -24,8 +25,21 @@ def text(content):
     if len(body) > 100 and len(set(body)) == 1:
         end = " ++ 10 ∷ []" * (len(content) - len(body))
         return f"replicate {len(body)} {ord(body[0])}{end}"
-    escaped = content.replace("\\", "\\\\").replace('"', '\\"').replace("\n", "\\n").replace("\r", "\\r").replace("\t", "\\t")
-    return f'codes "{escaped}"'
+    pieces = [piece for piece in re.split("([^ -~\n])", content) if piece]
+    return " ".join(piece_text(piece, is_last) for piece, is_last in zip(pieces, [False] * (len(pieces) - 1) + [True]))
+
+
+def piece_text(piece, is_last):
+    """A part of a text, as what stands before the next one: the number of a byte that can't be printed, or a string."""
+    if not re.fullmatch("[ -~\n]+", piece):
+        return f"{ord(piece)} ∷" + " []" * is_last
+    escaped = piece.replace("\\", "\\\\").replace('"', '\\"').replace("\n", "\\n")
+    return f'codes "{escaped}"' + " ++" * (not is_last)
+
+
+def file_text(row):
+    """The file's bytes, a character each."""
+    return row.read_bytes().decode("latin-1")
 
 
 def expected(row):
@@ -45,7 +59,6 @@ def write_subject(folder):
     name, rows = folder.name, sorted(folder.glob("*.job"))
     faults = any(row.with_suffix(".err").exists() for row in rows)
     words = ["ℕ", "List", "Result", "Err"] if faults else ["ℕ", "List", "Result", "Ok"]
-    contents = "".join(row.read_bytes().decode() for row in rows)
     words += ["codes"]
     if faults:
         words += ["[]", "◌∷◌", "◌++◌", "replicate"]
@@ -56,7 +69,7 @@ def write_subject(folder):
         used = sorted({KINDS[row.with_suffix(".err").read_text().strip().split(": ")[1]] for row in rows})
         spec.append(f"use Rattle.mesh_model.specs.declared.faults.FaultKind.TheVariants.{{{', '.join(used)}}}")
     for row in rows:
-        spec += ["", f"abbrev pub {row.stem}_file : List ℕ", f"{row.stem}_file = {text(row.read_bytes().decode())}",
+        spec += ["", f"abbrev pub {row.stem}_file : List ℕ", f"{row.stem}_file = {text(file_text(row))}",
                  "", f"abbrev pub {row.stem}_answer : Result (List ℕ) TextFault", f"{row.stem}_answer = {expected(row)}"]
     (CRATE / "specs" / f"{camel(name)}.antt").write_text("\n".join(spec) + "\n")
     names = [word for row in rows for word in (f"{row.stem}_file", f"{row.stem}_answer")]

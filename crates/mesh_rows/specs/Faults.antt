@@ -39,6 +39,18 @@ begin_of_one_group_file = codes "mesh 1\npages 4\nhistory 8\nworkers 1\nworker 0
 abbrev pub begin_of_one_group_answer : Result (List ℕ) TextFault
 begin_of_one_group_answer = Err (record { line = 9; kind = Word })
 
+abbrev pub byte_1f_file : List ℕ
+byte_1f_file = codes "mesh" ++ 31 ∷ codes "1\n"
+
+abbrev pub byte_1f_answer : Result (List ℕ) TextFault
+byte_1f_answer = Err (record { line = 1; kind = Byte })
+
+abbrev pub byte_7f_file : List ℕ
+byte_7f_file = codes "mesh 1" ++ 127 ∷ codes "\n"
+
+abbrev pub byte_7f_answer : Result (List ℕ) TextFault
+byte_7f_answer = Err (record { line = 1; kind = Byte })
+
 abbrev pub byte_after_end_file : List ℕ
 byte_after_end_file = codes "mesh 1\npages 16\nhistory 64\nworkers 1\nworker 0\nnew 0 2048 0\nput 0 0 6869\nget 0 0 2\nplan\nrun 0\nrun 0\nrun 0\nend\n\n"
 
@@ -46,7 +58,7 @@ abbrev pub byte_after_end_answer : Result (List ℕ) TextFault
 byte_after_end_answer = Err (record { line = 14; kind = Trailing })
 
 abbrev pub byte_in_a_cut_line_file : List ℕ
-byte_in_a_cut_line_file = codes "\r"
+byte_in_a_cut_line_file = 13 ∷ []
 
 abbrev pub byte_in_a_cut_line_answer : Result (List ℕ) TextFault
 byte_in_a_cut_line_answer = Err (record { line = 1; kind = Cut })
@@ -58,7 +70,7 @@ abbrev pub byte_of_three_digits_answer : Result (List ℕ) TextFault
 byte_of_three_digits_answer = Err (record { line = 7; kind = Hex })
 
 abbrev pub carriage_return_file : List ℕ
-carriage_return_file = codes "mesh 1\r\n"
+carriage_return_file = codes "mesh 1" ++ 13 ∷ codes "\n"
 
 abbrev pub carriage_return_answer : Result (List ℕ) TextFault
 carriage_return_answer = Err (record { line = 1; kind = Byte })
@@ -176,6 +188,12 @@ line_of_1025_bytes_file = replicate 1025 97
 
 abbrev pub line_of_1025_bytes_answer : Result (List ℕ) TextFault
 line_of_1025_bytes_answer = Err (record { line = 1; kind = LongLine })
+
+abbrev pub long_line_of_tabs_file : List ℕ
+long_line_of_tabs_file = replicate 1025 9 ++ 10 ∷ []
+
+abbrev pub long_line_of_tabs_answer : Result (List ℕ) TextFault
+long_line_of_tabs_answer = Err (record { line = 1; kind = LongLine })
 
 abbrev pub missing_end_file : List ℕ
 missing_end_file = codes "mesh 1\npages 16\nhistory 64\nworkers 1\nworker 0\nnew 0 2048 0\nput 0 0 6869\nget 0 0 2\nplan\nrun 0\nrun 0\nrun 0\n"
@@ -298,10 +316,22 @@ abbrev pub sweep_of_group_65536_answer : Result (List ℕ) TextFault
 sweep_of_group_65536_answer = Err (record { line = 9; kind = Number })
 
 abbrev pub tab_in_the_plan_file : List ℕ
-tab_in_the_plan_file = codes "mesh 1\npages 4\nhistory 8\nworkers 1\nworker 0\nnew 0 64 0\nplan\nrun 0\nstep\t\n"
+tab_in_the_plan_file = codes "mesh 1\npages 4\nhistory 8\nworkers 1\nworker 0\nnew 0 64 0\nplan\nrun 0\nstep" ++ 9 ∷ codes "\n"
 
 abbrev pub tab_in_the_plan_answer : Result (List ℕ) TextFault
 tab_in_the_plan_answer = Err (record { line = 9; kind = Byte })
+
+abbrev pub text_after_end_file : List ℕ
+text_after_end_file = codes "mesh 1\npages 4\nhistory 8\nworkers 1\nworker 0\nnew 0 64 0\nplan\nend\nend"
+
+abbrev pub text_after_end_answer : Result (List ℕ) TextFault
+text_after_end_answer = Err (record { line = 9; kind = Trailing })
+
+abbrev pub tilde_is_no_word_file : List ℕ
+tilde_is_no_word_file = codes "~\n"
+
+abbrev pub tilde_is_no_word_answer : Result (List ℕ) TextFault
+tilde_is_no_word_answer = Err (record { line = 1; kind = Word })
 
 abbrev pub too_many_pages_file : List ℕ
 too_many_pages_file = codes "mesh 1\npages 4097\n"
@@ -362,3 +392,9 @@ worker_after_the_last_file = codes "mesh 1\npages 4\nhistory 8\nworkers 1\nworke
 
 abbrev pub worker_after_the_last_answer : Result (List ℕ) TextFault
 worker_after_the_last_answer = Err (record { line = 7; kind = Word })
+
+abbrev pub worker_out_of_order_file : List ℕ
+worker_out_of_order_file = codes "mesh 1\npages 4\nhistory 8\nworkers 3\nworker 0\nworker 2\n"
+
+abbrev pub worker_out_of_order_answer : Result (List ℕ) TextFault
+worker_out_of_order_answer = Err (record { line = 6; kind = Number })

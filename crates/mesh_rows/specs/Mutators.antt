@@ -38,6 +38,12 @@ load_across_pages_file = codes "mesh 1\npages 16\nhistory 64\nworkers 1\nworker 
 abbrev pub load_across_pages_answer : Result (List ℕ) TextFault
 load_across_pages_answer = Ok (codes "object 0 at 1000\nobject 1 at 1600\nobject 2 at 1c00\nobject 3 at 2200\nobject 4 at 2800\nobject 5 at 2e00\nobject 6 at 3400\nobject 7 at 3a00\nobject 8 at 4000\nobject 9 at 4600\nobject 10 at 4c00\ndone\ndone\ndone\ndone\nbytes 0102030405060708\n")
 
+abbrev pub many_workers_and_no_history_file : List ℕ
+many_workers_and_no_history_file = codes "mesh 1\npages 1\nhistory 0\nworkers 64\nworker 0\naddr 0\nworker 1\nworker 2\nworker 3\nworker 4\nworker 5\nworker 6\nworker 7\nworker 8\nworker 9\nworker 10\nworker 11\nworker 12\nworker 13\nworker 14\nworker 15\nworker 16\nworker 17\nworker 18\nworker 19\nworker 20\nworker 21\nworker 22\nworker 23\nworker 24\nworker 25\nworker 26\nworker 27\nworker 28\nworker 29\nworker 30\nworker 31\nworker 32\nworker 33\nworker 34\nworker 35\nworker 36\nworker 37\nworker 38\nworker 39\nworker 40\nworker 41\nworker 42\nworker 43\nworker 44\nworker 45\nworker 46\nworker 47\nworker 48\nworker 49\nworker 50\nworker 51\nworker 52\nworker 53\nworker 54\nworker 55\nworker 56\nworker 57\nworker 58\nworker 59\nworker 60\nworker 61\nworker 62\nworker 63\nplan\nrun 0\nrun 63\nrun 0\nend\n"
+
+abbrev pub many_workers_and_no_history_answer : Result (List ℕ) TextFault
+many_workers_and_no_history_answer = Ok (codes "history full\nover\nhistory full\n")
+
 abbrev pub one_page_file : List ℕ
 one_page_file = codes "mesh 1\npages 1\nhistory 64\nworkers 1\nworker 0\nnew 0 2048 0\nnew 1 2048 0\nnew 2 2048 0\nget 2 0 1\nplan\nrun 0\nrun 0\nrun 0\nrun 0\nend\n"
 

@@ -27,6 +27,14 @@ pub returns-clause-begin_of_one_group : goal.returns-clause-begin_of_one_group
 unfolding pages_of slots_of digits
 returns-clause-begin_of_one_group c = refl
 
+pub returns-clause-byte_1f : goal.returns-clause-byte_1f
+unfolding pages_of slots_of digits
+returns-clause-byte_1f c = refl
+
+pub returns-clause-byte_7f : goal.returns-clause-byte_7f
+unfolding pages_of slots_of digits
+returns-clause-byte_7f c = refl
+
 pub returns-clause-byte_after_end : goal.returns-clause-byte_after_end
 unfolding pages_of slots_of digits
 returns-clause-byte_after_end c = refl
@@ -119,6 +127,10 @@ pub returns-clause-line_of_1025_bytes : goal.returns-clause-line_of_1025_bytes
 unfolding pages_of slots_of digits
 returns-clause-line_of_1025_bytes c = refl
 
+pub returns-clause-long_line_of_tabs : goal.returns-clause-long_line_of_tabs
+unfolding pages_of slots_of digits
+returns-clause-long_line_of_tabs c = refl
+
 pub returns-clause-missing_end : goal.returns-clause-missing_end
 unfolding pages_of slots_of digits
 returns-clause-missing_end c = refl
@@ -203,6 +215,14 @@ pub returns-clause-tab_in_the_plan : goal.returns-clause-tab_in_the_plan
 unfolding pages_of slots_of digits
 returns-clause-tab_in_the_plan c = refl
 
+pub returns-clause-text_after_end : goal.returns-clause-text_after_end
+unfolding pages_of slots_of digits
+returns-clause-text_after_end c = refl
+
+pub returns-clause-tilde_is_no_word : goal.returns-clause-tilde_is_no_word
+unfolding pages_of slots_of digits
+returns-clause-tilde_is_no_word c = refl
+
 pub returns-clause-too_many_pages : goal.returns-clause-too_many_pages
 unfolding pages_of slots_of digits
 returns-clause-too_many_pages c = refl
@@ -242,3 +262,7 @@ returns-clause-word_of_65_bits c = refl
 pub returns-clause-worker_after_the_last : goal.returns-clause-worker_after_the_last
 unfolding pages_of slots_of digits
 returns-clause-worker_after_the_last c = refl
+
+pub returns-clause-worker_out_of_order : goal.returns-clause-worker_out_of_order
+unfolding pages_of slots_of digits
+returns-clause-worker_out_of_order c = refl

@@ -27,6 +27,10 @@ pub returns-clause-load_across_pages : goal.returns-clause-load_across_pages
 unfolding pages_of slots_of digits
 returns-clause-load_across_pages c = refl
 
+pub returns-clause-many_workers_and_no_history : goal.returns-clause-many_workers_and_no_history
+unfolding pages_of slots_of digits
+returns-clause-many_workers_and_no_history c = refl
+
 pub returns-clause-one_page : goal.returns-clause-one_page
 unfolding pages_of slots_of digits
 returns-clause-one_page c = refl
