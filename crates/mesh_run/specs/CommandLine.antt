@@ -18,9 +18,10 @@ file_rule = record (new_rule (codes "FILE")) { required = true }
 abbrev pub replay_app : App
 replay_app = with_rule (new_app (codes "replay")) file_rule
 
--- the program alone: it wants a subcommand, and without a word it shows its help
+-- the program alone: it has a version, wants a subcommand, and shows its help without a word
 abbrev pub bare_app : App
-bare_app = let app = new_app (codes "meshrun") in record app { top = record app.top { subcommand_required = true; arg_required_else_help = true } }
+bare_app = let app = new_app (codes "meshrun") in
+    record app { top = record app.top { has_version = true; subcommand_required = true; arg_required_else_help = true } }
 
 -- `meshrun replay FILE`
 abbrev pub meshrun_app : App

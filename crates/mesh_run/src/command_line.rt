@@ -16,6 +16,9 @@ use std::io;
 /// The file that a replay reads, as the command line and the help call it.
 const FILE: &str = "FILE";
 
+/// The version that `--version` tells.
+const VERSION: &str = "0.1.0";
+
 /// What the command line asks for.
 #[derive(Clone, Copy, Debug, PartialEq, Eq)]
 pub enum Args<'a> {
@@ -26,15 +29,15 @@ pub enum Args<'a> {
 /// Why the program ends before it begins, and what it says.
 #[derive(Drop)]
 pub struct Stop {
-    /// The exit status: 0 for help, 2 for a fault of the command line, 1 for want of memory.
+    /// The exit status: 0 for help and for the version, 2 for a fault of the command line, 1 for want of memory.
     pub status: u8,
-    /// What to print, with its line ends: help on standard output, the rest on standard error.
+    /// What to print, with its line ends: help and version on standard output, the rest on standard error.
     pub text: CowStr<'static, Global>,
 }
 
 /// What the words of a command line ask for, the program's name first.
 ///
-/// The words are read by `clap`, which words the texts of help and of faults. The file is the word as it was given.
+/// The words are read by `clap`, which words the texts of help, version and faults. The file is the word as it was given.
 pub fn arguments<'a, S: AsStr>(alloc: Global, words: &'a [S]) -> Result<Args<'a>, Stop>
     ensures asked { IfOk result (IsAsked (map S.text words.now)) }
     ensures stop { IfErr result (IsStopAt (map S.text words.now)) }
@@ -86,7 +89,7 @@ fn asked_for<'a>(matches: &ArgMatches<'a>) -> Option<Args<'a>>
     }
 }
 
-/// The program's command line: a command and its file.
+/// The program's command line: a command and its file, help and version.
 fn meshrun_command<'a>(alloc: Global) -> Result<Command<'a>, AllocError>
     ensures { IfOk result (λ command. app_of command ≡ meshrun_app) }
 {
@@ -98,6 +101,7 @@ fn meshrun_command<'a>(alloc: Global) -> Result<Command<'a>, AllocError>
         .arg(file)?;
     Command::new(alloc, "meshrun")
         .about("A modelled heap that is compacted by meshing")
+        .version(VERSION)
         .subcommand_required(true)
         .arg_required_else_help(true)
         .subcommand(replay)

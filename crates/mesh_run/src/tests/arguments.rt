@@ -2,12 +2,14 @@
 use crate::{Args, Output, arguments, stop_run, unopened_run};
 
 /// For each command line that is no replay its words, the exit status, and how the text that it prints begins.
-static STOPS: [(&[&str], u8, &str); 6] = [
+static STOPS: [(&[&str], u8, &str); 8] = [
     (&["meshrun", "--help"], 0, "A modelled heap"),
+    (&["meshrun", "--version"], 0, "meshrun 0.1.0\n"),
     (&["meshrun", "replay", "--help"], 0, "Run a job file"),
     (&["meshrun"], 2, "A modelled heap"),
     (&["meshrun", "replay"], 2, "error: "),
     (&["meshrun", "replay", "a", "b"], 2, "error: "),
+    (&["meshrun", "replay", "--version"], 2, "error: "),
     (&["meshrun", "report"], 2, "error: "),
 ];
 
