@@ -1,12 +1,12 @@
 -- The end of a reading: the first fault of a file, or its job.
-use Rattle.std.proofs.Common.{◌≡◌, ℕ, ◌+◌, ◌-◌, ◌≤◌, Bool, true, false, cond, nat_eq, List, [], ◌∷◌, Err, drop, length, ap, refl, sym, ◌∙◌, arith, inl, inr}
+use Rattle.std.proofs.Common.{◌≡◌, ℕ, ◌+◌, ◌-◌, ◌<◌, ◌≤◌, Bool, true, false, cond, nat_eq, List, [], ◌∷◌, Err, drop, length, ap, refl, sym, subst, ◌∙◌, arith, inl, inr}
 use Rattle.std.specs.Prelude.{slice_index_or}
 use Rattle.std.specs.List.{onto_first}
-use Rattle.std.proofs.lemmas.List.{drop-drop, get_or-drop}
-use Rattle.mesh_model.specs.Files.{Draft, fault_at, has_ended, lines_in, read_text}
+use Rattle.std.proofs.lemmas.List.{drop-drop, get_or-drop, length-drop}
+use Rattle.mesh_model.specs.Files.{Draft, fault_at, has_ended, lines_in, read_text, take_line}
 use Rattle.mesh_model.specs.declared.faults.FaultKind.TheVariants.{Trailing}
 use Rattle.mesh_text.specs.Faults.{IsReadFault, read_fault_at}
-use Rattle.mesh_text.specs.Reading.{IsFaultOfLine, IsInPlan, IsReadOn, begins_mesher, line_at, line_fields, text_lines}
+use Rattle.mesh_text.specs.Reading.{IsFaultOfLine, IsMesherCall, IsMesherLine, IsReadOn, line_at, text_lines}
 use Rattle.mesh_text.specs.declared.faults.LineFault.{LineFault}
 use Rattle.mesh_text.specs.declared.faults.LineFault.TheVariants.{Kind as LineKind, Memory as LineMemory}
 use Rattle.mesh_text.proofs.Splits.{Parts, some_part}
@@ -30,6 +30,11 @@ line_read bytes rest rest' number draft draft' first is lines on =
 index_of_rest : (lines : List (List ℕ)) (n : ℕ) → slice_index_or (drop n lines) 0 [] ≡ slice_index_or lines n []
 index_of_rest lines n = let same : n + 0 ≡ n = omega arith in get_or-drop n lines 0 [] ∙ ap (λ (k : ℕ). slice_index_or lines k []) same
 
+-- a line after which there is another one
+line_ended : (lines left : List (List ℕ)) (number : ℕ) → drop (number - 1) lines ≡ left → 1 < length left → number < length lines
+line_ended lines left number is more =
+    omega (arith, more, ap (λ (ls : List (List ℕ)). length ls) is, length-drop (number - 1) lines)
+
 -- a fault of a line is one of the file, where its line is the next one
 pub file_fault : (bytes rest : List ℕ) (number : ℕ) (draft : Draft) (fault : LineFault) → IsReadTo bytes rest number draft
     → IsFaultOfLine draft rest fault → IsReadFault bytes (read_fault_at fault number)
@@ -37,8 +42,13 @@ file_fault bytes rest number draft (LineKind kind) is (inl told) = inl (is.read 
 file_fault bytes rest number draft (LineKind kind) is (inr asks) =
     let line : line_at bytes number ≡ line_at rest 1 =
     sym (index_of_rest (text_lines bytes) (number - 1)) ∙ ap (λ (lines : List (List ℕ)). slice_index_or lines 0 []) is.lines in
-    let here : IsInPlan bytes number = record { draft = draft; section = asks.0; read = is.read ∙ ap (lines_in number draft) (sym is.lines) } in
-    inr (here, ap (λ (line : List ℕ). begins_mesher (line_fields line)) line ∙ asks.1, asks.2)
+    let here : IsMesherLine bytes number = record {
+      draft = draft;
+      read = is.read ∙ ap (lines_in number draft) (sym is.lines);
+      ended = line_ended (text_lines bytes) (text_lines rest) number is.lines asks.0;
+      call = subst (λ (l : List ℕ). IsMesherCall draft (take_line draft l)) (sym line) asks.1;
+    } in
+    inr (here, asks.2)
 file_fault bytes rest number draft LineMemory is h = tt
 
 -- bytes behind the end

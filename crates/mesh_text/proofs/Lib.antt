@@ -4,6 +4,7 @@ pub mod Gathering
 pub mod HexFields
 pub mod HexText
 pub mod ManyFields
+pub mod MesherCalls
 pub mod Parts
 pub mod PlanLines
 pub mod Reading

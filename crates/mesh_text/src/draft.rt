@@ -8,6 +8,7 @@ ghost use Rattle.mesh_text.specs.Reading.{IsFaultOfFields, IsFaultOfLine, IsFaul
 use crate::commands::command_of;
 use crate::faults::LineFault;
 use crate::lines::{fields_of, header, is_word, next_line, no_field, one_field};
+use crate::mesher::mesher_call;
 use crate::numbers::number32;
 use crate::{Job, Plan, Script, Scripts};
 use mesh_model::{FaultKind, PlanLine};
@@ -184,7 +185,8 @@ impl Draft {
         Ok(())
     }
 
-    /// Takes a line in the section of the plan: a turn of a worker, or the end.
+    /// Takes a line in the section of the plan: a turn of a worker, or the end. WORD where it asks for a call of the mesher, which
+    /// there isn't yet.
     fn take_in_plan(&mut self, word: &[u8], fields: &[&[u8]]) -> Result<(), LineFault>
         requires section { self.old.section ≡ Section.Plan }
         requires draft { IsDraft self.old }
@@ -200,6 +202,7 @@ impl Draft {
             let worker = number32(field, 0, self.workers - 1)?;
             self.plan.push(PlanLine::Run(worker))?;
         } else {
+            mesher_call(word, fields)?;
             return Err(LineFault::Kind(FaultKind::Word));
         }
         Ok(())

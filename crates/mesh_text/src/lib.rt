@@ -13,6 +13,7 @@ mod faults;
 mod hex;
 mod job;
 mod lines;
+mod mesher;
 mod numbers;
 mod reader;
 mod run;

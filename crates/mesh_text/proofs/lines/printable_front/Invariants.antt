@@ -1,4 +1,4 @@
-use Rattle.std.proofs.Common.{◌≡◌, ◌-◌, ◌≤◌, true, take, length}
+use Rattle.std.proofs.Common.{◌≡◌, ◌-◌, ◌≤◌, true, take}
 use Rattle.std.specs.List.{list_all}
 use Rattle.mesh_model.specs.Files.{is_printable}
 use Rattle.mesh_text.proofs.lines.printable_front.Given as goal
