@@ -1,16 +1,20 @@
 #!/usr/bin/env python3
-"""Writes the crate mesh_rows from the files under jobs/rows.
+"""Writes the crate mesh_rows, and the table of mesh_run's tests, from the files under jobs/rows.
 
 Each folder there is a subject, and each NAME.job in it a row: NAME.out has the lines that the job is answered, or NAME.err the fault of a file
-that is no job. A subject becomes a spec file, a function whose clauses are its rows, and that function's proof. Run it from the top of the
-repository after a row was added or changed; what it writes is committed.
+that is no job. In mesh_rows a subject becomes a spec file, a function whose clauses are its rows, and that function's proof; in mesh_run's tests
+the rows that the program can read become a table. Run it from the top of the repository after a row was added or changed; what it writes is
+committed.
 """
 import pathlib
 import re
 import shutil
+import subprocess
 
 ROWS = pathlib.Path("jobs/rows")
 CRATE = pathlib.Path("crates/mesh_rows")
+PROGRAM = pathlib.Path("crates/mesh_run")
+FIRST = ROWS / "mutators" / "first_bytes.job"
 KINDS = {
     "TOO_LONG": "TooLong", "TRAILING": "Trailing", "LONG_LINE": "LongLine", "CUT": "Cut",
     "BYTE": "Byte", "WORD": "Word", "NUMBER": "Number", "HEX": "Hex",
@@ -93,6 +97,40 @@ def write_subject(folder):
         f"use Rattle.mesh_rows.proofs.{name}_rows.{name}.Goals as goal\n" + answers + "\n")
 
 
+def literal(content):
+    """The text as a string of Rust."""
+    escaped = content.replace("\\", "\\\\").replace('"', '\\"').replace("\n", "\\n")
+    return '"' + re.sub("[^ -~]", lambda byte: f"\\x{ord(byte[0]):02x}", escaped) + '"'
+
+
+def is_read_today(row):
+    """Whether the program can read the row: it is no job, or its plan only runs workers, since no call of the mesher exists yet."""
+    if row.with_suffix(".err").exists():
+        return True
+    plan = file_text(row).split("\nplan\n", 1)[1].splitlines()[:-1]
+    return all(line.startswith("run ") for line in plan)
+
+
+def table(name, doc, suffix):
+    """The rows that have a file with this suffix, as a table of Rust: name, file, and what is expected."""
+    rows = [row for row in sorted(ROWS.glob("*/*.job")) if row.with_suffix(suffix).exists() and is_read_today(row)]
+    lines = [f"/// {doc}", f"pub(crate) static {name}: [(&str, &str, &str); {len(rows)}] = ["]
+    for row in rows:
+        texts = "FIRST_FILE, FIRST_ANSWERS" if row == FIRST else f"{literal(file_text(row))}, {literal(row.with_suffix(suffix).read_text())}"
+        lines.append(f'    ("{row.parent.name}/{row.stem}", {texts}),')
+    return lines + ["];", ""]
+
+
+def write_tables():
+    lines = ["//! The worked rows that the program can read. Written by `tools/write_rows.py`.", "",
+             "/// The file of the row `mutators/first_bytes`.", f"pub(crate) const FIRST_FILE: &str = {literal(file_text(FIRST))};", "",
+             "/// Its answers.", f"pub(crate) const FIRST_ANSWERS: &str = {literal(FIRST.with_suffix('.out').read_text())};", ""]
+    lines += table("JOBS", "For each job its name, its file and its answers.", ".out")
+    lines += table("FAULTS", "For each file that is no job its name, its bytes and the line of its fault.", ".err")
+    (PROGRAM / "src" / "tests" / "files.rt").write_text("\n".join(lines))
+    subprocess.run(["rt", "fmt"], cwd=PROGRAM, check=True)
+
+
 def main():
     for part in ("src", "specs", "proofs"):
         shutil.rmtree(CRATE / part, ignore_errors=True)
@@ -109,6 +147,7 @@ def main():
         f"#![tactic(auto)]\n\n{modules}\n\n{exports}\n")
     libs = "\n".join(["pub use Rattle.mesh_model.specs.Files"] + [f"pub mod {camel(folder.name)}" for folder in subjects])
     (CRATE / "specs" / "Lib.antt").write_text(libs + "\n")
+    write_tables()
 
 
 if __name__ == "__main__":

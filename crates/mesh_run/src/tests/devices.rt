@@ -1,12 +1,9 @@
 //! Devices that give or take one byte a call, and fail at some call.
 ghost use Rattle.std.specs.Prelude.{◌≡◌, None, false};
 
-use crate::tests::FILE;
+use crate::tests::files::{FIRST_ANSWERS, FIRST_FILE};
 use crate::{DeviceFault, Input, Output, Sink, Source, replay_run};
 use std::alloc::Global;
-
-/// The answers of the job file.
-const ANSWERS: &str = "object 0 at 1000\ndone\nbytes 6869\n";
 
 /// More calls than any run makes.
 const ENOUGH: usize = 1000;
@@ -101,7 +98,7 @@ impl Sink for SlowSink {
 /// Replays the file from a slow source.
 fn read_slowly(alloc: Global, calls: usize) -> (u8, Vec<u8>, Vec<u8>) {
     let mut input = SlowSource {
-        bytes: FILE.as_bytes(),
+        bytes: FIRST_FILE.as_bytes(),
         calls,
         failed: false,
     };
@@ -113,7 +110,7 @@ fn read_slowly(alloc: Global, calls: usize) -> (u8, Vec<u8>, Vec<u8>) {
 
 /// Replays the file to a slow sink.
 fn write_slowly(alloc: Global, calls: usize, end: End) -> (u8, Vec<u8>, Vec<u8>) {
-    let mut input = Input::new(FILE.as_bytes());
+    let mut input = Input::new(FIRST_FILE.as_bytes());
     let mut output = SlowSink::new(alloc, calls, end);
     let mut errors = Output::new(Vec::new(alloc));
     let status = replay_run(alloc, &mut input, &mut output, &mut errors);
@@ -124,18 +121,18 @@ fn write_slowly(alloc: Global, calls: usize, end: End) -> (u8, Vec<u8>, Vec<u8>)
 #[test]
 fn works_byte_by_byte(rt: HostRuntime) {
     let (status, output, errors) = read_slowly(rt.alloc(), ENOUGH);
-    assert_eq!(rt; output.as_slice(), ANSWERS.as_bytes());
+    assert_eq!(rt; output.as_slice(), FIRST_ANSWERS.as_bytes());
     assert_eq!(rt; errors.as_slice(), b"".as_slice());
     assert_eq!(rt; status, 0);
     let (status, output, errors) = write_slowly(rt.alloc(), ENOUGH, End::Fails);
-    assert_eq!(rt; output.as_slice(), ANSWERS.as_bytes());
+    assert_eq!(rt; output.as_slice(), FIRST_ANSWERS.as_bytes());
     assert_eq!(rt; errors.as_slice(), b"".as_slice());
     assert_eq!(rt; status, 0);
 }
 
 #[test]
 fn fails_at_each_read(rt: HostRuntime) {
-    for calls in 0..FILE.len() + 1 {
+    for calls in 0..FIRST_FILE.len() + 1 {
         let (status, output, errors) = read_slowly(rt.alloc(), calls);
         assert_eq!(rt; output.as_slice(), b"".as_slice(), "after {calls}");
         assert_eq!(rt;
@@ -149,12 +146,12 @@ fn fails_at_each_read(rt: HostRuntime) {
 
 #[test]
 fn fails_at_each_write(rt: HostRuntime) {
-    for calls in 0..ANSWERS.len() {
+    for calls in 0..FIRST_ANSWERS.len() {
         for end in [End::Fails, End::TakesNothing] {
             let (status, output, errors) = write_slowly(rt.alloc(), calls, end);
             assert_eq!(rt;
                 output.as_slice(),
-                &ANSWERS.as_bytes()[..calls],
+                &FIRST_ANSWERS.as_bytes()[..calls],
                 "after {calls}"
             );
             assert_eq!(rt;
