@@ -26,6 +26,7 @@ mod OneMesh
 pub mod OneSlot
 mod Placing
 mod ProtectedPages
+mod ReadOnlyPages
 mod Readings
 pub mod Records
 mod Replies

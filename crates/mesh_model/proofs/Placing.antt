@@ -14,7 +14,7 @@ by_page targets v offset within =
     rw (page, left)
 
 -- a number of a range that passes
-any_gives : (test : ℕ → Bool) (a n : ℕ) → list_any test (range_with_len a n) ≡ true → (x : ℕ) × (a ≤ x) × (x < a + n) × (test x ≡ true)
+pub any_gives : (test : ℕ → Bool) (a n : ℕ) → list_any test (range_with_len a n) ≡ true → (x : ℕ) × (a ≤ x) × (x < a + n) × (test x ≡ true)
 any_gives test a zero h = cc
 any_gives test a (suc n) h = elim (tells (test a)) [
   | inl pass ↦ (a, omega arith, omega arith, pass)
@@ -23,7 +23,7 @@ any_gives test a (suc n) h = elim (tells (test a)) [
 ]
 
 -- some number of a range passes where one does
-gives_any : (test : ℕ → Bool) (a n x : ℕ) → a ≤ x → x < a + n → test x ≡ true → list_any test (range_with_len a n) ≡ true
+pub gives_any : (test : ℕ → Bool) (a n x : ℕ) → a ≤ x → x < a + n → test x ≡ true → list_any test (range_with_len a n) ≡ true
 gives_any test a zero x low high pass = absurd (omega (arith, low, high))
 gives_any test a (suc n) x low high pass = elim (tells (test a)) [
   | inl here ↦ rw here refl

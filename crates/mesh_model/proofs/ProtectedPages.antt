@@ -2,7 +2,7 @@
 use Rattle.std.proofs.Common.{◌≡◌, ◌≢◌, ℕ, suc, ◌+◌, ◌-◌, ◌*◌, ◌<◌, ◌≤◌, Bool, true, false, if◌then◌else◌, nat_eq, ap, refl, sym, ◌∙◌, arith, ◌⊎◌, inl, inr}
 use Rattle.std.proofs.lemmas.Bool.Decides.{eqb_tells, leb_tells}
 use Rattle.std.proofs.lemmas.Grind.{common_steps}
-use Rattle.mesh_model.specs.Classes.{pages_of, slots_of}
+use Rattle.mesh_model.specs.Classes.{slots_of}
 use Rattle.mesh_model.specs.EffectLaws.{ArePagesApart, AreProtected}
 use Rattle.mesh_model.specs.Mesh.{is_protected, kind_after, page_count}
 use Rattle.mesh_model.specs.Places.{Target, with_protection}

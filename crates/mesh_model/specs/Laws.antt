@@ -1,17 +1,17 @@
 -- What follows from the definitions, and is proved of them.
 use Rattle.std.specs.Prelude.{◌≡◌, ◌↔◌, ℕ, zero, suc, ◌+◌, ◌-◌, ◌*◌, ◌<◌, ◌≤◌, ◌/◌, ◌%◌, min, Bool, true, false, if◌then◌else◌, nat_eq, length, slice_index_or, List, [], ◌∷◌, ◌++◌, Option, Some, None, map, replicate, slice_get, Result, Ok, Err}
 use Rattle.std.specs.Prelude.{All, not, is_some}
-use Rattle.std.specs.List.{Contains}
+use Rattle.std.specs.List.{Contains, list_any}
 use Rattle.mesh_bits.specs.Bits.{are_meshable}
 use Rattle.mesh_model.specs.Memory.{Memory, empty_memory}
-use Rattle.mesh_model.specs.Mesh.{any_mesh, begin, cancelled, step_count, table_after, table_unwound, do_overlap, first_mesh, is_protected, mesh_whole, step}
+use Rattle.mesh_model.specs.Mesh.{any_mesh, begin, cancelled, step_count, table_after, table_unwound, do_overlap, first_mesh, is_blocked, is_protected, mesh_whole, page_count, read_only_pages, step, virtual_pages}
 use Rattle.mesh_model.specs.Search.{Candidate, Pairing, split_search, tries}
 use Rattle.mesh_model.specs.Seats.{Call, DifferFirstAt, has_stranger, missing_seat}
 use Rattle.mesh_model.specs.Places.{Place, Record, Target, byte_of, holds, meaning, place_of, records_from, with_protection}
 use Rattle.mesh_model.specs.Plain.{plain, PlainStep, IsVacantRange, IsLegal, Entry}
 use Rattle.mesh_model.specs.Sound.{times_in}
 use Rattle.mesh_model.specs.Words.{◌>>=◌}
-use Rattle.mesh_model.specs.Classes.{pages_of}
+use Rattle.mesh_model.specs.Classes.{pages_of, slots_of}
 use Rattle.mesh_model.specs.declared.refusals.Refusal.TheVariants.{NoAddresses}
 use Rattle.mesh_model.specs.Table.{Counted, Mesh, Table, group_of, room_for_span, Group, Slot, slot_address, Progress, Made, Unwinding}
 use Rattle.mesh_model.specs.declared.commands.Command.{Command}
@@ -82,6 +82,26 @@ UnwindsNext = (mp s q u j : ℕ) → u < q
 -- where all unprotects of a cancelled mesh were made no page is read-only
 abbrev pub UnwoundIsWritable : Type 0
 UnwoundIsWritable = (mp s q j : ℕ) → is_protected mp s (Unwinding q q) j ≡ false
+
+-- a running mesh by whose progress a virtual page is read-only, and the number of the page among those of the mesh's source
+pub record IsReadOnlyBy (t : Table) (v : ℕ) : Type 0 where
+  pub i : ℕ
+  pub mesh : Mesh
+  pub source : Group
+  pub j : ℕ
+  pub running : slice_get t.meshes i ≡ Some mesh
+  pub source_is : group_of t mesh.source ≡ Some source
+  pub page : slice_get (virtual_pages source) j ≡ Some v
+  pub protected : is_protected (page_count source) (slots_of source.class) mesh.progress j ≡ true
+
+-- the read-only pages are those by the formula, of the sources of all running meshes
+abbrev pub ReadOnlyByMeshes : Type 0
+ReadOnlyByMeshes = (t : Table) (v : ℕ) → (list_any (nat_eq v) (read_only_pages t) ≡ true) ↔ IsReadOnlyBy t v
+
+-- a store is blocked exactly where one of its addresses is in a read-only page
+abbrev pub BlockedByPages : Type 0
+BlockedByPages = (t : Table) (address len : ℕ) → (is_blocked t address len ≡ true)
+    ↔ ((x : ℕ) × (address ≤ x) × (x < address + len) × IsReadOnlyBy t (x / 4096))
 
 -- the pair is of two candidates that are in the order, with no common slot number
 abbrev pub IsMeshableIn : List Candidate → Pairing → Type 0

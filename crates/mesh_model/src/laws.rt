@@ -1,5 +1,5 @@
 //! Laws of the definitions. Each is the contract of a function that does nothing: a theorem that other crates may rely on.
-ghost use Rattle.mesh_model.specs.Laws.{PlainIsStep, PlainRefusalIsStep, StepDetermined, LegalGoesOn, LegalHasOneEnd, StartsWritable, ProtectsNext, HoldsWhileCopying, UnprotectsNext, ReleasesWritable, CancelHolds, UnwindsNext, UnwoundIsWritable, TriesAreIndexed, TriesAreOfBoth, ProbesAreFew, PairsAreMeshable, OverlapIsBySets, GroupsPairOnce, WholeIsAllSteps, RefusedByAddresses, PlacesAreByPage, NoObjectMeansNone, ObjectsMeanTheirBytes, SlotsHaveRecords, ObjectsAreHeld, HoldsWhereLed, StepsLeaveGroups, UnwindingLeavesGroups, CancelLeavesGroups, ProtectionLeavesPlaces, SeatsAreAll, SwappedSeatsAreMissing, StrangersAreMissing, EntriesHaveSeats, FirstDifferenceIsOne};
+ghost use Rattle.mesh_model.specs.Laws.{PlainIsStep, PlainRefusalIsStep, StepDetermined, LegalGoesOn, LegalHasOneEnd, StartsWritable, ProtectsNext, HoldsWhileCopying, UnprotectsNext, ReleasesWritable, CancelHolds, UnwindsNext, UnwoundIsWritable, ReadOnlyByMeshes, BlockedByPages, TriesAreIndexed, TriesAreOfBoth, ProbesAreFew, PairsAreMeshable, OverlapIsBySets, GroupsPairOnce, WholeIsAllSteps, RefusedByAddresses, PlacesAreByPage, NoObjectMeansNone, ObjectsMeanTheirBytes, SlotsHaveRecords, ObjectsAreHeld, HoldsWhereLed, StepsLeaveGroups, UnwindingLeavesGroups, CancelLeavesGroups, ProtectionLeavesPlaces, SeatsAreAll, SwappedSeatsAreMissing, StrangersAreMissing, EntriesHaveSeats, FirstDifferenceIsOne};
 
 /// What the plain function answers and leaves is a plain step, and so is its refusal.
 pub fn plain_is_step()
@@ -28,6 +28,12 @@ pub fn read_only_by_steps()
     ensures cancel { CancelHolds }
     ensures unwinds { UnwindsNext }
     ensures unwound { UnwoundIsWritable }
+{}
+
+/// The read-only pages are those of the sources of all running meshes, and a store is blocked exactly where it touches one.
+pub fn stores_are_blocked_by_pages()
+    ensures pages { ReadOnlyByMeshes }
+    ensures blocked { BlockedByPages }
 {}
 
 /// The tries of a round are those of the index formula, and a search makes at most `t * floor(n / 2)` of them.
