@@ -103,17 +103,17 @@ def literal(content):
     return '"' + re.sub("[^ -~]", lambda byte: f"\\x{ord(byte[0]):02x}", escaped) + '"'
 
 
-def is_read_today(row):
-    """Whether the program can read the row: it is no job, or its plan only runs workers, since no call of the mesher exists yet."""
+def is_tested(row):
+    """Whether the tests have the row: it is short and no job, or its plan only runs workers, since no call of the mesher exists yet."""
     if row.with_suffix(".err").exists():
-        return True
+        return len(file_text(row)) < 1000
     plan = file_text(row).split("\nplan\n", 1)[1].splitlines()[:-1]
     return all(line.startswith("run ") for line in plan)
 
 
 def table(name, doc, suffix):
     """The rows that have a file with this suffix, as a table of Rust: name, file, and what is expected."""
-    rows = [row for row in sorted(ROWS.glob("*/*.job")) if row.with_suffix(suffix).exists() and is_read_today(row)]
+    rows = [row for row in sorted(ROWS.glob("*/*.job")) if row.with_suffix(suffix).exists() and is_tested(row)]
     lines = [f"/// {doc}", f"pub(crate) static {name}: [(&str, &str, &str); {len(rows)}] = ["]
     for row in rows:
         texts = "FIRST_FILE, FIRST_ANSWERS" if row == FIRST else f"{literal(file_text(row))}, {literal(row.with_suffix(suffix).read_text())}"
@@ -126,7 +126,7 @@ def write_tables():
              "/// The file of the row `mutators/first_bytes`.", f"pub(crate) const FIRST_FILE: &str = {literal(file_text(FIRST))};", "",
              "/// Its answers.", f"pub(crate) const FIRST_ANSWERS: &str = {literal(FIRST.with_suffix('.out').read_text())};", ""]
     lines += table("JOBS", "For each job its name, its file and its answers.", ".out")
-    lines += table("FAULTS", "For each file that is no job its name, its bytes and the line of its fault.", ".err")
+    lines += table("FAULTS", "For each short file that is no job its name, its bytes and the line of its fault.", ".err")
     (PROGRAM / "src" / "tests" / "files.rt").write_text("\n".join(lines))
     subprocess.run(["rt", "fmt"], cwd=PROGRAM, check=True)
 

@@ -1,20 +1,20 @@
 -- Words and the sets that they hold.
-use Rattle.std.proofs.Common.{◌≡◌, ◌≢◌, ℕ, zero, suc, ◌+◌, ◌-◌, ◌*◌, ◌/◌, ◌%◌, ◌^◌, ◌<◌, ◌≤◌, Bool, true, false, cond, not, ◌&&◌, ◌||◌, nat_eq, Option, None, Some, List, [], ◌∷◌, filter, length, replicate, slice_set, slice_index, get_or, set, ap, refl, sym, ◌∙◌, arith, inl, inr}
-use Rattle.std.proofs.lemmas.List.{get_or-set_other, get_or-set_same, get_or-replicate, get_or_past}
+use Rattle.std.proofs.Common.{◌≡◌, ◌≢◌, ℕ, zero, suc, ◌+◌, ◌-◌, ◌*◌, ◌/◌, ◌%◌, ◌^◌, ◌<◌, ◌≤◌, Bool, true, false, cond, not, ◌&&◌, ◌||◌, nat_eq, Option, None, Some, List, ◌∷◌, filter, length, replicate, slice_set, slice_index, ap, refl, sym, ◌∙◌, arith, inl, inr}
+use Rattle.std.proofs.lemmas.List.{get_or-set_other, get_or-set_same, get_or_past}
 use Rattle.std.proofs.lemmas.Bool.Decides.{eqb_tells, leb_tells}
 use Rattle.std.specs.Int.{bit_at}
 use Rattle.std.specs.List.{range_with_len, list_any}
 use Rattle.std.specs.Ordering.{nat_cmp, eq_by_cmp}
 use Rattle.std.specs.Cmp.{unsigned_tied, nat_cmp_total}
 use Rattle.std.specs.FinMap.{nat_cmp-IsAntisymmetric}
-use Rattle.std.specs.FinSet.{FinSet, contains, insert, remove, empty, from_list, contains-insert, contains-remove, contains-from_list_nat, contains-empty, same_set}
+use Rattle.std.specs.FinSet.{FinSet, contains, insert, remove, empty, contains-insert, contains-remove, contains-from_list_nat, contains-empty, same_set}
 use Rattle.std.proofs.Common.{w64, take, drop, ◌++◌}
 use Rattle.std.proofs.Math.Seq.{take-append_seam}
 use Rattle.std.proofs.Math.Nat.{div-le_self}
 use Rattle.std.proofs.lemmas.Nat.{shr-shr}
 use Rattle.std.specs.Int.{trailing_zeros}
 use Rattle.std.proofs.lemmas.Nat.Bits.{bit_at-zero, bit_at_above, bit_at-trailing_zeros}
-use Rattle.mesh_bins.specs.Words.{bit, has, set_of, IsFirst, IsLeast, PutsBit, IsMarked, IsBin}
+use Rattle.mesh_bins.specs.Words.{bit, has, set_of, IsFirst, IsLeast, PutsBit, IsMarked}
 
 -- no word has a bit past the end
 has_past : (words : List ℕ) (n : ℕ) → 64 * length words ≤ n → has words n ≡ false

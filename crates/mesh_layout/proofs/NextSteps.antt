@@ -1,5 +1,5 @@
 -- What the table's next step is, by the phase that a mesh is in.
-use Rattle.std.proofs.Common.{◌≡◌, ◌≢◌, ℕ, suc, ◌+◌, ◌-◌, ◌*◌, ◌<◌, ◌≤◌, Bool, true, false, nat_le, nat_lt, ap, subst, refl, sym, ◌∙◌, arith, ◌⊎◌, inl, inr}
+use Rattle.std.proofs.Common.{◌≡◌, ◌≢◌, ℕ, suc, ◌+◌, ◌*◌, ◌<◌, ◌≤◌, true, false, nat_le, nat_lt, refl, arith, inl, inr}
 use Rattle.std.proofs.lemmas.Bool.Decides.{leb_tells}
 use Rattle.mesh_class.specs.Classes.{pages_of, slots_of}
 use Rattle.mesh_model.specs.Mesh.{free_after, kind_after, merged, page_count, step_count, table_after, with_progress, without_mesh}

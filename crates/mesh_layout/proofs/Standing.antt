@@ -1,9 +1,8 @@
 -- What always holds of live objects, their places and pages, and of stores.
-use Rattle.std.proofs.Common.{◌≡◌, ◌≢◌, ℕ, zero, suc, ◌+◌, ◌-◌, ◌*◌, ◌/◌, ◌%◌, ◌<◌, ◌≤◌, Bool, true, false, ◌||◌, nat_eq, List, Some, ap, subst, refl, sym, ◌∙◌, arith, ◌⊎◌, inl, inr}
+use Rattle.std.proofs.Common.{◌≡◌, ◌≢◌, ℕ, zero, suc, ◌+◌, ◌-◌, ◌/◌, ◌<◌, ◌≤◌, Bool, true, false, nat_eq, List, Some, ap, refl, sym, ◌∙◌, arith, inl, inr}
 use Rattle.std.specs.List.{list_any, range_with_len}
-use Rattle.std.proofs.lemmas.Bool.Decides.{eqb_tells, leb_tells}
+use Rattle.std.proofs.lemmas.Bool.Decides.{eqb_tells}
 use Rattle.mesh_arena.specs.Pages.{Pages, IsTaken}
-use Rattle.mesh_class.specs.Classes.{pages_of, slots_of}
 use Rattle.mesh_model.proofs.GroupLists.{tells}
 use Rattle.mesh_model.specs.Mesh.{is_blocked, read_only_pages}
 use Rattle.mesh_model.specs.Places.{Place, Record, place_of, records_of, IsIn, record_with}
@@ -18,7 +17,7 @@ use Rattle.mesh_layout.specs.Meshes.{stage_of}
 use Rattle.mesh_layout.proofs.Covered.{IsCovered}
 use Rattle.mesh_layout.proofs.Grounds.{ground_orderly}
 use Rattle.mesh_layout.proofs.Homes.{byte_page, live_taken, one_place}
-use Rattle.mesh_layout.proofs.Meaning.{HasLive, live_at, record_live, targets_of}
+use Rattle.mesh_layout.proofs.Meaning.{live_at, record_live, targets_of}
 use Rattle.mesh_layout.proofs.ReadOnly.{read_only_is}
 use Rattle.mesh_layout.proofs.Stores.{calm_writable}
 

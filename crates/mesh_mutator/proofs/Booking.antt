@@ -5,7 +5,7 @@ use Rattle.mesh_model.specs.HistoryLaws.{AnsweredIsStep}
 use Rattle.mesh_model.specs.Jobs.{answered}
 use Rattle.mesh_model.specs.Laws.{LegalGoesOn}
 use Rattle.mesh_model.specs.Memory.{Memory}
-use Rattle.mesh_model.specs.Plain.{Entry, IsLegal, PlainStep}
+use Rattle.mesh_model.specs.Plain.{Entry, PlainStep}
 use Rattle.mesh_model.specs.Sound.{IsTied}
 use Rattle.mesh_model.specs.declared.commands.Command.{Command}
 use Rattle.mesh_model.specs.declared.commands.Reply.{Reply}

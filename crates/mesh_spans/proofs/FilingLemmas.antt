@@ -1,7 +1,7 @@
 -- Groups in their bins.
-use Rattle.std.proofs.Common.{◌≡◌, ◌≢◌, ℕ, zero, suc, ◌+◌, ◌*◌, ◌<◌, ◌≤◌, Bool, true, false, not, ◌&&◌, ◌||◌, cond, if◌then◌else◌, nat_eq, nat_lt, count_by, is_some, List, [], ◌∷◌, Option, Some, None, length, slice_set, slice_index_or, ap, subst, refl, sym, ◌∙◌, arith, ◌⊎◌, inl, inr}
+use Rattle.std.proofs.Common.{◌≡◌, ◌≢◌, ℕ, zero, suc, ◌+◌, ◌*◌, ◌<◌, ◌≤◌, Bool, true, false, not, ◌&&◌, ◌||◌, if◌then◌else◌, nat_eq, nat_lt, count_by, is_some, List, [], ◌∷◌, Option, Some, None, length, slice_set, ap, refl, sym, ◌∙◌, arith, inl, inr}
 use Rattle.std.proofs.Math.ListN.{length-set}
-use Rattle.std.proofs.lemmas.Bool.Decides.{eqb_tells, leb_tells, nat_tests}
+use Rattle.std.proofs.lemmas.Bool.Decides.{eqb_tells, leb_tells}
 use Rattle.std.proofs.lemmas.List.{get_or_past, get_or-set_other, get_or-set_same}
 use Rattle.std.proofs.Common.{position, ◌-◌, ◌++◌}
 use Rattle.std.specs.List.{position_or_len}
@@ -10,10 +10,10 @@ use Rattle.std.proofs.lemmas.List.Quantifiers.{position-Some}
 use Rattle.std.specs.Ordering.{nat_cmp, eq_by_cmp}
 use Rattle.std.specs.Cmp.{unsigned_tied, nat_cmp_total}
 use Rattle.std.specs.FinSet.{FinSet, contains, insert, remove, empty, contains-insert, contains-remove, contains-empty}
-use Rattle.mesh_bins.specs.Words.{IsFirst, IsLeast}
-use Rattle.mesh_class.specs.Classes.{IsClass, pages_of, slots_of}
+use Rattle.mesh_bins.specs.Words.{IsLeast}
+use Rattle.mesh_class.specs.Classes.{IsClass, slots_of}
 use Rattle.mesh_spans.specs.Filing.{IsFiled, is_partial, bin_at, class_place, file_of, filed, is_at, kind_of, lower_of, unfiled}
-use Rattle.mesh_spans.specs.Index.{GroupEntry, IsGroup, IsIndex, SpanEntry, group_at, has_room, is_open, span_at}
+use Rattle.mesh_spans.specs.Index.{GroupEntry, IsGroup, IsIndex, SpanEntry, group_at, is_open}
 
 tied_same : (v : ℕ) → eq_by_cmp nat_cmp v v ≡ true
 tied_same v = unsigned_tied v v ∙ elim (eqb_tells v v) [ inl same ↦ same.0 | inr other ↦ absurd (other.1 refl) ]

@@ -1,12 +1,12 @@
 -- The lowest candidate of the index is the first of the table.
-use Rattle.std.proofs.Common.{◌≡◌, ℕ, zero, suc, ◌+◌, ◌<◌, ◌≤◌, Bool, true, false, not, ◌&&◌, nat_eq, nat_le, nat_lt, find, List, [], ◌∷◌, Option, Some, None, count_by, is_some, length, ap, subst, refl, sym, ◌∙◌, arith, inl, inr}
+use Rattle.std.proofs.Common.{◌≡◌, ℕ, zero, suc, ◌+◌, ◌<◌, ◌≤◌, Bool, true, false, ◌&&◌, nat_le, find, List, [], ◌∷◌, Option, Some, None, ap, refl, sym, ◌∙◌, arith, inl, inr}
 use Rattle.std.specs.Option.{option_map}
 use Rattle.std.proofs.lemmas.Bool.Decides.{leb_tells}
-use Rattle.mesh_bins.specs.Words.{IsFirst, IsLeast}
+use Rattle.mesh_bins.specs.Words.{IsLeast}
 use Rattle.mesh_model.specs.Table.{Group}
 use Rattle.mesh_spans.specs.Filing.{candidate_from, is_partial}
-use Rattle.mesh_spans.specs.Groups.{groups_from, groups_of, is_closed, is_in_mesh, table_group}
-use Rattle.mesh_spans.specs.Index.{GroupEntry, Index, IsIndex, SpanEntry, group_at}
+use Rattle.mesh_spans.specs.Groups.{groups_from, is_closed, table_group}
+use Rattle.mesh_spans.specs.Index.{GroupEntry, IsIndex, SpanEntry, group_at}
 use Rattle.mesh_spans.proofs.FilingLemmas.{number_fits}
 use Rattle.mesh_spans.proofs.IndexLemmas.{group_below}
 

@@ -1,15 +1,15 @@
 -- What a merge keeps, and what it makes of the table.
-use Rattle.std.proofs.Common.{◌≡◌, ◌≢◌, ℕ, ◌+◌, ◌<◌, ◌≤◌, find, map, List, ◌∷◌, [], Option, Some, None, length, slice_index, slice_set, ap, subst, refl, sym, ◌∙◌, arith}
-use Rattle.std.proofs.Common.{Bool, not, ◌&&◌, nat_eq, inl, inr}
+use Rattle.std.proofs.Common.{◌≡◌, ◌≢◌, ℕ, ◌+◌, ◌≤◌, find, List, Option, Some, None, length, slice_set, ap, sym, ◌∙◌, arith}
+use Rattle.std.proofs.Common.{not, ◌&&◌, nat_eq, inl, inr}
 use Rattle.std.proofs.Math.ListN.{length-set}
 use Rattle.std.proofs.lemmas.Bool.Decides.{eqb_tells}
 use Rattle.std.specs.Option.{option_map}
 use Rattle.std.proofs.lemmas.List.{get_or-set_other, get_or-set_same}
 use Rattle.mesh_model.specs.Mesh.{merged}
 use Rattle.mesh_model.specs.Table.{Group, has_number}
-use Rattle.mesh_spans.specs.Changes.{IsMergeable, Merges, Regroups, merged_entry, merged_groups}
-use Rattle.mesh_spans.specs.Groups.{is_in_mesh, groups_from, groups_of, table_group}
-use Rattle.mesh_spans.specs.Index.{GroupEntry, Index, IsIndex, IsOwned, SpanEntry, group_at}
+use Rattle.mesh_spans.specs.Changes.{IsMergeable, Regroups, merged_entry, merged_groups}
+use Rattle.mesh_spans.specs.Groups.{is_in_mesh, groups_from, table_group}
+use Rattle.mesh_spans.specs.Index.{GroupEntry, IsIndex, IsOwned, SpanEntry, group_at}
 use Rattle.mesh_spans.proofs.IndexLemmas.{group_below}
 use Rattle.mesh_spans.proofs.MergedIndex.{IsIndex_merged, IsOwned_merged}
 use Rattle.mesh_spans.proofs.MergedTable.{group_found, groups_merged}

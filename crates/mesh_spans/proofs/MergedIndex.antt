@@ -1,8 +1,8 @@
 -- An index whose two groups were merged is one.
-use Rattle.std.proofs.Common.{◌≡◌, ◌≢◌, ℕ, zero, suc, ◌+◌, ◌-◌, ◌*◌, ◌<◌, ◌≤◌, Bool, true, false, if◌then◌else◌, nat_eq, map, List, [], ◌∷◌, ◌++◌, Option, Some, None, length, slice_index, slice_index_or, slice_set, ap, subst, refl, sym, ◌∙◌, arith, ◌⊎◌, inl, inr}
+use Rattle.std.proofs.Common.{◌≡◌, ◌≢◌, ℕ, zero, suc, ◌+◌, ◌-◌, ◌<◌, ◌≤◌, Bool, true, map, List, [], ◌∷◌, ◌++◌, Option, Some, None, length, slice_index, slice_index_or, slice_set, ap, subst, refl, sym, ◌∙◌, arith, ◌⊎◌, inl, inr}
 use Rattle.std.proofs.Math.ListN.{length-append, length-set}
 use Rattle.std.proofs.lemmas.Bool.Decides.{eqb_tells, leb_tells}
-use Rattle.std.proofs.lemmas.List.{get_or_append_left, get_or-append-add, get_or-map, get_or_past, get_or-set_other, get_or-set_same, length-map}
+use Rattle.std.proofs.lemmas.List.{get_or_append_left, get_or-append-add, get_or_past, get_or-set_other, get_or-set_same}
 use Rattle.std.proofs.Common.{is_some, take, drop}
 use Rattle.std.proofs.lemmas.List.{ext_get_or}
 use Rattle.std.proofs.Math.Seq.{take-append_seam}
@@ -10,8 +10,8 @@ use Rattle.mesh_bits.specs.Bits.{union_of}
 use Rattle.mesh_class.specs.Classes.{IsClass, pages_of, slots_of}
 use Rattle.mesh_model.specs.Mesh.{either_slot, united}
 use Rattle.mesh_model.specs.Table.{Slot}
-use Rattle.mesh_spans.specs.Index.{GroupEntry, Index, IsGroup, IsIndex, IsMember, IsObject, IsOwned, IsSpan, SpanEntry, group_at, no_span, span_at}
-use Rattle.mesh_spans.specs.Changes.{merged_entry, merged_groups, Merges, Regroups}
+use Rattle.mesh_spans.specs.Index.{GroupEntry, IsGroup, IsIndex, IsMember, IsObject, IsOwned, SpanEntry, group_at, span_at}
+use Rattle.mesh_spans.specs.Changes.{merged_entry, merged_groups, Regroups}
 
 none_right : (x : Option Slot) → x ≡ either_slot x None
 none_right None = refl

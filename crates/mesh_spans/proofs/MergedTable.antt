@@ -1,14 +1,11 @@
 -- The groups of an index whose two groups were merged are the table's.
-use Rattle.std.proofs.Common.{◌≡◌, ◌≢◌, ℕ, zero, suc, ◌+◌, ◌<◌, ◌≤◌, Bool, true, false, not, nat_eq, find, filter, map, List, [], ◌∷◌, ◌++◌, Option, Some, None, length, slice_index, slice_set, ap, subst, refl, sym, ◌∙◌, arith, ◌⊎◌, inl, inr}
-use Rattle.std.proofs.lemmas.Bool.Decides.{eqb_tells, leb_tells}
+use Rattle.std.proofs.Common.{◌≡◌, ◌≢◌, ℕ, zero, suc, ◌+◌, ◌<◌, Bool, not, find, filter, map, List, [], ◌∷◌, ◌++◌, Option, Some, None, length, slice_set, ap, refl, sym, ◌∙◌, arith, inl, inr}
+use Rattle.std.proofs.lemmas.Bool.Decides.{eqb_tells}
 use Rattle.mesh_model.specs.Mesh.{merged, merged_into, united}
-use Rattle.mesh_model.specs.Table.{Group, Slot, changed_at, has_number}
-use Rattle.mesh_spans.specs.Groups.{first_of, groups_from, groups_of, table_group}
-use Rattle.mesh_spans.specs.Index.{GroupEntry, Index, SpanEntry, group_at, span_at}
-use Rattle.mesh_spans.specs.Changes.{merged_entry, merged_groups, with_mesh, with_flag, Merges}
-use Rattle.std.specs.Option.{option_map}
-use Rattle.std.specs.Prelude.{IsSome}
-use Rattle.std.proofs.lemmas.List.{ext_get_or, get_or-set_other, get_or-set_same}
+use Rattle.mesh_model.specs.Table.{Group, changed_at, has_number}
+use Rattle.mesh_spans.specs.Groups.{first_of, groups_from, table_group}
+use Rattle.mesh_spans.specs.Index.{GroupEntry, SpanEntry, group_at}
+use Rattle.mesh_spans.specs.Changes.{merged_entry, merged_groups, with_flag}
 use Rattle.std.proofs.Math.ListN.{length-set}
 
 map_append : (f : ℕ → ℕ) (xs ys : List ℕ) → map f (xs ++ ys) ≡ map f xs ++ map f ys

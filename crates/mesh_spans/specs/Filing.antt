@@ -1,5 +1,5 @@
 -- In which bin a group is: three for each class, of the groups that are empty, partly filled and full.
-use Rattle.std.specs.Prelude.{◌≡◌, ℕ, ◌+◌, ◌*◌, ◌<◌, Bool, true, false, not, ◌&&◌, if◌then◌else◌, nat_eq, nat_le, nat_lt, count_by, is_some, List, Option, Some, None, length, slice_index_or, slice_set}
+use Rattle.std.specs.Prelude.{◌≡◌, ℕ, ◌+◌, ◌*◌, ◌<◌, Bool, false, not, ◌&&◌, if◌then◌else◌, nat_eq, nat_le, nat_lt, count_by, is_some, List, Option, Some, None, length, slice_index_or, slice_set}
 use Rattle.std.specs.Ordering.{nat_cmp}
 use Rattle.std.specs.FinSet as set
 use Rattle.mesh_model.specs.Table.{Group, object_count}

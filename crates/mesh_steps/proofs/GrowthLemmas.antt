@@ -1,10 +1,10 @@
 -- One page more taken, given or mapped.
-use Rattle.std.proofs.Common.{◌≡◌, ◌≢◌, ℕ, suc, ◌+◌, ◌<◌, ◌≤◌, Bool, true, false, List, [], ◌∷◌, ◌++◌, Option, Some, None, is_some, drop, length, set, slice_index, slice_index_or, ap, refl, sym, ◌∙◌, arith, inl, inr}
+use Rattle.std.proofs.Common.{◌≡◌, ◌≢◌, ℕ, suc, ◌+◌, ◌<◌, ◌≤◌, true, false, List, [], ◌∷◌, ◌++◌, Option, Some, None, is_some, drop, length, set, slice_index, slice_index_or, ap, refl, sym, ◌∙◌, arith, inl, inr}
 use Rattle.std.proofs.Math.ListN.{get_or-append, length-append}
 use Rattle.std.proofs.Math.Seq.{drop-cons, get_or-append_seam}
 use Rattle.std.proofs.lemmas.Bool.Decides.{eqb_tells, leb_tells}
 use Rattle.std.proofs.lemmas.List.{drop_all, get_or-set_other, set-get_or, set-set, set_comm}
-use Rattle.mesh_arena.specs.Pages.{Pages, is_taken, IsTaken, byte_at, Takes, Gives}
+use Rattle.mesh_arena.specs.Pages.{Pages, is_taken, IsTaken, Takes, Gives}
 use Rattle.mesh_pagemap.specs.Entries.{Entries, Maps}
 use Rattle.mesh_pagemap.specs.declared.prot.Prot.TheVariants.{ReadWrite}
 use Rattle.mesh_steps.specs.Growth.{TakesAll, MapsFirst, AreTaken, AreUnmapped, given_back}

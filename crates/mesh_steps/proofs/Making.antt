@@ -29,7 +29,7 @@ use Rattle.mesh_model.specs.declared.refusals.Refusal.{Refusal}
 use Rattle.mesh_model.specs.declared.refusals.Refusal.TheVariants.{Freed, TooLarge, Zero}
 use Rattle.mesh_pagemap.specs.Entries.{Entries, IsMapped, page_of}
 use Rattle.mesh_spans.specs.Groups.{first_of, groups_from, groups_of, is_closed, table_group}
-use Rattle.mesh_spans.specs.Index.{GroupEntry, Index, IsIndex, SpanEntry, address_in, group_at, span_at}
+use Rattle.mesh_spans.specs.Index.{GroupEntry, IsIndex, SpanEntry, address_in, group_at, span_at}
 use Rattle.mesh_store.specs.Places.{AreBacked, IsBacked, IsOutside, Saves, byte_of as byte_in}
 use Rattle.mesh_steps.proofs.GroundLemmas.{covered_backed, slot_backed}
 use Rattle.mesh_steps.specs.Ground.{Ground, IsCovered, IsGround, IsPlace, IsPlaceFault, KeepsBytes, bytes_in, open_group, table_of, targets_of}

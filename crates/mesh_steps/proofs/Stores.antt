@@ -1,6 +1,5 @@
 -- What a store does to the plain memory that a heap stands for.
-use Rattle.std.proofs.Common.{◌≡◌, ℕ, zero, suc, ◌+◌, ◌-◌, ◌*◌, ◌/◌, ◌%◌, ◌<◌, ◌≤◌, Bool, true, false, List, [], ◌∷◌, Some, None, Result, Ok, Err, length, slice_index, ap, subst, refl, sym, ◌∙◌, arith, ◌⊎◌, inl, inr}
-use Rattle.std.specs.List.{list_any, range_with_len}
+use Rattle.std.proofs.Common.{◌≡◌, ℕ, ◌+◌, ◌-◌, ◌*◌, ◌/◌, ◌%◌, ◌<◌, ◌≤◌, Bool, true, false, List, [], ◌∷◌, Some, None, Result, Ok, Err, length, slice_index, ap, subst, refl, sym, ◌∙◌, arith, ◌⊎◌, inl, inr}
 use Rattle.std.proofs.lemmas.Bool.Decides.{eqb_tells, leb_tells}
 use Rattle.mesh_arena.specs.Pages.{Pages, byte_at, free_count}
 use Rattle.mesh_model.proofs.Holders.{objects_apart}

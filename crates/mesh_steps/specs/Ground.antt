@@ -2,7 +2,7 @@
 use Rattle.std.specs.Prelude.{◌≡◌, ◌≢◌, ℕ, ◌+◌, ◌<◌, ◌≤◌, false, [], find, length, Option, None, Result, Ok, Err, refl}
 use Rattle.std.specs.Coded.{Coded, code_by, coded×, coded_ℕ, coded_list, coded_option}
 use Rattle.std.specs.FinMap as map
-use Rattle.mesh_arena.specs.Pages.{Pages, IsTaken, byte_at, free_count, is_taken}
+use Rattle.mesh_arena.specs.Pages.{Pages, IsTaken, byte_at, free_count}
 use Rattle.mesh_class.specs.Classes.{pages_of, slots_of}
 use Rattle.mesh_model.specs.Places.{Place, Target}
 use Rattle.mesh_model.specs.Table.{Group, Table, is_open, place_in, placed_in, room_for_span, with_span}

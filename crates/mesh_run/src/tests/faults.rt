@@ -6,8 +6,13 @@ use std::test::Fail;
 
 #[test]
 fn tells_each_fault(rt: HostRuntime) {
-    for (name, file, fault) in FAULTS.iter() {
-        check_fault(&rt, file.as_bytes(), fault, name);
+    check_faults(&rt, &FAULTS);
+}
+
+/// Asserts of each file, by its name, that it has this fault.
+fn check_faults(rt: &(impl Abort + AllocGlobal), faults: &[(&str, &str, &str)]) {
+    for (name, file, fault) in faults {
+        check_fault(rt, file.as_bytes(), fault, name);
     }
 }
 
@@ -35,16 +40,22 @@ fn knows_no_call_of_the_mesher(rt: HostRuntime) -> Result<(), Fail> {
     Ok(())
 }
 
-/// For each number of bytes `a` what is said of them.
-static LENGTHS: [(usize, &str); 2] = [
-    (1_048_576, "line 1: LONG_LINE\n"),
-    (1_048_577, "line 0: TOO_LONG\n"),
+/// For each number of bytes `a`, with a line end or none, what is said of them.
+static LENGTHS: [(usize, bool, &str); 5] = [
+    (1024, false, "line 1: CUT\n"),
+    (1024, true, "line 1: WORD\n"),
+    (1025, false, "line 1: LONG_LINE\n"),
+    (1_048_576, false, "line 1: LONG_LINE\n"),
+    (1_048_577, false, "line 0: TOO_LONG\n"),
 ];
 
 #[test]
 fn tells_faults_of_lengths(rt: HostRuntime) -> Result<(), Fail> {
-    for (count, fault) in LENGTHS.iter() {
-        let file = vec![in rt.alloc(); b'a'; *count]?;
+    for (count, has_end, fault) in LENGTHS.iter() {
+        let mut file = vec![in rt.alloc(); b'a'; *count]?;
+        if *has_end {
+            file.push(b'\n')?;
+        }
         check_fault(&rt, file.as_slice(), fault, "many bytes");
     }
     Ok(())

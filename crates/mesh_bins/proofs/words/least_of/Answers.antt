@@ -1,5 +1,4 @@
-use Rattle.std.proofs.Common.{◌≡◌, ◌≤◌, ◌*◌, ◌+◌, None, sym, arith}
-use Rattle.mesh_bins.specs.Words.{IsLeast, bit}
+use Rattle.std.proofs.Common.{arith}
 use Rattle.mesh_bins.proofs.WordLemmas.{found_in_word, passed_start, passed_word}
 use Rattle.mesh_bins.proofs.words.least_of.Goals as goal
 

@@ -1,6 +1,6 @@
 use Rattle.std.proofs.Common.{◌≡◌, ◌∙◌, slice_index, arith}
 use Rattle.std.proofs.lemmas.Grind.{common_steps}
-use Rattle.mesh_steps.proofs.GrowthLemmas.{given_all, given_step, taken_after}
+use Rattle.mesh_steps.proofs.GrowthLemmas.{given_step, taken_after}
 use Rattle.mesh_steps.proofs.growth.give_pages.Goals as goal
 
 pub loop-page-preserved : goal.loop-page-preserved

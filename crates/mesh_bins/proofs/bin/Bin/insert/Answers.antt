@@ -1,7 +1,7 @@
-use Rattle.std.proofs.Common.{◌≡◌, ◌≢◌, ℕ, ◌/◌, ◌++◌, List, true, length, slice_index, take, drop, ap, sym, ◌∙◌, arith}
+use Rattle.std.proofs.Common.{◌≡◌, length, ap, ◌∙◌}
 use Rattle.std.specs.FinSet.{FinSet, insert}
 use Rattle.std.specs.Ordering.{nat_cmp}
-use Rattle.mesh_bins.specs.Words.{PutsBit, set_of}
+use Rattle.mesh_bins.specs.Words.{set_of}
 use Rattle.mesh_bins.proofs.WordLemmas.{marked_insert, refilled, set_of-insert}
 use Rattle.mesh_bins.proofs.bin.Bin.insert.Goals as goal
 

@@ -1,7 +1,7 @@
-use Rattle.std.proofs.Common.{◌≡◌, ◌≤◌, ◌<◌, ◌+◌, ◌*◌, ◌/◌, ◌%◌, ◌^◌, ℕ, List, None, Some, slice_index, true, length, ap, sym, ◌∙◌, arith, rules}
+use Rattle.std.proofs.Common.{◌≡◌, ◌<◌, ◌+◌, ◌*◌, ◌/◌, ◌%◌, ◌^◌, ℕ, List, None, Some, slice_index, true, length, arith, rules}
 use Rattle.std.proofs.lemmas.Grind.{common_steps}
 use Rattle.mesh_bins.specs.Words.{IsFirst, IsLeast, has, bit}
-use Rattle.mesh_bins.proofs.WordLemmas.{ArePassed, found_by_summary, found_in_word, least_contained, marked_some, none_by_summary, nothing_past, passed_start, passed_word}
+use Rattle.mesh_bins.proofs.WordLemmas.{found_by_summary, found_in_word, least_contained, marked_some, none_by_summary, passed_start, passed_word}
 use Rattle.mesh_bins.proofs.bin.Bin.least.Goals as goal
 
 pub returns-in-Some : goal.returns-in-Some

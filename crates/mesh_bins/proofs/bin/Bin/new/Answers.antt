@@ -1,4 +1,4 @@
-use Rattle.std.proofs.Common.{◌≡◌, replicate, rules, ap, sym, ◌∙◌, refl, ℕ, length, arith, List}
+use Rattle.std.proofs.Common.{◌≡◌, replicate, rules, ap, ◌∙◌, refl, ℕ, length}
 use Rattle.std.proofs.lemmas.List.{length-replicate}
 use Rattle.mesh_bins.specs.Words.{set_of}
 use Rattle.mesh_bins.proofs.WordLemmas.{set_of-zeros, marked_zeros}

@@ -1,8 +1,8 @@
-use Rattle.std.proofs.Common.{◌≡◌, ◌≢◌, ℕ, ◌/◌, ◌^◌, ◌<◌, ◌++◌, List, true, false, nat_eq, length, slice_index, take, drop, ap, sym, ◌∙◌, arith, rules}
+use Rattle.std.proofs.Common.{◌≡◌, ℕ, ◌/◌, List, nat_eq, length, slice_index, ap, sym, ◌∙◌, arith}
 use Rattle.std.proofs.lemmas.Bool.{eqb-true, eqb-false}
 use Rattle.std.specs.FinSet.{FinSet, remove}
 use Rattle.std.specs.Ordering.{nat_cmp}
-use Rattle.mesh_bins.specs.Words.{PutsBit, set_of}
+use Rattle.mesh_bins.specs.Words.{set_of}
 use Rattle.mesh_bins.proofs.WordLemmas.{marked_cleared, marked_kept, refilled, set_of-remove}
 use Rattle.mesh_bins.proofs.bin.Bin.remove.Goals as goal
 

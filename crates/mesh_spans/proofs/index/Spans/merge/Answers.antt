@@ -1,7 +1,7 @@
-use Rattle.std.proofs.Common.{None, ◌≡◌, Some, ap, subst, sym, ◌∙◌, length}
-use Rattle.mesh_spans.specs.Changes.{IsMergeable, Regroups}
+use Rattle.std.proofs.Common.{None, ◌≡◌, Some, subst, sym, ◌∙◌}
+use Rattle.mesh_spans.specs.Changes.{IsMergeable}
 use Rattle.mesh_spans.specs.Groups.{groups_of}
-use Rattle.mesh_spans.specs.Index.{GroupEntry, Index, group_at}
+use Rattle.mesh_spans.specs.Index.{Index, group_at}
 use Rattle.mesh_spans.proofs.MergeLemmas.{absorbed, merge_closed, merge_keeps, merge_table}
 use Rattle.mesh_spans.proofs.FilingLemmas.{merged_filed, number_fits}
 use Rattle.mesh_spans.proofs.IndexLemmas.{group_below}

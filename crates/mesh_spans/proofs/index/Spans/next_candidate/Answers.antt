@@ -1,4 +1,4 @@
-use Rattle.std.proofs.Common.{ap, subst, List, Option}
+use Rattle.std.proofs.Common.{subst}
 use Rattle.mesh_bins.specs.Words.{IsLeast}
 use Rattle.mesh_spans.specs.Filing.{is_partial}
 use Rattle.mesh_spans.specs.Index.{Index, group_at}

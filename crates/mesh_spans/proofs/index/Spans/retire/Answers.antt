@@ -1,4 +1,4 @@
-use Rattle.std.proofs.Common.{◌≡◌, ◌<◌, length, None, List, Option, ap, sym, subst, arith, slice_set}
+use Rattle.std.proofs.Common.{None, List, Option, ap, sym, subst, arith, slice_set}
 use Rattle.std.specs.Prelude.{IsSome}
 use Rattle.std.proofs.Common.{◌∙◌}
 use Rattle.std.proofs.lemmas.List.{get_or-set_other}

@@ -1,4 +1,4 @@
-use Rattle.std.proofs.Common.{◌≡◌, ℕ, List, ◌+◌, ◌≤◌, length, ap, subst, refl, ◌∙◌, arith}
+use Rattle.std.proofs.Common.{◌≡◌, ℕ, List, ◌+◌, ◌≤◌, length, ap, subst, ◌∙◌, arith}
 use Rattle.mesh_arena.specs.Pages.{free_count}
 use Rattle.mesh_class.specs.Classes.{pages_of}
 use Rattle.mesh_steps.specs.Growth.{MapsFirst, given_back}
