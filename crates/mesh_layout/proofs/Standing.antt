@@ -1,9 +1,9 @@
 -- What always holds of live objects, their places and pages, and of stores.
+use Rattle.std.proofs.lemmas.Bool.{cases_Bool}
 use Rattle.std.proofs.Common.{◌≡◌, ◌≢◌, ℕ, zero, suc, ◌+◌, ◌-◌, ◌/◌, ◌<◌, ◌≤◌, Bool, true, false, nat_eq, List, Some, ap, refl, sym, ◌∙◌, arith, inl, inr}
 use Rattle.std.specs.List.{list_any, range_with_len}
 use Rattle.std.proofs.lemmas.Bool.Decides.{eqb_tells}
 use Rattle.mesh_arena.specs.Pages.{Pages, IsTaken}
-use Rattle.mesh_model.proofs.GroupLists.{tells}
 use Rattle.mesh_model.specs.Mesh.{is_blocked, read_only_pages}
 use Rattle.mesh_model.specs.Places.{Place, Record, place_of, records_of, IsIn, record_with}
 use Rattle.mesh_model.specs.Table.{Mesh, Table, slot_address}
@@ -54,7 +54,7 @@ module _ (arena : Pages) (m : Entries) (index : Index) (next : ℕ) (ms : List M
 
   any_true : (test : ℕ → Bool) (a n x : ℕ) → a ≤ x → x < a + n → test x ≡ true → list_any test (range_with_len a n) ≡ true
   any_true test a zero x low high pass = absurd (omega (arith, low, high))
-  any_true test a (suc n) x low high pass = elim (tells (test a)) [
+  any_true test a (suc n) x low high pass = elim (cases_Bool (test a)) [
     | inl here ↦ rw here refl
     | inr no_ ↦ elim (eqb_tells a x) [
       | inl same ↦ absurd (let two : false ≡ true = sym no_ ∙ ap test same.1 ∙ pass in cc two)

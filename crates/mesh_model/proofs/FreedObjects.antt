@@ -4,9 +4,8 @@ use Rattle.std.specs.Option.{option_or}
 use Rattle.std.proofs.lemmas.Bool.Decides.{eqb_tells}
 use Rattle.std.proofs.lemmas.List.Folds.{find-append}
 use Rattle.mesh_model.proofs.Meanings.{made_with}
-use Rattle.mesh_model.proofs.Records.{records_in}
 use Rattle.mesh_model.specs.Memory.{Memory, Object, with_object}
-use Rattle.mesh_model.specs.Places.{Place, Record, Target, has_serial, meaning, object_at, records_from, records_of, record_in, record_with}
+use Rattle.mesh_model.specs.Places.{Place, Record, Target, has_serial, meaning, object_at, records_from, records_of, record_in, record_with, records_in}
 use Rattle.mesh_model.specs.Table.{Group, Slot, Table, emptied_of, group_without, without_object}
 
 -- slots emptied of an object have no record of it

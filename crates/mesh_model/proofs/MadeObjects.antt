@@ -11,12 +11,12 @@ use Rattle.mesh_model.proofs.Chains.{or_refuse_went, went_on, refuse_if_went}
 use Rattle.mesh_model.proofs.GroupLists.{ascend_more, find_again, find_passes, head_found}
 use Rattle.mesh_model.proofs.Meanings.{made_same, record_same}
 use Rattle.mesh_model.proofs.NewObjects.{class_fits, last_found, none_from, open_gives}
-use Rattle.mesh_model.proofs.Records.{found_later, records_in}
+use Rattle.mesh_model.proofs.Records.{found_later}
 use Rattle.mesh_model.proofs.TableChanges.{one_group}
 use Rattle.mesh_model.proofs.TiedNewObjects.{fresh_open}
 use Rattle.mesh_model.specs.Classes.{class_for, row_of, slots_of}
 use Rattle.mesh_model.specs.Memory.{Memory, Object, with_new}
-use Rattle.mesh_model.specs.Places.{Place, Record, Target, byte_of, has_serial, meaning, object_at, records_from, records_of, AreBelow, IsIn, record_in, record_with}
+use Rattle.mesh_model.specs.Places.{Place, Record, Target, byte_of, has_serial, meaning, object_at, records_from, records_of, AreBelow, IsIn, record_in, record_with, records_in}
 use Rattle.mesh_model.specs.Sound.{AscendBetween, IsSound}
 use Rattle.mesh_model.specs.Table.{Group, Placed, Slot, Table, changed_at, first_member, fresh_group, group_of, has_number, is_open, object_count, picked_slot, place_in, place_new, placed_in, room_for_span, with_object_in, with_span}
 use Rattle.mesh_model.specs.declared.refusals.Refusal.TheVariants.{TooLarge, Zero}

@@ -6,8 +6,7 @@ use Rattle.mesh_model.proofs.GroupLists.{tells, find_between, head_found}
 use Rattle.mesh_model.proofs.Meanings.{object_below, object_past}
 use Rattle.mesh_model.specs.MeaningLaws.{IsOfSlot}
 use Rattle.mesh_model.specs.Memory.{Object}
-pub use Rattle.mesh_model.specs.Places.{records_in}
-use Rattle.mesh_model.specs.Places.{Place, Record, Target, byte_of, has_serial, meaning, object_at, records_from, records_of, AreBelow, record_in, record_with}
+use Rattle.mesh_model.specs.Places.{Place, Record, Target, byte_of, has_serial, meaning, object_at, records_from, records_of, AreBelow, record_in, record_with, records_in}
 use Rattle.mesh_model.specs.Sound.{AscendBetween, IsLiveSlot, IsSound, IsTied}
 use Rattle.mesh_model.specs.Table.{Group, Slot, Table, group_of, has_number}
 

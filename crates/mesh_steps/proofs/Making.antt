@@ -7,7 +7,7 @@ use Rattle.std.proofs.lemmas.Option.{slice_get_within}
 use Rattle.mesh_arena.specs.Pages.{Pages, byte_at, free_count}
 use Rattle.mesh_class.specs.Classes.{slots_of}
 use Rattle.mesh_model.proofs.FreedObjects.{free_means}
-use Rattle.mesh_model.proofs.GroupLists.{find_sound, head_found}
+use Rattle.mesh_model.proofs.GroupLists.{find_sound}
 use Rattle.mesh_model.proofs.MadeObjects.{new_means}
 use Rattle.mesh_model.proofs.Meanings.{made_same, meaning_next, meaning_objects, record_same}
 use Rattle.mesh_model.proofs.NewApart.{new_apart}
@@ -38,6 +38,10 @@ use Rattle.mesh_steps.specs.declared.answers.NewFault.{NewFault}
 use Rattle.mesh_steps.specs.declared.answers.NewFault.TheVariants.{Memory as NoMemory, Refused}
 use Rattle.mesh_steps.specs.declared.answers.Occupied.{Occupied}
 use Rattle.mesh_steps.specs.declared.answers.Ref.{Ref}
+
+-- a group of the number is found where it is first
+head_found : (n : ℕ) (y : Group) (ys : List Group) → y.number ≡ n → find (has_number n) (y ∷ ys) ≡ Some y
+head_found n y ys is = elim (eqb_tells y.number n) [ inl same ↦ rw same.0 refl | inr other ↦ absurd (other.1 is) ]
 
 -- the table has the group of a number
 table_has : (spans : List SpanEntry) (b n m : ℕ) (groups : List (Option GroupEntry)) (entry : GroupEntry) → group_at groups n ≡ Some entry → m ≡ b + n
