@@ -329,3 +329,7 @@ answered_well m t (Poke place byte) sound tied = record {
   sound = others_sound m t t (plain m 0 (Poke place byte)) sound sound;
   tied = others_tied m t t (plain m 0 (Poke place byte)) tied (λ x h. poke_tied m t place byte x tied h);
 }
+
+-- and so of at least one byte
+pub new_has_length : (t : Table) (len word serial : ℕ) (placed : Placed) → place_new t len word serial ≡ Ok placed → (1 ≤ len) × (len ≤ 2048)
+new_has_length t len word serial placed h = let is = new_length t len word serial placed h in (positive len is.some, is.few)

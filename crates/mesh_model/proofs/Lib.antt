@@ -9,7 +9,7 @@ mod FieldReadings
 mod Fields
 pub mod FreedObjects
 pub mod GroupLists
-mod GroupPages
+pub mod GroupPages
 mod HeldPages
 mod Histories
 pub mod Holders
@@ -24,6 +24,7 @@ pub mod NewApart
 pub mod NewObjects
 mod OneMesh
 pub mod OneSlot
+pub mod OpenGroups
 mod Placing
 mod ProtectedPages
 mod ReadOnlyPages

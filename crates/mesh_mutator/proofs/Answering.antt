@@ -6,7 +6,7 @@ use Rattle.std.proofs.Math.ListN.{get_or-append, get_or-map, length-append, leng
 use Rattle.std.proofs.Math.Seq.{get_or-append_seam}
 use Rattle.std.proofs.lemmas.List.{get_or-set_other, get_or-set_same, get_or_past, map-set}
 use Rattle.std.proofs.lemmas.Bool.Decides.{eqb_tells, leb_tells}
-use Rattle.mesh_model.proofs.AnsweredCommands.{new_length}
+use Rattle.mesh_model.proofs.AnsweredCommands.{new_has_length}
 use Rattle.mesh_model.proofs.Meanings.{meaning_next}
 use Rattle.mesh_model.specs.Jobs.{Outcome, answered, is_refusal, new_answered, new_at, others_answered, put_blocked, table_freed, touches_read_only, is_held_back}
 use Rattle.mesh_model.specs.Memory.{Memory, Object, holder_of, next_serial, object_of, overwritten, root_of, with_object, with_root, with_new}
@@ -547,11 +547,14 @@ next_is : (h : Heap) (cells : Cells) → next_serial (memory_in h cells) ≡ h.n
 next_is h cells = meaning_next h.next_serial (live_records h) (targets_of h.base.map) (bytes_in h.base.arena) (serials_of cells)
 
 -- a `new` of a length that may be asked for goes on
-new_goes_on : (m : Memory) (address cell len word : ℕ) → nat_eq len 0 ≡ false → len ≤ 2048
+new_goes_on : (m : Memory) (address cell len word : ℕ) → 1 ≤ len → len ≤ 2048
     → plain m address (New cell len word) ≡ Ok (Made (next_serial m) address, made m cell len address)
 new_goes_on m address cell len word some most = elim (leb_tells (suc 2048) len) [
   | inl large ↦ absurd (let e = large.1 in omega (arith, most, e))
-  | inr fits ↦ rw (some, fits.0) refl
+  | inr fits ↦ elim (eqb_tells len 0) [
+    | inl none ↦ absurd (let e = none.1 in omega (arith, some, e))
+    | inr other ↦ rw (other.0, fits.0) refl
+  ]
 ]
 
 -- a `new` that made an object
@@ -561,11 +564,11 @@ made_performed h h' cells cell len word object is =
     let m : Memory = memory_in h cells in
     let t : Table = table_of h.base in
     let next = next_is h cells in
-    let length_is = new_length t len word h.next_serial is.placed is.placed_is in
+    let length_is = new_has_length t len word h.next_serial is.placed is.placed_is in
     let whole : answered m t (New cell len word) ≡ new_at m is.placed (Ok (Made (next_serial m) is.placed.address, made m cell len is.placed.address))
     = ap (λ (s : ℕ). new_answered m t (New cell len word) (place_new t len word s)) next
     ∙ ap (λ (r : Result Placed Refusal). new_answered m t (New cell len word) r) is.placed_is
-    ∙ ap (λ (r : Result (Reply × Memory) Refusal). new_at m is.placed r) (new_goes_on m is.placed.address cell len word length_is.some length_is.few) in
+    ∙ ap (λ (r : Result (Reply × Memory) Refusal). new_at m is.placed r) (new_goes_on m is.placed.address cell len word length_is.0 length_is.1) in
     let memory : memory_in h' (slice_set cells cell (Some object)) ≡ made m cell len is.placed.address
     = ap (λ (n : Memory). with_roots n (serials_of (slice_set cells cell (Some object)))) is.memory
     ∙ ap (λ (rs : List (Option ℕ)). with_roots (with_new (plain_of h) len is.placed.address) rs) (roots_set cells cell object)

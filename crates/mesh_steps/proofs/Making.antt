@@ -7,9 +7,9 @@ use Rattle.std.proofs.lemmas.Option.{slice_get_within}
 use Rattle.mesh_arena.specs.Pages.{Pages, byte_at, free_count}
 use Rattle.mesh_class.specs.Classes.{slots_of}
 use Rattle.mesh_model.proofs.FreedObjects.{free_means}
-use Rattle.mesh_model.proofs.GroupLists.{find_sound}
+use Rattle.mesh_model.proofs.GroupPages.{found_sound}
 use Rattle.mesh_model.proofs.MadeObjects.{new_means}
-use Rattle.mesh_model.proofs.Meanings.{made_same, meaning_next, meaning_objects, record_same}
+use Rattle.mesh_model.proofs.Meanings.{meaning_next, meaning_objects, means_same}
 use Rattle.mesh_model.proofs.NewApart.{new_apart}
 use Rattle.mesh_model.proofs.NewObjects.{new_sound}
 use Rattle.mesh_model.proofs.OneSlot.{one_slot}
@@ -131,7 +131,7 @@ live_covered : (g : Ground) (serial x : ℕ) (r : Record) → IsIndex g.index.sp
     → record_with serial (records_of (table_of g)) ≡ Some r → IsIn r x → IsCovered g.index x 1
 live_covered g serial x r index sound found within =
     let of = (record_slot (table_of g) serial r sound found).1 in
-    let kept = find_sound (has_number of.number) (groups_of g.index) of.group of.there sound.groups in
+    let kept = found_sound (table_of g) (has_number of.number) of.group sound of.there in
     let slot = kept.objects of.k of.slot of.filled in
     let e = group_entry g of.number of.group of.there in
     let class_is : e.entry.class ≡ of.group.class = ap (λ (h : Group). h.class) e.is in
@@ -168,9 +168,7 @@ means_kept : (next : ℕ) (records : List Record) (targets targets' : ℕ → Ta
     → ((serial x : ℕ) (r : Record) → record_with serial records ≡ Some r → IsIn r x → byte_of targets' bytes' x ≡ byte_of targets bytes x)
     → meaning next records targets' bytes' roots ≡ meaning next records targets bytes roots
 means_kept next records targets targets' bytes bytes' roots kept =
-    ap {B = Memory} (λ (os : List (Option Object)). record { objects = os; roots = roots })
-    (made_same (λ s. option_map (object_at targets' bytes') (record_with s records)) (λ s. option_map (object_at targets bytes) (record_with s records)) 0 next
-    (λ s low high. record_same targets targets' bytes bytes' (record_with s records) (λ x r found within. kept s x r found within)))
+    means_same next records records targets targets' bytes bytes' roots (λ serial. refl) kept
 
 -- the table of a ground is the one of its parts
 table_is : (g : Ground) (spans page free : ℕ) (groups : List Group) → length g.index.spans ≡ spans → g.next_page ≡ page → free_count g.arena ≡ free

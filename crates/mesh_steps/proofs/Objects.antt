@@ -7,7 +7,7 @@ use Rattle.std.proofs.lemmas.List.FromFn.{length-map-range_with_len}
 use Rattle.std.proofs.lemmas.Option.{slice_get_within}
 use Rattle.mesh_arena.specs.Pages.{run_of}
 use Rattle.mesh_class.specs.Classes.{slots_of}
-use Rattle.mesh_model.proofs.GroupLists.{find_sound}
+use Rattle.mesh_model.proofs.GroupPages.{found_sound}
 use Rattle.mesh_model.proofs.Holders.{no_holder, one_holder}
 use Rattle.mesh_model.proofs.Meanings.{bytes_read, meaning_objects}
 use Rattle.mesh_model.proofs.Records.{record_slot, slot_record, tied_below}
@@ -128,7 +128,7 @@ slot_placed : (g : Ground) (n k : ℕ) (group : Group) (slot : Slot) (entry : Gr
     → LivePlace g (record_in group.class k slot)
 slot_placed g n k group slot entry sound there filled at same =
     let spans : List SpanEntry = g.index.spans in
-    let is = find_sound (has_number n) (groups_of g.index) group there sound.groups in
+    let is = found_sound (table_of g) (has_number n) group sound there in
     let object = is.objects k slot filled in
     let member = place_in slot.member (map (first_of spans) entry.members)
     (subst (λ (x : Group). 1 ≤ times_in slot.member x.members) same object.in_member) in

@@ -6,8 +6,7 @@ use Rattle.std.proofs.lemmas.Bool.Decides.{eqb_tells, leb_tells}
 use Rattle.std.proofs.lemmas.Option.{get_or_from_slice_get, slice_get-get_or}
 use Rattle.mesh_arena.specs.Pages.{Pages, free_count}
 use Rattle.mesh_class.specs.Classes.{pages_of, slots_of, IsClass}
-use Rattle.mesh_model.proofs.GroupLists.{find_passes}
-use Rattle.mesh_model.proofs.NewObjects.{open_gives}
+use Rattle.mesh_model.proofs.OpenGroups.{found_open, open_tests}
 use Rattle.mesh_model.specs.Table.{Group, Table, object_count, free_from, fresh_group, is_open, picked_slot, place_in, placed_in, room_for_span, with_span, takes_objects}
 use Rattle.mesh_model.specs.Words.{◌>>=◌}
 use Rattle.mesh_model.specs.declared.refusals.Refusal.{Refusal}
@@ -32,7 +31,7 @@ open_is g class calm = find_same (takes_objects (is_closed g.index) class) (is_o
 
 -- an open group is of the class
 open_class : (g : Ground) (class : ℕ) (group : Group) → open_group g class ≡ Some group → group.class ≡ class
-open_class g class group found = (open_gives (table_of g) class group (find_passes (is_open (table_of g) class) (groups_of g.index) group found)).class_is
+open_class g class group found = ((open_tests (table_of g) class group).0 (found_open (table_of g) class group found)).0
 
 -- the bytes are kept where nothing changed
 pub KeepsBytes_same : (g : Ground) → KeepsBytes g g
