@@ -19,11 +19,10 @@ pub mod Changes
 pub mod PageCopies
 pub mod Flags
 pub mod Loops
-pub mod MergedTable
-pub mod Grounds
-pub mod GroundChanges
+pub mod PageHeapSteps
+pub mod PageHeapBytes
+pub mod PageHeapChanges
 pub mod Standing
 pub mod Heaps
 pub mod Ends
 pub mod NextSteps
-pub mod MergedIndex

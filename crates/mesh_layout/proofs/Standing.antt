@@ -10,42 +10,41 @@ use Rattle.mesh_model.specs.Table.{Mesh, Table, slot_address}
 use Rattle.mesh_pagemap.specs.Entries.{Entries, is_read_only, page_of}
 use Rattle.mesh_spans.specs.Index.{Index, IsIndex}
 use Rattle.mesh_store.specs.Places.{IsBlocked, IsOpen}
-use Rattle.mesh_layout.specs.Grounds.{IsGround}
+use Rattle.mesh_layout.specs.PageHeap.{IsPageHeap, targets_of}
 use Rattle.mesh_layout.specs.Indexes.{layout_of, table_with}
-use Rattle.mesh_layout.specs.Layout.{IsByteAt, IsLaidOut, IsOrderly, Layout, Stage}
+use Rattle.mesh_layout.specs.Layout.{IsByteAt, IsCovered, IsLaidOut, IsOrderly, Layout, Stage}
 use Rattle.mesh_layout.specs.Meshes.{stage_of}
-use Rattle.mesh_layout.proofs.Covered.{IsCovered}
-use Rattle.mesh_layout.proofs.Grounds.{ground_orderly}
+use Rattle.mesh_layout.proofs.PageHeapSteps.{page_heap_orderly}
 use Rattle.mesh_layout.proofs.Homes.{byte_page, live_taken, one_place}
-use Rattle.mesh_layout.proofs.Meaning.{live_at, record_live, targets_of}
+use Rattle.mesh_layout.proofs.Meaning.{live_at, record_live}
 use Rattle.mesh_layout.proofs.ReadOnly.{read_only_is}
 use Rattle.mesh_layout.proofs.Stores.{calm_writable}
 
 module _ (arena : Pages) (m : Entries) (index : Index) (next : ℕ) (ms : List Mesh) (sound : IsIndex index.spans index.groups)
-    (ground : IsGround arena m index next ms) where
+    (paged : IsPageHeap arena m index next ms) where
   -- no two addresses of live objects have one place
   pub places_apart : (i j x y : ℕ) (r q : Record) → record_with i (records_of (table_with arena index next ms)) ≡ Some r
       → record_with j (records_of (table_with arena index next ms)) ≡ Some q → IsIn r x → IsIn q y → x ≢ y
       → place_of (targets_of m) x ≢ place_of (targets_of m) y
   places_apart i j x y r q found found' in_r in_q other same =
       let t : Table = table_with arena index next ms in
-      let a = record_live index t i r ground.sound refl found in
-      let b = record_live index t j q ground.sound refl found' in
+      let a = record_live index t i r paged.sound refl found in
+      let b = record_live index t j q paged.sound refl found' in
       other (one_place (layout_of index) (stage_of (layout_of index) ms) m arena a.n a.k (x - r.address) x b.n b.k (y - q.address) y a.slot b.slot
-      (ground_orderly arena m index next ms sound ground) ground.laid_out (live_at index r x a in_r) (live_at index q y b in_q)
+      (page_heap_orderly arena m index next ms sound paged) paged.laid_out (live_at index r x a in_r) (live_at index q y b in_q)
       (ap (λ (p : Place). p.page) same) (ap (λ (p : Place). p.offset) same))
 
   -- the page of each live byte is taken
   pub page_taken : (serial x : ℕ) (r : Record) → record_with serial (records_of (table_with arena index next ms)) ≡ Some r → IsIn r x
       → IsTaken arena (page_of m (x / 4096))
   page_taken serial x r found within =
-      let a = record_live index (table_with arena index next ms) serial r ground.sound refl found in
+      let a = record_live index (table_with arena index next ms) serial r paged.sound refl found in
       (live_taken (layout_of index) (stage_of (layout_of index) ms) m arena a.n a.k (x - r.address) x a.slot
-      (ground_orderly arena m index next ms sound ground) ground.laid_out (live_at index r x a within)).1
+      (page_heap_orderly arena m index next ms sound paged) paged.laid_out (live_at index r x a within)).1
 
   -- the read-only pages are those of the meshes
   pub read_only : (v : ℕ) → is_read_only m v ≡ list_any (nat_eq v) (read_only_pages (table_with arena index next ms))
-  read_only v = read_only_is index ms (table_with arena index next ms) sound ground.sound refl refl m arena ground.laid_out v
+  read_only v = read_only_is index ms (table_with arena index next ms) sound paged.sound refl refl m arena paged.laid_out v
 
   any_false : (test : ℕ → Bool) (a n : ℕ) → ((x : ℕ) → a ≤ x → x < a + n → test x ≡ false) → list_any test (range_with_len a n) ≡ false
   any_false test a zero none = refl

@@ -10,4 +10,5 @@ pub mod Steps
 pub mod Growth
 pub mod Meshes
 pub mod Indexes
-pub mod Grounds
+pub mod PageHeap
+pub mod Progress

@@ -108,7 +108,7 @@ fresh_sound number class page row = record {
 }
 
 -- a table with a new span, where there are addresses for it, is sound
-span_sound : (t : Table) (class : ℕ) → IsSound t → IsSome (row_of class) → t.next_page + pages_of class ≤ 65536 → IsSound (with_span t class)
+pub span_sound : (t : Table) (class : ℕ) → IsSound t → IsSome (row_of class) → t.next_page + pages_of class ≤ 65536 → IsSound (with_span t class)
 span_sound t class sound row room =
     let fresh : Group = fresh_group t.next_span class t.next_page in
     let u : Table = with_span t class in record {

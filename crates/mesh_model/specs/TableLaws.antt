@@ -1,10 +1,11 @@
 -- The table's transitions keep a sound table sound.
-use Rattle.std.specs.Prelude.{◌≡◌, ◌↔◌, ℕ, ◌+◌, ◌<◌, ◌≤◌, ◌⊎◌, Bool, true, false, Some, Ok, find, length, slice_get}
+use Rattle.std.specs.Prelude.{◌≡◌, ◌↔◌, ℕ, ◌+◌, ◌<◌, ◌≤◌, ◌⊎◌, Bool, true, false, IsSome, Some, Ok, find, length, slice_get}
+use Rattle.mesh_model.specs.Classes.{pages_of, row_of}
 use Rattle.mesh_model.specs.Memory.{Memory}
 use Rattle.mesh_model.specs.Mesh.{any_mesh, begin, cancel, mesh_of_class, mesh_whole, step, virtual_pages, Stepped}
 use Rattle.mesh_model.specs.Plain.{IsVacantRange}
 use Rattle.mesh_model.specs.Sound.{IsSound, IsSoundGroup, IsTied, meshes_of, times_in}
-use Rattle.mesh_model.specs.Table.{Counted, Group, Mesh, Placed, Slot, Table, empty_table, group_of, is_meshing, is_open, object_count, place_new, slot_address, sweep, without_object}
+use Rattle.mesh_model.specs.Table.{Counted, Group, Mesh, Placed, Slot, Table, empty_table, group_of, is_meshing, is_open, object_count, place_new, slot_address, sweep, with_span, without_object}
 
 -- the table with no span is sound
 abbrev pub EmptyIsSound : Type 0
@@ -44,6 +45,10 @@ StepKeepsSound = (t : Table) (test : Mesh → Bool) (stepped : Stepped) → IsSo
 -- a new object keeps the table sound
 abbrev pub NewKeepsSound : Type 0
 NewKeepsSound = (t : Table) (len word serial : ℕ) (placed : Placed) → IsSound t → place_new t len word serial ≡ Ok placed → IsSound placed.table
+
+-- a new span of a class, where there are addresses for it, keeps the table sound
+abbrev pub SpanKeepsSound : Type 0
+SpanKeepsSound = (t : Table) (class : ℕ) → IsSound t → IsSome (row_of class) → t.next_page + pages_of class ≤ 65536 → IsSound (with_span t class)
 
 -- a group that is found in a sound table by any test is sound
 abbrev pub GroupsAreSound : Type 0

@@ -1,5 +1,5 @@
 //! Laws of the table: its transitions keep a sound table sound. Each is the contract of a function that does nothing.
-ghost use Rattle.mesh_model.specs.TableLaws.{EmptyIsSound, FreeKeepsSound, SweepKeepsSound, BeginKeepsSound, WholeKeepsSound, CancelKeepsSound, StepKeepsSound, NewKeepsSound, GroupsAreSound, PageIsOnceInGroup, PageIsOfOneGroup, OpenIsByTests, FoundIsOpen, NewHasLength, NewIsApart, NewIsVacant, AnyTellsBusy, ClassTellsBusy};
+ghost use Rattle.mesh_model.specs.TableLaws.{EmptyIsSound, FreeKeepsSound, SweepKeepsSound, BeginKeepsSound, WholeKeepsSound, CancelKeepsSound, StepKeepsSound, NewKeepsSound, SpanKeepsSound, GroupsAreSound, PageIsOnceInGroup, PageIsOfOneGroup, OpenIsByTests, FoundIsOpen, NewHasLength, NewIsApart, NewIsVacant, AnyTellsBusy, ClassTellsBusy};
 
 /// The table with no span is sound.
 pub fn empty_is_sound()
@@ -32,9 +32,10 @@ pub fn step_keeps_sound()
     ensures { StepKeepsSound }
 {}
 
-/// A new object keeps the table sound.
+/// A new object keeps the table sound, and so does a new span.
 pub fn new_keeps_sound()
-    ensures { NewKeepsSound }
+    ensures object { NewKeepsSound }
+    ensures span { SpanKeepsSound }
 {}
 
 /// Each group of a sound table is sound, and its virtual pages are its own.

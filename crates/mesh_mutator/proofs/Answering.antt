@@ -1,6 +1,5 @@
 -- What the heap answers a command over cells, and what the plain memory answers it.
-use Rattle.std.proofs.Common.{◌≡◌, ◌≢◌, ℕ, zero, suc, ◌+◌, ◌-◌, ◌<◌, ◌≤◌, Bool, true, false, List, [], ◌∷◌, ◌++◌, length, replicate, slice_index, slice_index_or, slice_range, slice_set, Option, Some, None, Result, Ok, Err, is_ok, nat_eq, ap, subst, refl, sym, ◌∙◌, arith, ◌⊎◌, inl, inr}
-use Rattle.std.specs.List.{list_any, range_with_len}
+use Rattle.std.proofs.Common.{◌≡◌, ◌≢◌, ℕ, suc, ◌+◌, ◌-◌, ◌<◌, ◌≤◌, Bool, true, false, List, [], ◌∷◌, ◌++◌, length, replicate, slice_index, slice_index_or, slice_range, slice_set, Option, Some, None, Result, Ok, Err, IsOk, is_ok, ap, subst, refl, sym, ◌∙◌, arith, ◌⊎◌, inl, inr}
 use Rattle.std.specs.Option.{option_map}
 use Rattle.std.proofs.Math.ListN.{get_or-append, get_or-map, length-append, length-set}
 use Rattle.std.proofs.Math.Seq.{get_or-append_seam}
@@ -23,41 +22,18 @@ use Rattle.mesh_model.specs.declared.refusals.Refusal.TheVariants.{Empty, Freed,
 use Rattle.mesh_mutator.proofs.Chains.{GoAlike, after_same, refused_too, test_same, went_on}
 use Rattle.mesh_mutator.specs.Book.{AreRooted, Cells, IsAnswered, IsLooked, IsNamedBy, IsOutcome, IsPerformed, KeepsHeap, attempt_of, cell_at, memory_in, serial_of, serials_of}
 use Rattle.mesh_mutator.specs.declared.attempts.Attempt.TheVariants.{Done}
-use Rattle.mesh_steps.specs.Ground.{Ground, bytes_in, table_of, targets_of}
-use Rattle.mesh_steps.specs.Heap.{Heap, IsFree, IsMade, IsStore, byte_at_address, bytes_at, freed_at, live_records, plain_of, referred, stored_at, stored_at_address}
+use Rattle.mesh_steps.specs.Heap.{Heap, IsFree, IsMade, IsStore, arena_of, byte_at_address, bytes_at, freed_at, live_records, map_of, plain_of, referred, stored_at, stored_at_address, table_of}
+use Rattle.mesh_layout.specs.PageHeap.{bytes_in, targets_of}
 use Rattle.mesh_steps.specs.declared.answers.Ref.{Ref}
 use Rattle.mesh_steps.specs.declared.answers.Stored.{Stored}
 use Rattle.mesh_steps.specs.declared.answers.Stored.TheVariants.{Blocked as StoreBlocked, Done as StoreDone, Refused as StoreRefused}
 
-none_any : (a n : ℕ) → list_any (λ (x : ℕ). false) (range_with_len a n) ≡ false
-none_any a zero = refl
-none_any a (suc n) = none_any (a + 1) n
-
-put_open : (g : Ground) (off len : ℕ) (n : Result Named Refusal) → put_blocked (table_of g) off len n ≡ false
-put_open g off len (Err e) = refl
-put_open g off len (Ok named) = none_any (named.object.address + off) len
-
--- no command touches a read-only page while no mesh is running
-touches_none : (m : Memory) (g : Ground) (command : Command) → touches_read_only m (table_of g) command ≡ false
-touches_none m g (New cell len word) = refl
-touches_none m g (Put cell off bytes) = put_open g off (length bytes.items) (named_by m cell)
-touches_none m g (Get cell off len) = refl
-touches_none m g (Free cell) = refl
-touches_none m g (Alias to from) = refl
-touches_none m g (Addr cell) = refl
-touches_none m g (Peek addr) = refl
-touches_none m g (Poke addr byte) = none_any addr 1
-
--- and so none is held back
-pub held_by_none : (m : Memory) (g : Ground) (command : Command) (reply : Reply) → is_held_back m (table_of g) command reply ≡ false
-held_by_none m g command reply = elim (is_refusal reply) as (λ b. is_refusal reply ≡ b → is_held_back m (table_of g) command reply ≡ false) [
+-- a command that touches no read-only page is not held back
+held_by_none : (m : Memory) (t : Table) (command : Command) (reply : Reply) → touches_read_only m t command ≡ false → is_held_back m t command reply ≡ false
+held_by_none m t command reply none = elim (is_refusal reply) as (λ b. is_refusal reply ≡ b → is_held_back m t command reply ≡ false) [
   | true ↦ λ e. rw e refl
-  | false ↦ λ e. rw e (touches_none m g command)
+  | false ↦ λ e. rw e none
 ] refl
-
--- nor is any store blocked
-pub blocked_by_none : (g : Ground) (addr len : ℕ) → is_blocked (table_of g) addr len ≡ true → ⊥
-blocked_by_none g addr len e = let two : false ≡ true = sym (none_any addr len) ∙ e in cc two
 
 -- what the memory says of a cell is what the cell holds
 pub root_is : (h : Heap) (cells : Cells) (cell : ℕ) → root_of (memory_in h cells) cell ≡ option_map serial_of (cell_at cells cell)
@@ -90,13 +66,13 @@ with_roots m roots = record m { roots = roots }
 
 -- the outcome of a command that goes on, and of one that is refused
 pub outcome_done : (h' : Heap) (cells' : Cells) (m n : Memory) (t t' : Table) (reply : Reply) (res : Result (Reply × Memory) Refusal) → res ≡ Ok (reply, n)
-    → memory_in h' cells' ≡ n → table_of h'.base ≡ t' → IsOutcome h' cells' (others_answered m t t' res) reply
+    → memory_in h' cells' ≡ n → table_of h' ≡ t' → IsOutcome h' cells' (others_answered m t t' res) reply
 outcome_done h' cells' m n t t' reply res is memory table =
     subst (λ (r : Result (Reply × Memory) Refusal). IsOutcome h' cells' (others_answered m t t' r) reply) (sym is)
     (record { reply_is = refl; memory = memory; table = table })
 
 pub outcome_refused : (h' : Heap) (cells' : Cells) (m : Memory) (t t' : Table) (refusal : Refusal) (res : Result (Reply × Memory) Refusal) → res ≡ Err refusal
-    → memory_in h' cells' ≡ m → table_of h'.base ≡ t → IsOutcome h' cells' (others_answered m t t' res) (ReplyRefused refusal)
+    → memory_in h' cells' ≡ m → table_of h' ≡ t → IsOutcome h' cells' (others_answered m t t' res) (ReplyRefused refusal)
 outcome_refused h' cells' m t t' refusal res is memory table =
     subst (λ (r : Result (Reply × Memory) Refusal). IsOutcome h' cells' (others_answered m t t' r) (ReplyRefused refusal)) (sym is)
     (record { reply_is = refl; memory = memory; table = table })
@@ -172,39 +148,52 @@ keeps_same (Peek addr) h = refl
 keeps_same (Poke addr byte) h = tt
 
 -- a command that is answered with a refusal and changes nothing
-answered_refused : (h h' : Heap) (cells : Cells) (command : Command) (reply : Reply)
-    → IsOutcome h' cells (answered (memory_in h cells) (table_of h.base) command) reply → h' ≡ h → IsAnswered h h' cells cells command reply
-answered_refused h h' cells command reply outcome same = record {
+answered_refused : (h h' : Heap) (cells : Cells) (command : Command) (refusal : Refusal)
+    → IsOutcome h' cells (answered (memory_in h cells) (table_of h) command) (ReplyRefused refusal) → h' ≡ h
+    → IsAnswered h h' cells cells command (ReplyRefused refusal)
+answered_refused h h' cells command refusal outcome same = record {
   outcome = outcome;
-  not_held = held_by_none (memory_in h cells) h.base command reply;
+  not_held = refl;
   refused = λ _. (same, refl);
   other_cells = λ cell apart. refl;
   kept = subst (λ (x : Heap). KeepsHeap command h x) (sym same) (keeps_same command h);
 }
 
--- a store as an attempt at a command that goes on as the store does
+-- a store as an attempt at a command that goes on as the store does, and touches the pages that the store does
 pub store_performed : (h h' : Heap) (cells : Cells) (command : Command) (after : Result Memory Refusal) (addr len : ℕ) (stored : Stored)
-    → answered (memory_in h cells) (table_of h.base) command
-    ≡ others_answered (memory_in h cells) (table_of h.base) (table_of h.base) (plain (memory_in h cells) 0 command)
+    → answered (memory_in h cells) (table_of h) command
+    ≡ others_answered (memory_in h cells) (table_of h) (table_of h) (plain (memory_in h cells) 0 command)
     → GoAlike (λ n y. y ≡ (ReplyDone, with_roots n (serials_of cells))) after (plain (memory_in h cells) 0 command)
-    → KeepsHeap command h h' → IsStore h h' after (is_blocked (table_of h.base) addr len) stored → IsPerformed h h' cells cells command (attempt_of stored)
-store_performed h h' cells command after addr len StoreDone is alike kept store =
-    let on = went_on (λ n y. y ≡ (ReplyDone, with_roots n (serials_of cells))) after (plain (memory_in h cells) 0 command) (plain_of h') alike store.0 in record {
+    → (IsOk after → touches_read_only (memory_in h cells) (table_of h) command ≡ is_blocked (table_of h) addr len)
+    → KeepsHeap command h h' → IsStore h h' after (is_blocked (table_of h) addr len) stored → IsPerformed h h' cells cells command (attempt_of stored)
+store_performed h h' cells command after addr len StoreDone is alike touches kept store =
+    let on = went_on (λ n y. y ≡ (ReplyDone, with_roots n (serials_of cells))) after (plain (memory_in h cells) 0 command) (plain_of h') alike store.memory in record {
       outcome = subst (λ (o : Outcome). IsOutcome h' cells o ReplyDone) (sym is)
-          (outcome_done h' cells (memory_in h cells) (memory_in h' cells) (table_of h.base) (table_of h.base) ReplyDone (plain (memory_in h cells) 0 command)
-          (on.is ∙ ap (λ (y : Reply × Memory). Ok y) on.related) refl store.2);
-      not_held = held_by_none (memory_in h cells) h.base command ReplyDone;
+          (outcome_done h' cells (memory_in h cells) (memory_in h' cells) (table_of h) (table_of h) ReplyDone (plain (memory_in h cells) 0 command)
+          (on.is ∙ ap (λ (y : Reply × Memory). Ok y) on.related) refl store.table);
+      not_held = touches (rw store.memory refl) ∙ store.may;
       refused = no_refusal;
       other_cells = λ cell apart. refl;
       kept = kept;
     }
-store_performed h h' cells command after addr len StoreBlocked is alike kept store = absurd (blocked_by_none h.base addr len store.1)
-store_performed h h' cells command after addr len (StoreRefused refusal) is alike kept store =
-    let same : h' ≡ h = store.1 in
-    answered_refused h h' cells command (ReplyRefused refusal) (subst (λ (o : Outcome). IsOutcome h' cells o (ReplyRefused refusal)) (sym is)
-    (outcome_refused h' cells (memory_in h cells) (table_of h.base) (table_of h.base) refusal (plain (memory_in h cells) 0 command)
-    (refused_too (λ n y. y ≡ (ReplyDone, with_roots n (serials_of cells))) after (plain (memory_in h cells) 0 command) refusal alike store.0)
-    (ap (λ (x : Heap). memory_in x cells) same) (ap (λ (x : Heap). table_of x.base) same))) same
+store_performed h h' cells command after addr len StoreBlocked is alike touches kept store = (held after refl, store.same, refl)
+  where
+    held : (r : Result Memory Refusal) → after ≡ r
+        → is_held_back (memory_in h cells) (table_of h) command (answered (memory_in h cells) (table_of h) command).reply ≡ true
+    held (Err refusal) e = absurd (let two : false ≡ true = subst (λ (r : Result Memory Refusal). is_ok r ≡ true) e store.allowed in cc two)
+    held (Ok n) e =
+        let on = went_on (λ n y. y ≡ (ReplyDone, with_roots n (serials_of cells))) after (plain (memory_in h cells) 0 command) n alike e in
+        let reply : (answered (memory_in h cells) (table_of h) command).reply ≡ ReplyDone
+        = ap (λ (o : Outcome). o.reply) is
+        ∙ ap (λ (r : Result (Reply × Memory) Refusal). (others_answered (memory_in h cells) (table_of h) (table_of h) r).reply)
+        (on.is ∙ ap (λ (y : Reply × Memory). Ok y) on.related) in
+        ap (λ (r : Reply). is_held_back (memory_in h cells) (table_of h) command r) reply ∙ touches store.allowed ∙ store.read_only
+store_performed h h' cells command after addr len (StoreRefused refusal) is alike touches kept store =
+    let same : h' ≡ h = store.same in
+    answered_refused h h' cells command refusal (subst (λ (o : Outcome). IsOutcome h' cells o (ReplyRefused refusal)) (sym is)
+    (outcome_refused h' cells (memory_in h cells) (table_of h) (table_of h) refusal (plain (memory_in h cells) 0 command)
+    (refused_too (λ n y. y ≡ (ReplyDone, with_roots n (serials_of cells))) after (plain (memory_in h cells) 0 command) refusal alike store.told)
+    (ap (λ (x : Heap). memory_in x cells) same) (ap (λ (x : Heap). table_of x) same))) same
 
 -- each object that is live now was live, at the address where it is
 abbrev pub KeepAddresses : Memory → Memory → Type 0
@@ -320,16 +309,16 @@ freed_at_keeps m n object is = go (referred m object) refl
 -- whatever a store comes to, the references in the cells are good still
 pub rooted_stored : (h h' : Heap) (cells : Cells) (after : Result Memory Refusal) (blocked : Bool) (stored : Stored)
     → ((n : Memory) → after ≡ Ok n → KeepAddresses (plain_of h) n) → IsStore h h' after blocked stored → AreRooted h cells → AreRooted h' cells
-rooted_stored h h' cells after blocked StoreDone keeps store rooted = rooted_kept h h' cells store.3 (keeps (plain_of h') store.0) rooted
-rooted_stored h h' cells after blocked StoreBlocked keeps store rooted = subst (λ (x : Heap). AreRooted x cells) (sym store.2) rooted
-rooted_stored h h' cells after blocked (StoreRefused refusal) keeps store rooted = subst (λ (x : Heap). AreRooted x cells) (sym store.1) rooted
+rooted_stored h h' cells after blocked StoreDone keeps store rooted = rooted_kept h h' cells store.serial (keeps (plain_of h') store.memory) rooted
+rooted_stored h h' cells after blocked StoreBlocked keeps store rooted = subst (λ (x : Heap). AreRooted x cells) (sym store.same) rooted
+rooted_stored h h' cells after blocked (StoreRefused refusal) keeps store rooted = subst (λ (x : Heap). AreRooted x cells) (sym store.same) rooted
 
 -- a store changes no serial
 pub stored_serial : (h h' : Heap) (after : Result Memory Refusal) (blocked : Bool) (stored : Stored) → IsStore h h' after blocked stored
     → h'.next_serial ≡ h.next_serial
-stored_serial h h' after blocked StoreDone store = store.3
-stored_serial h h' after blocked StoreBlocked store = ap (λ (x : Heap). x.next_serial) store.2
-stored_serial h h' after blocked (StoreRefused refusal) store = ap (λ (x : Heap). x.next_serial) store.1
+stored_serial h h' after blocked StoreDone store = store.serial
+stored_serial h h' after blocked StoreBlocked store = ap (λ (x : Heap). x.next_serial) store.same
+stored_serial h h' after blocked (StoreRefused refusal) store = ap (λ (x : Heap). x.next_serial) store.same
 
 referred_serial : (m : Memory) (object : Ref) (named : Named) → referred m object ≡ Ok named → named.serial ≡ object.serial
 referred_serial m object named is = go (object_of m object.serial) refl
@@ -343,40 +332,68 @@ referred_serial m object named is = go (object_of m object.serial) refl
       | inr other ↦ absurd (let two : Err Freed ≡ Ok named = subst (λ (x : Result Named Refusal). x ≡ Ok named) (rw (e, other.0) refl) is in cc two)
     ]
 
+referred_address : (m : Memory) (object : Ref) (named : Named) → referred m object ≡ Ok named → named.object.address ≡ object.addr
+referred_address m object named is = go (object_of m object.serial) refl
+  where
+    go : (o : Option Object) → object_of m object.serial ≡ o → named.object.address ≡ object.addr
+    go None e = absurd (let two : Err Freed ≡ Ok named = subst (λ (x : Result Named Refusal). x ≡ Ok named) (rw e refl) is in cc two)
+    go (Some live) e = elim (eqb_tells live.address object.addr) [
+      | inl yes_ ↦ let both : Ok (record { serial = object.serial; object = live }) ≡ Ok named
+          = subst (λ (x : Result Named Refusal). x ≡ Ok named) (rw (e, yes_.0) refl) is in
+          let same : record { serial = object.serial; object = live } ≡ named = cc both in
+          ap (λ (n : Named). n.object.address) (sym same) ∙ yes_.1
+      | inr other ↦ absurd (let two : Err Freed ≡ Ok named = subst (λ (x : Result Named Refusal). x ≡ Ok named) (rw (e, other.0) refl) is in cc two)
+    ]
+
+-- a store through the reference of a cell touches the pages that the command does
+pub put_touches : (h : Heap) (cells : Cells) (cell off : ℕ) (bytes : List ℕ) (object : Ref) → AreRooted h cells → cell_at cells cell ≡ Some object
+    → IsOk (stored_at (plain_of h) object off bytes)
+    → put_blocked (table_of h) off (length bytes) (named_by (memory_in h cells) cell) ≡ is_blocked (table_of h) (object.addr + off) (length bytes)
+put_touches h cells cell off bytes object rooted at went = go (referred (plain_of h) object) refl
+  where
+    go : (n : Result Named Refusal) → referred (plain_of h) object ≡ n
+        → put_blocked (table_of h) off (length bytes) (named_by (memory_in h cells) cell) ≡ is_blocked (table_of h) (object.addr + off) (length bytes)
+    go (Err e) is = absurd (let two : false ≡ true
+        = subst (λ (n : Result Named Refusal). is_ok (n >>= λ named. refuse_if Outside (ends_outside named.object off (length bytes)) >>= λ _.
+        Ok (stored (plain_of h) named off bytes)) ≡ true) is went in cc two)
+    go (Ok named) is =
+        ap (put_blocked (table_of h) off (length bytes)) (sym (named_is h cells cell object rooted at) ∙ is)
+        ∙ ap (λ (a : ℕ). is_blocked (table_of h) (a + off) (length bytes)) (referred_address (plain_of h) object named is)
+
 -- a free that went on, of the object that a cell names
 pub free_performed : (h h' : Heap) (cells : Cells) (cell : ℕ) (object : Ref) → AreRooted h cells → cell_at cells cell ≡ Some object → IsFree h h' object
     → IsPerformed h h' cells cells (Free cell) (Done ReplyDone)
 free_performed h h' cells cell object rooted at free =
     let on = went_on (λ n y. y ≡ (ReplyDone, with_roots n (serials_of cells))) (freed_at (plain_of h) object) (plain (memory_in h cells) 0 (Free cell))
     (plain_of h') (free_alike h cells cell object rooted at) free.memory in record {
-      outcome = outcome_done h' cells (memory_in h cells) (memory_in h' cells) (table_of h.base) (table_freed (table_of h.base) (named_by (memory_in h cells) cell))
+      outcome = outcome_done h' cells (memory_in h cells) (memory_in h' cells) (table_of h) (table_freed (table_of h) (named_by (memory_in h cells) cell))
           ReplyDone (plain (memory_in h cells) 0 (Free cell)) (on.is ∙ ap (λ (y : Reply × Memory). Ok y) on.related) refl
           (free.table ∙ freed_table (named_is h cells cell object rooted at));
-      not_held = held_by_none (memory_in h cells) h.base (Free cell) ReplyDone;
+      not_held = refl;
       refused = no_refusal;
       other_cells = λ other apart. refl;
       kept = (free.arena, free.map);
     }
   where
     named_serial : (r : Result Named Refusal) → referred (plain_of h) object ≡ r → freed_at (plain_of h) object ≡ Ok (plain_of h')
-        → without_object (table_of h.base) object.serial ≡ table_freed (table_of h.base) r
+        → without_object (table_of h) object.serial ≡ table_freed (table_of h) r
     named_serial (Err e) is went = absurd (let two : ◌≡◌ {A = Result Memory Refusal} (Err e) (Ok (plain_of h'))
         = subst (λ (r : Result Named Refusal). (r >>= λ x. Ok (with_object (plain_of h) x.serial None)) ≡ Ok (plain_of h')) is went in cc two)
-    named_serial (Ok named) is went = ap (λ (s : ℕ). without_object (table_of h.base) s) (sym (referred_serial (plain_of h) object named is))
+    named_serial (Ok named) is went = ap (λ (s : ℕ). without_object (table_of h) s) (sym (referred_serial (plain_of h) object named is))
 
     freed_table : referred (plain_of h) object ≡ named_by (memory_in h cells) cell
-        → without_object (table_of h.base) object.serial ≡ table_freed (table_of h.base) (named_by (memory_in h cells) cell)
+        → without_object (table_of h) object.serial ≡ table_freed (table_of h) (named_by (memory_in h cells) cell)
     freed_table same = named_serial (named_by (memory_in h cells) cell) same free.memory
 
 -- a free that is refused
 pub free_refused : (h h' : Heap) (cells : Cells) (cell : ℕ) (object : Ref) (refusal : Refusal) → AreRooted h cells → cell_at cells cell ≡ Some object
     → freed_at (plain_of h) object ≡ Err refusal → h' ≡ h → IsPerformed h h' cells cells (Free cell) (Done (ReplyRefused refusal))
-free_refused h h' cells cell object refusal rooted at is same = answered_refused h h' cells (Free cell) (ReplyRefused refusal) (
-    outcome_refused h' cells (memory_in h cells) (table_of h.base) (table_freed (table_of h.base) (named_by (memory_in h cells) cell)) refusal
+free_refused h h' cells cell object refusal rooted at is same = answered_refused h h' cells (Free cell) refusal (
+    outcome_refused h' cells (memory_in h cells) (table_of h) (table_freed (table_of h) (named_by (memory_in h cells) cell)) refusal
     (plain (memory_in h cells) 0 (Free cell))
     (refused_too (λ n y. y ≡ (ReplyDone, with_roots n (serials_of cells))) (freed_at (plain_of h) object) (plain (memory_in h cells) 0 (Free cell)) refusal
     (free_alike h cells cell object rooted at) is)
-    (ap (λ (x : Heap). memory_in x cells) same) (ap (λ (x : Heap). table_of x.base) same)
+    (ap (λ (x : Heap). memory_in x cells) same) (ap (λ (x : Heap). table_of x) same)
     ) same
 
 -- what a look-up is answered, where the heap gives something, and where it refuses
@@ -416,16 +433,16 @@ get_empty h cells cell off len at =
 
 pub put_empty : (h : Heap) (cells : Cells) (cell off : ℕ) (bytes : List ℕ) → cell_at cells cell ≡ None
     → IsPerformed h h cells cells (Put cell off (record { items = bytes })) (Done (ReplyRefused Empty))
-put_empty h cells cell off bytes at = answered_refused h h cells (Put cell off (record { items = bytes })) (ReplyRefused Empty) (
-    outcome_refused h cells (memory_in h cells) (table_of h.base) (table_of h.base) Empty
+put_empty h cells cell off bytes at = answered_refused h h cells (Put cell off (record { items = bytes })) Empty (
+    outcome_refused h cells (memory_in h cells) (table_of h) (table_of h) Empty
     (plain (memory_in h cells) 0 (Put cell off (record { items = bytes })))
     (empty_refused (named_by (memory_in h cells) cell) (λ named. refuse_if Outside (ends_outside named.object off (length bytes)) >>= λ _.
     Ok (ReplyDone, stored (memory_in h cells) named off bytes)) Empty (named_none h cells cell at)) refl refl
     ) refl
 
 pub free_empty : (h : Heap) (cells : Cells) (cell : ℕ) → cell_at cells cell ≡ None → IsPerformed h h cells cells (Free cell) (Done (ReplyRefused Empty))
-free_empty h cells cell at = answered_refused h h cells (Free cell) (ReplyRefused Empty) (
-    outcome_refused h cells (memory_in h cells) (table_of h.base) (table_freed (table_of h.base) (named_by (memory_in h cells) cell)) Empty
+free_empty h cells cell at = answered_refused h h cells (Free cell) Empty (
+    outcome_refused h cells (memory_in h cells) (table_of h) (table_freed (table_of h) (named_by (memory_in h cells) cell)) Empty
     (plain (memory_in h cells) 0 (Free cell))
     (empty_refused (named_by (memory_in h cells) cell) (λ named. Ok (ReplyDone, with_object (memory_in h cells) named.serial None)) Empty
     (named_none h cells cell at)) refl refl
@@ -503,9 +520,9 @@ pub alias_done : (h : Heap) (cells : Cells) (to from : ℕ) (object : Ref) → I
 alias_done h cells to from object is =
     let whole : plain (memory_in h cells) 0 (Alias to from) ≡ Ok (ReplyDone, with_root (memory_in h cells) to object.serial)
     = ap (λ (n : Result Named Refusal). n >>= λ named. Ok (ReplyDone, with_root (memory_in h cells) to named.serial)) is.named in record {
-      outcome = outcome_done h (slice_set cells to (Some object)) (memory_in h cells) (with_root (memory_in h cells) to object.serial) (table_of h.base) (table_of h.base)
+      outcome = outcome_done h (slice_set cells to (Some object)) (memory_in h cells) (with_root (memory_in h cells) to object.serial) (table_of h) (table_of h)
           ReplyDone (plain (memory_in h cells) 0 (Alias to from)) whole (ap (λ (rs : List (Option ℕ)). with_roots (plain_of h) rs) (roots_set cells to object)) refl;
-      not_held = held_by_none (memory_in h cells) h.base (Alias to from) ReplyDone;
+      not_held = refl;
       refused = no_refusal;
       other_cells = λ other apart. other_cell cells to other object apart;
       kept = refl;
@@ -513,8 +530,8 @@ alias_done h cells to from object is =
 
 pub alias_refused : (h : Heap) (cells : Cells) (to from : ℕ) (refusal : Refusal) → named_by (memory_in h cells) from ≡ Err refusal
     → IsPerformed h h cells cells (Alias to from) (Done (ReplyRefused refusal))
-alias_refused h cells to from refusal is = answered_refused h h cells (Alias to from) (ReplyRefused refusal) (
-    outcome_refused h cells (memory_in h cells) (table_of h.base) (table_of h.base) refusal (plain (memory_in h cells) 0 (Alias to from))
+alias_refused h cells to from refusal is = answered_refused h h cells (Alias to from) refusal (
+    outcome_refused h cells (memory_in h cells) (table_of h) (table_of h) refusal (plain (memory_in h cells) 0 (Alias to from))
     (empty_refused (named_by (memory_in h cells) from) (λ named. Ok (ReplyDone, with_root (memory_in h cells) to named.serial)) refusal is) refl refl
     ) refl
 
@@ -544,7 +561,7 @@ rooted_set h cells to from object rooted held cell other at = elim (cell_set cel
 
 -- the next serial of the memory is the heap's
 next_is : (h : Heap) (cells : Cells) → next_serial (memory_in h cells) ≡ h.next_serial
-next_is h cells = meaning_next h.next_serial (live_records h) (targets_of h.base.map) (bytes_in h.base.arena) (serials_of cells)
+next_is h cells = meaning_next h.next_serial (live_records h) (targets_of (map_of h)) (bytes_in (arena_of h)) (serials_of cells)
 
 -- a `new` of a length that may be asked for goes on
 new_goes_on : (m : Memory) (address cell len word : ℕ) → 1 ≤ len → len ≤ 2048
@@ -562,7 +579,7 @@ pub made_performed : (h h' : Heap) (cells : Cells) (cell len word : ℕ) (object
     → IsPerformed h h' cells (slice_set cells cell (Some object)) (New cell len word) (Done (Made object.serial object.addr))
 made_performed h h' cells cell len word object is =
     let m : Memory = memory_in h cells in
-    let t : Table = table_of h.base in
+    let t : Table = table_of h in
     let next = next_is h cells in
     let length_is = new_has_length t len word h.next_serial is.placed is.placed_is in
     let whole : answered m t (New cell len word) ≡ new_at m is.placed (Ok (Made (next_serial m) is.placed.address, made m cell len is.placed.address))
@@ -578,26 +595,26 @@ made_performed h h' cells cell len word object is =
         memory = memory;
         table = is.table;
       });
-      not_held = held_by_none m h.base (New cell len word) (Made object.serial object.addr);
+      not_held = refl;
       refused = no_refusal;
       other_cells = λ other apart. other_cell cells cell other object apart;
       kept = tt;
     }
 
 -- a `new` that the table refuses
-pub new_refused : (h h' : Heap) (cells : Cells) (cell len word : ℕ) (refusal : Refusal) → place_new (table_of h.base) len word h.next_serial ≡ Err refusal
+pub new_refused : (h h' : Heap) (cells : Cells) (cell len word : ℕ) (refusal : Refusal) → place_new (table_of h) len word h.next_serial ≡ Err refusal
     → h' ≡ h → IsPerformed h h' cells cells (New cell len word) (Done (ReplyRefused refusal))
 new_refused h h' cells cell len word refusal is same =
     let m : Memory = memory_in h cells in
-    let t : Table = table_of h.base in
+    let t : Table = table_of h in
     let whole : answered m t (New cell len word) ≡ record { reply = ReplyRefused refusal; memory = m; table = t }
     = ap (λ (s : ℕ). new_answered m t (New cell len word) (place_new t len word s)) (next_is h cells)
     ∙ ap (λ (r : Result Placed Refusal). new_answered m t (New cell len word) r) is in
-    answered_refused h h' cells (New cell len word) (ReplyRefused refusal) (
+    answered_refused h h' cells (New cell len word) refusal (
     subst (λ (o : Outcome). IsOutcome h' cells o (ReplyRefused refusal)) (sym whole) (record {
       reply_is = refl;
       memory = ap (λ (x : Heap). memory_in x cells) same;
-      table = ap (λ (x : Heap). table_of x.base) same;
+      table = ap (λ (x : Heap). table_of x) same;
     })
     ) same
 
@@ -645,18 +662,19 @@ made_rooted h h' cells cell len word object is long rooted other held at = elim 
 
 -- a look-up as an attempt
 pub looked_performed : (h : Heap) (cells : Cells) (command : Command) (reply : Reply)
-    → answered (memory_in h cells) (table_of h.base) command
-    ≡ others_answered (memory_in h cells) (table_of h.base) (table_of h.base) (plain (memory_in h cells) 0 command)
-    → IsLooked h cells command reply → IsPerformed h h cells cells command (Done reply)
-looked_performed h cells command reply is looked = record {
+    → answered (memory_in h cells) (table_of h) command
+    ≡ others_answered (memory_in h cells) (table_of h) (table_of h) (plain (memory_in h cells) 0 command)
+    → touches_read_only (memory_in h cells) (table_of h) command ≡ false → IsLooked h cells command reply
+    → IsPerformed h h cells cells command (Done reply)
+looked_performed h cells command reply is none looked = record {
   outcome = subst (λ (o : Outcome). IsOutcome h cells o reply) (sym is) (go (plain (memory_in h cells) 0 command) looked);
-  not_held = held_by_none (memory_in h cells) h.base command reply;
+  not_held = held_by_none (memory_in h cells) (table_of h) command reply none;
   refused = λ _. (refl, refl);
   other_cells = λ cell apart. refl;
   kept = keeps_same command h;
 }
   where
     go : (r : Result (Reply × Memory) Refusal) → Follows r (memory_in h cells) reply (memory_in h cells)
-        → IsOutcome h cells (others_answered (memory_in h cells) (table_of h.base) (table_of h.base) r) reply
+        → IsOutcome h cells (others_answered (memory_in h cells) (table_of h) (table_of h) r) reply
     go (Ok x) follows = record { reply_is = follows.0; memory = follows.1; table = refl }
     go (Err e) follows = record { reply_is = follows.0; memory = refl; table = refl }

@@ -12,8 +12,7 @@ use Rattle.mesh_model.specs.declared.commands.Reply.{Reply}
 use Rattle.mesh_mutator.specs.Book.{AreRooted, Book, Cells, IsAttempt, IsBook, IsPerformed, memory_in, memory_of_book}
 use Rattle.mesh_mutator.specs.declared.attempts.Attempt.{Attempt}
 use Rattle.mesh_mutator.specs.declared.attempts.Attempt.TheVariants.{Blocked, Done, HistoryFull, OutOfMemory}
-use Rattle.mesh_steps.specs.Ground.{table_of}
-use Rattle.mesh_steps.specs.Heap.{Heap, IsHeap, plain_of}
+use Rattle.mesh_steps.specs.Heap.{Heap, IsHeap, plain_of, table_of}
 
 -- the entry of an answered command
 abbrev pub entry_of : ℕ → Command → Reply → Entry
@@ -24,7 +23,7 @@ abbrev pub answered_book : Book → Heap → Cells → Entry → Book
 answered_book b h cells entry = record { heap = h; cells = cells; entries = b.entries ++ entry ∷ []; room = b.room }
 
 -- the memory is tied to the table with any roots
-IsTied_roots : (h : Heap) (cells : Cells) → IsTied (plain_of h) (table_of h.base) → IsTied (memory_in h cells) (table_of h.base)
+IsTied_roots : (h : Heap) (cells : Cells) → IsTied (plain_of h) (table_of h) → IsTied (memory_in h cells) (table_of h)
 IsTied_roots h cells tied = record {
   slots = λ number k group slot there filled. let live = tied.slots number k group slot there filled in
       record { object = live.object; live = live.live; address = live.address; len = live.len };
@@ -42,13 +41,13 @@ pub IsBook_answered : (b : Book) (h : Heap) (cells : Cells) (worker : ℕ) (comm
     → h.next_serial ≤ b.heap.next_serial + 1 → IsBook (answered_book b h cells (entry_of worker command reply))
 IsBook_answered b h cells worker command reply steps goes_on heap book short done rooted long next =
     let m : Memory = memory_of_book b in
-    let tied : IsTied m (table_of b.heap.base) = IsTied_roots b.heap b.cells heap.tied in
-    let step : PlainStep m command (answered m (table_of b.heap.base) command).reply (answered m (table_of b.heap.base) command).memory
-    = steps m (table_of b.heap.base) command heap.sound tied in
+    let tied : IsTied m (table_of b.heap) = IsTied_roots b.heap b.cells heap.tied in
+    let step : PlainStep m command (answered m (table_of b.heap) command).reply (answered m (table_of b.heap) command).memory
+    = steps m (table_of b.heap) command heap.sound tied in
     let outcome = done.outcome in
     let step' : PlainStep m command reply (memory_in h cells)
     = subst (λ (r : Reply). PlainStep m command r (memory_in h cells)) (sym outcome.reply_is)
-    (subst (λ (n : Memory). PlainStep m command (answered m (table_of b.heap.base) command).reply n) (sym outcome.memory) step) in
+    (subst (λ (n : Memory). PlainStep m command (answered m (table_of b.heap) command).reply n) (sym outcome.memory) step) in
     record {
       cells = long;
       rooted = rooted;

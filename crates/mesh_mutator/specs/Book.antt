@@ -15,8 +15,7 @@ use Rattle.mesh_steps.specs.declared.answers.Stored.{Stored}
 use Rattle.mesh_steps.specs.declared.answers.Stored.TheVariants.{Blocked as StoreBlocked, Done as StoreDone, Refused as StoreRefused}
 use Rattle.mesh_mutator.specs.declared.attempts.Attempt.{Attempt}
 use Rattle.mesh_mutator.specs.declared.attempts.Attempt.TheVariants.{Blocked, Done, HistoryFull, OutOfMemory}
-use Rattle.mesh_steps.specs.Ground.{table_of}
-use Rattle.mesh_steps.specs.Heap.{Heap, NeedsSpan, heap_code, memory_of, plain_of}
+use Rattle.mesh_steps.specs.Heap.{Heap, NeedsSpan, arena_of, heap_code, map_of, memory_of, plain_of, table_of}
 use Rattle.mesh_steps.specs.declared.answers.Ref.{Ref}
 
 -- the references in the root cells
@@ -48,7 +47,7 @@ AreRooted h cells = (cell : ℕ) (object : Ref) → cell_at cells cell ≡ Some 
 pub record IsOutcome (h : Heap) (cells : Cells) (done : Outcome) (reply : Reply) : Type 0 where
   pub reply_is : reply ≡ done.reply
   pub memory : memory_in h cells ≡ done.memory
-  pub table : table_of h.base ≡ done.table
+  pub table : table_of h ≡ done.table
 
 -- a `new` that needs a new span, for which there is room
 abbrev pub IsNewForSpan : Heap → Command → Type 0
@@ -66,7 +65,7 @@ abbrev pub KeepsHeap : Command → Heap → Heap → Type 0
 KeepsHeap (New cell len word) h h' = Unit {0}
 KeepsHeap (Put cell off bytes) h h' = Unit {0}
 KeepsHeap (Get cell off len) h h' = h' ≡ h
-KeepsHeap (Free cell) h h' = (h'.base.arena ≡ h.base.arena) × (h'.base.map ≡ h.base.map)
+KeepsHeap (Free cell) h h' = (arena_of h' ≡ arena_of h) × (map_of h' ≡ map_of h)
 KeepsHeap (Alias to from) h h' = h' ≡ h
 KeepsHeap (Addr cell) h h' = h' ≡ h
 KeepsHeap (Peek addr) h h' = h' ≡ h
@@ -74,8 +73,8 @@ KeepsHeap (Poke addr byte) h h' = Unit {0}
 
 -- what an answered command does to heap and cells: what the definition says, held back by nothing; and where it is refused, nothing
 pub record IsAnswered (h h' : Heap) (cells cells' : Cells) (command : Command) (reply : Reply) : Type 0 where
-  pub outcome : IsOutcome h' cells' (answered (memory_in h cells) (table_of h.base) command) reply
-  pub not_held : is_held_back (memory_in h cells) (table_of h.base) command reply ≡ false
+  pub outcome : IsOutcome h' cells' (answered (memory_in h cells) (table_of h) command) reply
+  pub not_held : is_held_back (memory_in h cells) (table_of h) command reply ≡ false
   pub refused : is_refusal reply ≡ true → (h' ≡ h) × (cells' ≡ cells)
   pub other_cells : (cell : ℕ) → stored_cell command ≢ Some cell → cell_at cells' cell ≡ cell_at cells cell
   pub kept : KeepsHeap command h h'
@@ -84,7 +83,7 @@ pub record IsAnswered (h h' : Heap) (cells cells' : Cells) (command : Command) (
 abbrev pub IsPerformed : Heap → Heap → Cells → Cells → Command → Attempt → Type 0
 IsPerformed h h' cells cells' command (Done reply) = IsAnswered h h' cells cells' command reply
 IsPerformed h h' cells cells' command Blocked =
-    (is_held_back (memory_in h cells) (table_of h.base) command (answered (memory_in h cells) (table_of h.base) command).reply ≡ true)
+    (is_held_back (memory_in h cells) (table_of h) command (answered (memory_in h cells) (table_of h) command).reply ≡ true)
     × (h' ≡ h) × (cells' ≡ cells)
 IsPerformed h h' cells cells' command HistoryFull = ⊥
 IsPerformed h h' cells cells' command OutOfMemory = IsNewForSpan h command × (h' ≡ h) × (cells' ≡ cells)
@@ -108,7 +107,7 @@ memory_of_book b = memory_in b.heap b.cells
 
 -- and its table
 abbrev pub table_of_book : Book → Table
-table_of_book b = table_of b.heap.base
+table_of_book b = table_of b.heap
 
 -- the journal is a legal history that ends in what the book stands for
 pub record IsBook (b : Book) : Type 0 where

@@ -7,8 +7,7 @@ ghost use Rattle.mesh_model.specs.Table.{empty_table};
 ghost use Rattle.mesh_mutator.specs.Attempts.{IsLook};
 ghost use Rattle.mesh_mutator.specs.Book.{IsAttempt, IsLooked, memory_of_book, table_of_book};
 ghost use Rattle.mesh_mutator.specs.declared.attempts.Attempt.{Attempt};
-ghost use Rattle.mesh_steps.specs.Always.{HasHeldPagesTaken, HasObjectsApart, HasPlacesApart, HasReadOnlyOfMeshes};
-ghost use Rattle.mesh_steps.specs.Layout.{IsLaidOut, layout_of};
+ghost use Rattle.mesh_steps.specs.Always.{HasHeldPagesTaken, HasObjectsApart, HasPlacesApart, HasReadOnlyOfMeshes, LiesAsMeshesHaveIt};
 
 use crate::attempts::{address, get, peek, perform};
 use crate::entry::Entry;
@@ -81,7 +80,7 @@ impl Book {
         ensures places { HasPlacesApart self.now.heap }
         ensures held { HasHeldPagesTaken self.now.heap }
         ensures read_only { HasReadOnlyOfMeshes self.now.heap }
-        ensures laid_out { IsLaidOut (layout_of self.now.heap.base.index) (table_of_book self.now).meshes self.now.heap.base.map self.now.heap.base.arena }
+        ensures laid_out { LiesAsMeshesHaveIt self.now.heap }
     {
         self.heap.always();
     }

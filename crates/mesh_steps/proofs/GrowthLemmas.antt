@@ -7,7 +7,7 @@ use Rattle.std.proofs.lemmas.List.{drop_all, get_or-set_other, set-get_or, set-s
 use Rattle.mesh_arena.specs.Pages.{Pages, is_taken, IsTaken, Takes, Gives}
 use Rattle.mesh_pagemap.specs.Entries.{Entries, Maps}
 use Rattle.mesh_pagemap.specs.declared.prot.Prot.TheVariants.{ReadWrite}
-use Rattle.mesh_steps.specs.Growth.{TakesAll, MapsFirst, AreTaken, AreUnmapped, given_back}
+use Rattle.mesh_layout.specs.Growth.{TakesAll, MapsFirst, AreTaken, AreUnmapped, given_back}
 
 -- no page taken
 pub TakesAll_none : (a : Pages) → TakesAll a a []

@@ -1,8 +1,7 @@
-pub mod GroundLemmas
 pub mod GrowthLemmas
-pub mod Layouts
 pub mod Making
 pub mod Objects
 pub mod Placing
+pub mod Slots
 pub mod Standing
 pub mod Stores

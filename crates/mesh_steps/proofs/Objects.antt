@@ -1,12 +1,18 @@
 -- What the records of a heap's live objects say of its slots, its bytes and its plain memory.
-use Rattle.std.proofs.Common.{◌≡◌, ℕ, zero, suc, ◌+◌, ◌-◌, ◌/◌, ◌<◌, ◌≤◌, Bool, true, false, ◌&&◌, if◌then◌else◌, nat_lt, find, List, [], ◌∷◌, map, Option, Some, None, IfSome, IsSomeAnd, Result, Ok, Err, length, slice_get, slice_index, slice_range, ap, subst, refl, sym, ◌∙◌, arith, inl, inr}
+use Rattle.std.proofs.Common.{◌≡◌, ℕ, suc, ◌+◌, ◌-◌, ◌<◌, ◌≤◌, Bool, true, false, ◌&&◌, if◌then◌else◌, nat_lt, List, [], ◌∷◌, map, Option, Some, None, IfSome, IsSomeAnd, Result, Ok, Err, length, slice_get, slice_index, slice_range, ap, subst, refl, sym, ◌∙◌, arith, inl, inr}
 use Rattle.std.specs.Option.{option_map}
 use Rattle.std.proofs.lemmas.Bool.Decides.{eqb_tells, leb_tells}
 use Rattle.std.proofs.lemmas.List.{get_or-map, length-map}
 use Rattle.std.proofs.lemmas.List.FromFn.{length-map-range_with_len}
 use Rattle.std.proofs.lemmas.Option.{slice_get_within}
 use Rattle.mesh_arena.specs.Pages.{run_of}
-use Rattle.mesh_class.specs.Classes.{slots_of}
+use Rattle.mesh_class.specs.Classes.{pages_of, slots_of}
+use Rattle.mesh_layout.proofs.Groups.{entry_in_table, table_entry}
+use Rattle.mesh_layout.proofs.Homes.{slot_end}
+use Rattle.mesh_layout.proofs.Meaning.{record_live}
+use Rattle.mesh_layout.specs.Indexes.{layout_of}
+use Rattle.mesh_layout.specs.Layout.{AreInObject}
+use Rattle.mesh_layout.specs.PageHeap.{bytes_in, targets_of}
 use Rattle.mesh_model.proofs.GroupPages.{found_sound}
 use Rattle.mesh_model.proofs.Holders.{no_holder, one_holder}
 use Rattle.mesh_model.proofs.Meanings.{bytes_read, meaning_objects}
@@ -19,87 +25,30 @@ use Rattle.mesh_model.specs.Table.{Group, Slot, group_of, has_number, slot_addre
 use Rattle.mesh_model.specs.Words.{◌>>=◌, refuse_if}
 use Rattle.mesh_model.specs.declared.refusals.Refusal.{Refusal}
 use Rattle.mesh_model.specs.declared.refusals.Refusal.TheVariants.{Freed, Outside, Stray}
-use Rattle.mesh_pagemap.specs.Entries.{IsMapped}
-use Rattle.mesh_spans.specs.Groups.{first_of, groups_from, groups_of, table_group}
-use Rattle.mesh_spans.specs.Index.{GroupEntry, Index, IsIndex, SpanEntry, address_in, group_at, span_at}
+use Rattle.mesh_spans.specs.Groups.{first_of, table_group}
+use Rattle.mesh_spans.specs.Index.{GroupEntry, Index, IsIndex, SpanEntry, group_at, span_at}
 use Rattle.mesh_store.specs.Places.{byte_of}
-use Rattle.mesh_steps.proofs.GroundLemmas.{covered_mapped}
-use Rattle.mesh_steps.specs.Ground.{Ground, IsCovered, IsGround, IsInSlotOf, IsStanding, bytes_in, table_of, targets_of}
-use Rattle.mesh_steps.specs.Heap.{Heap, IsHeap, IsHeld, IsObjectAt, IsReferred, bytes_at, live_record, live_records, memory_of, object_in, plain_of, referred}
+use Rattle.mesh_steps.specs.Heap.{Heap, IsHeap, IsHeld, IsObjectAt, IsReferred, arena_of, bytes_at, index_of, live_record, live_records, map_of, memory_of, object_in, plain_of, referred, table_of}
+use Rattle.mesh_steps.specs.PageHeap.{IsInSlotOf, IsStanding, PageHeap, table_in}
 use Rattle.mesh_steps.specs.declared.answers.Occupied.{Occupied}
 use Rattle.mesh_steps.specs.declared.answers.Ref.{Ref}
 
--- a group of a list that is numbered from `b` on is found by its number
-found_from : (spans : List SpanEntry) (b i n : ℕ) (groups : List (Option GroupEntry)) (entry : GroupEntry) → group_at groups i ≡ Some entry → n ≡ b + i
-    → find (has_number n) (groups_from spans b groups) ≡ Some (table_group spans n entry)
-found_from spans b i n [] entry at is = absurd (cc at)
-found_from spans b zero n (None ∷ groups) entry at is = absurd (cc at)
-found_from spans b zero n (Some one ∷ groups) entry at is =
-    let same : one ≡ entry = cc at in
-    let here : n ≡ b = omega (arith, is) in
-    elim (eqb_tells b n) [ inl yes_ ↦ rw (yes_.0, same, here) refl | inr other ↦ absurd (other.1 (sym here)) ]
-found_from spans b (suc i) n (None ∷ groups) entry at is = found_from spans (b + 1) i n groups entry at (omega (arith, is))
-found_from spans b (suc i) n (Some one ∷ groups) entry at is = elim (eqb_tells b n) [
-  | inl same ↦ absurd (let e = same.1 in omega (arith, is, e))
-  | inr other ↦ rw other.0 (found_from spans (b + 1) i n groups entry at (omega (arith, is)))
-]
-
--- the group of the index that a group of the table is
-pub record IsEntry (spans : List SpanEntry) (groups : List (Option GroupEntry)) (b n : ℕ) (group : Group) : Type 0 where
-  pub i : ℕ
-  pub at : n ≡ b + i
-  pub entry : GroupEntry
-  pub there : group_at groups i ≡ Some entry
-  pub same : group ≡ table_group spans n entry
-
-back_from : (spans : List SpanEntry) (b n : ℕ) (groups : List (Option GroupEntry)) (group : Group)
-    → find (has_number n) (groups_from spans b groups) ≡ Some group → IsEntry spans groups b n group
-back_from spans b n [] group found = absurd (cc found)
-back_from spans b n (None ∷ groups) group found =
-    let rest = back_from spans (b + 1) n groups group found in
-    record { i = suc rest.i; at = omega (arith, rest.at); entry = rest.entry; there = rest.there; same = rest.same }
-back_from spans b n (Some one ∷ groups) group found = elim (eqb_tells b n) [
-  | inl same ↦ let here : Some (table_group spans b one) ≡ Some group = subst (λ (t : Bool). ◌≡◌ {A = Option Group} (if t then Some (table_group spans b one) else find (has_number n) (groups_from spans (b + 1) groups)) (Some group)) same.0 found in
-      record {
-        i = 0;
-        at = let e = same.1 in omega (arith, e);
-        entry = one;
-        there = refl;
-        same = (let is : table_group spans b one ≡ group = cc here in sym is ∙ ap (λ (m : ℕ). table_group spans m one) same.1);
-      }
-  | inr other ↦ let later : find (has_number n) (groups_from spans (b + 1) groups) ≡ Some group
-      = subst (λ (t : Bool). ◌≡◌ {A = Option Group} (if t then Some (table_group spans b one) else find (has_number n) (groups_from spans (b + 1) groups)) (Some group)) other.0 found in
-      let rest = back_from spans (b + 1) n groups group later in
-      record { i = suc rest.i; at = omega (arith, rest.at); entry = rest.entry; there = rest.there; same = rest.same }
-]
-
--- a group of the index is one of the table
-pub entry_in_table : (g : Ground) (n : ℕ) (entry : GroupEntry) → group_at g.index.groups n ≡ Some entry
-    → group_of (table_of g) n ≡ Some (table_group g.index.spans n entry)
-unfolding groups_of
-entry_in_table g n entry at = found_from g.index.spans 0 n n g.index.groups entry at (omega arith)
-
--- a group of the table is one of the index
-pub table_entry : (g : Ground) (n : ℕ) (group : Group) → group_of (table_of g) n ≡ Some group → IsEntry g.index.spans g.index.groups 0 n group
-unfolding groups_of
-table_entry g n group found = back_from g.index.spans 0 n g.index.groups group found
-
 -- an object that stands in a slot has its record
-pub standing_record : (h : Heap) (span k serial len address : ℕ) → IsHeap h → IsStanding h.base.index span k serial len address
+pub standing_record : (h : Heap) (span k serial len address : ℕ) → IsHeap h → IsStanding (index_of h) span k serial len address
     → record_with serial (live_records h) ≡ Some (record { serial = serial; address = address; len = len })
 standing_record h span k serial len address heap standing =
-    let slot : Slot = record { member = (span_at h.base.index.spans span).first; serial = serial; len = len } in
-    let n : ℕ = (span_at h.base.index.spans span).group in
+    let slot : Slot = record { member = (span_at (index_of h).spans span).first; serial = serial; len = len } in
+    let n : ℕ = (span_at (index_of h).spans span).group in
     let recorded = standing.recorded in
-    let there = entry_in_table h.base n recorded.group recorded.there in
-    let is = slot_record h.next_serial (table_of h.base) (targets_of h.base.map) (bytes_in h.base.arena) [] n k
-    (table_group h.base.index.spans n recorded.group) slot heap.sound heap.tied there recorded.filled in
-    let at : slot_address (span_at h.base.index.spans span).first recorded.group.class k ≡ address
-    = ap (λ (class : ℕ). slot_address (span_at h.base.index.spans span).first class k) recorded.same_class ∙ standing.address_is in
+    let there = entry_in_table (index_of h) n recorded.group recorded.there in
+    let is = slot_record h.next_serial (table_of h) (targets_of (map_of h)) (bytes_in (arena_of h)) [] n k
+    (table_group (index_of h).spans n recorded.group) slot heap.sound heap.tied there recorded.filled in
+    let at : slot_address (span_at (index_of h).spans span).first recorded.group.class k ≡ address
+    = ap (λ (class : ℕ). slot_address (span_at (index_of h).spans span).first class k) recorded.same_class ∙ standing.address_is in
     is ∙ ap (λ (a : ℕ). Some (record { serial = serial; address = a; len = len })) at
 
 -- where the object of a record stands
-pub record LivePlace (g : Ground) (r : Record) : Type 0 where
+pub record LivePlace (g : PageHeap) (r : Record) : Type 0 where
   pub n : ℕ
   pub place : ℕ
   pub k : ℕ
@@ -123,12 +72,12 @@ place_in v (x ∷ xs) some = elim (eqb_tells x v) [
       let rest = place_in v xs later in (suc rest.0, omega (arith, rest.1), rest.2)
 ]
 
-slot_placed : (g : Ground) (n k : ℕ) (group : Group) (slot : Slot) (entry : GroupEntry) → IsSound (table_of g) → group_of (table_of g) n ≡ Some group
+slot_placed : (g : PageHeap) (n k : ℕ) (group : Group) (slot : Slot) (entry : GroupEntry) → IsSound (table_in g) → group_of (table_in g) n ≡ Some group
     → slice_get group.slots k ≡ Some (Some slot) → group_at g.index.groups n ≡ Some entry → group ≡ table_group g.index.spans n entry
     → LivePlace g (record_in group.class k slot)
 slot_placed g n k group slot entry sound there filled at same =
     let spans : List SpanEntry = g.index.spans in
-    let is = found_sound (table_of g) (has_number n) group sound there in
+    let is = found_sound (table_in g) (has_number n) group sound there in
     let object = is.objects k slot filled in
     let member = place_in slot.member (map (first_of spans) entry.members)
     (subst (λ (x : Group). 1 ≤ times_in slot.member x.members) same object.in_member) in
@@ -155,54 +104,50 @@ slot_placed g n k group slot entry sound there filled at same =
 
 -- the object of each record stands in a slot
 pub live_place : (h : Heap) (serial : ℕ) (r : Record) → IsHeap h → record_with serial (live_records h) ≡ Some r
-    → (r.serial ≡ serial) × LivePlace h.base r
+    → (r.serial ≡ serial) × LivePlace h.pages r
 live_place h serial r heap found =
-    let slot = record_slot (table_of h.base) serial r heap.sound found in
-    let entry = table_entry h.base slot.1.number slot.1.group slot.1.there in
-    let number : slot.1.number ≡ entry.i = omega (arith, entry.at) in
-    let at : group_at h.base.index.groups slot.1.number ≡ Some entry.entry = ap (λ (i : ℕ). group_at h.base.index.groups i) number ∙ entry.there in (
+    let slot = record_slot (table_of h) serial r heap.sound found in
+    let entry = table_entry (index_of h) slot.1.number slot.1.group slot.1.there in (
       slot.0,
-      subst (λ (x : Record). LivePlace h.base x) (sym slot.1.is)
-          (slot_placed h.base slot.1.number slot.1.k slot.1.group slot.1.slot entry.entry heap.sound slot.1.there slot.1.filled at entry.same),
+      subst (λ (x : Record). LivePlace h.pages x) (sym slot.1.is)
+          (slot_placed h.pages slot.1.number slot.1.k slot.1.group slot.1.slot entry.entry heap.sound slot.1.there slot.1.filled entry.there entry.same),
     )
 
--- a part of a live object is covered by its slot
-pub live_covered : (g : Ground) (r : Record) (off count : ℕ) → IsIndex g.index.spans g.index.groups → LivePlace g r → off + count ≤ r.len
-    → IsCovered g.index (r.address + off) count
-live_covered g r off count sound live fits =
-    let member = sound.members live.n live.place live.entry live.at live.within in
-    let span : ℕ = slice_index live.entry.members live.place in
-    let at : address_in (span_at g.index.spans span) live.k ≡ r.address
-    = ap (λ (class : ℕ). slot_address (span_at g.index.spans span).first class live.k) member.same_class ∙ live.address in
-    let size : (span_at g.index.spans span).class ≡ live.entry.class = member.same_class in
-    record {
-      span = span;
-      k = live.k;
-      below = member.below;
-      sound = sound.span span member.below;
-      in_range = rw size live.below;
-      from = omega (arith, at);
-      to = omega (arith, at, size, live.fits, fits);
-    }
+-- a part of a live object is one of the layout's
+pub live_in_object : (h : Heap) (serial off count : ℕ) (r : Record) → IsHeap h → record_with serial (live_records h) ≡ Some r → off + count ≤ r.len
+    → AreInObject (layout_of (index_of h)) (r.address + off) count
+live_in_object h serial off count r heap found fits =
+    let live = record_live (index_of h) (table_of h) serial r heap.sound refl found in
+    let long = live.len in
+    let at = live.address in
+    record { n = live.n; k = live.k; off = off; slot = live.slot; filled = live.filled; fits = omega (arith, fits, long); at = omega (arith, at) }
 
--- the virtual page of each address of a live object is mapped
-pub live_mapped : (g : Ground) (r : Record) (x : ℕ) → IsGround g.arena g.map g.index g.next_page → IsIndex g.index.spans g.index.groups → LivePlace g r
-    → IsIn r x → IsMapped g.map (x / 4096)
-live_mapped g r x ground index live within =
-    covered_mapped g.arena g.map g.index g.next_page (r.address + 0) r.len x ground (live_covered g r 0 r.len index live (omega arith))
-    (omega (arith, within.0)) (omega (arith, within.1))
+-- a live object ends within the addresses that there are
+pub live_ends : (h : Heap) (serial : ℕ) (r : Record) → IsHeap h → IsIndex (index_of h).spans (index_of h).groups → record_with serial (live_records h) ≡ Some r
+    → r.address + r.len ≤ 268435456
+live_ends h serial r heap index found =
+    let live = (live_place h serial r heap found).1 in
+    let member = index.members live.n live.place live.entry live.at live.within in
+    let span = index.span (slice_index live.entry.members live.place) member.below in
+    let class = (index.each live.n live.entry live.at).class in
+    let end = slot_end live.k (slots_of live.entry.class) live.entry.class (pages_of live.entry.class) live.below class.full in
+    let last : (span_at (index_of h).spans (slice_index live.entry.members live.place)).first + pages_of live.entry.class ≤ 65536
+    = subst (λ (c : ℕ). (span_at (index_of h).spans (slice_index live.entry.members live.place)).first + pages_of c ≤ 65536) member.same_class span.last in
+    let at = live.address in
+    let small = live.fits in
+    omega (arith, end, last, at, small)
 
 -- the object of a serial is that of its record
 pub live_object : (h : Heap) (roots : List (Option ℕ)) (serial : ℕ) → IsHeap h
-    → object_of (memory_of h roots) serial ≡ option_map (object_at (targets_of h.base.map) (bytes_in h.base.arena)) (record_with serial (live_records h))
+    → object_of (memory_of h roots) serial ≡ option_map (object_at (targets_of (map_of h)) (bytes_in (arena_of h))) (record_with serial (live_records h))
 live_object h roots serial heap =
-    meaning_objects h.next_serial (live_records h) (targets_of h.base.map) (bytes_in h.base.arena) roots serial
-    (tied_below h.next_serial (table_of h.base) (targets_of h.base.map) (bytes_in h.base.arena) [] heap.sound heap.tied)
+    meaning_objects h.next_serial (live_records h) (targets_of (map_of h)) (bytes_in (arena_of h)) roots serial
+    (tied_below h.next_serial (table_of h) (targets_of (map_of h)) (bytes_in (arena_of h)) [] heap.sound heap.tied)
 
 -- the object of a serial with a record
 pub live_found : (h : Heap) (serial : ℕ) (r : Record) → IsHeap h → record_with serial (live_records h) ≡ Some r
     → object_of (plain_of h) serial ≡ Some (object_in h r)
-live_found h serial r heap found = live_object h [] serial heap ∙ ap (λ (o : Option Record). option_map (object_at (targets_of h.base.map) (bytes_in h.base.arena)) o) found
+live_found h serial r heap found = live_object h [] serial heap ∙ ap (λ (o : Option Record). option_map (object_at (targets_of (map_of h)) (bytes_in (arena_of h))) o) found
 
 -- a live object has a record
 pub record HasRecord (h : Heap) (serial : ℕ) (object : Object) : Type 0 where
@@ -211,7 +156,7 @@ pub record HasRecord (h : Heap) (serial : ℕ) (object : Object) : Type 0 where
   pub is : object ≡ object_in h r
 
 has_record : (h : Heap) (serial : ℕ) (object : Object) (o : Option Record) → record_with serial (live_records h) ≡ o
-    → option_map (object_at (targets_of h.base.map) (bytes_in h.base.arena)) o ≡ Some object → HasRecord h serial object
+    → option_map (object_at (targets_of (map_of h)) (bytes_in (arena_of h))) o ≡ Some object → HasRecord h serial object
 has_record h serial object None at e = absurd (let two : ◌≡◌ {A = Option Object} None (Some object) = e in cc two)
 has_record h serial object (Some r) at e =
     let same : object_in h r ≡ object = (let both : Some (object_in h r) ≡ Some object = e in cc both) in record { r = r; found = at; is = sym same }
@@ -222,7 +167,7 @@ object_record h serial object heap live =
 
 -- as many bytes as the record says
 pub object_len : (h : Heap) (r : Record) → length (object_in h r).bytes ≡ r.len
-object_len h r = length-map-range_with_len (λ x. bytes_in h.base.arena (place_of (targets_of h.base.map) x)) r.address r.len
+object_len h r = length-map-range_with_len (λ x. bytes_in (arena_of h) (place_of (targets_of (map_of h)) x)) r.address r.len
 
 -- a reference names the object of its serial that stands at its address
 pub reference_names : (h : Heap) (object : Ref) (r : Record) → IsHeap h → record_with object.serial (live_records h) ≡ Some r → r.address ≡ object.addr
@@ -276,7 +221,7 @@ pub address_held : (h : Heap) (serial addr : ℕ) (r : Record) → IsHeap h → 
     → holding (plain_of h) addr ≡ Ok (record { serial = serial; object = object_in h r })
 address_held h serial addr r heap found within =
     let live = live_found h serial r heap found in
-    let holder = one_holder (plain_of h) (table_of h.base) serial addr (object_in h r) heap.sound heap.tied live (has_in h r addr within) in
+    let holder = one_holder (plain_of h) (table_of h) serial addr (object_in h r) heap.sound heap.tied live (has_in h r addr within) in
     rw (holder, live) refl
 
 -- an address of no live object is held by none
@@ -294,7 +239,7 @@ address_stray h addr heap none =
     ] refl
 
 -- an object in whose slot an address is has its record
-pub in_slot_recorded : (h : Heap) (addr : ℕ) (o : Occupied) → IsHeap h → IsInSlotOf h.base.index addr o.span o.slot o.offset o.serial o.len → IsObjectAt h addr o
+pub in_slot_recorded : (h : Heap) (addr : ℕ) (o : Occupied) → IsHeap h → IsInSlotOf (index_of h) addr o.span o.slot o.offset o.serial o.len → IsObjectAt h addr o
 in_slot_recorded h addr o heap in_slot = record {
   address = in_slot.address;
   at = in_slot.at;
@@ -319,7 +264,7 @@ FindsSlots index addr found = (n place k o : ℕ) (group : GroupEntry) (serial l
     → slot_address (span_at index.spans (slice_index group.members place)).first group.class k + o ≡ addr
     → IsSomeAnd found (λ x. (x.serial ≡ serial) × (x.offset ≡ o) × (x.len ≡ len))
 
-pub object_found : (h : Heap) (addr serial : ℕ) (r : Record) (found : Option Occupied) → IsHeap h → FindsSlots h.base.index addr found
+pub object_found : (h : Heap) (addr serial : ℕ) (r : Record) (found : Option Occupied) → IsHeap h → FindsSlots (index_of h) addr found
     → record_with serial (live_records h) ≡ Some r → IsIn r addr
     → IsSomeAnd found (λ o. (o.serial ≡ serial) × (r.address + o.offset ≡ addr) × (o.len ≡ r.len))
 object_found h addr serial r found heap finds is within =
@@ -346,8 +291,8 @@ referred_is h object o heap at zeroth same =
       serial = same;
       begins = zeroth;
       recorded = recorded;
-      in_slot = subst (λ (x : ℕ). IsInSlotOf h.base.index object.addr o.span o.slot x object.serial o.len) zeroth
-          (subst (λ (s : ℕ). IsInSlotOf h.base.index object.addr o.span o.slot o.offset s o.len) same at.in_slot);
+      in_slot = subst (λ (x : ℕ). IsInSlotOf (index_of h) object.addr o.span o.slot x object.serial o.len) zeroth
+          (subst (λ (s : ℕ). IsInSlotOf (index_of h) object.addr o.span o.slot o.offset s o.len) same at.in_slot);
       named = reference_names h object (live_record object.serial object.addr o.len) heap recorded refl;
     }
 
@@ -379,13 +324,13 @@ ends_past h r off len past = elim (leb_tells (suc (length (object_in h r).bytes)
 
 -- the bytes of a part of a live object are those of its addresses
 pub part_read : (h : Heap) (r : Record) (off len : ℕ) → off + len ≤ r.len
-    → slice_range (object_in h r).bytes off (off + len) ≡ run_of (byte_of h.base.arena h.base.map) (r.address + off) len
+    → slice_range (object_in h r).bytes off (off + len) ≡ run_of (byte_of (arena_of h) (map_of h)) (r.address + off) len
 unfolding run_of byte_of
-part_read h r off len fits = bytes_read (targets_of h.base.map) (bytes_in h.base.arena) r off len fits
+part_read h r off len fits = bytes_read (targets_of (map_of h)) (bytes_in (arena_of h)) r off len fits
 
 -- a read of a part of the object that a reference names
 pub read_is : (h : Heap) (object : Ref) (o : Occupied) (off len : ℕ) (bytes : List ℕ) → IsReferred h object o → off + len ≤ o.len
-    → bytes ≡ run_of (byte_of h.base.arena h.base.map) (object.addr + off) len → bytes_at (plain_of h) object off len ≡ Ok bytes
+    → bytes ≡ run_of (byte_of (arena_of h) (map_of h)) (object.addr + off) len → bytes_at (plain_of h) object off len ≡ Ok bytes
 read_is h object o off len bytes is fits loaded =
     let r : Record = live_record object.serial object.addr o.len in
     let whole : bytes_at (plain_of h) object off len ≡ Ok (slice_range (object_in h r).bytes off (off + len))
@@ -405,21 +350,3 @@ read_past h object o off len is past =
 pub read_stale : (h : Heap) (object : Ref) (off len : ℕ) → referred (plain_of h) object ≡ Err Freed → bytes_at (plain_of h) object off len ≡ Err Freed
 read_stale h object off len stale =
     ap (λ (x : Result Named Refusal). x >>= λ named. refuse_if Outside (ends_outside named.object off len) >>= λ _. Ok (slice_range named.object.bytes off (off + len))) stale
-
--- a part of an object in a slot is covered by it
-pub slot_covered : (g : Ground) (addr span k offset serial len off count : ℕ) → (i : IsInSlotOf g.index addr span k offset serial len) → off + count ≤ len
-    → IsCovered g.index (i.address + off) count
-slot_covered g addr span k offset serial len off count i fits =
-    let standing = i.standing in
-    let size : standing.recorded.group.class ≡ (span_at g.index.spans span).class = standing.recorded.same_class in
-    let few = standing.recorded.fits in
-    let at = standing.address_is in
-    record {
-      span = span;
-      k = k;
-      below = standing.recorded.below;
-      sound = standing.sound;
-      in_range = rw (← size) standing.recorded.in_range;
-      from = omega (arith, at);
-      to = omega (arith, at, size, few, fits);
-    }

@@ -5,8 +5,11 @@ use Rattle.mesh_arena.specs.Pages.{IsTaken}
 use Rattle.mesh_model.specs.Mesh.{read_only_pages}
 use Rattle.mesh_model.specs.Places.{Record, holds, place_of, IsIn, record_with}
 use Rattle.mesh_pagemap.specs.Entries.{is_read_only}
-use Rattle.mesh_steps.specs.Ground.{table_of, targets_of}
-use Rattle.mesh_steps.specs.Heap.{Heap, live_records}
+use Rattle.mesh_layout.specs.Indexes.{layout_of}
+use Rattle.mesh_layout.specs.Layout.{IsLaidOut}
+use Rattle.mesh_layout.specs.Meshes.{stage_of}
+use Rattle.mesh_layout.specs.PageHeap.{targets_of}
+use Rattle.mesh_steps.specs.Heap.{Heap, arena_of, index_of, live_records, map_of, table_of}
 
 -- no two live objects have an address in common
 abbrev pub HasObjectsApart : Heap → Type 0
@@ -16,13 +19,17 @@ HasObjectsApart h = (i j x : ℕ) (r q : Record) → record_with i (live_records
 -- no two addresses of live objects, of one or of two, have one place
 abbrev pub HasPlacesApart : Heap → Type 0
 HasPlacesApart h = (i j x y : ℕ) (r q : Record) → record_with i (live_records h) ≡ Some r → record_with j (live_records h) ≡ Some q
-    → IsIn r x → IsIn q y → x ≢ y → place_of (targets_of h.base.map) x ≢ place_of (targets_of h.base.map) y
+    → IsIn r x → IsIn q y → x ≢ y → place_of (targets_of (map_of h)) x ≢ place_of (targets_of (map_of h)) y
 
 -- each physical page that holds a live object is taken, so a free page holds none
 abbrev pub HasHeldPagesTaken : Heap → Type 0
-HasHeldPagesTaken h = (serial page : ℕ) (r : Record) → record_with serial (live_records h) ≡ Some r → holds (targets_of h.base.map) page r ≡ true
-    → IsTaken h.base.arena page
+HasHeldPagesTaken h = (serial page : ℕ) (r : Record) → record_with serial (live_records h) ≡ Some r → holds (targets_of (map_of h)) page r ≡ true
+    → IsTaken (arena_of h) page
 
 -- the read-only virtual pages are those of the running meshes
 abbrev pub HasReadOnlyOfMeshes : Heap → Type 0
-HasReadOnlyOfMeshes h = (v : ℕ) → is_read_only h.base.map v ≡ list_any (nat_eq v) (read_only_pages (table_of h.base))
+HasReadOnlyOfMeshes h = (v : ℕ) → is_read_only (map_of h) v ≡ list_any (nat_eq v) (read_only_pages (table_of h))
+
+-- groups, page map and arena lie as the running meshes have them
+abbrev pub LiesAsMeshesHaveIt : Heap → Type 0
+LiesAsMeshesHaveIt h = IsLaidOut (layout_of (index_of h)) (stage_of (layout_of (index_of h)) (table_of h).meshes) (map_of h) (arena_of h)

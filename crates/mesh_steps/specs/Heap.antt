@@ -1,16 +1,20 @@
 -- A heap: pages, page map and index with the next serial, the plain memory that it stands for, and what its calls do to both.
 use Rattle.std.specs.Prelude.{◌≡◌, ℕ, ◌+◌, ◌-◌, ◌<◌, ◌≤◌, Bool, true, false, not, nat_eq, List, [], ◌∷◌, length, Option, Some, None, Result, Ok, Err, IsOk, slice_index, slice_range, refl}
 use Rattle.std.specs.Coded.{Coded, code_by, coded×, coded_ℕ}
+use Rattle.mesh_arena.specs.Pages.{Pages}
+use Rattle.mesh_layout.specs.PageHeap.{bytes_in, targets_of}
 use Rattle.mesh_model.specs.Classes.{class_for}
 use Rattle.mesh_model.specs.Memory.{Memory, Object, object_of, with_object, with_new}
 use Rattle.mesh_model.specs.Places.{Record, meaning, object_at, records_of, record_with}
 use Rattle.mesh_model.specs.Plain.{Named, ends_outside, holding, stored}
 use Rattle.mesh_model.specs.Sound.{IsSound, IsTied}
-use Rattle.mesh_model.specs.Table.{Placed, place_new, without_object}
+use Rattle.mesh_model.specs.Table.{Placed, Table, place_new, without_object}
 use Rattle.mesh_model.specs.Words.{◌>>=◌, or_refuse, refuse_if}
 use Rattle.mesh_model.specs.declared.refusals.Refusal.{Refusal}
 use Rattle.mesh_model.specs.declared.refusals.Refusal.TheVariants.{Freed, Outside}
-use Rattle.mesh_steps.specs.Ground.{Ground, IsCalm, IsInSlotOf, bytes_in, ground_code, open_group, table_of, targets_of}
+use Rattle.mesh_pagemap.specs.Entries.{Entries}
+use Rattle.mesh_spans.specs.Index.{Index}
+use Rattle.mesh_steps.specs.PageHeap.{IsInSlotOf, PageHeap, open_group, page_heap_code, table_in}
 use Rattle.mesh_steps.specs.declared.answers.NewFault.{NewFault}
 use Rattle.mesh_steps.specs.declared.answers.NewFault.TheVariants.{Memory as NoMemory, Refused as NewRefused}
 use Rattle.mesh_steps.specs.declared.answers.Occupied.{Occupied}
@@ -18,32 +22,44 @@ use Rattle.mesh_steps.specs.declared.answers.Ref.{Ref}
 use Rattle.mesh_steps.specs.declared.answers.Stored.{Stored}
 use Rattle.mesh_steps.specs.declared.answers.Stored.TheVariants.{Blocked, Done, Refused}
 
--- a heap
+-- a heap: its page heap, and the serial of the next object
 pub record Heap : Type 0 where
-  pub base : Ground
+  pub pages : PageHeap
   pub next_serial : ℕ
 
 -- a heap is stored as its parts
 abbrev pub heap_code : Coded Heap
-heap_code = code_by (Ground × ℕ) (coded× ground_code coded_ℕ) (λ h. (h.base, h.next_serial)) (λ p. record { base = p.0; next_serial = p.1 }) (λ _. refl)
+heap_code = code_by (PageHeap × ℕ) (coded× page_heap_code coded_ℕ) (λ h. (h.pages, h.next_serial)) (λ p. record { pages = p.0; next_serial = p.1 }) (λ _. refl)
+
+-- its table, its physical pages, its page map and its span index
+abbrev pub table_of : Heap → Table
+table_of h = table_in h.pages
+
+abbrev pub arena_of : Heap → Pages
+arena_of h = h.pages.arena
+
+abbrev pub map_of : Heap → Entries
+map_of h = h.pages.map
+
+abbrev pub index_of : Heap → Index
+index_of h = h.pages.index
 
 -- the records of its live objects
 abbrev pub live_records : Heap → List Record
-live_records h = records_of (table_of h.base)
+live_records h = records_of (table_of h)
 
 -- the plain memory that the heap stands for with these roots: its objects, read from the arena through the page map
 abbrev pub memory_of : Heap → List (Option ℕ) → Memory
-memory_of h roots = meaning h.next_serial (live_records h) (targets_of h.base.map) (bytes_in h.base.arena) roots
+memory_of h roots = meaning h.next_serial (live_records h) (targets_of (map_of h)) (bytes_in (arena_of h)) roots
 
 -- the same without roots
 abbrev pub plain_of : Heap → Memory
 plain_of h = memory_of h []
 
--- the table is sound and names the live objects, and no mesh is running
+-- the table is sound and names the live objects
 pub record IsHeap (h : Heap) : Type 0 where
-  pub sound : IsSound (table_of h.base)
-  pub tied : IsTied (plain_of h) (table_of h.base)
-  pub calm : IsCalm h.base.index
+  pub sound : IsSound (table_of h)
+  pub tied : IsTied (plain_of h) (table_of h)
 
 -- the live object that a reference names: the one of its serial, where that stands at its address
 abbrev pub referred : Memory → Ref → Result Named Refusal
@@ -73,28 +89,45 @@ byte_at_address m addr = holding m addr >>= λ named. Ok (slice_index named.obje
 abbrev pub stored_at_address : Memory → ℕ → ℕ → Result Memory Refusal
 stored_at_address m addr byte = holding m addr >>= λ named. Ok (stored m named (addr - named.object.address) (byte ∷ []))
 
--- what a store comes to: done as the plain memory does it, where no page is read-only; blocked only where one is; or refused
+-- a store that was done: as the plain memory does it, where no touched page is read-only
+pub record IsStored (old new : Heap) (after : Result Memory Refusal) (blocked : Bool) : Type 0 where
+  pub memory : after ≡ Ok (plain_of new)
+  pub may : blocked ≡ false
+  pub table : table_of new ≡ table_of old
+  pub serial : new.next_serial ≡ old.next_serial
+
+-- a store that was blocked: nothing refuses it, a touched page is read-only, and nothing changed
+pub record IsHeldBack (old new : Heap) (after : Result Memory Refusal) (blocked : Bool) : Type 0 where
+  pub allowed : IsOk after
+  pub read_only : blocked ≡ true
+  pub same : new ≡ old
+
+-- a store that was refused as the plain memory refuses it, and nothing changed
+pub record IsRefused (old new : Heap) (after : Result Memory Refusal) (refusal : Refusal) : Type 0 where
+  pub told : after ≡ Err refusal
+  pub same : new ≡ old
+
+-- what a store comes to
 abbrev pub IsStore : Heap → Heap → Result Memory Refusal → Bool → Stored → Type 0
-IsStore old new after blocked Done =
-    (after ≡ Ok (plain_of new)) × (blocked ≡ false) × (table_of new.base ≡ table_of old.base) × (new.next_serial ≡ old.next_serial)
-IsStore old new after blocked Blocked = IsOk after × (blocked ≡ true) × (new ≡ old)
-IsStore old new after blocked (Refused refusal) = (after ≡ Err refusal) × (new ≡ old)
+IsStore old new after blocked Done = IsStored old new after blocked
+IsStore old new after blocked Blocked = IsHeldBack old new after blocked
+IsStore old new after blocked (Refused refusal) = IsRefused old new after refusal
 
 -- what a free comes to: the object is gone, and its bytes and all pages stay
 pub record IsFree (old new : Heap) (object : Ref) : Type 0 where
   pub memory : freed_at (plain_of old) object ≡ Ok (plain_of new)
-  pub table : table_of new.base ≡ without_object (table_of old.base) object.serial
+  pub table : table_of new ≡ without_object (table_of old) object.serial
   pub serial : new.next_serial ≡ old.next_serial
-  pub arena : new.base.arena ≡ old.base.arena
-  pub map : new.base.map ≡ old.base.map
+  pub arena : arena_of new ≡ arena_of old
+  pub map : map_of new ≡ map_of old
 
 -- what a new object comes to: it stands where the table places it, and holds zeros
 pub record IsMade (old new : Heap) (len word : ℕ) (object : Ref) : Type 0 where
   pub placed : Placed
-  pub placed_is : place_new (table_of old.base) len word old.next_serial ≡ Ok placed
+  pub placed_is : place_new (table_of old) len word old.next_serial ≡ Ok placed
   pub serial : object.serial ≡ old.next_serial
   pub address : object.addr ≡ placed.address
-  pub table : table_of new.base ≡ placed.table
+  pub table : table_of new ≡ placed.table
   pub memory : plain_of new ≡ with_new (plain_of old) len placed.address
   pub next : new.next_serial ≡ old.next_serial + 1
 
@@ -103,12 +136,12 @@ pub record NeedsSpan (old : Heap) (len word : ℕ) : Type 0 where
   pub class : ℕ
   pub class_is : class_for len ≡ Some class
   pub placed : Placed
-  pub placed_is : place_new (table_of old.base) len word old.next_serial ≡ Ok placed
-  pub none_open : open_group old.base class ≡ None
+  pub placed_is : place_new (table_of old) len word old.next_serial ≡ Ok placed
+  pub none_open : open_group (table_of old) class ≡ None
 
 -- why no object was made, and nothing changed: the table refuses it, or the memory for a new span was refused
 abbrev pub IsNotMade : Heap → Heap → ℕ → ℕ → NewFault → Type 0
-IsNotMade old new len word (NewRefused refusal) = (place_new (table_of old.base) len word old.next_serial ≡ Err refusal) × (new ≡ old)
+IsNotMade old new len word (NewRefused refusal) = (place_new (table_of old) len word old.next_serial ≡ Err refusal) × (new ≡ old)
 IsNotMade old new len word NoMemory = NeedsSpan old len word × (new ≡ old)
 
 -- the object in whose slot an address is, by its record
@@ -116,7 +149,7 @@ pub record IsObjectAt (h : Heap) (addr : ℕ) (o : Occupied) : Type 0 where
   pub address : ℕ
   pub at : address + o.offset ≡ addr
   pub recorded : record_with o.serial (live_records h) ≡ Some (record { serial = o.serial; address = address; len = o.len })
-  pub in_slot : IsInSlotOf h.base.index addr o.span o.slot o.offset o.serial o.len
+  pub in_slot : IsInSlotOf (index_of h) addr o.span o.slot o.offset o.serial o.len
 
 -- a live object of this serial stands at the address, and has so many bytes
 pub record IsLiveFor (h : Heap) (serial address bytes : ℕ) : Type 0 where
@@ -130,7 +163,7 @@ stored_in h serial address off bytes = stored_at (plain_of h) (record { serial =
 
 -- the object that a record stands for in the heap
 abbrev pub object_in : Heap → Record → Object
-object_in h r = object_at (targets_of h.base.map) (bytes_in h.base.arena) r
+object_in h r = object_at (targets_of (map_of h)) (bytes_in (arena_of h)) r
 
 -- the record of an object of this serial, address and length
 abbrev pub live_record : ℕ → ℕ → ℕ → Record
@@ -142,7 +175,7 @@ pub record IsReferred (h : Heap) (object : Ref) (o : Occupied) : Type 0 where
   pub serial : o.serial ≡ object.serial
   pub begins : o.offset ≡ 0
   pub recorded : record_with object.serial (live_records h) ≡ Some (live_record object.serial object.addr o.len)
-  pub in_slot : IsInSlotOf h.base.index object.addr o.span o.slot 0 object.serial o.len
+  pub in_slot : IsInSlotOf (index_of h) object.addr o.span o.slot 0 object.serial o.len
   pub named : referred (plain_of h) object ≡ Ok (record { serial = object.serial; object = object_in h (live_record object.serial object.addr o.len) })
 
 -- the object whose range has an address, by its record
@@ -151,5 +184,5 @@ pub record IsHeld (h : Heap) (addr : ℕ) (o : Occupied) : Type 0 where
   pub at : address + o.offset ≡ addr
   pub within : o.offset < o.len
   pub recorded : record_with o.serial (live_records h) ≡ Some (live_record o.serial address o.len)
-  pub in_slot : IsInSlotOf h.base.index addr o.span o.slot o.offset o.serial o.len
+  pub in_slot : IsInSlotOf (index_of h) addr o.span o.slot o.offset o.serial o.len
   pub held : holding (plain_of h) addr ≡ Ok (record { serial = o.serial; object = object_in h (live_record o.serial address o.len) })

@@ -6,9 +6,6 @@ pub use Rattle.mesh_pagemap.specs.Entries
 pub use Rattle.mesh_spans.specs.Groups
 pub use Rattle.mesh_spans.specs.Index
 pub use Rattle.mesh_store.specs.Places
-pub mod Growth
 pub mod Always
-pub mod Ground
+pub mod PageHeap
 pub mod Heap
-pub mod Layout
-pub mod Progress

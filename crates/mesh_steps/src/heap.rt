@@ -5,13 +5,11 @@ ghost use Rattle.mesh_model.specs.Mesh.{is_blocked};
 ghost use Rattle.mesh_model.specs.Places.{Record, IsIn, record_with};
 ghost use Rattle.mesh_model.specs.Plain.{holding};
 ghost use Rattle.mesh_model.specs.Table.{empty_table};
-ghost use Rattle.mesh_steps.specs.Always.{HasHeldPagesTaken, HasObjectsApart, HasPlacesApart, HasReadOnlyOfMeshes};
-ghost use Rattle.mesh_steps.specs.Ground.{table_of};
-ghost use Rattle.mesh_steps.specs.Layout.{IsLaidOut, layout_of};
-ghost use Rattle.mesh_steps.specs.Heap.{IsFree, IsHeap, IsHeld, IsLiveFor, IsMade, IsNotMade, IsObjectAt, IsReferred, IsStore, byte_at_address, bytes_at, freed_at, live_records, memory_of, plain_of, referred, stored_at, stored_at_address, stored_in};
+ghost use Rattle.mesh_steps.specs.Always.{HasHeldPagesTaken, HasObjectsApart, HasPlacesApart, HasReadOnlyOfMeshes, LiesAsMeshesHaveIt};
+ghost use Rattle.mesh_steps.specs.Heap.{IsFree, IsHeap, IsHeld, IsLiveFor, IsMade, IsNotMade, IsObjectAt, IsReferred, IsStore, byte_at_address, bytes_at, freed_at, live_records, memory_of, plain_of, referred, stored_at, stored_at_address, stored_in, table_of};
 
 use crate::answers::Occupied;
-use crate::ground::Ground;
+use crate::page_heap::PageHeap;
 use crate::{NewFault, Ref, Stored};
 use arrayvec::ArrayVec;
 use mesh_class::class_of;
@@ -22,7 +20,7 @@ use std::marker::Model;
 /// A heap of objects in slots of spans, over modelled physical pages and a page map.
 #[derive(Drop)]
 pub struct Heap {
-    base: Ground,
+    pages: PageHeap,
     // The serial of the next object.
     next_serial: u32,
 }
@@ -34,9 +32,9 @@ impl Model for Heap {
 
     ghost coded = { heap_code };
 
-    ghost view = { λ h. record { base = h.base; next_serial = h.next_serial } };
+    ghost view = { λ h. record { pages = h.pages; next_serial = h.next_serial } };
 
-    ghost invariant = { λ h. IsHeap (record { base = h.base; next_serial = h.next_serial }) };
+    ghost invariant = { λ h. IsHeap (record { pages = h.pages; next_serial = h.next_serial }) };
 }
 
 impl Heap {
@@ -44,13 +42,13 @@ impl Heap {
     pub fn open(alloc: Global, pages: u32) -> Result<Heap, AllocError>
         requires some { 1 ≤ pages }
         requires most { pages ≤ 4096 }
-        ensures table { IfOk result (λ heap. table_of heap.base ≡ empty_table pages) }
+        ensures table { IfOk result (λ heap. table_of heap ≡ empty_table pages) }
         ensures memory { IfOk result (λ heap. (roots : List (Option ℕ)) → memory_of heap roots ≡ record { objects = []; roots = roots }) }
         ensures serial { IfOk result (λ heap. heap.next_serial ≡ 0) }
     {
-        let base = Ground::open(alloc, pages)?;
+        let pages = PageHeap::open(alloc, pages)?;
         Ok(Heap {
-            base,
+            pages,
             next_serial: 0,
         })
     }
@@ -63,12 +61,10 @@ impl Heap {
         ensures made { IfOk result (IsMade self.old self.new len word) }
         ensures fault { IfErr result (IsNotMade self.old self.new len word) }
     {
-        self.base.sound();
         let class = class_of(len)?;
-        let (span, slot) = self.base.place(class, word)?;
-        self.base.sound();
+        let (span, slot) = self.pages.place(class, word)?;
         let serial = self.next_serial;
-        let addr = self.base.put(span, slot, serial, len);
+        let addr = self.pages.put(span, slot, serial, len);
         self.next_serial += 1;
         Ok(Ref { serial, addr })
     }
@@ -90,7 +86,7 @@ impl Heap {
         }
         let mut bytes = ArrayVec::from([0; MAX_BYTES]);
         bytes.truncate(len as usize);
-        self.base.load(object.addr + off, bytes.as_mut_slice());
+        self.pages.load(object.addr + off, bytes.as_mut_slice());
         Ok(bytes)
     }
 
@@ -102,7 +98,7 @@ impl Heap {
         requires some { 1 ≤ length bytes.now }
         requires few { length bytes.now ≤ 32 }
         ensures { IsStore self.old self.new (stored_at (plain_of self.old) object off bytes.now)
-            (is_blocked (table_of self.old.base) (object.addr + off) (length bytes.now)) result }
+            (is_blocked (table_of self.old) (object.addr + off) (length bytes.now)) result }
     {
         let Some(live) = self.live(object) else {
             return Stored::Refused(Refusal::Freed);
@@ -122,7 +118,7 @@ impl Heap {
             return Err(Refusal::Stray);
         };
         let mut byte = [0];
-        self.base.load(addr, &mut byte);
+        self.pages.load(addr, &mut byte);
         Ok(byte[0])
     }
 
@@ -130,7 +126,7 @@ impl Heap {
     ///
     /// Refused with STRAY where no live object's range has the address. Blocked where one has and its page is read-only.
     pub fn poke(&mut self, addr: u32, byte: u8) -> Stored
-        ensures { IsStore self.old self.new (stored_at_address (plain_of self.old) addr byte) (is_blocked (table_of self.old.base) addr 1) result }
+        ensures { IsStore self.old self.new (stored_at_address (plain_of self.old) addr byte) (is_blocked (table_of self.old) addr 1) result }
     {
         let Some(held) = self.holder(addr) else {
             return Stored::Refused(Refusal::Stray);
@@ -144,8 +140,7 @@ impl Heap {
         ensures refused { IfErr result (λ refusal. (freed_at (plain_of self.old) object ≡ Err refusal) × (self.new ≡ self.old)) }
     {
         let live = self.live(object).ok_or(Refusal::Freed)?;
-        self.base.sound();
-        self.base.take_out(live.span, live.slot);
+        self.pages.take_out(live.span, live.slot);
         Ok(())
     }
 
@@ -163,12 +158,12 @@ impl Heap {
         ensures places { HasPlacesApart self.now }
         ensures held { HasHeldPagesTaken self.now }
         ensures read_only { HasReadOnlyOfMeshes self.now }
-        ensures laid_out { IsLaidOut (layout_of self.now.base.index) (table_of self.now.base).meshes self.now.base.map self.now.base.arena }
+        ensures laid_out { LiesAsMeshesHaveIt self.now }
     {
-        self.base.sound();
+        self.pages.sound();
     }
 
-    /// What always holds of its table: it is sound, it names the live objects, and no group is in a mesh.
+    /// What always holds of its table: it is sound, and it names the live objects.
     pub fn sound(&self)
         ensures { IsHeap self.now }
     {
@@ -181,14 +176,14 @@ impl Heap {
         requires few { length bytes.now ≤ 32 }
         requires live { IsLiveFor self.old serial addr (off + length bytes.now) }
         ensures { IsStore self.old self.new (stored_in self.old serial addr off bytes.now)
-            (is_blocked (table_of self.old.base) (addr + off) (length bytes.now)) result }
+            (is_blocked (table_of self.old) (addr + off) (length bytes.now)) result }
     {
-        self.base.sound();
+        self.pages.sound();
         let from = addr + off;
-        if self.base.blocked(from, bytes.len() as u32) {
+        if self.pages.blocked(from, bytes.len() as u32) {
             return Stored::Blocked;
         }
-        self.base.save(from, bytes);
+        self.pages.save(from, bytes);
         Stored::Done
     }
 
@@ -226,8 +221,8 @@ impl Heap {
             → IsSomeAnd result (λ o. (o.serial ≡ serial) × (r.address + o.offset ≡ addr) × (o.len ≡ r.len)) }
         ensures sound { IsHeap self.now }
     {
-        self.base.sound();
-        self.base.occupied_at(addr)
+        self.pages.sound();
+        self.pages.occupied_at(addr)
     }
 }
 

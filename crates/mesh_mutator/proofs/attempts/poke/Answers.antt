@@ -8,7 +8,7 @@ pub returns-clause-performed : goal.returns-clause-performed
 returns-clause-performed c =
     rw c.stored.ensures (store_performed c.args.heap.now c.poke.new.self c.args.roots.now (Poke c.args.addr c.args.byte)
     (stored_at_address (plain_of c.args.heap.now) c.args.addr c.args.byte) c.args.addr 1 c.poke.result refl
-    (poke_alike c.args.heap.now c.args.roots.now c.args.addr c.args.byte) tt c.poke.ensures)
+    (poke_alike c.args.heap.now c.args.roots.now c.args.addr c.args.byte) (λ went. refl) tt c.poke.ensures)
 
 pub returns-clause-rooted : goal.returns-clause-rooted
 returns-clause-rooted c =

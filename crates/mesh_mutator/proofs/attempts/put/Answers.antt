@@ -1,6 +1,6 @@
 use Rattle.std.proofs.Common.{◌≡◌, ◌+◌, Some, length, refl, sym}
 use Rattle.mesh_model.specs.declared.commands.Command.TheVariants.{Put}
-use Rattle.mesh_mutator.proofs.Answering.{put_alike, put_empty, rooted_stored, store_performed, stored_at_keeps, stored_serial}
+use Rattle.mesh_mutator.proofs.Answering.{put_alike, put_empty, put_touches, rooted_stored, store_performed, stored_at_keeps, stored_serial}
 use Rattle.mesh_mutator.specs.Book.{cell_at}
 use Rattle.mesh_steps.specs.Heap.{plain_of, stored_at}
 use Rattle.mesh_mutator.proofs.attempts.put.Goals as goal
@@ -11,7 +11,8 @@ returns-in-Some-clause-performed c =
     rw c.stored.ensures (store_performed c.args.heap.now c.write.new.self c.args.roots.now (Put c.args.cell c.args.off (record { items = c.args.bytes.now }))
     (stored_at (plain_of c.args.heap.now) c.in-Some.object c.args.off c.args.bytes.now) (c.in-Some.object.addr + c.args.off) (length c.args.bytes.now)
     c.write.result refl
-    (put_alike c.args.heap.now c.args.roots.now c.args.cell c.args.off c.args.bytes.now c.in-Some.object c.requires.rooted at) tt c.write.ensures)
+    (put_alike c.args.heap.now c.args.roots.now c.args.cell c.args.off c.args.bytes.now c.in-Some.object c.requires.rooted at)
+    (put_touches c.args.heap.now c.args.roots.now c.args.cell c.args.off c.args.bytes.now c.in-Some.object c.requires.rooted at) tt c.write.ensures)
 
 pub returns-in-Some-clause-rooted : goal.returns-in-Some-clause-rooted
 returns-in-Some-clause-rooted c =

@@ -1,6 +1,6 @@
 use Rattle.std.proofs.Common.{◌≡◌, drop}
 use Rattle.mesh_steps.proofs.GrowthLemmas.{AreTakenFrom}
-use Rattle.mesh_steps.specs.Growth.{given_back}
+use Rattle.mesh_layout.specs.Growth.{given_back}
 use Rattle.mesh_steps.proofs.growth.give_pages.Given as goal
 
 abbrev pub invariant-loop-page : goal.invariant-loop-page

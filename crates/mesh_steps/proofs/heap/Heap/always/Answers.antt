@@ -1,26 +1,24 @@
-use Rattle.mesh_steps.proofs.Layouts.{IsLaidOut_calm}
-use Rattle.mesh_steps.proofs.Standing.{heap_held_taken, heap_objects_apart, heap_places_apart, heap_read_only}
+use Rattle.mesh_layout.proofs.Standing.{places_apart, read_only}
+use Rattle.mesh_steps.proofs.Standing.{heap_held_taken, heap_objects_apart}
 use Rattle.mesh_steps.proofs.heap.Heap.always.Goals as goal
 
 pub returns-clause-objects : goal.returns-clause-objects
 returns-clause-objects c =
-    rw (← c.self.view_is) (heap_objects_apart (record { base = c.self.inside.base; next_serial = c.self.inside.next_serial }) c.self.invariant)
+    rw (← c.self.view_is) (heap_objects_apart (record { pages = c.self.inside.pages; next_serial = c.self.inside.next_serial }) c.self.invariant)
 
 pub returns-clause-places : goal.returns-clause-places
 returns-clause-places c =
-    rw (← c.self.view_is) (heap_places_apart (record { base = c.self.inside.base; next_serial = c.self.inside.next_serial }) c.self.invariant
-    c.sound.ensures.pages c.sound.ensures.index)
+    let pages = c.self.inside.pages in
+    rw (← c.self.view_is) (places_apart pages.arena pages.map pages.index pages.next_page pages.meshes c.sound.ensures.index c.sound.ensures.pages)
 
 pub returns-clause-held : goal.returns-clause-held
 returns-clause-held c =
-    rw (← c.self.view_is) (heap_held_taken (record { base = c.self.inside.base; next_serial = c.self.inside.next_serial }) c.self.invariant
-    c.sound.ensures.pages c.sound.ensures.index)
+    rw (← c.self.view_is) (heap_held_taken c.self.inside.pages c.self.inside.next_serial c.sound.ensures.index c.sound.ensures.pages)
 
 pub returns-clause-read_only : goal.returns-clause-read_only
 returns-clause-read_only c =
-    rw (← c.self.view_is) (heap_read_only (record { base = c.self.inside.base; next_serial = c.self.inside.next_serial }) c.sound.ensures.pages)
+    let pages = c.self.inside.pages in
+    rw (← c.self.view_is) (read_only pages.arena pages.map pages.index pages.next_page pages.meshes c.sound.ensures.index c.sound.ensures.pages)
 
 pub returns-clause-laid_out : goal.returns-clause-laid_out
-returns-clause-laid_out c =
-    let ground = c.sound.ensures.pages in
-    rw (← c.self.view_is) (IsLaidOut_calm _ _ _ ground.home ground.taken ground.apart ground.writable)
+returns-clause-laid_out c = rw (← c.self.view_is) c.sound.ensures.pages.laid_out

@@ -1,35 +1,27 @@
 use Rattle.std.proofs.Common.{Option, IfSome, subst, sym}
 use Rattle.mesh_steps.specs.Heap.{Heap, IsObjectAt, IsReferred}
 use Rattle.mesh_steps.specs.declared.answers.Occupied.{Occupied}
-use Rattle.mesh_steps.proofs.Making.{freed_heap, freed_is}
+use Rattle.mesh_steps.proofs.Making.{emptied_sound, freed_heap, freed_is}
 use Rattle.mesh_steps.proofs.heap.Heap.free.Goals as goal
+
+pub take_out-requires-clause-sound : goal.take_out-requires-clause-sound
+take_out-requires-clause-sound c =
+    let there = subst (λ (r : Option Occupied). IfSome r (IsReferred c.args.self.now c.args.object)) c.in_ok-live.ensures.ok_part c.live.ensures.there in
+    let at = subst (λ (h : Heap). IsObjectAt h c.args.object.addr c.in_ok-live.live) (sym c.self.view_is) there.at in
+    emptied_sound (record { pages = c.self.inside.pages; next_serial = c.self.inside.next_serial }) c.args.object.addr c.in_ok-live.live c.self.invariant at
 
 pub invariant_of-self : goal.invariant_of-self
 invariant_of-self c =
     let there = subst (λ (r : Option Occupied). IfSome r (IsReferred c.args.self.now c.args.object)) c.in_ok-live.ensures.ok_part c.live.ensures.there in
     let at = subst (λ (h : Heap). IsObjectAt h c.args.object.addr c.in_ok-live.live) (sym c.self.view_is) there.at in
     let out = c.take_out.ensures in
-    freed_heap (record { base = c.self.inside.base; next_serial = c.self.inside.next_serial }) c.take_out.new.self c.args.object.addr
-    c.in_ok-live.live c.self.invariant at (record {
-      groups = out.groups;
-      arena = out.arena;
-      map = out.map;
-      next = out.next;
-      spans = out.spans;
-      closed = out.closed;
-    })
+    freed_heap (record { pages = c.self.inside.pages; next_serial = c.self.inside.next_serial }) c.take_out.new.self c.args.object.addr
+    c.in_ok-live.live c.self.invariant at (record { table = out.table; arena = out.arena; map = out.map })
 
 pub returns-clause-freed : goal.returns-clause-freed
 returns-clause-freed c =
     let there = subst (λ (r : Option Occupied). IfSome r (IsReferred c.args.self.now c.args.object)) c.in_ok-live.ensures.ok_part c.live.ensures.there in
     let at = subst (λ (h : Heap). IsObjectAt h c.args.object.addr c.in_ok-live.live) (sym c.self.view_is) there.at in
     let out = c.take_out.ensures in
-    rw (← c.self.view_is) (freed_is (record { base = c.self.inside.base; next_serial = c.self.inside.next_serial }) c.take_out.new.self
-    c.args.object c.in_ok-live.live c.self.invariant at there.serial there.begins (record {
-      groups = out.groups;
-      arena = out.arena;
-      map = out.map;
-      next = out.next;
-      spans = out.spans;
-      closed = out.closed;
-    }))
+    rw (← c.self.view_is) (freed_is (record { pages = c.self.inside.pages; next_serial = c.self.inside.next_serial }) c.take_out.new.self
+    c.args.object c.in_ok-live.live c.self.invariant at there.serial there.begins (record { table = out.table; arena = out.arena; map = out.map }))

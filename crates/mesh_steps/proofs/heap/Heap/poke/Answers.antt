@@ -1,12 +1,13 @@
-use Rattle.std.proofs.Common.{◌≡◌, ◌-◌, ℕ, false, [], ◌∷◌, Result, refl, sym, ap, subst, ◌∙◌, arith}
+use Rattle.std.proofs.Common.{◌≡◌, ◌+◌, ◌-◌, ℕ, [], ◌∷◌, Result, refl, sym, ap, subst, ◌∙◌, arith}
 use Rattle.mesh_model.specs.Memory.{Memory}
 use Rattle.mesh_model.specs.declared.refusals.Refusal.{Refusal}
-use Rattle.mesh_steps.specs.Heap.{IsStore, stored_in}
+use Rattle.mesh_model.specs.Mesh.{is_blocked}
+use Rattle.mesh_steps.specs.Heap.{IsStore, stored_in, table_of}
 use Rattle.mesh_steps.proofs.Stores.{stored_held, stored_stray}
 use Rattle.mesh_steps.proofs.heap.Heap.poke.Goals as goal
 
 pub returns-in_default : goal.returns-in_default
-returns-in_default c = (stored_stray c.args.self.now c.args.addr c.args.byte c.in_default.ensures.none, refl)
+returns-in_default c = record { told = stored_stray c.args.self.now c.args.addr c.args.byte c.in_default.ensures.none; same = refl }
 
 pub save-requires-clause-live : goal.save-requires-clause-live
 save-requires-clause-live c =
@@ -20,5 +21,9 @@ returns c =
     let held = c.in-Some.ensures.there in
     let at : c.args.addr - c.in-Some.held.offset ≡ held.address = (let sum = held.at in omega (arith, sum)) in
     let same = stored_held c.args.self.now c.args.addr c.args.byte c.in-Some.held held c.holder.ensures.sound in
-    subst (λ (after : Result Memory Refusal). IsStore c.args.self.now c.save.new.self after false c.save.result)
-    (ap (λ (a : ℕ). stored_in c.args.self.now c.in-Some.held.serial a c.in-Some.held.offset (c.args.byte ∷ [])) at ∙ sym same) c.save.ensures
+    let low = held.at in
+    let back : c.args.addr - c.in-Some.held.offset + c.in-Some.held.offset ≡ c.args.addr = omega (arith, low) in
+    let stored = subst (λ (a : ℕ). IsStore c.args.self.now c.save.new.self (stored_in c.args.self.now c.in-Some.held.serial (c.args.addr - c.in-Some.held.offset)
+    c.in-Some.held.offset (c.args.byte ∷ [])) (is_blocked (table_of c.args.self.now) a 1) c.save.result) back c.save.ensures in
+    subst (λ (after : Result Memory Refusal). IsStore c.args.self.now c.save.new.self after (is_blocked (table_of c.args.self.now) c.args.addr 1) c.save.result)
+    (ap (λ (a : ℕ). stored_in c.args.self.now c.in-Some.held.serial a c.in-Some.held.offset (c.args.byte ∷ [])) at ∙ sym same) stored

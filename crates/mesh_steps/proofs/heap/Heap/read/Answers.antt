@@ -2,8 +2,8 @@ use Rattle.std.proofs.Common.{◌≡◌, ◌+◌, ℕ, List, [], ◌∷◌, ◌+
 use Rattle.std.proofs.lemmas.Grind.{common_steps}
 use Rattle.mesh_arena.specs.Pages.{run_of, length-run_of}
 use Rattle.mesh_store.specs.Places.{byte_of}
-use Rattle.mesh_steps.specs.Heap.{Heap, IsReferred}
-use Rattle.mesh_steps.proofs.Objects.{read_is, read_past, read_stale, slot_covered}
+use Rattle.mesh_steps.specs.Heap.{Heap, IsReferred, arena_of, map_of}
+use Rattle.mesh_steps.proofs.Objects.{live_in_object, read_is, read_past, read_stale}
 use Rattle.mesh_steps.proofs.heap.Heap.read.Goals as goal
 
 -- bytes written over as many are all that is there
@@ -21,23 +21,22 @@ pub returns-then-not-has_range-clause-refused : goal.returns-then-not-has_range-
 returns-then-not-has_range-clause-refused c =
     read_past c.args.self.now c.args.object c.in-Some.live c.args.off c.args.len c.in-Some.ensures.there c.if-not-has_range.ensures.past
 
-pub load-requires-clause-covered : goal.load-requires-clause-covered
-load-requires-clause-covered c =
+pub load-requires-clause-object : goal.load-requires-clause-object
+load-requires-clause-object c =
     let there = subst (λ (h : Heap). IsReferred h c.args.object c.in-Some.live) (sym c.self.view_is) c.in-Some.ensures.there in
-    let start : there.in_slot.address ≡ c.args.object.addr = (let at = there.in_slot.at in omega (arith, at)) in
     let long : length c.as_mut_slice.result.now ≡ c.args.len = grind (arith, common_steps) in
-    rw (long, ← start) (slot_covered c.self.inside.base c.args.object.addr c.in-Some.live.span c.in-Some.live.slot 0 c.args.object.serial c.in-Some.live.len
-    c.args.off c.args.len there.in_slot c.if-not-has_range.ensures.within)
+    rw long (live_in_object (record { pages = c.self.inside.pages; next_serial = c.self.inside.next_serial }) c.args.object.serial c.args.off c.args.len _ c.self.invariant
+    there.recorded c.if-not-has_range.ensures.within)
 
 pub returns-clause-bytes : goal.returns-clause-bytes
 returns-clause-bytes c =
     let long : length c.truncate.new.self.items ≡ c.args.len = grind (arith, common_steps) in
     let slice : length c.as_mut_slice.result.now ≡ c.args.len = grind (arith, common_steps) in
-    let out : c.load.new.out ≡ run_of (byte_of c.self.inside.base.arena c.self.inside.base.map) (c.args.object.addr + c.args.off) c.args.len
+    let out : c.load.new.out ≡ run_of (byte_of c.self.inside.pages.arena c.self.inside.pages.map) (c.args.object.addr + c.args.off) c.args.len
     = rw (← slice) c.load.ensures in
     let same : length c.load.new.out ≡ length c.truncate.new.self.items
     = ap (λ (xs : List ℕ). length xs) out
-    ∙ length-run_of (byte_of c.self.inside.base.arena c.self.inside.base.map) (c.args.object.addr + c.args.off) c.args.len ∙ sym long in
+    ∙ length-run_of (byte_of c.self.inside.pages.arena c.self.inside.pages.map) (c.args.object.addr + c.args.off) c.args.len ∙ sym long in
     read_is c.args.self.now c.args.object c.in-Some.live c.args.off c.args.len _ c.in-Some.ensures.there c.if-not-has_range.ensures.within
     (overlaid c.load.new.out c.truncate.new.self.items same
-    ∙ subst (λ (h : Heap). c.load.new.out ≡ run_of (byte_of h.base.arena h.base.map) (c.args.object.addr + c.args.off) c.args.len) c.self.view_is out)
+    ∙ subst (λ (h : Heap). c.load.new.out ≡ run_of (byte_of (arena_of h) (map_of h)) (c.args.object.addr + c.args.off) c.args.len) c.self.view_is out)
