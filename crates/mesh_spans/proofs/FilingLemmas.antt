@@ -160,6 +160,14 @@ number_fits spans groups n sound below =
     let last = (sound.span n inside).last in
     omega (arith, few, last)
 
+-- there are at most 65,536 groups
+pub few_groups : (spans : List SpanEntry) (groups : List (Option GroupEntry)) → IsIndex spans groups → length groups ≤ 65536
+few_groups spans groups sound = elim (eqb_tells (length groups) 0) [
+  | inl none ↦ let n = none.1 in omega (arith, n)
+  | inr some ↦ let apart = some.1 in
+      let last : length groups - 1 < 65536 = number_fits spans groups (length groups - 1) sound (omega (arith, apart)) in omega (arith, last)
+]
+
 -- groups stay in their bins as one changes and is filed anew
 pub refiled_is : (groups new groups0 new0 : List (Option GroupEntry)) (bins after : List (FinSet nat_cmp)) (n : ℕ) (before : Option ℕ) → IsFiled groups bins
     → groups0 ≡ groups → new0 ≡ new → before ≡ file_of (group_at groups0 n) → after ≡ filed (unfiled bins n before) n (file_of (group_at new0 n))
@@ -311,15 +319,8 @@ pub open_position : (spans : List SpanEntry) (groups : List (Option GroupEntry))
     → IsLeast (λ n. contains (bin_at bins0 (3 * class_place class)) n || contains (bin_at bins0 (3 * class_place class + 1)) n) 0 65536 r
     → position (λ o. is_open o class) groups ≡ r
 open_position spans groups bins bins0 class r same is sound y low least =
-    position_is (λ (o : Option GroupEntry). is_open o class) groups r refl few (moved r least)
+    position_is (λ (o : Option GroupEntry). is_open o class) groups r refl (few_groups spans groups sound) (moved r least)
   where
-    few : length groups ≤ 65536
-    few = elim (eqb_tells (length groups) 0) [
-      | inl none ↦ let n = none.1 in omega (arith, n)
-      | inr some ↦ let apart = some.1 in
-          let last : length groups - 1 < 65536 = number_fits spans groups (length groups - 1) sound (omega (arith, apart)) in omega (arith, last)
-    ]
-
     tells : (n : ℕ) → (contains (bin_at bins0 (3 * class_place class)) n || contains (bin_at bins0 (3 * class_place class + 1)) n) ≡ is_open (group_at groups n) class
     tells n = ap (λ (bs : List (FinSet nat_cmp)). contains (bin_at bs (3 * class_place class)) n || contains (bin_at bs (3 * class_place class + 1)) n) same
         ∙ open_filed groups bins class n is y low (sound.each n)

@@ -375,6 +375,14 @@ group_below [] n group at = absurd (cc at)
 group_below (x ∷ groups) zero group at = omega arith
 group_below (x ∷ groups) (suc n) group at = let below = group_below groups n group at in omega (arith, below)
 
+-- so is that of a slot with a record
+pub recorded_inside : (index : Index) (spans : List SpanEntry) (groups : List (Option GroupEntry)) (span k n : ℕ) → record { spans = spans; groups = groups } ≡ index
+    → n ≡ (span_at index.spans span).group → IsSome (record_at index span k) → n < length groups
+recorded_inside index spans groups span k n e is some =
+    let there = recorded index span k some in
+    let same : groups ≡ index.groups = ap (λ (x : Index). x.groups) e in
+    rw (is, same) (group_below index.groups (span_at index.spans span).group there.group there.there)
+
 -- the span and the place in it that an address of a slot leads to
 pub owner_found : (index : Index) (spans : List SpanEntry) (groups : List (Option GroupEntry)) (owners : List (Option ℕ)) (n place k o addr : ℕ)
     (group : GroupEntry) → record { spans = spans; groups = groups } ≡ index → IsIndex spans groups × IsOwned spans groups owners

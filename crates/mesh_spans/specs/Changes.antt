@@ -1,7 +1,7 @@
 -- How groups are closed, merged and taken out.
-use Rattle.std.specs.Prelude.{◌≡◌, ◌≢◌, ℕ, ◌+◌, ◌<◌, ◌≤◌, ◌⊎◌, Bool, List, ◌++◌, Option, Some, None, length, slice_index, slice_set}
+use Rattle.std.specs.Prelude.{◌≡◌, ◌≢◌, ℕ, ◌+◌, ◌<◌, ◌≤◌, ◌⊎◌, Bool, false, List, ◌++◌, Option, Some, None, length, slice_index, slice_set}
 use Rattle.std.specs.Option.{option_map}
-use Rattle.mesh_model.specs.Mesh.{united}
+use Rattle.mesh_model.specs.Mesh.{do_overlap, united}
 use Rattle.mesh_spans.specs.Index.{GroupEntry, Index, SpanEntry, group_at, span_at}
 
 -- a span of another group
@@ -39,7 +39,7 @@ pub record Regroups (old new : List SpanEntry) (members : List ℕ) (count group
   pub here : (place : ℕ) → place < count → (span_at new (slice_index members place)).group ≡ group
   pub either : (i : ℕ) → ((span_at new i).group ≡ (span_at old i).group) ⊎ IsMoved new members count group i
 
--- the group `s` may be merged into `d`
+-- the group `s` may be merged into `d`: no slot number is occupied in both
 pub record IsMergeable (index : Index) (d s : ℕ) : Type 0 where
   pub a : GroupEntry
   pub b : GroupEntry
@@ -48,6 +48,7 @@ pub record IsMergeable (index : Index) (d s : ℕ) : Type 0 where
   pub two : s ≢ d
   pub same_class : a.class ≡ b.class
   pub few : length a.members + length b.members ≤ 8
+  pub apart : do_overlap a.slots b.slots ≡ false
 
 -- the two groups merged
 pub record Merges (old new : Index) (s d : ℕ) (a b : GroupEntry) : Type 0 where

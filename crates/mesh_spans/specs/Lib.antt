@@ -2,6 +2,7 @@ pub use Rattle.mesh_class.specs.Classes
 pub use Rattle.mesh_bits.specs.Bits
 pub use Rattle.mesh_model.specs.Table
 pub mod Changes
+pub mod Counts
 pub mod Filing
 pub mod Groups
 pub mod Index

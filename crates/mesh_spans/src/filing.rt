@@ -1,11 +1,13 @@
-//! The bins: for each class the groups in no mesh that are empty, partly filled and full.
-ghost use Rattle.std.specs.Prelude.{◌≡◌, ℕ, ◌+◌, ◌*◌, ◌<◌, ◌≤◌, ◌||◌, length, IfOk, IfSome, replicate};
+//! How groups are filed: for each class the bins of those in no mesh that are empty, partly filled and full, and the counts over all groups.
+ghost use Rattle.std.specs.Prelude.{◌≡◌, ℕ, ◌+◌, ◌*◌, ◌<◌, ◌≤◌, ◌||◌, length, IfOk, IfSome, None, replicate};
 ghost use Rattle.std.specs.FinSet as set;
 ghost use Rattle.mesh_bins.specs.Words.{IsLeast};
 ghost use Rattle.mesh_class.specs.Classes.{IsClass};
+ghost use Rattle.mesh_spans.specs.Counts.{IsPart, IsWithin, counts_of, recounted};
 ghost use Rattle.mesh_spans.specs.Filing.{bin_at, class_place, file_of, filed, lower_of, unfiled};
 ghost use Rattle.mesh_spans.specs.Index.{group_at};
 
+use crate::Totals;
 use crate::groups::Group;
 use mesh_bins::Bin;
 use mesh_class::Class;
@@ -13,6 +15,37 @@ use std::alloc::{AllocError, Global};
 
 // How many bins there are: three for each of the ten classes.
 const BINS: usize = 30;
+
+/// How all groups are filed.
+#[derive(Debug, Drop)]
+pub(crate) struct Files {
+    /// For each class three bins: of the groups in no mesh that are empty, partly filled and full.
+    pub bins: Vec<Bin>,
+    /// The counts over all groups.
+    pub totals: Totals,
+}
+
+/// How a group is filed.
+#[derive(Clone, Copy)]
+pub(crate) struct Filed {
+    /// The bin that it is in, where it is in one.
+    pub bin: Option<u32>,
+    /// What it counts.
+    pub counts: Totals,
+}
+
+impl Filed {
+    /// How a number is filed that is no group.
+    pub fn none() -> Filed
+        ensures bin { result.bin ≡ None }
+        ensures counts { result.counts ≡ counts_of None }
+    {
+        Filed {
+            bin: None,
+            counts: Totals::none(),
+        }
+    }
+}
 
 /// The bins, with no group in any of them. They take all the memory that they will ever use.
 pub(crate) fn new_bins(alloc: Global) -> Result<Vec<Bin>, AllocError>
@@ -47,9 +80,9 @@ pub(crate) fn class_place(class: Class) -> u32
     }
 }
 
-/// The bin of a group.
-pub(crate) fn file_of(group: &Option<Group>) -> Option<u32>
-    ensures file { result ≡ file_of group.now }
+// The bin of a group.
+fn bin_of(group: &Option<Group>) -> Option<u32>
+    ensures bin { result ≡ file_of group.now }
     ensures few { IfSome result (λ place. place < 30) }
 {
     let group = group.as_ref()?;
@@ -59,25 +92,54 @@ pub(crate) fn file_of(group: &Option<Group>) -> Option<u32>
     Some(3 * class_place(group.class()) + group.kind())
 }
 
-/// The bin of the group of a number.
-pub(crate) fn file_at(groups: &[Option<Group>], n: u32) -> Option<u32>
-    requires { n < length groups.now }
-    ensures file { result ≡ file_of (group_at groups.now n) }
-    ensures few { IfSome result (λ place. place < 30) }
+// What a group counts, nothing where there is none.
+fn counts_of(group: &Option<Group>) -> Totals
+    ensures counts { result ≡ counts_of group.now }
+    ensures few { IsWithin 1 result }
 {
-    file_of(&groups[n as usize])
+    match group {
+        None => Totals::none(),
+        Some(group) => Totals {
+            objects: group.occupied().count(),
+            bytes: group.bytes(),
+            mapped: group.members().len() as u32 * group.class().pages(),
+        },
+    }
 }
 
-/// Takes a number out of the bin where it was, and puts it into the bin of its group.
-pub(crate) fn refile(bins: &mut Vec<Bin>, groups: &[Option<Group>], n: u32, before: Option<u32>)
-    requires there { n < length groups.now }
-    requires number { n < 65536 }
-    requires sized { length bins.old.items ≡ 30 }
-    requires few { IfSome before (λ place. place < 30) }
-    ensures { bins.new.items ≡ filed (unfiled bins.old.items n before) n (file_of (group_at groups.now n)) }
+/// How the group of a number is to be filed.
+pub(crate) fn file_at(groups: &[Option<Group>], n: u32) -> Filed
+    requires { n < length groups.now }
+    ensures bin { result.bin ≡ file_of (group_at groups.now n) }
+    ensures place { IfSome result.bin (λ place. place < 30) }
+    ensures counts { result.counts ≡ counts_of (group_at groups.now n) }
+    ensures few { IsWithin 1 result.counts }
 {
-    unfile(bins, n, before);
-    file(bins, n, file_at(groups, n));
+    let group = &groups[n as usize];
+    Filed {
+        bin: bin_of(group),
+        counts: counts_of(group),
+    }
+}
+
+impl Files {
+    /// Files a group anew after a change, or a new one: its number goes from the bin where it was into that of the group, and what it
+    /// counted before gives way to what it counts.
+    pub fn refile(&mut self, groups: &[Option<Group>], n: u32, before: Filed)
+        requires there { n < length groups.now }
+        requires number { n < 65536 }
+        requires sized { length self.old.bins.items ≡ 30 }
+        requires place { IfSome before.bin (λ place. place < 30) }
+        requires part { IsPart before.counts self.old.totals }
+        requires few { IsWithin 65536 self.old.totals }
+        ensures bins { self.new.bins.items ≡ filed (unfiled self.old.bins.items n before.bin) n (file_of (group_at groups.now n)) }
+        ensures totals { self.new.totals ≡ recounted self.old.totals before.counts (counts_of (group_at groups.now n)) }
+    {
+        let now = file_at(groups, n);
+        unfile(&mut self.bins, n, before.bin);
+        file(&mut self.bins, n, now.bin);
+        self.totals = self.totals.recounted(before.counts, now.counts);
+    }
 }
 
 // Takes a number out of a bin.

@@ -1,23 +1,23 @@
 //! `Spans`, the index of all spans and groups.
-ghost use Rattle.std.specs.Prelude.{◌≡◌, ℕ, ◌+◌, true, false, not, nat_eq, ◌&&◌, ◌||◌, filter, slice_set, ◌<◌, ◌≤◌, Some, None, [], ◌∷◌, ◌++◌, find, length, map, slice_index, slice_index_or, ◌/◌, IfOk, IfSome, IfNone, IsSome, IsSomeAnd, OnErr, position, option_copied};
+ghost use Rattle.std.specs.Prelude.{◌≡◌, ℕ, ◌+◌, true, false, not, nat_eq, ◌&&◌, ◌||◌, filter, slice_set, ◌<◌, ◌≤◌, Some, None, [], ◌∷◌, ◌++◌, find, length, map, slice_index, slice_index_or, ◌/◌, IfOk, IfSome, IfNone, IsSome, IsSomeAnd, OnErr, position, option_copied, sum_by};
 ghost use Rattle.std.specs.Option.{option_map};
 ghost use Rattle.mesh_class.specs.Classes.{pages_of, slots_of};
-ghost use Rattle.mesh_model.specs.Table.{changed_at, fresh_group, slot_address, with_object_in, emptied_at, takes_objects};
+ghost use Rattle.mesh_model.specs.Table.{changed_at, fresh_group, object_count, slot_address, with_object_in, emptied_at, takes_objects};
+ghost use Rattle.mesh_spans.specs.Counts.{IsPart, IsWithin, byte_count};
 ghost use Rattle.mesh_spans.specs.Groups.{IsPicked, groups_of, is_closed};
 ghost use Rattle.mesh_spans.specs.Index.{AreUnused, GroupEntry, IsFoundAt, IsIndex, IsObject, IsRecorded, IsSpan, IsVacant, OwnsUpTo, address_in, group_at, has_room, is_open, new_group, new_span, record_at, span_at, with_entry};
-ghost use Rattle.mesh_model.specs.Mesh.{merged};
+ghost use Rattle.mesh_model.specs.Mesh.{do_overlap, merged, page_count};
 ghost use Rattle.mesh_model.specs.Table.{Group as TableGroup, has_number};
 ghost use Rattle.mesh_bins.specs.Words.{IsLeast};
 ghost use Rattle.mesh_spans.specs.Filing.{candidate_from, is_partial};
 ghost use Rattle.mesh_spans.specs.Changes.{IsMergeable, Merges, Regroups, merged_entry, merged_groups, with_flag};
 
 use crate::extent::{Extent, PAGE_BYTES};
-use crate::filing::{file_at, lowest_open, lowest_partial, new_bins, refile};
+use crate::filing::{Filed, Files, file_at, lowest_open, lowest_partial, new_bins};
 use crate::groups::Group;
 use crate::occupant::Occupant;
-use crate::{Slot, Span};
+use crate::{Slot, Span, Totals};
 use mesh_arena::Page;
-use mesh_bins::Bin;
 use mesh_class::Class;
 use std::alloc::{AllocError, Global};
 use std::marker::Model;
@@ -37,8 +37,8 @@ pub struct Spans {
     groups: Vec<Option<Group>>,
     // By virtual page the span that has it.
     owners: Vec<Option<Span>>,
-    // The groups that are in no mesh, in three bins for each class.
-    bins: Vec<Bin>,
+    // In which bin each group is, and what all of them count.
+    files: Files,
 }
 
 impl Model for Spans {
@@ -48,10 +48,11 @@ impl Model for Spans {
 
     ghost view = { λ s. record { spans = s.spans.items; groups = s.groups.items } };
 
+    ghost use Rattle.mesh_spans.specs.Counts.{IsCounted};
     ghost use Rattle.mesh_spans.specs.Filing.{IsFiled};
 
     ghost invariant = { λ s. (IsIndex s.spans.items s.groups.items × IsOwned s.spans.items s.groups.items s.owners.items)
-        × IsFiled s.groups.items s.bins.items };
+        × IsFiled s.groups.items s.files.bins.items × IsCounted s.groups.items s.files.totals };
 }
 
 impl Spans {
@@ -67,7 +68,10 @@ impl Spans {
             spans: Vec::new(alloc),
             groups: Vec::new(alloc),
             owners,
-            bins,
+            files: Files {
+                bins,
+                totals: Totals::none(),
+            },
         })
     }
 
@@ -100,7 +104,8 @@ impl Spans {
         self.spans.push_reserved(Extent::new(first, class, number));
         self.groups.push_reserved(Some(group));
         own(&mut self.owners, first, class.pages(), span);
-        refile(&mut self.bins, self.groups.as_slice(), number, None);
+        self.files
+            .refile(self.groups.as_slice(), number, Filed::none());
         Ok(span)
     }
 
@@ -112,7 +117,7 @@ impl Spans {
         ensures vacant { IfSome result (λ r. IsVacant self.now class r.0 r.1) }
         ensures none { IfNone result (find (takes_objects (is_closed self.now) class) (groups_of self.now) ≡ None) }
     {
-        let open = lowest_open(self.bins.as_slice(), class)?;
+        let open = lowest_open(self.files.bins.as_slice(), class)?;
         let group = self.group(open)?;
         let slot = group.free_slot(word)?;
         Some((group.first_member(), slot))
@@ -123,7 +128,7 @@ impl Spans {
         ensures least { IsLeast (λ n. is_partial (group_at self.now.groups n) class) from 65536 result }
         ensures table { result ≡ option_map (λ g. g.number) (find (candidate_from (is_closed self.now) class from) (groups_of self.now)) }
     {
-        lowest_partial(self.bins.as_slice(), class, from)
+        lowest_partial(self.files.bins.as_slice(), class, from)
     }
 
     /// Records an object of `len` bytes in a slot.
@@ -148,7 +153,7 @@ impl Spans {
         let group = extent.group();
         let before = file_at(self.groups.as_slice(), group);
         put(&mut self.groups, group, slot, Some(object));
-        refile(&mut self.bins, self.groups.as_slice(), group, before);
+        self.files.refile(self.groups.as_slice(), group, before);
     }
 
     /// Takes the record of a slot out.
@@ -162,7 +167,7 @@ impl Spans {
         let group = self.spans[span.index()].group();
         let before = file_at(self.groups.as_slice(), group);
         put(&mut self.groups, group, slot, None);
-        refile(&mut self.bins, self.groups.as_slice(), group, before);
+        self.files.refile(self.groups.as_slice(), group, before);
     }
 
     /// Says that a group is in a mesh: it takes no new objects.
@@ -175,7 +180,7 @@ impl Spans {
     {
         let before = file_at(self.groups.as_slice(), n);
         flag(&mut self.groups, n, true);
-        refile(&mut self.bins, self.groups.as_slice(), n, before);
+        self.files.refile(self.groups.as_slice(), n, before);
     }
 
     /// Says that a group is in no mesh.
@@ -188,7 +193,7 @@ impl Spans {
     {
         let before = file_at(self.groups.as_slice(), n);
         flag(&mut self.groups, n, false);
-        refile(&mut self.bins, self.groups.as_slice(), n, before);
+        self.files.refile(self.groups.as_slice(), n, before);
     }
 
     /// Merges the group `src` into `dst`: its members and objects are those of `dst`, after its own, on the pages of `dst`. The number
@@ -203,10 +208,10 @@ impl Spans {
     {
         let from = file_at(self.groups.as_slice(), src);
         if let Some(source) = remove(&mut self.groups, src) {
-            refile(&mut self.bins, self.groups.as_slice(), src, from);
+            self.files.refile(self.groups.as_slice(), src, from);
             let before = file_at(self.groups.as_slice(), dst);
             absorb(&mut self.groups, dst, &source);
-            refile(&mut self.bins, self.groups.as_slice(), dst, before);
+            self.files.refile(self.groups.as_slice(), dst, before);
             regroup(&mut self.spans, source.members(), dst);
         }
     }
@@ -221,7 +226,18 @@ impl Spans {
     {
         let before = file_at(self.groups.as_slice(), n);
         remove(&mut self.groups, n);
-        refile(&mut self.bins, self.groups.as_slice(), n, before);
+        self.files.refile(self.groups.as_slice(), n, before);
+    }
+
+    /// What the groups count together: their live objects, the bytes of these, and the virtual pages of their members.
+    ///
+    /// The counts are kept as groups change; no group is looked at here.
+    pub fn totals(&self) -> Totals
+        ensures objects { result.objects ≡ sum_by object_count (groups_of self.now) }
+        ensures bytes { result.bytes ≡ sum_by byte_count (groups_of self.now) }
+        ensures mapped { result.mapped ≡ sum_by page_count (groups_of self.now) }
+    {
+        self.files.totals
     }
 
     /// Serial and length of the object that stands in a slot of a span. None only where none of its objects does.
@@ -308,6 +324,7 @@ fn absorb(groups: &mut Vec<Option<Group>>, n: u32, source: &Group)
     requires there { n < length groups.old.items }
     requires class { IfSome (group_at groups.old.items n) (λ g. source.now.class ≡ g.class) }
     requires few { IfSome (group_at groups.old.items n) (λ g. length source.now.members + length g.members ≤ 8) }
+    requires apart { IfSome (group_at groups.old.items n) (λ g. do_overlap source.now.slots g.slots ≡ false) }
     ensures { groups.new.items ≡ slice_set groups.old.items n (option_map (merged_entry source.now) (group_at groups.old.items n)) }
 {
     if let Some(group) = &mut groups[n as usize] {

@@ -1,7 +1,8 @@
 //! The span index: which virtual spans there are, which group each belongs to, and the record of every object.
 //!
 //! A span is a run of virtual pages of one size class, cut into slots. A group is one physical span with the virtual spans that are
-//! mapped to it, its members. A contract sees the index as two lists: the spans, and the groups with what stands in their slots.
+//! mapped to it, its members. A contract sees the index as two lists: the spans, and the groups with what stands in their slots. What the
+//! groups count together is kept as they change.
 #![tactic(auto)]
 
 mod extent;
@@ -10,7 +11,9 @@ mod groups;
 mod index;
 mod names;
 mod occupant;
+mod totals;
 
 pub use groups::{Group, MAX_MEMBERS, MAX_SPAN_PAGES};
 pub use index::Spans;
 pub use names::{Slot, Span};
+pub use totals::Totals;

@@ -1,7 +1,10 @@
-use Rattle.std.proofs.Common.{None, ◌≡◌, Some, subst, sym, ◌∙◌}
+use Rattle.std.proofs.Common.{None, ◌≡◌, ◌<◌, Some, length, slice_set, subst, sym, ◌∙◌}
+use Rattle.std.proofs.Math.ListN.{length-set}
 use Rattle.mesh_spans.specs.Changes.{IsMergeable}
 use Rattle.mesh_spans.specs.Groups.{groups_of}
 use Rattle.mesh_spans.specs.Index.{Index, group_at}
+use Rattle.mesh_spans.proofs.CountLemmas.{part_is, recounted_is, totals_few}
+use Rattle.mesh_spans.proofs.FlagLemmas.{IsIndex_replaced, replaced_none}
 use Rattle.mesh_spans.proofs.MergeLemmas.{absorbed, merge_closed, merge_keeps, merge_table}
 use Rattle.mesh_spans.proofs.FilingLemmas.{merged_filed, number_fits}
 use Rattle.mesh_spans.proofs.IndexLemmas.{group_below}
@@ -16,6 +19,40 @@ pub refile-requires-in-Some-clause-number : goal.refile-requires-in-Some-clause-
 refile-requires-in-Some-clause-number c =
     let pair = subst (λ (x : Index). IsMergeable x c.args.dst c.args.src) (sym c.self.view_is) c.requires.pair in
     number_fits c.self.inside.spans.items c.self.inside.groups.items c.args.dst c.self.invariant.0.0 (group_below c.self.inside.groups.items c.args.dst pair.b pair.destination)
+
+pub refile-requires-clause-part : goal.refile-requires-clause-part
+refile-requires-clause-part c =
+    let pair = subst (λ (x : Index). IsMergeable x c.args.dst c.args.src) (sym c.self.view_is) c.requires.pair in
+    let below = group_below c.self.inside.groups.items c.args.src pair.a pair.source in
+    part_is c.self.inside.groups.items c.as_slice.result.now c.args.src c.self.inside.files.totals c.file_at-from.result.counts c.self.invariant.2 below
+    c.as_slice.ensures.value c.file_at-from.ensures.counts
+
+pub refile-requires-clause-few : goal.refile-requires-clause-few
+refile-requires-clause-few c =
+    totals_few c.self.inside.spans.items c.self.inside.groups.items c.self.inside.files.totals c.self.invariant.0.0 c.self.invariant.2
+
+pub refile-requires-in-Some-clause-part : goal.refile-requires-in-Some-clause-part
+refile-requires-in-Some-clause-part c =
+    let pair = subst (λ (x : Index). IsMergeable x c.args.dst c.args.src) (sym c.self.view_is) c.requires.pair in
+    let below = group_below c.self.inside.groups.items c.args.src pair.a pair.source in
+    let counted = recounted_is c.self.inside.groups.items c.remove.new.groups.items c.as_slice.result.now c.as_slice-in-Some.result.now c.args.src None c.self.inside.files.totals
+    c.refile.new.self.totals c.file_at-from.result.counts c.self.invariant.2 below c.remove.ensures.groups c.as_slice.ensures.value c.as_slice-in-Some.ensures.value
+    c.file_at-from.ensures.counts c.refile.ensures.totals in
+    let below' : c.args.dst < length c.remove.new.groups.items
+    = rw (c.remove.ensures.groups, length-set c.self.inside.groups.items c.args.src None) (group_below c.self.inside.groups.items c.args.dst pair.b pair.destination) in
+    part_is c.remove.new.groups.items c.as_slice-in-Some-2.result.now c.args.dst c.refile.new.self.totals c.file_at-before.result.counts counted below'
+    c.as_slice-in-Some-2.ensures.value c.file_at-before.ensures.counts
+
+pub refile-requires-in-Some-clause-few : goal.refile-requires-in-Some-clause-few
+refile-requires-in-Some-clause-few c =
+    let pair = subst (λ (x : Index). IsMergeable x c.args.dst c.args.src) (sym c.self.view_is) c.requires.pair in
+    let below = group_below c.self.inside.groups.items c.args.src pair.a pair.source in
+    let counted = recounted_is c.self.inside.groups.items c.remove.new.groups.items c.as_slice.result.now c.as_slice-in-Some.result.now c.args.src None c.self.inside.files.totals
+    c.refile.new.self.totals c.file_at-from.result.counts c.self.invariant.2 below c.remove.ensures.groups c.as_slice.ensures.value c.as_slice-in-Some.ensures.value
+    c.file_at-from.ensures.counts c.refile.ensures.totals in
+    totals_few c.self.inside.spans.items c.remove.new.groups.items c.refile.new.self.totals (rw c.remove.ensures.groups
+    (IsIndex_replaced c.self.inside.spans.items c.self.inside.groups.items (slice_set c.self.inside.groups.items c.args.src None) c.args.src
+    (replaced_none c.self.inside.groups.items c.args.src below) c.self.invariant.0.0)) counted
 
 pub returns-in-Some-clause-closed : goal.returns-in-Some-clause-closed
 returns-in-Some-clause-closed c = λ m.
@@ -33,13 +70,22 @@ invariant_of-self c =
     let at : group_at c.self.inside.groups.items c.args.src ≡ Some c.in-Some.source = sym c.remove.ensures.result ∙ c.in-Some.is in
     let is : c.absorb.new.groups.items ≡ absorbed c.self.inside.groups.items c.args.src c.args.dst c.in-Some.source
     = rw c.remove.ensures.groups at c.absorb.ensures in
-    let moved = rw c.members.ensures.value at c.regroup.ensures in (
+    let moved = rw c.members.ensures.value at c.regroup.ensures in
+    let below = group_below c.self.inside.groups.items c.args.src pair.a pair.source in
+    let counted = recounted_is c.self.inside.groups.items c.remove.new.groups.items c.as_slice.result.now c.as_slice-in-Some.result.now c.args.src None c.self.inside.files.totals
+    c.refile.new.self.totals c.file_at-from.result.counts c.self.invariant.2 below c.remove.ensures.groups c.as_slice.ensures.value c.as_slice-in-Some.ensures.value
+    c.file_at-from.ensures.counts c.refile.ensures.totals in
+    let below' : c.args.dst < length c.remove.new.groups.items
+    = rw (c.remove.ensures.groups, length-set c.self.inside.groups.items c.args.src None) (group_below c.self.inside.groups.items c.args.dst pair.b pair.destination) in (
       merge_keeps c.self.inside.spans.items c.regroup.new.spans.items c.self.inside.groups.items c.absorb.new.groups.items c.args.src c.args.dst c.in-Some.source
           pair at is moved c.self.inside.owners.items c.self.invariant.0,
       merged_filed c.self.inside.groups.items c.remove.new.groups.items c.absorb.new.groups.items c.as_slice.result.now c.as_slice-in-Some.result.now c.as_slice-in-Some-2.result.now c.as_slice-in-Some-3.result.now
-          c.self.inside.bins.items c.refile.new.bins.items c.refile-in-Some.new.bins.items c.args.src c.args.dst None _ c.file_at-from.result c.file_at-before.result c.self.invariant.1
+          c.self.inside.files.bins.items c.refile.new.self.bins.items c.refile-in-Some.new.self.bins.items c.args.src c.args.dst None _ c.file_at-from.result.bin c.file_at-before.result.bin c.self.invariant.1
           c.remove.ensures.groups c.absorb.ensures c.as_slice.ensures.value c.as_slice-in-Some.ensures.value c.as_slice-in-Some-2.ensures.value c.as_slice-in-Some-3.ensures.value
-          c.file_at-from.ensures.file c.refile.ensures c.file_at-before.ensures.file c.refile-in-Some.ensures,
+          c.file_at-from.ensures.bin c.refile.ensures.bins c.file_at-before.ensures.bin c.refile-in-Some.ensures.bins,
+      recounted_is c.remove.new.groups.items c.absorb.new.groups.items c.as_slice-in-Some-2.result.now c.as_slice-in-Some-3.result.now c.args.dst _ c.refile.new.self.totals
+          c.refile-in-Some.new.self.totals c.file_at-before.result.counts counted below' c.absorb.ensures c.as_slice-in-Some-2.ensures.value c.as_slice-in-Some-3.ensures.value
+          c.file_at-before.ensures.counts c.refile-in-Some.ensures.totals,
     )
 
 pub returns-in-Some-clause-table : goal.returns-in-Some-clause-table

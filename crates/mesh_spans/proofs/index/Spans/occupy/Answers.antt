@@ -3,6 +3,7 @@ use Rattle.std.proofs.lemmas.Grind.{common_steps}
 use Rattle.mesh_model.specs.Table.{Slot}
 use Rattle.std.proofs.Common.{◌∙◌}
 use Rattle.std.proofs.lemmas.List.{get_or-set_other}
+use Rattle.mesh_spans.proofs.CountLemmas.{part_is, recounted_is, totals_few}
 use Rattle.mesh_spans.proofs.FilingLemmas.{number_fits, refiled_is}
 use Rattle.mesh_spans.specs.Groups.{groups_of}
 use Rattle.mesh_spans.specs.Index.{GroupEntry, group_at, Index, with_entry, span_at}
@@ -15,17 +16,31 @@ refile-requires-clause-number c =
     let below : c.group-group.result < length c.self.inside.groups.items = grind (arith, common_steps) in
     number_fits c.self.inside.spans.items c.self.inside.groups.items c.group-group.result c.self.invariant.0.0 below
 
+pub refile-requires-clause-part : goal.refile-requires-clause-part
+refile-requires-clause-part c =
+    let below : c.group-group.result < length c.self.inside.groups.items = grind (arith, common_steps) in
+    part_is c.self.inside.groups.items c.as_slice.result.now c.group-group.result c.self.inside.files.totals c.file_at-before.result.counts c.self.invariant.2 below
+    c.as_slice.ensures.value c.file_at-before.ensures.counts
+
+pub refile-requires-clause-few : goal.refile-requires-clause-few
+refile-requires-clause-few c =
+    totals_few c.self.inside.spans.items c.self.inside.groups.items c.self.inside.files.totals c.self.invariant.0.0 c.self.invariant.2
+
 pub invariant_of-self : goal.invariant_of-self
 invariant_of-self c =
+    let below : c.group-group.result < length c.self.inside.groups.items = grind (arith, common_steps) in
     let entry : Slot = record { member = (span_at c.args.self.now.spans c.args.span).first; serial = c.args.serial; len = c.args.len } in
     let is : c.put.new.groups.items ≡ with_entry c.args.self.now.groups (span_at c.args.self.now.spans c.args.span).group c.args.slot (Some entry)
     = grind (arith, common_steps) in (
       put_keeps c.args.self.now c.self.inside.spans.items c.self.inside.groups.items c.put.new.groups.items c.self.inside.owners.items
           (span_at c.args.self.now.spans c.args.span).group c.args.slot (Some entry) c.self.view_is
           (vacant_fits c.args.self.now c.args.span c.args.slot entry c.requires.vacant (c.requires.some, c.requires.fits)) is c.self.invariant.0,
-      refiled_is c.self.inside.groups.items c.put.new.groups.items c.as_slice.result.now c.as_slice-2.result.now c.self.inside.bins.items c.refile.new.bins.items c.group-group.result c.file_at-before.result c.self.invariant.1
-          c.as_slice.ensures.value c.as_slice-2.ensures.value c.file_at-before.ensures.file c.refile.ensures
+      refiled_is c.self.inside.groups.items c.put.new.groups.items c.as_slice.result.now c.as_slice-2.result.now c.self.inside.files.bins.items c.refile.new.self.bins.items c.group-group.result c.file_at-before.result.bin c.self.invariant.1
+          c.as_slice.ensures.value c.as_slice-2.ensures.value c.file_at-before.ensures.bin c.refile.ensures.bins
           (λ m apart. ap (λ (gs : List (Option GroupEntry)). group_at gs m) c.put.ensures ∙ get_or-set_other c.self.inside.groups.items c.group-group.result m _ None apart),
+      recounted_is c.self.inside.groups.items c.put.new.groups.items c.as_slice.result.now c.as_slice-2.result.now c.group-group.result _ c.self.inside.files.totals
+          c.refile.new.self.totals c.file_at-before.result.counts c.self.invariant.2 below c.put.ensures c.as_slice.ensures.value c.as_slice-2.ensures.value
+          c.file_at-before.ensures.counts c.refile.ensures.totals,
     )
 
 pub returns-clause-table : goal.returns-clause-table

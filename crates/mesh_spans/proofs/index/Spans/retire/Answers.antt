@@ -2,6 +2,7 @@ use Rattle.std.proofs.Common.{None, List, Option, ap, sym, subst, arith, slice_s
 use Rattle.std.specs.Prelude.{IsSome}
 use Rattle.std.proofs.Common.{◌∙◌}
 use Rattle.std.proofs.lemmas.List.{get_or-set_other}
+use Rattle.mesh_spans.proofs.CountLemmas.{part_is, recounted_is, totals_few}
 use Rattle.mesh_spans.proofs.FilingLemmas.{number_fits, refiled_is}
 use Rattle.mesh_spans.specs.Groups.{groups_of}
 use Rattle.mesh_spans.specs.Index.{GroupEntry, Index, group_at}
@@ -14,8 +15,19 @@ refile-requires-clause-number c =
     let some = subst (λ (x : Index). IsSome (group_at x.groups c.args.n)) (sym c.self.view_is) c.requires in
     number_fits c.self.inside.spans.items c.self.inside.groups.items c.args.n c.self.invariant.0.0 (some_below c.self.inside.groups.items c.args.n some)
 
+pub refile-requires-clause-part : goal.refile-requires-clause-part
+refile-requires-clause-part c =
+    let below = some_below c.self.inside.groups.items c.args.n (subst (λ (x : Index). IsSome (group_at x.groups c.args.n)) (sym c.self.view_is) c.requires) in
+    part_is c.self.inside.groups.items c.as_slice.result.now c.args.n c.self.inside.files.totals c.file_at-before.result.counts c.self.invariant.2 below
+    c.as_slice.ensures.value c.file_at-before.ensures.counts
+
+pub refile-requires-clause-few : goal.refile-requires-clause-few
+refile-requires-clause-few c =
+    totals_few c.self.inside.spans.items c.self.inside.groups.items c.self.inside.files.totals c.self.invariant.0.0 c.self.invariant.2
+
 pub invariant_of-self : goal.invariant_of-self
 invariant_of-self c =
+    let below = some_below c.self.inside.groups.items c.args.n (subst (λ (x : Index). IsSome (group_at x.groups c.args.n)) (sym c.self.view_is) c.requires) in
     let some = subst (λ (x : Index). IsSome (group_at x.groups c.args.n)) (sym c.self.view_is) c.requires in
     let is = replaced_none c.self.inside.groups.items c.args.n (some_below c.self.inside.groups.items c.args.n some) in (
       rw c.remove.ensures.groups (
@@ -23,9 +35,12 @@ invariant_of-self c =
         IsOwned_replaced c.self.inside.spans.items c.self.inside.groups.items (slice_set c.self.inside.groups.items c.args.n None) c.self.inside.owners.items c.args.n is
             c.self.invariant.0.1,
       ),
-      refiled_is c.self.inside.groups.items c.remove.new.groups.items c.as_slice.result.now c.as_slice-2.result.now c.self.inside.bins.items c.refile.new.bins.items c.args.n c.file_at-before.result c.self.invariant.1
-          c.as_slice.ensures.value c.as_slice-2.ensures.value c.file_at-before.ensures.file c.refile.ensures
+      refiled_is c.self.inside.groups.items c.remove.new.groups.items c.as_slice.result.now c.as_slice-2.result.now c.self.inside.files.bins.items c.refile.new.self.bins.items c.args.n c.file_at-before.result.bin c.self.invariant.1
+          c.as_slice.ensures.value c.as_slice-2.ensures.value c.file_at-before.ensures.bin c.refile.ensures.bins
           (λ m apart. ap (λ (gs : List (Option GroupEntry)). group_at gs m) c.remove.ensures.groups ∙ get_or-set_other c.self.inside.groups.items c.args.n m _ None apart),
+      recounted_is c.self.inside.groups.items c.remove.new.groups.items c.as_slice.result.now c.as_slice-2.result.now c.args.n _ c.self.inside.files.totals
+          c.refile.new.self.totals c.file_at-before.result.counts c.self.invariant.2 below c.remove.ensures.groups c.as_slice.ensures.value c.as_slice-2.ensures.value
+          c.file_at-before.ensures.counts c.refile.ensures.totals,
     )
 
 pub returns-clause-table : goal.returns-clause-table

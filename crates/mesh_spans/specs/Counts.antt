@@ -1,0 +1,55 @@
+-- What groups count: their objects, the bytes of these, and the virtual pages of their members.
+use Rattle.std.specs.Prelude.{◌≡◌, ℕ, ◌+◌, ◌-◌, ◌*◌, ◌≤◌, List, Option, Some, None, count_by, is_some, length, sum_by}
+use Rattle.mesh_class.specs.Classes.{pages_of}
+use Rattle.mesh_model.specs.Table.{Group, len_in}
+use Rattle.mesh_spans.specs.Index.{GroupEntry}
+use Rattle.mesh_spans.specs.declared.totals.Totals.{Totals}
+
+-- the bytes of the group's objects
+abbrev pub byte_count : Group → ℕ
+byte_count group = sum_by len_in group.slots
+
+-- how many objects a group of the index has
+abbrev pub objects_in : Option GroupEntry → ℕ
+objects_in None = 0
+objects_in (Some group) = count_by is_some group.slots
+
+-- the bytes of its objects
+abbrev pub bytes_in : Option GroupEntry → ℕ
+bytes_in None = 0
+bytes_in (Some group) = sum_by len_in group.slots
+
+-- the virtual pages of its members
+abbrev pub mapped_in : Option GroupEntry → ℕ
+mapped_in None = 0
+mapped_in (Some group) = length group.members * pages_of group.class
+
+-- what a group counts, nothing where there is none
+abbrev pub counts_of : Option GroupEntry → Totals
+counts_of group = record { objects = objects_in group; bytes = bytes_in group; mapped = mapped_in group }
+
+-- the counts with those of one group before a change taken out, and those after it added
+abbrev pub recounted : Totals → Totals → Totals → Totals
+recounted totals before now = record {
+  objects = totals.objects - before.objects + now.objects;
+  bytes = totals.bytes - before.bytes + now.bytes;
+  mapped = totals.mapped - before.mapped + now.mapped;
+}
+
+-- no count of the part is above that of the whole
+pub record IsPart (part whole : Totals) : Type 0 where
+  pub objects : part.objects ≤ whole.objects
+  pub bytes : part.bytes ≤ whole.bytes
+  pub mapped : part.mapped ≤ whole.mapped
+
+-- so many groups can count so much: each has at most 256 slots, 3 pages of objects and 8 members of 3 pages
+pub record IsWithin (groups : ℕ) (totals : Totals) : Type 0 where
+  pub objects : totals.objects ≤ groups * 256
+  pub bytes : totals.bytes ≤ groups * 12288
+  pub mapped : totals.mapped ≤ groups * 24
+
+-- the counts are those over all groups
+pub record IsCounted (groups : List (Option GroupEntry)) (totals : Totals) : Type 0 where
+  pub objects : totals.objects ≡ sum_by objects_in groups
+  pub bytes : totals.bytes ≡ sum_by bytes_in groups
+  pub mapped : totals.mapped ≡ sum_by mapped_in groups
