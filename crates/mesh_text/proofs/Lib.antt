@@ -1,13 +1,5 @@
-pub mod Decimals
-pub mod FileEnds
 pub mod Gathering
-pub mod HexFields
 pub mod HexText
-pub mod ManyFields
-pub mod MesherCalls
 pub mod Parts
 pub mod PlanLines
-pub mod Reading
-pub mod Sames
-pub mod Splits
 pub mod Turning

@@ -1,20 +1,16 @@
 -- Bytes that are read, and a text that is written, part by part.
-use Rattle.std.proofs.Common.{◌≡◌, ℕ, ◌+◌, ◌-◌, ◌≤◌, List, Option, length, take, drop, sym, subst, length-drop, arith}
-use Rattle.std.proofs.lemmas.List.{take_all}
+use Rattle.std.proofs.Common.{ℕ, ◌+◌, ◌-◌, List, Option, length, take, drop, sym, subst}
+use Rattle.std.proofs.lemmas.List.{take_rest}
 use Rattle.std.proofs.Math.Seq.{take-add}
 use Rattle.std.specs.Io.KnownBytes.{Appends, Consumes}
 use Rattle.std.proofs.KnownBytes.{Appends-trans, Consumes-trans}
 use Rattle.mesh_text.specs.Transfer.{AppendsBeginning, ReadsOnto}
 
--- the rest of a text, as a slice has it
-pub rest_is : (bytes : List ℕ) (done : ℕ) → take (length bytes - done) (drop done bytes) ≡ drop done bytes
-rest_is bytes done = let short : length (drop done bytes) ≤ length bytes - done = omega (arith, length-drop done bytes) in take_all (length bytes - done) (drop done bytes) short
-
 -- a call that took more of the rest of a text
 pub wrote_more : (a b c : Option (List ℕ)) (bytes : List ℕ) (done count : ℕ) → Appends a b (take done bytes)
     → Appends b c (take count (take (length bytes - done) (drop done bytes))) → Appends a c (take (done + count) bytes)
 wrote_more a b c bytes done count first more =
-    let next : Appends b c (take count (drop done bytes)) = subst (λ (part : List ℕ). Appends b c (take count part)) (rest_is bytes done) more in
+    let next : Appends b c (take count (drop done bytes)) = subst (λ (part : List ℕ). Appends b c (take count part)) (take_rest bytes done) more in
     subst (λ (part : List ℕ). Appends a c part) (sym (take-add done count bytes)) (Appends-trans a b c (take done bytes) (take count (drop done bytes)) first next)
 
 -- a call that took a beginning of the rest and failed

@@ -7,7 +7,7 @@ use Rattle.mesh_model.specs.Files.{IsValidLine}
 use Rattle.mesh_model.specs.Jobs.{Job, Line, RunWorker}
 use Rattle.mesh_model.specs.declared.commands.Command.{Command}
 use Rattle.mesh_model.specs.declared.faults.PlanLine.{PlanLine}
-use Rattle.mesh_text.specs.Job.{line_of}
+use Rattle.mesh_job.specs.Job.{line_of}
 
 -- a line of a plan whose lines are all right runs a worker that there is
 pub worker_fits : (workers : ℕ) (lines : List PlanLine) (plan : List Line) (i worker : ℕ) (d : PlanLine) → map line_of lines ≡ plan

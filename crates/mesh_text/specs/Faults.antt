@@ -1,10 +1,6 @@
--- Why a file can't be read, and why a replay stops.
-use Rattle.std.specs.Prelude.{ℕ, List}
-use Rattle.mesh_text.specs.Reading.{IsFaultOf}
-use Rattle.mesh_text.specs.declared.faults.LineFault.{LineFault}
-use Rattle.mesh_text.specs.declared.faults.LineFault.TheVariants.{Kind as LineKind, Memory as LineMemory}
-use Rattle.mesh_text.specs.declared.faults.ReadFault.{ReadFault}
-use Rattle.mesh_text.specs.declared.faults.ReadFault.TheVariants.{Text as ReadText, Memory as ReadMemory}
+-- Why a replay stops.
+use Rattle.mesh_job.specs.declared.faults.ReadFault.{ReadFault}
+use Rattle.mesh_job.specs.declared.faults.ReadFault.TheVariants.{Text as ReadText, Memory as ReadMemory}
 use Rattle.mesh_text.specs.declared.faults.ReplayError.{ReplayError}
 use Rattle.mesh_text.specs.declared.faults.ReplayError.TheVariants.{Text, Memory}
 
@@ -12,13 +8,3 @@ use Rattle.mesh_text.specs.declared.faults.ReplayError.TheVariants.{Text, Memory
 abbrev pub replay_error_of : ReadFault → ReplayError
 replay_error_of (ReadText fault) = Text fault
 replay_error_of ReadMemory = Memory
-
--- the fault of a line as that of its file
-abbrev pub read_fault_at : LineFault → ℕ → ReadFault
-read_fault_at (LineKind kind) line = ReadText (record { line = line; kind = kind })
-read_fault_at LineMemory line = ReadMemory
-
--- why a text gave no job: a fault of it, or want of memory
-abbrev pub IsReadFault : List ℕ → ReadFault → Type 0
-IsReadFault text (ReadText fault) = IsFaultOf text fault
-IsReadFault text ReadMemory = Unit {0}

@@ -1,10 +1,9 @@
 pub mod Answers
 pub mod Devices
-pub mod Draft
 pub mod Faults
-pub mod Job
-pub mod Reading
 pub mod Replay
 pub mod Transfer
 pub mod Turns
 pub use Rattle.mesh_model.specs.Commands
+pub use Rattle.mesh_job.specs.Job
+pub use Rattle.mesh_job.specs.Reading

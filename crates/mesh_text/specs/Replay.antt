@@ -4,7 +4,7 @@ use Rattle.std.specs.Io.KnownBytes.{Appends, Consumes, IsAtEnd, Keeps}
 use Rattle.mesh_model.specs.Files.{read_text, replayed}
 use Rattle.mesh_model.specs.Jobs.{Job}
 use Rattle.mesh_model.specs.declared.faults.TextFault.{TextFault}
-use Rattle.mesh_text.specs.Reading.{IsFaultOf}
+use Rattle.mesh_job.specs.Reading.{IsFaultOf}
 use Rattle.mesh_text.specs.Transfer.{AppendsBeginning}
 use Rattle.mesh_text.specs.Turns.{AppendsLines}
 use Rattle.mesh_text.specs.declared.faults.ReplayError.{ReplayError}

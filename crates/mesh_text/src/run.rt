@@ -3,14 +3,15 @@ ghost use Rattle.std.specs.Prelude.{◌≡◌, ◌<◌, ◌≤◌, ◌⊎◌, �
 ghost use Rattle.std.specs.Io.KnownBytes.{Appends, Keeps};
 ghost use Rattle.mesh_model.specs.Jobs.{Job as PlainJob, RunWorker, State, answer, opening};
 ghost use Rattle.mesh_model.specs.Texts.{output as output_of};
-ghost use Rattle.mesh_text.specs.Job.{line_of};
+ghost use Rattle.mesh_job.specs.Job.{line_of};
 ghost use Rattle.mesh_text.specs.Replay.{HasReplayed, HasStopped};
 ghost use Rattle.mesh_text.specs.Transfer.{AppendsBeginning};
 ghost use Rattle.mesh_text.specs.Turns.{AppendsLines, IsAt, IsNextAt, places_after};
 
 use crate::answers::Answer;
 use crate::transfer::{read_all, write_all};
-use crate::{Job, ReplayError, Script, Sink, Source, read_file};
+use crate::{ReplayError, Sink, Source};
+use mesh_job::{Job, Script, read_file};
 use mesh_model::PlanLine;
 use mesh_mutator::{Attempt, Book};
 use std::alloc::{AllocError, Global};

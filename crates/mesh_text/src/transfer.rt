@@ -3,8 +3,8 @@ ghost use Rattle.std.specs.Prelude.{◌≡◌, ◌+◌, ◌<◌, ◌≤◌, ◌�
 ghost use Rattle.std.specs.Io.KnownBytes.{Appends, Consumes, IsAtEnd};
 ghost use Rattle.mesh_text.specs.Transfer.{AppendsBeginning, ReadsOnto};
 
-use crate::reader::MOST_FILE_BYTES;
 use crate::{DeviceFault, ReplayError, Sink, Source};
+use mesh_job::MOST_FILE_BYTES;
 use std::alloc::{AllocError, Global};
 
 /// The most bytes that are read: one more than a job file may have, which tells a file that is too long.

@@ -1,0 +1,8 @@
+pub mod Decimals
+pub mod FileEnds
+pub mod HexFields
+pub mod ManyFields
+pub mod MesherCalls
+pub mod Reading
+pub mod Sames
+pub mod Splits

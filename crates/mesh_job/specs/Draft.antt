@@ -1,0 +1,70 @@
+-- What is known of a job that is being read.
+use Rattle.std.specs.Prelude.{◌≡◌, ◌<◌, ◌≤◌, Bool, true, false, [], length, map}
+use Rattle.std.specs.List.{All}
+use Rattle.mesh_model.specs.Files.{Section as PlainSection, Draft as PlainDraft, AtVersion, AtPages, AtHistory, AtWorkers, AtFirstWorker, InScript, InPlan, AtEnd, IsValidLine}
+use Rattle.mesh_job.specs.Job.{line_of}
+use Rattle.mesh_job.specs.declared.draft.Section.{Section}
+use Rattle.mesh_job.specs.declared.draft.Section.TheVariants.{Version, Pages, History, Workers, FirstWorker, Worker, Plan, Ended}
+use Rattle.mesh_job.specs.declared.draft.Draft.{Draft}
+
+-- a section as the definitions have it
+abbrev pub section_of : Section → PlainSection
+section_of Version = AtVersion
+section_of Pages = AtPages
+section_of History = AtHistory
+section_of Workers = AtWorkers
+section_of FirstWorker = AtFirstWorker
+section_of (Worker worker) = InScript worker
+section_of Plan = InPlan
+section_of Ended = AtEnd
+
+-- a job that is being read as the definitions have it
+abbrev pub draft_of : Draft → PlainDraft
+draft_of d = record {
+  section = section_of d.section;
+  pages = d.pages;
+  history = d.history;
+  workers = d.workers;
+  finished = d.scripts.items;
+  script = d.script;
+  plan = map line_of d.plan.items;
+}
+
+-- a header line comes next, or nothing may come
+abbrev pub is_in_header : Section → Bool
+is_in_header (Worker worker) = false
+is_in_header Plan = false
+is_in_header _ = true
+
+-- no section of a worker was read
+abbrev pub HasNoScript : Draft → Type 0
+HasNoScript d = (d.scripts.items ≡ []) × (d.plan.items ≡ [])
+
+-- the header up to `pages`, `history` and `workers` was read
+abbrev pub HasPages : Draft → Type 0
+HasPages d = (1 ≤ d.pages) × (d.pages ≤ 4096)
+
+abbrev pub HasHistory : Draft → Type 0
+HasHistory d = HasPages d × (d.history ≤ 65536)
+
+abbrev pub HasWorkers : Draft → Type 0
+HasWorkers d = HasHistory d × (1 ≤ d.workers) × (d.workers ≤ 64)
+
+-- each worker has its script, and the plan runs no other worker
+abbrev pub HasScripts : Draft → Type 0
+HasScripts d = HasWorkers d × (length d.scripts.items ≡ d.workers) × All (IsValidLine d.workers) (map line_of d.plan.items)
+
+-- what was read before this section is in the draft
+abbrev pub HasAllBefore : Section → Draft → Type 0
+HasAllBefore Version d = HasNoScript d
+HasAllBefore Pages d = HasNoScript d
+HasAllBefore History d = HasPages d × HasNoScript d
+HasAllBefore Workers d = HasHistory d × HasNoScript d
+HasAllBefore FirstWorker d = HasWorkers d × HasNoScript d
+HasAllBefore (Worker worker) d = HasWorkers d × (length d.scripts.items ≡ worker) × (worker < d.workers) × (d.plan.items ≡ [])
+HasAllBefore Plan d = HasScripts d
+HasAllBefore Ended d = HasScripts d
+
+-- a draft has what was read before its own section
+abbrev pub IsDraft : Draft → Type 0
+IsDraft d = HasAllBefore d.section d

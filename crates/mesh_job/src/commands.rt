@@ -1,0 +1,127 @@
+//! The command lines: the fields of each, from left to right.
+ghost use Rattle.std.specs.Prelude.{◌≡◌, IfOk};
+ghost use Rattle.mesh_model.specs.Commands.{IsInRange};
+ghost use Rattle.mesh_model.specs.Files.{addr_in, alias_in, command_in, free_in, get_in, new_in, peek_in, poke_in, put_in};
+ghost use Rattle.mesh_job.specs.Reading.{texts};
+
+use crate::hex::{address, byte, bytes};
+use crate::lines::{is_word, one_field, three_fields, two_fields};
+use crate::numbers::{cell, number, number32};
+use mesh_model::{Command, FaultKind};
+
+/// The greatest length that a `new` may ask for, and the greatest offset of a `put` or a `get`.
+const MOST_LENGTH: u32 = 65_535;
+
+/// The command of a line with this word and these fields. WORD where there is no such command, or another number of fields.
+pub(crate) fn command_of(word: &[u8], fields: &[&[u8]]) -> Result<Command, FaultKind>
+    ensures value { result ≡ command_in word.now (texts fields.now) }
+    ensures in_range { IfOk result IsInRange }
+{
+    if is_word(word, b"new") {
+        new_of(fields)
+    } else if is_word(word, b"put") {
+        put_of(fields)
+    } else if is_word(word, b"get") {
+        get_of(fields)
+    } else if is_word(word, b"free") {
+        free_of(fields)
+    } else if is_word(word, b"alias") {
+        alias_of(fields)
+    } else if is_word(word, b"addr") {
+        addr_of(fields)
+    } else if is_word(word, b"peek") {
+        peek_of(fields)
+    } else if is_word(word, b"poke") {
+        poke_of(fields)
+    } else {
+        Err(FaultKind::Word)
+    }
+}
+
+/// `new CELL LEN WORD`
+fn new_of(fields: &[&[u8]]) -> Result<Command, FaultKind>
+    ensures value { result ≡ new_in (texts fields.now) }
+    ensures in_range { IfOk result IsInRange }
+{
+    let (to, len, word) = three_fields(fields)?;
+    let to = cell(to)?;
+    let len = number32(len, 0, MOST_LENGTH)?;
+    let word = number(word, 0, u64::MAX)?;
+    Ok(Command::New(to, len, word))
+}
+
+/// `put CELL OFF HEX`
+fn put_of(fields: &[&[u8]]) -> Result<Command, FaultKind>
+    ensures value { result ≡ put_in (texts fields.now) }
+    ensures in_range { IfOk result IsInRange }
+{
+    let (of, off, stored) = three_fields(fields)?;
+    let of = cell(of)?;
+    let off = number32(off, 0, MOST_LENGTH)?;
+    let stored = bytes(stored)?;
+    Ok(Command::Put(of, off, stored))
+}
+
+/// `get CELL OFF LEN`
+fn get_of(fields: &[&[u8]]) -> Result<Command, FaultKind>
+    ensures value { result ≡ get_in (texts fields.now) }
+    ensures in_range { IfOk result IsInRange }
+{
+    let (of, off, len) = three_fields(fields)?;
+    let of = cell(of)?;
+    let off = number32(off, 0, MOST_LENGTH)?;
+    let len = number32(len, 1, 32)?;
+    Ok(Command::Get(of, off, len))
+}
+
+/// `free CELL`
+fn free_of(fields: &[&[u8]]) -> Result<Command, FaultKind>
+    ensures value { result ≡ free_in (texts fields.now) }
+    ensures in_range { IfOk result IsInRange }
+{
+    let of = one_field(fields)?;
+    let of = cell(of)?;
+    Ok(Command::Free(of))
+}
+
+/// `alias CELL FROM`
+fn alias_of(fields: &[&[u8]]) -> Result<Command, FaultKind>
+    ensures value { result ≡ alias_in (texts fields.now) }
+    ensures in_range { IfOk result IsInRange }
+{
+    let (to, from) = two_fields(fields)?;
+    let to = cell(to)?;
+    let from = cell(from)?;
+    Ok(Command::Alias(to, from))
+}
+
+/// `addr CELL`
+fn addr_of(fields: &[&[u8]]) -> Result<Command, FaultKind>
+    ensures value { result ≡ addr_in (texts fields.now) }
+    ensures in_range { IfOk result IsInRange }
+{
+    let of = one_field(fields)?;
+    let of = cell(of)?;
+    Ok(Command::Addr(of))
+}
+
+/// `peek ADDR`
+fn peek_of(fields: &[&[u8]]) -> Result<Command, FaultKind>
+    ensures value { result ≡ peek_in (texts fields.now) }
+    ensures in_range { IfOk result IsInRange }
+{
+    let at = one_field(fields)?;
+    let at = address(at)?;
+    Ok(Command::Peek(at))
+}
+
+/// `poke ADDR BYTE`
+fn poke_of(fields: &[&[u8]]) -> Result<Command, FaultKind>
+    ensures value { result ≡ poke_in (texts fields.now) }
+    ensures in_range { IfOk result IsInRange }
+{
+    let (at, stored) = two_fields(fields)?;
+    let at = address(at)?;
+    let stored = byte(stored)?;
+    Ok(Command::Poke(at, stored))
+}

@@ -1,0 +1,239 @@
+//! The job as far as its file was read, line by line.
+ghost use Rattle.std.specs.Prelude.{◌≡◌, ◌<◌, true, false, [], ◌∷◌, ◌++◌, Ok, Err, drop, length, OnOk, IfOk, IfErr};
+ghost use Rattle.std.specs.List.{list_any};
+ghost use Rattle.mesh_model.specs.Files.{blank_draft, has_ended, is_empty, job_of, plan_line, script_line, take_fields, take_in};
+ghost use Rattle.mesh_job.specs.Draft.{IsDraft, draft_of, is_in_header, section_of};
+ghost use Rattle.mesh_job.specs.Reading.{IsFaultOfFields, IsFaultOfLine, IsFaultOfPlan, IsFaultOfStep, IsReadOn, text_lines, texts};
+
+use crate::commands::command_of;
+use crate::faults::LineFault;
+use crate::lines::{fields_of, header, is_word, next_line, no_field, one_field};
+use crate::mesher::mesher_call;
+use crate::numbers::number32;
+use crate::{Job, Plan, Script, Scripts};
+use mesh_model::{FaultKind, PlanLine};
+use std::alloc::Global;
+use std::mem;
+
+/// The most pages of an arena, and the most entries of a journal.
+const MOST_PAGES: u32 = 4096;
+
+const MOST_HISTORY: u32 = 65_536;
+
+/// The most workers of a job.
+const MOST_WORKERS: u32 = 64;
+
+/// Where in its file a line stands.
+#[derive(Clone, Copy)]
+enum Section {
+    /// `mesh 1` comes next.
+    Version,
+    /// `pages P` comes next.
+    Pages,
+    /// `history H` comes next.
+    History,
+    /// `workers N` comes next.
+    Workers,
+    /// `worker 0` comes next.
+    FirstWorker,
+    /// Among the commands of the worker with this number.
+    Worker(u32),
+    /// Among the lines of the plan.
+    Plan,
+    /// Behind `end`, where nothing may come.
+    Ended,
+}
+
+/// A job that is being read.
+#[derive(Drop)]
+pub(crate) struct Draft {
+    alloc: Global,
+    section: Section,
+    pages: u32,
+    history: u32,
+    workers: u32,
+    /// The scripts of the workers whose sections have ended.
+    scripts: Vec<Script>,
+    /// The script of the section that is being read.
+    script: Script,
+    plan: Vec<PlanLine>,
+}
+
+impl Draft {
+    /// A job of which no line was read.
+    pub(crate) fn new(alloc: Global) -> Self
+        ensures draft { IsDraft result }
+        ensures blank { draft_of result ≡ blank_draft }
+    {
+        Draft {
+            alloc,
+            section: Section::Version,
+            pages: 0,
+            history: 0,
+            workers: 0,
+            scripts: Vec::new(alloc),
+            script: Script::new(alloc),
+            plan: Vec::new(alloc),
+        }
+    }
+
+    /// Whether the line `end` was read.
+    pub(crate) fn has_ended(&self) -> bool
+        ensures { result ≡ has_ended (draft_of self.now).section }
+    {
+        match self.section {
+            Section::Ended => true,
+            _ => false,
+        }
+    }
+
+    /// Takes the next line of the text, and gives the bytes behind it.
+    pub(crate) fn take_line<'a>(&mut self, text: &'a [u8]) -> Result<&'a [u8], LineFault>
+        requires draft { IsDraft self.old }
+        requires going { has_ended (draft_of self.old).section ≡ false }
+        ensures draft { OnOk result (IsDraft self.new) }
+        ensures shorter { IfOk result (λ rest. length rest.now < length text.now) }
+        ensures lines { IfOk result (λ rest. drop 1 (text_lines text.now) ≡ text_lines rest.now) }
+        ensures ok { IfOk result (λ rest. IsReadOn (draft_of self.old) text.now (draft_of self.new) rest.now) }
+        ensures err { IfErr result (λ fault. IsFaultOfLine (draft_of self.old) text.now fault) }
+    {
+        let (line, rest) = next_line(text)?;
+        let fields = fields_of(line)?;
+        self.take(fields.as_slice())?;
+        Ok(rest)
+    }
+
+    /// Takes the fields of the next line.
+    fn take(&mut self, fields: &[&[u8]]) -> Result<(), LineFault>
+        requires draft { IsDraft self.old }
+        requires filled { list_any is_empty (texts fields.now) ≡ false }
+        ensures draft { OnOk result (IsDraft self.new) }
+        ensures ok { OnOk result (take_fields (draft_of self.old) (texts fields.now) ≡ Ok (draft_of self.new)) }
+        ensures err { IfErr result (λ fault. IsFaultOfFields (draft_of self.old) (texts fields.now) fault) }
+    {
+        let [word, fields @ ..] = fields else {
+            return Err(LineFault::Kind(FaultKind::Word));
+        };
+        match self.section {
+            Section::Worker(worker) => self.take_in_script(worker, *word, fields),
+            Section::Plan => self.take_in_plan(*word, fields),
+            _ => Ok(self.take_header(*word, fields)?),
+        }
+    }
+
+    /// Takes a line of the header, or of what follows the end.
+    fn take_header(&mut self, word: &[u8], fields: &[&[u8]]) -> Result<(), FaultKind>
+        requires draft { IsDraft self.old }
+        requires section { is_in_header self.old.section ≡ true }
+        ensures draft { OnOk result (IsDraft self.new) }
+        ensures ok { OnOk result (take_in (section_of self.old.section) (draft_of self.old) word.now (texts fields.now) ≡ Ok (draft_of self.new)) }
+        ensures err { IfErr result (λ kind. take_in (section_of self.old.section) (draft_of self.old) word.now (texts fields.now) ≡ Err kind) }
+    {
+        match self.section {
+            Section::Version => {
+                header(word, fields, b"mesh", 1, 1)?;
+                self.section = Section::Pages;
+            }
+            Section::Pages => {
+                self.pages = header(word, fields, b"pages", 1, MOST_PAGES)?;
+                self.section = Section::History;
+            }
+            Section::History => {
+                self.history = header(word, fields, b"history", 0, MOST_HISTORY)?;
+                self.section = Section::Workers;
+            }
+            Section::Workers => {
+                self.workers = header(word, fields, b"workers", 1, MOST_WORKERS)?;
+                self.section = Section::FirstWorker;
+            }
+            Section::FirstWorker => {
+                header(word, fields, b"worker", 0, 0)?;
+                self.section = Section::Worker(0);
+            }
+            _ => return Err(FaultKind::Trailing),
+        }
+        Ok(())
+    }
+
+    /// Takes a line in the section of a worker: a command, the heading of the next worker or that of the plan.
+    fn take_in_script(
+        &mut self,
+        worker: u32,
+        word: &[u8],
+        fields: &[&[u8]],
+    ) -> Result<(), LineFault>
+        requires section { self.old.section ≡ Section.Worker worker }
+        requires draft { IsDraft self.old }
+        ensures draft { OnOk result (IsDraft self.new) }
+        ensures ok { OnOk result (script_line (draft_of self.old) worker word.now (texts fields.now) ≡ Ok (draft_of self.new)) }
+        ensures err { IfErr result (IsFaultOfStep (script_line (draft_of self.old) worker word.now (texts fields.now))) }
+    {
+        let next = worker + 1;
+        if is_word(word, b"worker") && next < self.workers {
+            let field = one_field(fields)?;
+            number32(field, next, next)?;
+            close_script(self.alloc, &mut self.script, &mut self.scripts)?;
+            self.section = Section::Worker(next);
+        } else if is_word(word, b"plan") && next == self.workers {
+            no_field(fields)?;
+            close_script(self.alloc, &mut self.script, &mut self.scripts)?;
+            self.section = Section::Plan;
+        } else {
+            let command = command_of(word, fields)?;
+            self.script.push(command)?;
+        }
+        Ok(())
+    }
+
+    /// Takes a line in the section of the plan: a turn of a worker, or the end. WORD where it asks for a call of the mesher, which
+    /// there isn't yet.
+    fn take_in_plan(&mut self, word: &[u8], fields: &[&[u8]]) -> Result<(), LineFault>
+        requires section { self.old.section ≡ Section.Plan }
+        requires draft { IsDraft self.old }
+        ensures draft { OnOk result (IsDraft self.new) }
+        ensures ok { OnOk result (plan_line (draft_of self.old) word.now (texts fields.now) ≡ Ok (draft_of self.new)) }
+        ensures err { IfErr result (λ fault. IsFaultOfPlan (draft_of self.old) word.now (texts fields.now) fault) }
+    {
+        if is_word(word, b"end") {
+            no_field(fields)?;
+            self.section = Section::Ended;
+        } else if is_word(word, b"run") {
+            let field = one_field(fields)?;
+            let worker = number32(field, 0, self.workers - 1)?;
+            self.plan.push(PlanLine::Run(worker))?;
+        } else {
+            mesher_call(word, fields)?;
+            return Err(LineFault::Kind(FaultKind::Word));
+        }
+        Ok(())
+    }
+
+    /// The job, once its last line was read.
+    pub(crate) fn finish(self) -> Job
+        requires draft { IsDraft self }
+        requires ended { has_ended (draft_of self).section ≡ true }
+        ensures { result ≡ job_of (draft_of self) }
+    {
+        Job {
+            pages: self.pages,
+            history: self.history,
+            scripts: Scripts::new(self.scripts),
+            plan: Plan::new(self.plan),
+        }
+    }
+}
+
+/// Puts the script that was read behind the finished ones, and begins another.
+fn close_script(
+    alloc: Global,
+    script: &mut Script,
+    finished: &mut Vec<Script>,
+) -> Result<(), LineFault>
+    ensures ok { OnOk result (finished.new.items ≡ finished.old.items ++ script.old ∷ []) }
+    ensures begun { script.new ≡ [] }
+    ensures err { IfErr result (λ fault. fault ≡ LineFault.Memory) }
+{
+    let script = mem::replace(script, Script::new(alloc));
+    finished.push(script)?;
+    Ok(())
+}

@@ -1,0 +1,112 @@
+//! What a job file says.
+ghost use Rattle.std.specs.Prelude.{◌≡◌, ◌<◌, ◌≤◌, length, map, slice_index_or};
+ghost use Rattle.mesh_job.specs.Job.{line_of};
+
+use crate::Script;
+use mesh_model::PlanLine;
+use std::marker::Model;
+
+/// The scripts of a job's workers, 1 to 64 of them. Worker `w` has the script at place `w`.
+#[derive(Debug, Drop)]
+pub struct Scripts {
+    scripts: Vec<Script>,
+}
+
+impl Model for Scripts {
+    ghost use Rattle.std.specs.Prelude.{◌≤◌, List, length};
+    ghost use Rattle.mesh_model.specs.declared.commands.Command.{Command};
+
+    ghost Value = { List (List Command) };
+
+    ghost view = { λ s. s.scripts.items };
+
+    ghost invariant = { λ s. (1 ≤ length s.scripts.items) × (length s.scripts.items ≤ 64) };
+}
+
+impl Scripts {
+    /// The scripts of workers 0, 1, .. in this order.
+    pub fn new(scripts: Vec<Script>) -> Self
+        requires some { 1 ≤ length scripts.items }
+        requires few { length scripts.items ≤ 64 }
+        ensures { result ≡ scripts.items }
+    {
+        Scripts { scripts }
+    }
+
+    /// How many workers there are.
+    pub fn count(&self) -> usize
+        ensures value { result ≡ length self.now }
+        ensures some { 1 ≤ result }
+        ensures few { result ≤ 64 }
+    {
+        self.scripts.len()
+    }
+
+    /// The script of worker `worker`.
+    pub fn of(&self, worker: u32) -> &Script
+        requires { worker < length self.now }
+        ensures { result.now ≡ slice_index_or self.now worker result.now }
+    {
+        &self.scripts[worker as usize]
+    }
+}
+
+/// The lines of a job's plan, in their order.
+#[derive(Debug, Drop)]
+pub struct Plan {
+    lines: Vec<PlanLine>,
+}
+
+impl Model for Plan {
+    ghost use Rattle.std.specs.Prelude.{List, map};
+    ghost use Rattle.mesh_model.specs.Jobs.{Line};
+    ghost use Rattle.mesh_job.specs.Job.{line_of};
+
+    ghost Value = { List Line };
+
+    ghost view = { λ p. map line_of p.lines.items };
+}
+
+impl Plan {
+    /// A plan of these lines.
+    pub fn new(lines: Vec<PlanLine>) -> Self
+        ensures { result ≡ map line_of lines.items }
+    {
+        Plan { lines }
+    }
+
+    /// The lines, from the first.
+    pub fn lines(&self) -> &[PlanLine]
+        ensures { map line_of result.now ≡ self.now }
+    {
+        self.lines.as_slice()
+    }
+}
+
+/// A job: the size of a heap, the scripts of the workers that use it, and the plan by which they take turns.
+///
+/// Its type keeps the limits: 1 to 4,096 pages, a journal of at most 65,536 entries, and a plan that runs only workers that there
+/// are. The limits are this project's own choice.
+#[derive(Debug, Drop)]
+pub struct Job {
+    /// How many physical pages the arena has.
+    pub pages: u32,
+    /// How many entries the journal has room for.
+    pub history: u32,
+    /// The commands of each worker.
+    pub scripts: Scripts,
+    /// What is done, line by line.
+    pub plan: Plan,
+}
+
+impl Model for Job {
+    ghost use Rattle.std.specs.Prelude.{length};
+    ghost use Rattle.mesh_model.specs.Jobs.{Job as PlainJob};
+    ghost use Rattle.mesh_job.specs.Job.{IsJob};
+
+    ghost Value = { PlainJob };
+
+    ghost view = { λ j. record { pages = j.pages; history = j.history; scripts = j.scripts; plan = j.plan } };
+
+    ghost invariant = { λ j. IsJob j.pages j.history (length j.scripts) j.plan };
+}

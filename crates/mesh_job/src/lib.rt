@@ -1,0 +1,24 @@
+//! Job files: their one reader.
+//!
+//! A job file is text of one line a statement: four header lines, a section of commands for each worker, and a plan that says
+//! in which order the workers attempt their commands. `read_file` takes the text apart or tells its first fault. Its contract is
+//! the definition of reading, which speaks of the whole text; the code goes line by line, and keeps what it has read in a draft.
+//! Contracts see a job as the job of the definitions.
+#![tactic(auto)]
+
+mod commands;
+mod draft;
+mod faults;
+mod hex;
+mod job;
+mod lines;
+mod mesher;
+mod numbers;
+mod reader;
+mod script;
+
+pub use faults::ReadFault;
+pub use job::{Job, Plan, Scripts};
+pub use mesh_model::{Command, FaultKind, PlanLine, TextFault};
+pub use reader::{MOST_FILE_BYTES, read_file};
+pub use script::Script;

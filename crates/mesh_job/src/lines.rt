@@ -1,0 +1,190 @@
+//! A text cut into lines, and a line cut into its fields.
+ghost use Rattle.std.specs.Prelude.{◌≡◌, ◌<◌, ◌≤◌, ◌⊎◌, ◌∷◌, [], Ok, Err, true, false, ◌++◌, length, take, nat_eq, IfSome, IfOk, IfErr, IsNone, OnOk, OnErr};
+ghost use Rattle.std.specs.List.{list_all, list_any, slice_split};
+ghost use Rattle.mesh_model.specs.Files.{are_same, header_in, is_empty, is_printable, no_field, one_field, three_fields, two_fields};
+ghost use Rattle.mesh_job.specs.Reading.{IsFaultyLine, line_fields, text_lines, texts};
+
+use crate::numbers::number32;
+use arrayvec::ArrayVec;
+use mesh_model::FaultKind;
+
+/// The most bytes of a line, without its end.
+const MOST_LINE_BYTES: usize = 1024;
+
+/// The most fields of a line.
+const MOST_FIELDS: usize = 35;
+
+/// The fields of one line, its word first.
+pub(crate) type Fields<'a> = ArrayVec<&'a [u8], MOST_FIELDS>;
+
+/// The bytes before the first `at` and the bytes behind it.
+fn cut(bytes: &[u8], at: u8) -> Option<(&[u8], &[u8])>
+    ensures none { IsNone result → slice_split (λ b. nat_eq b at) bytes.now ≡ bytes.now ∷ [] }
+    ensures some { IfSome result (λ pieces. slice_split (λ b. nat_eq b at) bytes.now ≡ pieces.0.now ∷ slice_split (λ b. nat_eq b at) pieces.1.now) }
+    ensures shorter { IfSome result (λ pieces. length pieces.1.now < length bytes.now) }
+{
+    let place = bytes.iter().position(|byte| *byte == at)?;
+    Some((&bytes[..place], &bytes[place + 1..]))
+}
+
+/// Whether the byte may stand in a line.
+fn is_printable(byte: u8) -> bool
+    ensures { result ≡ is_printable byte }
+{
+    (b' '..=b'~').contains(&byte)
+}
+
+/// The next line without its end, and the bytes behind it.
+///
+/// LONG_LINE where its first 1,025 bytes hold no line end, CUT where the text ends before it does, and BYTE where one of its bytes
+/// isn't from 20 to 7e.
+pub(crate) fn next_line(text: &[u8]) -> Result<(&[u8], &[u8]), FaultKind>
+    ensures lines { IfOk result (λ pieces. text_lines text.now ≡ pieces.0.now ∷ text_lines pieces.1.now) }
+    ensures short { IfOk result (λ pieces. length pieces.0.now ≤ 1024) }
+    ensures printable { IfOk result (λ pieces. list_all is_printable pieces.0.now ≡ true) }
+    ensures shorter { IfOk result (λ pieces. length pieces.1.now < length text.now) }
+    ensures err { IfErr result (λ kind. IsFaultyLine text.now kind) }
+{
+    let place = printable_front(text);
+    if place <= MOST_LINE_BYTES && place < text.len() && text[place] == b'\n' {
+        return Ok((&text[..place], &text[place + 1..]));
+    }
+    tested_line(text)
+}
+
+/// How many bytes at the front of the text may stand in a line, counted up to 1,025.
+fn printable_front(text: &[u8]) -> usize
+    ensures within { result ≤ length text.now }
+    ensures printable { list_all is_printable (take result text.now) ≡ true }
+{
+    let most = text.len().min(MOST_LINE_BYTES + 1);
+    let mut place = 0;
+    while place < most && is_printable(text[place]) {
+        place += 1;
+    }
+    place
+}
+
+/// The same as `next_line`, which needs it where the line has a fault.
+fn tested_line(text: &[u8]) -> Result<(&[u8], &[u8]), FaultKind>
+    ensures lines { IfOk result (λ pieces. text_lines text.now ≡ pieces.0.now ∷ text_lines pieces.1.now) }
+    ensures short { IfOk result (λ pieces. length pieces.0.now ≤ 1024) }
+    ensures printable { IfOk result (λ pieces. list_all is_printable pieces.0.now ≡ true) }
+    ensures shorter { IfOk result (λ pieces. length pieces.1.now < length text.now) }
+    ensures err { IfErr result (λ kind. IsFaultyLine text.now kind) }
+{
+    let Some((line, rest)) = cut(text, b'\n') else {
+        return Err(if text.len() > MOST_LINE_BYTES {
+            FaultKind::LongLine
+        } else {
+            FaultKind::Cut
+        });
+    };
+    if line.len() > MOST_LINE_BYTES {
+        return Err(FaultKind::LongLine);
+    }
+    if !line.iter().all(|byte| is_printable(*byte)) {
+        return Err(FaultKind::Byte);
+    }
+    Ok((line, rest))
+}
+
+/// The fields between the single spaces of a line. WORD where one of them is empty, or where they are too many for any line.
+pub(crate) fn fields_of(line: &[u8]) -> Result<Fields<'_>, FaultKind>
+    ensures fields { IfOk result (λ fields. texts fields.items ≡ line_fields line.now) }
+    ensures filled { OnOk result (list_any is_empty (line_fields line.now) ≡ false) }
+    ensures kind { IfErr result (λ kind. kind ≡ FaultKind.Word) }
+    ensures err { OnErr result ((list_any is_empty (line_fields line.now) ≡ true) ⊎ (35 < length (line_fields line.now))) }
+{
+    let mut fields = Fields::new();
+    let mut rest = line;
+    while let Some((field, behind)) = cut(rest, b' ') {
+        add_field(&mut fields, field)?;
+        rest = behind;
+    }
+    add_field(&mut fields, rest)?;
+    Ok(fields)
+}
+
+/// Adds a field that isn't empty, where there is room. WORD where it is empty or there is no room.
+fn add_field<'a>(fields: &mut Fields<'a>, field: &'a [u8]) -> Result<(), FaultKind>
+    ensures ok { OnOk result (texts fields.new.items ≡ texts fields.old.items ++ field.now ∷ []) }
+    ensures filled { OnOk result (is_empty field.now ≡ false) }
+    ensures kind { IfErr result (λ kind. kind ≡ FaultKind.Word) }
+    ensures err { OnErr result ((is_empty field.now ≡ true) ⊎ (length (texts fields.old.items) ≡ 35)) }
+{
+    if field.is_empty() {
+        return Err(FaultKind::Word);
+    }
+    fields.try_push(field).map_err(|_| FaultKind::Word)
+}
+
+/// Whether a line's word is this one.
+pub(crate) fn is_word(word: &[u8], wanted: &[u8]) -> bool
+    ensures { result ≡ are_same word.now wanted.now }
+{
+    word == wanted
+}
+
+/// The one field behind a line's word. WORD where there are more or none.
+pub(crate) fn one_field<'a>(fields: &[&'a [u8]]) -> Result<&'a [u8], FaultKind>
+    ensures ok { IfOk result (λ field. one_field (texts fields.now) ≡ Ok field.now) }
+    ensures err { IfErr result (λ kind. one_field (texts fields.now) ≡ Err kind) }
+{
+    match fields {
+        [first] => Ok(*first),
+        _ => Err(FaultKind::Word),
+    }
+}
+
+/// The two fields behind a line's word. WORD where there are more or fewer.
+pub(crate) fn two_fields<'a>(fields: &[&'a [u8]]) -> Result<(&'a [u8], &'a [u8]), FaultKind>
+    ensures ok { IfOk result (λ f. two_fields (texts fields.now) ≡ Ok (f.0.now, f.1.now)) }
+    ensures err { IfErr result (λ kind. two_fields (texts fields.now) ≡ Err kind) }
+{
+    match fields {
+        [first, second] => Ok((*first, *second)),
+        _ => Err(FaultKind::Word),
+    }
+}
+
+/// The three fields behind a line's word. WORD where there are more or fewer.
+pub(crate) fn three_fields<'a>(
+    fields: &[&'a [u8]],
+) -> Result<(&'a [u8], &'a [u8], &'a [u8]), FaultKind>
+    ensures ok { IfOk result (λ f. three_fields (texts fields.now) ≡ Ok (f.0.now, f.1.now, f.2.now)) }
+    ensures err { IfErr result (λ kind. three_fields (texts fields.now) ≡ Err kind) }
+{
+    match fields {
+        [first, second, third] => Ok((*first, *second, *third)),
+        _ => Err(FaultKind::Word),
+    }
+}
+
+/// That a line has no field behind its word. WORD where it has one.
+pub(crate) fn no_field(fields: &[&[u8]]) -> Result<(), FaultKind>
+    ensures { result ≡ no_field (texts fields.now) }
+{
+    match fields {
+        [] => Ok(()),
+        _ => Err(FaultKind::Word),
+    }
+}
+
+/// The number of a header line: the word that is wanted and one number. WORD where it is another line, NUMBER where the number
+/// isn't from `least` to `most`.
+pub(crate) fn header(
+    word: &[u8],
+    fields: &[&[u8]],
+    wanted: &[u8],
+    least: u32,
+    most: u32,
+) -> Result<u32, FaultKind>
+    ensures { result ≡ header_in wanted.now least most word.now (texts fields.now) }
+{
+    if !is_word(word, wanted) {
+        return Err(FaultKind::Word);
+    }
+    let field = one_field(fields)?;
+    number32(field, least, most)
+}
