@@ -1,6 +1,6 @@
 -- The answer lines of a plan, gathered and written.
 use Rattle.std.proofs.Common.{◌≡◌, ℕ, ◌+◌, List, [], ◌∷◌, ◌++◌, Option, append_assoc, append-nil, drop, length, take, take-append-drop, ap, subst, refl, sym, ◌∙◌}
-use Rattle.std.proofs.KnownBytes.{Appends-nil, Appends-trans}
+use Rattle.std.proofs.KnownBytes.{Appends-trans}
 use Rattle.std.proofs.Math.Seq.{take-append_seam}
 use Rattle.std.proofs.lemmas.Grind.{flat_map-append}
 use Rattle.std.specs.Io.KnownBytes.{Appends}
@@ -47,10 +47,6 @@ output_after job n =
     ap (λ lines. lines_of (answers_from job (opening job) lines)) (sym (take-append-drop n job.plan))
     ∙ ap (λ told. lines_of told) (answers_after job (opening job) (take n job.plan) (drop n job.plan))
     ∙ lines_after (answers_from job (opening job) (take n job.plan)) (answers_from job (state_up_to job n) (drop n job.plan))
-
--- nothing is gathered before the first line
-pub nothing_gathered : (job : Job) (old : Option (List ℕ)) → HasGathered job 0 old old []
-nothing_gathered job old = record { lines = 0; wrote = Appends-nil old; all = refl }
 
 -- a job stands where its line was answered
 pub next_at : (job : Job) (n : ℕ) (line : Line) (book : Book) (places : List ℕ) (given : Answer) → take (n + 1) job.plan ≡ take n job.plan ++ line ∷ []

@@ -1,12 +1,12 @@
 -- A worker's turn: what an attempt at its next command is to the job.
-use Rattle.std.proofs.Common.{◌≡◌, ℕ, zero, suc, ◌+◌, ◌<◌, ◌≤◌, Bool, true, false, if◌then◌else◌, nat_le, List, [], ◌∷◌, ◌++◌, Option, Some, None, drop, get_or, length, replicate, slice_get, slice_index, slice_index_or, slice_set, ap, subst, refl, sym, ◌∙◌, arith, inl, inr}
+use Rattle.std.proofs.Common.{◌≡◌, ℕ, zero, suc, ◌+◌, ◌<◌, ◌≤◌, Bool, true, false, if◌then◌else◌, nat_le, List, [], ◌∷◌, ◌++◌, Option, Some, None, drop, get_or, length, slice_get, slice_index, slice_index_or, slice_set, ap, subst, refl, sym, ◌∙◌, arith, inl, inr}
 use Rattle.std.proofs.lemmas.Bool.Decides.{eqb_tells, leb_tells}
 use Rattle.std.proofs.lemmas.List.{get_or-set_other, get_or-set_same, get_or_default}
 use Rattle.std.proofs.Math.ListN.{length-set}
-use Rattle.mesh_model.specs.Jobs.{Job, Outcome, Replied as PlainReplied, RunWorker, State, JournalFull, answer, answered, attempted, later_commands, opening, run_next, is_held_back}
-use Rattle.mesh_model.specs.Memory.{Memory, empty_memory}
+use Rattle.mesh_model.specs.Jobs.{Job, Outcome, Replied as PlainReplied, RunWorker, State, JournalFull, answer, answered, attempted, later_commands, run_next, is_held_back}
+use Rattle.mesh_model.specs.Memory.{Memory}
 use Rattle.mesh_model.specs.Plain.{Entry}
-use Rattle.mesh_model.specs.Table.{Table, empty_table}
+use Rattle.mesh_model.specs.Table.{Table}
 use Rattle.mesh_model.specs.declared.commands.Command.{Command}
 use Rattle.mesh_model.specs.declared.commands.Reply.{Reply}
 use Rattle.mesh_mutator.specs.Book.{Book, IsAttempt, memory_of_book, table_of_book}
@@ -173,24 +173,3 @@ turn_taken job state book book' places script worker command attempt at is here 
         subst (λ next. IsNextAt job next book' places HistoryFull) (sym whole)
         (record { answer_is = refl; at = subst (λ b. IsAt job state b places) (sym done.1) at })
     go OutOfMemory commands left done some = absurd some
-
--- before the first turn no command is passed
-opening_scripts : (n worker : ℕ) (scripts : List (List Command)) → slice_index_or scripts worker [] ≡ drop (slice_index (replicate n 0) worker) (slice_index_or scripts worker [])
-opening_scripts n worker scripts = ap (λ k. drop k (slice_index_or scripts worker [])) (sym (nothing_passed n worker))
-  where
-    nothing_passed : (n worker : ℕ) → slice_index (replicate n 0) worker ≡ 0
-    nothing_passed zero worker = refl
-    nothing_passed (suc n) zero = refl
-    nothing_passed (suc n) (suc worker) = nothing_passed n worker
-
--- a fresh book is where a job begins
-pub at_opening : (job : Job) (book : Book) (n : ℕ) → memory_of_book book ≡ empty_memory → table_of_book book ≡ empty_table job.pages → book.entries ≡ []
-    → book.room ≡ job.history → IsAt job (opening job) book (replicate n 0)
-at_opening job book n memory table entries room = record {
-  memory = memory;
-  table = table;
-  entries = entries;
-  room = room;
-  workers = refl;
-  scripts = λ worker. opening_scripts n worker job.scripts;
-}
