@@ -133,20 +133,17 @@ impl Arena {
         );
     }
 
+    /// How many pages are taken.
+    pub fn taken_pages(&self) -> u32
+        ensures { result + free_count self.now ≡ length self.now }
+    {
+        self.frames.count() as u32 - self.free
+    }
+
     /// How many pages are free.
     pub fn free_pages(&self) -> u32
         ensures { result ≡ free_count self.now }
     {
         self.free
-    }
-}
-
-#[cfg(test)]
-mod tests {
-    use super::*;
-
-    #[test]
-    fn takes_memory(rt: HostRuntime) {
-        assert!(rt; Arena::new(rt.alloc(), 2).is_ok());
     }
 }

@@ -98,6 +98,13 @@ impl Frames {
         Ok(Frames { made, count })
     }
 
+    /// How many frames there are.
+    pub(crate) fn count(&self) -> usize
+        ensures { result ≡ length self.now }
+    {
+        self.count
+    }
+
     /// The place of the lowest free frame, or how many frames were made where all those are taken. None below `from` is free.
     pub(crate) fn first_free(&self, from: usize) -> usize
         requires { (k : ℕ) → k < from → IsTaken self.now k }

@@ -7,12 +7,13 @@ use Rattle.mesh_class.specs.Classes.{slots_of}
 use Rattle.mesh_layout.specs.Indexes.{layout_of, table_with}
 use Rattle.mesh_layout.specs.Layout.{IsLiveAt}
 use Rattle.mesh_layout.specs.Steps.{Keeps}
-use Rattle.mesh_model.specs.Table.{Group, Made, Mesh, Progress, Slot, Table, Unwinding, emptied_at, is_open, place_in, placed_in, room_for_span, with_group, with_object_in, with_span}
+use Rattle.mesh_model.specs.Table.{Group, Made, Mesh, Progress, Slot, Report as PlainReport, Table, Unwinding, emptied_at, is_open, place_in, placed_in, room_for_span, with_group, with_object_in, with_span}
 use Rattle.mesh_model.specs.declared.refusals.Refusal.{Refusal}
 use Rattle.mesh_pagemap.specs.Entries.{Entries, entry_code, page_of}
 use Rattle.mesh_spans.specs.Groups.{IsPicked, is_closed}
 use Rattle.mesh_spans.specs.Index.{Index, IsRecorded, IsSpan, IsVacant, address_in, index_code, span_at}
 use Rattle.mesh_steps.specs.declared.answers.NewFault.{NewFault}
+use Rattle.mesh_steps.specs.declared.answers.Report.{Report}
 use Rattle.mesh_steps.specs.declared.answers.NewFault.TheVariants.{Memory, Refused}
 
 -- physical pages, page map, span index, the lowest virtual page that was never used, and the running meshes
@@ -63,6 +64,10 @@ table_in g = table_with g.arena g.index g.next_page g.meshes
 -- the lowest open group of the class
 abbrev pub open_group : Table → ℕ → Option Group
 open_group t class = find (is_open t class) t.groups
+
+-- the counts that are told, as the definition of a report has them
+abbrev pub counts_told : Report → PlainReport
+counts_told r = record { objects = r.objects; bytes = r.bytes; mapped = r.mapped; taken = r.taken; saved = r.saved }
 
 -- an object stands in the slot, from this address on
 pub record IsStanding (index : Index) (span k serial len address : ℕ) : Type 0 where

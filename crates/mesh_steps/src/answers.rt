@@ -42,6 +42,21 @@ impl From<Refusal> for NewFault {
     }
 }
 
+/// What a heap counts.
+#[derive(Clone, Copy, Debug, PartialEq, Eq)]
+pub struct Report {
+    /// The live objects.
+    pub objects: u32,
+    /// The lengths of the live objects together, in bytes.
+    pub bytes: u32,
+    /// The mapped virtual pages.
+    pub mapped: u32,
+    /// The taken physical pages.
+    pub taken: u32,
+    /// How many more pages are mapped than taken: those that meshing saves.
+    pub saved: u32,
+}
+
 /// Where an object stands in whose slot an address is.
 #[derive(Clone, Copy)]
 pub(crate) struct Occupied {

@@ -4,13 +4,14 @@ ghost use Rattle.std.specs.Bool.{OnFalse, OnTrue};
 ghost use Rattle.mesh_model.specs.Mesh.{is_blocked};
 ghost use Rattle.mesh_model.specs.Places.{Record, IsIn, record_with};
 ghost use Rattle.mesh_model.specs.Plain.{holding};
-ghost use Rattle.mesh_model.specs.Table.{empty_table};
+ghost use Rattle.mesh_model.specs.Table.{empty_table, report_of};
 ghost use Rattle.mesh_steps.specs.Always.{HasHeldPagesTaken, HasObjectsApart, HasPlacesApart, HasReadOnlyOfMeshes, LiesAsMeshesHaveIt};
-ghost use Rattle.mesh_steps.specs.Heap.{IsFree, IsHeap, IsHeld, IsLiveFor, IsMade, IsNotMade, IsObjectAt, IsReferred, IsStore, byte_at_address, bytes_at, freed_at, live_records, memory_of, plain_of, referred, stored_at, stored_at_address, stored_in, table_of};
+ghost use Rattle.mesh_steps.specs.PageHeap.{counts_told};
+ghost use Rattle.mesh_steps.specs.Heap.{IsFree, IsHeap, IsHeld, IsLiveFor, IsMade, IsNotMade, IsObjectAt, IsReferred, IsStore, arena_of, byte_at_address, bytes_at, freed_at, live_records, memory_of, plain_of, referred, stored_at, stored_at_address, stored_in, table_of};
 
 use crate::answers::Occupied;
 use crate::page_heap::PageHeap;
-use crate::{NewFault, Ref, Stored};
+use crate::{NewFault, Ref, Report, Stored};
 use arrayvec::ArrayVec;
 use mesh_class::class_of;
 use mesh_model::{MAX_BYTES, Refusal};
@@ -149,6 +150,14 @@ impl Heap {
         ensures { result ≡ is_ok (referred (plain_of self.now) object) }
     {
         self.live(object).is_some()
+    }
+
+    /// What the heap counts: live objects and their bytes, mapped and taken pages, and how many pages meshing saves. It takes no memory,
+    /// and its cost is the same whatever the number of groups.
+    pub fn report(&self) -> Report
+        ensures { counts_told result ≡ report_of (length (arena_of self.now)) (table_of self.now) }
+    {
+        self.pages.report()
     }
 
     /// What always holds of a heap: two different bytes of live objects never share a place, no free page holds a live object, the

@@ -8,5 +8,5 @@ mod growth;
 mod heap;
 mod page_heap;
 
-pub use answers::{NewFault, Ref, Stored};
+pub use answers::{NewFault, Ref, Report, Stored};
 pub use heap::Heap;

@@ -7,12 +7,12 @@ ghost use Rattle.mesh_layout.specs.Indexes.{layout_of};
 ghost use Rattle.mesh_layout.specs.Layout.{AreInObject};
 ghost use Rattle.mesh_layout.specs.PageHeap.{IsPageHeap};
 ghost use Rattle.mesh_model.specs.Sound.{IsSound};
-ghost use Rattle.mesh_model.specs.Table.{empty_table, slot_address};
+ghost use Rattle.mesh_model.specs.Table.{empty_table, report_of, slot_address};
 ghost use Rattle.mesh_spans.specs.Index.{GroupEntry, IsIndex, address_in, group_at, record_at, span_at};
 ghost use Rattle.mesh_store.specs.Places.{AreBacked, IsBlocked, IsOpen, Saves, byte_of};
-ghost use Rattle.mesh_steps.specs.PageHeap.{IsFreeSlot, IsFreshSpan, IsInSlotOf, IsPlace, IsPlaceFault, IsSpanFault, KeepsOutside, table_emptied, table_in, table_with_object};
+ghost use Rattle.mesh_steps.specs.PageHeap.{IsFreeSlot, IsFreshSpan, IsInSlotOf, IsPlace, IsPlaceFault, IsSpanFault, KeepsOutside, counts_told, table_emptied, table_in, table_with_object};
 
-use crate::answers::{NewFault, Occupied};
+use crate::answers::{NewFault, Occupied, Report};
 use crate::growth::{give_pages, map_pages, take_pages};
 use mesh_class::Class;
 use mesh_model::Refusal;
@@ -173,6 +173,22 @@ impl PageHeap {
             serial,
             len,
         })
+    }
+
+    /// What it counts. No group and no page is looked at.
+    pub fn report(&self) -> Report
+        ensures { counts_told result ≡ report_of (length self.now.arena) (table_in self.now) }
+    {
+        let totals = self.spans.totals();
+        let taken = self.store.arena.taken_pages();
+        Report {
+            objects: totals.objects,
+            bytes: totals.bytes,
+            mapped: totals.mapped,
+            taken,
+            // No more pages are taken than mapped.
+            saved: totals.mapped.saturating_sub(taken),
+        }
     }
 
     /// The bytes from an address on, as many as `out` has, all of one object.
