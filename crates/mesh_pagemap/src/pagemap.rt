@@ -119,13 +119,3 @@ impl PageMap {
         self.table[place]
     }
 }
-
-#[cfg(test)]
-mod tests {
-    use super::*;
-
-    #[test]
-    fn takes_memory(rt: HostRuntime) {
-        assert!(rt; PageMap::new(rt.alloc()).is_ok());
-    }
-}

@@ -1,4 +1,4 @@
-//! The program's worked rows and failing devices, over memory.
+//! The program's worked rows and failing devices, over memory, and the tests of the crates below.
 //!
 //! Each expected text was worked out by hand from the rules, and none was copied from a run.
 
@@ -9,7 +9,9 @@ mod arguments;
 mod devices;
 mod faults;
 mod files;
+mod memory;
 mod rows;
+mod search;
 
 /// What one run of the program wrote, and its exit status.
 #[derive(Drop)]

@@ -25,6 +25,3 @@ pub use rounds::Found;
 pub use searching::search;
 pub use split::search_one;
 pub use view::ClassView;
-
-#[cfg(test)]
-mod tests;

@@ -157,13 +157,3 @@ impl Store {
         }
     }
 }
-
-#[cfg(test)]
-mod tests {
-    use super::*;
-
-    #[test]
-    fn takes_memory(rt: HostRuntime) {
-        assert!(rt; Store::open(rt.alloc(), 2).is_ok());
-    }
-}

@@ -1,6 +1,6 @@
 //! A worked shuffle, the parts of a round, and a search that has nothing to try.
-use crate::{ClassView, NoGate, part, search, shuffle};
 use mesh_class::class_of;
+use mesh_search::{ClassView, NoGate, part, search, shuffle};
 
 #[test]
 fn four_are_shuffled(rt: HostRuntime) {
