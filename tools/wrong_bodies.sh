@@ -1,7 +1,7 @@
 #!/bin/sh
 # Tries the wrong bodies under crates/NAME/wrong-bodies, which the gate doesn't: each must be refused by the prover.
 #
-#   tools/wrong_bodies.sh [CRATE..]     the crates named, or each that has some
+#   tools/wrong_bodies.sh [CRATE..]     the crates named, or each that has some, those with the most first
 #
 # It works on a copy of the files that git knows and of what earlier checks kept, with as many crates at a time as there are processors. It prints
 # why each wrong body was refused, and then how many were. It ends with status 1 where one was not refused. Run it when a contract of a crate was
@@ -10,7 +10,7 @@ set -u
 cd "$(dirname "$0")/.."
 
 if [ $# -eq 0 ]; then
-    set -- $(ls -d crates/*/wrong-bodies | cut -d/ -f2)
+    set -- $(ls crates/*/wrong-bodies/*.edit | cut -d/ -f2 | uniq -c | sort -rn | awk '{ print $2 }')
 fi
 
 copy=$(mktemp -d)
