@@ -30,6 +30,7 @@ mod ProtectedPages
 mod ReadOnlyPages
 mod Readings
 pub mod Records
+mod Refused
 mod Replies
 pub mod Searches
 mod Seating

@@ -1,12 +1,13 @@
 -- How the steps of a mesh are counted, and that at most one mesh runs a class.
-use Rattle.std.specs.Prelude.{◌≡◌, ◌≢◌, ◌↔◌, ℕ, zero, suc, ◌+◌, ◌*◌, Bool, true, Option, Some, None, Result, Ok, length, slice_get}
+use Rattle.std.specs.Prelude.{◌≡◌, ◌≢◌, ◌↔◌, ◌⊎◌, ℕ, zero, suc, ◌+◌, ◌*◌, ◌<◌, Bool, true, false, Option, Some, None, Result, Ok, Err, length, slice_get}
 use Rattle.mesh_model.specs.Classes.{pages_of, slots_of}
-use Rattle.mesh_model.specs.Mesh.{Stepped, begin, cancel, left_of, mesh_in, mesh_of_class, mesh_whole, step}
+use Rattle.mesh_model.specs.Mesh.{Stepped, begin, cancel, left_of, mesh_in, mesh_of_class, mesh_whole, page_count, step}
 use Rattle.mesh_model.specs.Sound.{IsSound}
-use Rattle.mesh_model.specs.Table.{Counted, Group, Mesh, Progress, Table, group_of}
+use Rattle.mesh_model.specs.Table.{Counted, Group, Made, Mesh, Progress, Table, group_of}
 use Rattle.mesh_model.specs.TableLaws.{IsBusyTest}
 use Rattle.mesh_model.specs.Words.{◌>>=◌}
 use Rattle.mesh_model.specs.declared.refusals.Refusal.{Refusal}
+use Rattle.mesh_model.specs.declared.refusals.Refusal.TheVariants.{NoMesh, TooLate}
 
 -- the steps to come of a source, if there is one
 abbrev pub left_from : Progress → Option Group → ℕ
@@ -102,3 +103,31 @@ MeshInIsOfClass = (t : Table) (class : ℕ) (mesh : Mesh) → mesh_in t class �
 -- a mesh of the class is running exactly where there is the mesh of the class
 abbrev pub ClassHasMesh : Type 0
 ClassHasMesh = (t : Table) (class : ℕ) → (mesh_of_class t class ≡ true) ↔ ((mesh : Mesh) × (mesh_in t class ≡ Some mesh))
+
+-- a step of a class is refused exactly where no mesh of the class is running, and then with NO_MESH
+abbrev pub StepIsRefusedWithoutMesh : Type 0
+StepIsRefusedWithoutMesh = (t : Table) (class : ℕ) (refusal : Refusal) → IsSound t
+    → (step t (mesh_in t class) ≡ Err refusal) ↔ ((refusal ≡ NoMesh) × (mesh_of_class t class ≡ false))
+
+-- of the running mesh of a class, which isn't unwinding, more steps were made than protect its pages and copy its slots
+pub record HasRemapped (t : Table) (class : ℕ) : Type 0 where
+  pub mesh : Mesh
+  pub source : Group
+  pub made : ℕ
+  pub running : mesh_in t class ≡ Some mesh
+  pub source_is : group_of t mesh.source ≡ Some source
+  pub made_is : mesh.progress ≡ Made made
+  pub late : page_count source + slots_of source.class < made
+
+-- a cancel of a class is refused with NO_MESH exactly where no mesh of the class is running
+abbrev pub CancelIsRefusedWithoutMesh : Type 0
+CancelIsRefusedWithoutMesh = (t : Table) (class : ℕ) → IsSound t → (cancel t (mesh_in t class) ≡ Err NoMesh) ↔ (mesh_of_class t class ≡ false)
+
+-- with TOO_LATE exactly where the mesh has remapped a page
+abbrev pub CancelIsRefusedLate : Type 0
+CancelIsRefusedLate = (t : Table) (class : ℕ) → IsSound t → (cancel t (mesh_in t class) ≡ Err TooLate) ↔ HasRemapped t class
+
+-- and with nothing else
+abbrev pub CancelHasTwoRefusals : Type 0
+CancelHasTwoRefusals = (t : Table) (class : ℕ) (refusal : Refusal) → IsSound t → cancel t (mesh_in t class) ≡ Err refusal
+    → (refusal ≡ NoMesh) ⊎ (refusal ≡ TooLate)

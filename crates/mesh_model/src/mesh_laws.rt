@@ -1,5 +1,5 @@
-//! Laws of running meshes: how their steps are counted, and that at most one runs a class. Each is the contract of a function that does nothing.
-ghost use Rattle.mesh_model.specs.MeshLaws.{BeginAnswersAllSteps, BeginLeavesSteps, StepTakesOne, LastStepEnds, CancelAnswersLeft, CancelOfNoneEnds, OthersKeepTheirSteps, StepsCountDown, SoundHasOneAClass, BeginKeepsOneAClass, WholeKeepsOneAClass, StepKeepsOneAClass, CancelKeepsOneAClass, MeshInIsOfClass, ClassHasMesh};
+//! Laws of running meshes: how their steps are counted, that at most one runs a class, and when a step or a cancel is refused. Each is the contract of a function that does nothing.
+ghost use Rattle.mesh_model.specs.MeshLaws.{BeginAnswersAllSteps, BeginLeavesSteps, StepTakesOne, LastStepEnds, CancelAnswersLeft, CancelOfNoneEnds, OthersKeepTheirSteps, StepsCountDown, SoundHasOneAClass, BeginKeepsOneAClass, WholeKeepsOneAClass, StepKeepsOneAClass, CancelKeepsOneAClass, MeshInIsOfClass, ClassHasMesh, StepIsRefusedWithoutMesh, CancelIsRefusedWithoutMesh, CancelIsRefusedLate, CancelHasTwoRefusals};
 
 /// `begin` answers all steps of the mesh, and leaves as many to come.
 pub fn begin_answers_all_steps()
@@ -34,4 +34,16 @@ pub fn at_most_one_a_class()
 pub fn mesh_of_class_is_found()
     ensures is { MeshInIsOfClass }
     ensures some { ClassHasMesh }
+{}
+
+/// A step of a class is refused only where no mesh of the class runs.
+pub fn steps_are_refused_without_mesh()
+    ensures { StepIsRefusedWithoutMesh }
+{}
+
+/// A cancel of a class is refused only where no mesh of the class runs, or where the mesh has remapped a page.
+pub fn cancels_are_refused_late()
+    ensures none { CancelIsRefusedWithoutMesh }
+    ensures late { CancelIsRefusedLate }
+    ensures only { CancelHasTwoRefusals }
 {}

@@ -1,0 +1,11 @@
+use Rattle.mesh_model.proofs.Refused.{cancel_late, cancel_none, cancel_refused}
+use Rattle.mesh_model.proofs.mesh_laws.cancels_are_refused_late.Goals as goal
+
+pub returns-clause-none : goal.returns-clause-none
+returns-clause-none c = cancel_none
+
+pub returns-clause-late : goal.returns-clause-late
+returns-clause-late c = cancel_late
+
+pub returns-clause-only : goal.returns-clause-only
+returns-clause-only c = cancel_refused
