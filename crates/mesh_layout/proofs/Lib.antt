@@ -13,7 +13,6 @@ pub mod Orderly
 pub mod Whole
 pub mod Covered
 pub mod ReadOnly
-pub mod SameRecords
 pub mod Meaning
 pub mod Changes
 pub mod PageCopies

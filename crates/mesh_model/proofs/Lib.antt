@@ -15,6 +15,7 @@ mod Histories
 pub mod Holders
 mod JobHistories
 mod JobPages
+mod KeptRecords
 mod LineReadings
 pub mod MadeObjects
 pub mod Meanings
@@ -32,6 +33,7 @@ mod Readings
 pub mod Records
 mod Refused
 mod Replies
+pub mod SameRecords
 pub mod Searches
 mod Seating
 mod Settling

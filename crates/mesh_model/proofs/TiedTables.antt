@@ -261,7 +261,7 @@ cancelled_at_groups : (t : Table) (this : Mesh) (a : Group) (q : ℕ) → (cance
 cancelled_at_groups t this a q = elim (eqb_tells q 0) [ inl none ↦ rw none.0 refl | inr some ↦ rw some.0 refl ]
 
 -- a cancel of a mesh at a progress keeps the groups
-cancelled_groups : (t : Table) (this : Mesh) (a : Group) (progress : Progress) (x : Counted) → cancelled t this a progress ≡ Ok x → x.table.groups ≡ t.groups
+pub cancelled_groups : (t : Table) (this : Mesh) (a : Group) (progress : Progress) (x : Counted) → cancelled t this a progress ≡ Ok x → x.table.groups ≡ t.groups
 cancelled_groups t this a (Made d) x h =
     let in_time = refuse_if_went TooLate (nat_lt (page_count a + slots_of a.class) d) _ x h in
     let done = in_time.1 in

@@ -15,6 +15,7 @@ pub mod PageLaws
 pub mod Places
 pub mod Plain
 pub mod ReaderLaws
+pub mod RecordLaws
 pub mod Refusals
 pub mod Search
 pub mod SeatLaws

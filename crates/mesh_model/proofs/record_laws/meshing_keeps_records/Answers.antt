@@ -1,0 +1,14 @@
+use Rattle.mesh_model.proofs.KeptRecords.{begin_records, cancel_records, step_records, whole_records}
+use Rattle.mesh_model.proofs.record_laws.meshing_keeps_records.Goals as goal
+
+pub returns-clause-begin : goal.returns-clause-begin
+returns-clause-begin c = begin_records
+
+pub returns-clause-step : goal.returns-clause-step
+returns-clause-step c = step_records
+
+pub returns-clause-cancel : goal.returns-clause-cancel
+returns-clause-cancel c = cancel_records
+
+pub returns-clause-whole : goal.returns-clause-whole
+returns-clause-whole c = whole_records
