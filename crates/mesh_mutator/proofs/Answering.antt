@@ -166,7 +166,8 @@ pub store_performed : (h h' : Heap) (cells : Cells) (command : Command) (after :
     → GoAlike (λ n y. y ≡ (ReplyDone, with_roots n (serials_of cells))) after (plain (memory_in h cells) 0 command)
     → (IsOk after → touches_read_only (memory_in h cells) (table_of h) command ≡ is_blocked (table_of h) addr len)
     → KeepsHeap command h h' → IsStore h h' after (is_blocked (table_of h) addr len) stored → IsPerformed h h' cells cells command (attempt_of stored)
-store_performed h h' cells command after addr len StoreDone is alike touches kept store =
+store_performed h h' cells command after addr len StoreDone is alike touches kept whole =
+    let store = whole.done refl in
     let on = went_on (λ n y. y ≡ (ReplyDone, with_roots n (serials_of cells))) after (plain (memory_in h cells) 0 command) (plain_of h') alike store.memory in record {
       outcome = subst (λ (o : Outcome). IsOutcome h' cells o ReplyDone) (sym is)
           (outcome_done h' cells (memory_in h cells) (memory_in h' cells) (table_of h) (table_of h) ReplyDone (plain (memory_in h cells) 0 command)
@@ -176,19 +177,21 @@ store_performed h h' cells command after addr len StoreDone is alike touches kep
       other_cells = λ cell apart. refl;
       kept = kept;
     }
-store_performed h h' cells command after addr len StoreBlocked is alike touches kept store = (held after refl, store.same, refl)
+store_performed h h' cells command after addr len StoreBlocked is alike touches kept whole = (held after refl, (whole.blocked refl).same, refl)
   where
     held : (r : Result Memory Refusal) → after ≡ r
         → is_held_back (memory_in h cells) (table_of h) command (answered (memory_in h cells) (table_of h) command).reply ≡ true
-    held (Err refusal) e = absurd (let two : false ≡ true = subst (λ (r : Result Memory Refusal). is_ok r ≡ true) e store.allowed in cc two)
+    held (Err refusal) e = absurd (let two : false ≡ true = subst (λ (r : Result Memory Refusal). is_ok r ≡ true) e (whole.blocked refl).allowed in cc two)
     held (Ok n) e =
         let on = went_on (λ n y. y ≡ (ReplyDone, with_roots n (serials_of cells))) after (plain (memory_in h cells) 0 command) n alike e in
         let reply : (answered (memory_in h cells) (table_of h) command).reply ≡ ReplyDone
         = ap (λ (o : Outcome). o.reply) is
         ∙ ap (λ (r : Result (Reply × Memory) Refusal). (others_answered (memory_in h cells) (table_of h) (table_of h) r).reply)
         (on.is ∙ ap (λ (y : Reply × Memory). Ok y) on.related) in
-        ap (λ (r : Reply). is_held_back (memory_in h cells) (table_of h) command r) reply ∙ touches store.allowed ∙ store.read_only
-store_performed h h' cells command after addr len (StoreRefused refusal) is alike touches kept store =
+        ap (λ (r : Reply). is_held_back (memory_in h cells) (table_of h) command r) reply
+        ∙ touches (whole.blocked refl).allowed ∙ (whole.blocked refl).read_only
+store_performed h h' cells command after addr len (StoreRefused refusal) is alike touches kept whole =
+    let store = whole.refused refusal refl in
     let same : h' ≡ h = store.same in
     answered_refused h h' cells command refusal (subst (λ (o : Outcome). IsOutcome h' cells o (ReplyRefused refusal)) (sym is)
     (outcome_refused h' cells (memory_in h cells) (table_of h) (table_of h) refusal (plain (memory_in h cells) 0 command)
@@ -309,16 +312,18 @@ freed_at_keeps m n object is = go (referred m object) refl
 -- whatever a store comes to, the references in the cells are good still
 pub rooted_stored : (h h' : Heap) (cells : Cells) (after : Result Memory Refusal) (blocked : Bool) (stored : Stored)
     → ((n : Memory) → after ≡ Ok n → KeepAddresses (plain_of h) n) → IsStore h h' after blocked stored → AreRooted h cells → AreRooted h' cells
-rooted_stored h h' cells after blocked StoreDone keeps store rooted = rooted_kept h h' cells store.serial (keeps (plain_of h') store.memory) rooted
-rooted_stored h h' cells after blocked StoreBlocked keeps store rooted = subst (λ (x : Heap). AreRooted x cells) (sym store.same) rooted
-rooted_stored h h' cells after blocked (StoreRefused refusal) keeps store rooted = subst (λ (x : Heap). AreRooted x cells) (sym store.same) rooted
+rooted_stored h h' cells after blocked StoreDone keeps store rooted =
+    rooted_kept h h' cells (store.done refl).serial (keeps (plain_of h') (store.done refl).memory) rooted
+rooted_stored h h' cells after blocked StoreBlocked keeps store rooted = subst (λ (x : Heap). AreRooted x cells) (sym (store.blocked refl).same) rooted
+rooted_stored h h' cells after blocked (StoreRefused refusal) keeps store rooted =
+    subst (λ (x : Heap). AreRooted x cells) (sym (store.refused refusal refl).same) rooted
 
 -- a store changes no serial
 pub stored_serial : (h h' : Heap) (after : Result Memory Refusal) (blocked : Bool) (stored : Stored) → IsStore h h' after blocked stored
     → h'.next_serial ≡ h.next_serial
-stored_serial h h' after blocked StoreDone store = store.serial
-stored_serial h h' after blocked StoreBlocked store = ap (λ (x : Heap). x.next_serial) store.same
-stored_serial h h' after blocked (StoreRefused refusal) store = ap (λ (x : Heap). x.next_serial) store.same
+stored_serial h h' after blocked StoreDone store = (store.done refl).serial
+stored_serial h h' after blocked StoreBlocked store = ap (λ (x : Heap). x.next_serial) (store.blocked refl).same
+stored_serial h h' after blocked (StoreRefused refusal) store = ap (λ (x : Heap). x.next_serial) (store.refused refusal refl).same
 
 referred_serial : (m : Memory) (object : Ref) (named : Named) → referred m object ≡ Ok named → named.serial ≡ object.serial
 referred_serial m object named is = go (object_of m object.serial) refl

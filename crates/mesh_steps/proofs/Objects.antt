@@ -28,7 +28,7 @@ use Rattle.mesh_model.specs.declared.refusals.Refusal.TheVariants.{Freed, Outsid
 use Rattle.mesh_spans.specs.Groups.{first_of, table_group}
 use Rattle.mesh_spans.specs.Index.{GroupEntry, Index, IsIndex, SpanEntry, group_at, span_at}
 use Rattle.mesh_store.specs.Places.{byte_of}
-use Rattle.mesh_steps.specs.Heap.{Heap, IsHeap, IsHeld, IsObjectAt, IsReferred, arena_of, bytes_at, index_of, live_record, live_records, map_of, memory_of, object_in, plain_of, referred, table_of}
+use Rattle.mesh_steps.specs.Heap.{Heap, IsHeap, IsHeld, IsLiveFor, IsObjectAt, IsReferred, arena_of, bytes_at, index_of, live_record, live_records, map_of, memory_of, object_in, plain_of, referred, table_of}
 use Rattle.mesh_steps.specs.PageHeap.{IsInSlotOf, IsStanding, PageHeap, table_in}
 use Rattle.mesh_steps.specs.declared.answers.Occupied.{Occupied}
 use Rattle.mesh_steps.specs.declared.answers.Ref.{Ref}
@@ -328,15 +328,14 @@ pub part_read : (h : Heap) (r : Record) (off len : ℕ) → off + len ≤ r.len
 unfolding run_of byte_of
 part_read h r off len fits = bytes_read (targets_of (map_of h)) (bytes_in (arena_of h)) r off len fits
 
--- a read of a part of the object that a reference names
-pub read_is : (h : Heap) (object : Ref) (o : Occupied) (off len : ℕ) (bytes : List ℕ) → IsReferred h object o → off + len ≤ o.len
+-- a read of a part of a live object
+pub read_is : (h : Heap) (object : Ref) (off len : ℕ) (bytes : List ℕ) → IsHeap h → IsLiveFor h object.serial object.addr (off + len)
     → bytes ≡ run_of (byte_of (arena_of h) (map_of h)) (object.addr + off) len → bytes_at (plain_of h) object off len ≡ Ok bytes
-read_is h object o off len bytes is fits loaded =
-    let r : Record = live_record object.serial object.addr o.len in
+read_is h object off len bytes heap live loaded =
+    let r : Record = live_record object.serial object.addr live.len in
     let whole : bytes_at (plain_of h) object off len ≡ Ok (slice_range (object_in h r).bytes off (off + len))
-    = ap (λ (x : Result Named Refusal). x >>= λ named. refuse_if Outside (ends_outside named.object off len) >>= λ _. Ok (slice_range named.object.bytes off (off + len))) is.named
-    ∙ ap (λ (b : Bool). refuse_if Outside b >>= λ _. Ok (slice_range (object_in h r).bytes off (off + len))) (ends_within h r off len fits) in
-    whole ∙ ap (λ (bs : List ℕ). Ok bs) (part_read h r off len fits ∙ sym loaded)
+    = rw (reference_names h object r heap live.recorded refl, ends_within h r off len live.enough) refl in
+    whole ∙ ap (λ (bs : List ℕ). Ok bs) (part_read h r off len live.enough ∙ sym loaded)
 
 -- a read of more than the object that a reference names
 pub read_past : (h : Heap) (object : Ref) (o : Occupied) (off len : ℕ) → IsReferred h object o → o.len < off + len

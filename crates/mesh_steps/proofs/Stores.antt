@@ -23,11 +23,11 @@ use Rattle.mesh_spans.specs.Index.{IsIndex}
 use Rattle.mesh_store.specs.Places.{IsBlocked, IsOpen, Saves, byte_of}
 use Rattle.mesh_steps.proofs.Objects.{ends_past, ends_within, live_ends, live_found, live_in_object, object_len, reference_names}
 use Rattle.mesh_steps.proofs.Standing.{heap_objects_apart}
-use Rattle.mesh_steps.specs.Heap.{Heap, IsHeap, IsHeld, IsLiveFor, IsReferred, IsStore, arena_of, byte_at_address, index_of, live_record, live_records, map_of, object_in, plain_of, referred, stored_at, stored_at_address, stored_in, table_of}
+use Rattle.mesh_steps.specs.Heap.{Heap, IsHeap, IsHeld, IsHeldBack, IsLiveFor, IsReferred, IsRefused, IsStore, IsStored, arena_of, byte_at_address, index_of, live_record, live_records, map_of, object_in, plain_of, referred, stored_at, stored_at_address, stored_in, table_of}
 use Rattle.mesh_steps.specs.PageHeap.{PageHeap}
 use Rattle.mesh_steps.specs.declared.answers.Occupied.{Occupied}
 use Rattle.mesh_steps.specs.declared.answers.Ref.{Ref}
-use Rattle.mesh_steps.specs.declared.answers.Stored.TheVariants.{Blocked, Done}
+use Rattle.mesh_steps.specs.declared.answers.Stored.TheVariants.{Blocked, Done, Refused}
 
 -- the heap with other bytes
 abbrev pub with_arena : Heap → Pages → Heap
@@ -43,6 +43,20 @@ store_is h arena r off bytes heap index paged found fits may saves =
     store_means_here h.next_serial (index_of h) (table_of h) (stage_of (layout_of (index_of h)) (table_of h).meshes) (map_of h) (arena_of h) arena r off bytes
     heap.sound refl heap.tied (page_heap_orderly (arena_of h) (map_of h) (index_of h) (table_of h).next_page (table_of h).meshes index paged) paged.laid_out found
     (λ serial x q is other within here. heap_objects_apart h heap serial r.serial x q r is found other within here) fits may saves
+
+-- a store that was done, by what it is answered
+answers_done : (old new : Heap) (after : Result Memory Refusal) (touches : Bool) → IsStored old new after touches → IsStore old new after touches Done
+answers_done old new after touches is = record { done = λ _. is; blocked = λ e. absurd (cc e); refused = λ refusal e. absurd (cc e) }
+
+-- and one that was held back
+answers_blocked : (old new : Heap) (after : Result Memory Refusal) (touches : Bool) → IsHeldBack old new after touches → IsStore old new after touches Blocked
+answers_blocked old new after touches is = record { done = λ e. absurd (cc e); blocked = λ _. is; refused = λ refusal e. absurd (cc e) }
+
+-- a store that was refused, by its first refusal
+pub answers_refused : (h : Heap) (after : Result Memory Refusal) (first refusal : Refusal) → after ≡ Err first → Refused first ≡ Refused refusal
+    → IsRefused h h after refusal
+answers_refused h after first refusal told e =
+    let same : first ≡ refusal = cc e in record { told = told ∙ ap {B = Result Memory Refusal} (λ (r : Refusal). Err r) same; same = refl }
 
 -- the table is as it was after a store
 store_table : (h : Heap) (arena : Pages) → free_count arena ≡ free_count (arena_of h) → table_of (with_arena h arena) ≡ table_of h
@@ -140,12 +154,12 @@ stored_whole h g serial address off bytes heap index paged live whole may saves 
     × IsStore h (record { pages = x; next_serial = h.next_serial }) (stored_in h serial address off bytes)
     (is_blocked (table_of h) (address + off) (length bytes)) Done) (sym whole) (
       IsHeap_stored h g.arena r off bytes heap index paged live.recorded live.enough may saves,
-      record {
+      answers_done h (with_arena h g.arena) (stored_in h serial address off bytes) (is_blocked (table_of h) (address + off) (length bytes)) (record {
         memory = done ∙ ap (λ (m : Memory). Ok m) (sym memory);
         may = open_is (arena_of h) (map_of h) (index_of h) (table_of h).next_page (table_of h).meshes index paged (address + off) (length bytes) may;
         table = store_table h g.arena saves.same_free;
         serial = refl;
-      },
+      }),
     )
 
 -- a store in a live object that touches a read-only page is held back
@@ -153,11 +167,12 @@ pub held_back : (h : Heap) (serial address off : ℕ) (bytes : List ℕ) → IsH
     → IsPageHeap (arena_of h) (map_of h) (index_of h) (table_of h).next_page (table_of h).meshes → IsLiveFor h serial address (off + length bytes)
     → IsBlocked (map_of h) (address + off) (length bytes)
     → IsStore h h (stored_in h serial address off bytes) (is_blocked (table_of h) (address + off) (length bytes)) Blocked
-held_back h serial address off bytes heap index paged live blocked = record {
-  allowed = rw (stored_in_is h serial address off live.len bytes heap live.recorded live.enough) refl;
-  read_only = blocked_is (arena_of h) (map_of h) (index_of h) (table_of h).next_page (table_of h).meshes index paged (address + off) (length bytes) blocked;
-  same = refl;
-}
+held_back h serial address off bytes heap index paged live blocked =
+    answers_blocked h h (stored_in h serial address off bytes) (is_blocked (table_of h) (address + off) (length bytes)) (record {
+      allowed = rw (stored_in_is h serial address off live.len bytes heap live.recorded live.enough) refl;
+      read_only = blocked_is (arena_of h) (map_of h) (index_of h) (table_of h).next_page (table_of h).meshes index paged (address + off) (length bytes) blocked;
+      same = refl;
+    })
 
 -- a part of a live object is one of the layout's, and lies within the addresses that there are
 pub live_for_object : (h : Heap) (serial address off count : ℕ) → IsHeap h → IsLiveFor h serial address (off + count)

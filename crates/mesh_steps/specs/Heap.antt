@@ -90,16 +90,16 @@ abbrev pub stored_at_address : Memory → ℕ → ℕ → Result Memory Refusal
 stored_at_address m addr byte = holding m addr >>= λ named. Ok (stored m named (addr - named.object.address) (byte ∷ []))
 
 -- a store that was done: as the plain memory does it, where no touched page is read-only
-pub record IsStored (old new : Heap) (after : Result Memory Refusal) (blocked : Bool) : Type 0 where
+pub record IsStored (old new : Heap) (after : Result Memory Refusal) (touches : Bool) : Type 0 where
   pub memory : after ≡ Ok (plain_of new)
-  pub may : blocked ≡ false
+  pub may : touches ≡ false
   pub table : table_of new ≡ table_of old
   pub serial : new.next_serial ≡ old.next_serial
 
 -- a store that was blocked: nothing refuses it, a touched page is read-only, and nothing changed
-pub record IsHeldBack (old new : Heap) (after : Result Memory Refusal) (blocked : Bool) : Type 0 where
+pub record IsHeldBack (old new : Heap) (after : Result Memory Refusal) (touches : Bool) : Type 0 where
   pub allowed : IsOk after
-  pub read_only : blocked ≡ true
+  pub read_only : touches ≡ true
   pub same : new ≡ old
 
 -- a store that was refused as the plain memory refuses it, and nothing changed
@@ -107,11 +107,11 @@ pub record IsRefused (old new : Heap) (after : Result Memory Refusal) (refusal :
   pub told : after ≡ Err refusal
   pub same : new ≡ old
 
--- what a store comes to
-abbrev pub IsStore : Heap → Heap → Result Memory Refusal → Bool → Stored → Type 0
-IsStore old new after blocked Done = IsStored old new after blocked
-IsStore old new after blocked Blocked = IsHeldBack old new after blocked
-IsStore old new after blocked (Refused refusal) = IsRefused old new after refusal
+-- what a store comes to, by what it is answered
+pub record IsStore (old new : Heap) (after : Result Memory Refusal) (touches : Bool) (result : Stored) : Type 0 where
+  pub done : result ≡ Done → IsStored old new after touches
+  pub blocked : result ≡ Blocked → IsHeldBack old new after touches
+  pub refused : (refusal : Refusal) → result ≡ Refused refusal → IsRefused old new after refusal
 
 -- what a free comes to: the object is gone, and its bytes and all pages stay
 pub record IsFree (old new : Heap) (object : Ref) : Type 0 where

@@ -7,7 +7,7 @@ ghost use Rattle.mesh_model.specs.Plain.{holding};
 ghost use Rattle.mesh_model.specs.Table.{empty_table, report_of};
 ghost use Rattle.mesh_steps.specs.Always.{HasHeldPagesTaken, HasObjectsApart, HasPlacesApart, HasReadOnlyOfMeshes, LiesAsMeshesHaveIt};
 ghost use Rattle.mesh_steps.specs.PageHeap.{counts_told};
-ghost use Rattle.mesh_steps.specs.Heap.{IsFree, IsHeap, IsHeld, IsLiveFor, IsMade, IsNotMade, IsObjectAt, IsReferred, IsStore, arena_of, byte_at_address, bytes_at, freed_at, live_records, memory_of, plain_of, referred, stored_at, stored_at_address, stored_in, table_of};
+ghost use Rattle.mesh_steps.specs.Heap.{IsFree, IsHeap, IsHeld, IsHeldBack, IsLiveFor, IsMade, IsNotMade, IsObjectAt, IsReferred, IsRefused, IsStore, IsStored, arena_of, byte_at_address, bytes_at, freed_at, live_records, memory_of, plain_of, referred, stored_at, stored_at_address, stored_in, table_of};
 
 use crate::answers::Occupied;
 use crate::page_heap::PageHeap;
@@ -85,10 +85,7 @@ impl Heap {
         if !live.has_range(off, len) {
             return Err(Refusal::Outside);
         }
-        let mut bytes = ArrayVec::from([0; MAX_BYTES]);
-        bytes.truncate(len as usize);
-        self.pages.load(object.addr + off, bytes.as_mut_slice());
-        Ok(bytes)
+        Ok(self.fetch(object, off, len))
     }
 
     /// Stores 1 to 32 bytes from offset `off` of an object on. It takes no memory.
@@ -98,8 +95,14 @@ impl Heap {
     pub fn write(&mut self, object: Ref, off: u32, bytes: &[u8]) -> Stored
         requires some { 1 ≤ length bytes.now }
         requires few { length bytes.now ≤ 32 }
-        ensures { IsStore self.old self.new (stored_at (plain_of self.old) object off bytes.now)
-            (is_blocked (table_of self.old) (object.addr + off) (length bytes.now)) result }
+        ensures done { result ≡ Stored.Done
+            → IsStored self.old self.new (stored_at (plain_of self.old) object off bytes.now)
+            (is_blocked (table_of self.old) (object.addr + off) (length bytes.now)) }
+        ensures blocked { result ≡ Stored.Blocked
+            → IsHeldBack self.old self.new (stored_at (plain_of self.old) object off bytes.now)
+            (is_blocked (table_of self.old) (object.addr + off) (length bytes.now)) }
+        ensures refused { (refusal : Refusal) → result ≡ Stored.Refused refusal
+            → IsRefused self.old self.new (stored_at (plain_of self.old) object off bytes.now) refusal }
     {
         let Some(live) = self.live(object) else {
             return Stored::Refused(Refusal::Freed);
@@ -127,7 +130,12 @@ impl Heap {
     ///
     /// Refused with STRAY where no live object's range has the address. Blocked where one has and its page is read-only.
     pub fn poke(&mut self, addr: u32, byte: u8) -> Stored
-        ensures { IsStore self.old self.new (stored_at_address (plain_of self.old) addr byte) (is_blocked (table_of self.old) addr 1) result }
+        ensures done { result ≡ Stored.Done
+            → IsStored self.old self.new (stored_at_address (plain_of self.old) addr byte) (is_blocked (table_of self.old) addr 1) }
+        ensures blocked { result ≡ Stored.Blocked
+            → IsHeldBack self.old self.new (stored_at_address (plain_of self.old) addr byte) (is_blocked (table_of self.old) addr 1) }
+        ensures refused { (refusal : Refusal) → result ≡ Stored.Refused refusal
+            → IsRefused self.old self.new (stored_at_address (plain_of self.old) addr byte) refusal }
     {
         let Some(held) = self.holder(addr) else {
             return Stored::Refused(Refusal::Stray);
@@ -177,6 +185,21 @@ impl Heap {
         ensures { IsHeap self.now }
     {
         let _next = self.next_serial;
+    }
+
+    // The bytes of a part of a live object.
+    fn fetch(&self, object: Ref, off: u32, len: u32) -> ArrayVec<u8, MAX_BYTES>
+        requires some { 1 ≤ len }
+        requires few { len ≤ 32 }
+        requires live { IsLiveFor self.now object.serial object.addr (off + len) }
+        ensures bytes { bytes_at (plain_of self.now) object off len ≡ Ok result.items }
+        ensures count { length result.items ≡ len }
+    {
+        self.pages.sound();
+        let mut bytes = ArrayVec::from([0; MAX_BYTES]);
+        bytes.truncate(len as usize);
+        self.pages.load(object.addr + off, bytes.as_mut_slice());
+        bytes
     }
 
     // Stores bytes within a live object.

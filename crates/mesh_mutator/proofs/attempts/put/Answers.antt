@@ -2,8 +2,15 @@ use Rattle.std.proofs.Common.{◌≡◌, ◌+◌, Some, length, refl, sym}
 use Rattle.mesh_model.specs.declared.commands.Command.TheVariants.{Put}
 use Rattle.mesh_mutator.proofs.Answering.{put_alike, put_empty, put_touches, rooted_stored, store_performed, stored_at_keeps, stored_serial}
 use Rattle.mesh_mutator.specs.Book.{cell_at}
-use Rattle.mesh_steps.specs.Heap.{plain_of, stored_at}
+use Rattle.mesh_model.specs.Mesh.{is_blocked}
+use Rattle.mesh_steps.specs.Heap.{IsStore, plain_of, stored_at, table_of}
+use Rattle.mesh_mutator.proofs.attempts.put.Goals.{After-stored}
 use Rattle.mesh_mutator.proofs.attempts.put.Goals as goal
+
+-- what the store comes to
+wrote : (c : After-stored) → IsStore c.args.heap.now c.write.new.self (stored_at (plain_of c.args.heap.now) c.in-Some.object c.args.off c.args.bytes.now)
+    (is_blocked (table_of c.args.heap.now) (c.in-Some.object.addr + c.args.off) (length c.args.bytes.now)) c.write.result
+wrote c = record { done = c.write.ensures.done; blocked = c.write.ensures.blocked; refused = c.write.ensures.refused }
 
 pub returns-in-Some-clause-performed : goal.returns-in-Some-clause-performed
 returns-in-Some-clause-performed c =
@@ -12,17 +19,17 @@ returns-in-Some-clause-performed c =
     (stored_at (plain_of c.args.heap.now) c.in-Some.object c.args.off c.args.bytes.now) (c.in-Some.object.addr + c.args.off) (length c.args.bytes.now)
     c.write.result refl
     (put_alike c.args.heap.now c.args.roots.now c.args.cell c.args.off c.args.bytes.now c.in-Some.object c.requires.rooted at)
-    (put_touches c.args.heap.now c.args.roots.now c.args.cell c.args.off c.args.bytes.now c.in-Some.object c.requires.rooted at) tt c.write.ensures)
+    (put_touches c.args.heap.now c.args.roots.now c.args.cell c.args.off c.args.bytes.now c.in-Some.object c.requires.rooted at) tt (wrote c))
 
 pub returns-in-Some-clause-rooted : goal.returns-in-Some-clause-rooted
 returns-in-Some-clause-rooted c =
     rooted_stored c.args.heap.now c.write.new.self c.args.roots.now (stored_at (plain_of c.args.heap.now) c.in-Some.object c.args.off c.args.bytes.now) _
-    c.write.result (λ n is. stored_at_keeps (plain_of c.args.heap.now) n c.in-Some.object c.args.off c.args.bytes.now is) c.write.ensures c.requires.rooted
+    c.write.result (λ n is. stored_at_keeps (plain_of c.args.heap.now) n c.in-Some.object c.args.off c.args.bytes.now is) (wrote c) c.requires.rooted
 
 pub returns-in-Some-clause-serial : goal.returns-in-Some-clause-serial
 returns-in-Some-clause-serial c =
     stored_serial c.args.heap.now c.write.new.self (stored_at (plain_of c.args.heap.now) c.in-Some.object c.args.off c.args.bytes.now) _ c.write.result
-    c.write.ensures
+    (wrote c)
 
 pub returns-in-None-clause-performed : goal.returns-in-None-clause-performed
 returns-in-None-clause-performed c =

@@ -1,13 +1,17 @@
-use Rattle.std.proofs.Common.{◌≡◌, ◌+◌, ◌-◌, ℕ, [], ◌∷◌, Result, refl, sym, ap, subst, ◌∙◌, arith}
+use Rattle.std.proofs.Common.{◌≡◌, ◌+◌, ◌-◌, ℕ, [], ◌∷◌, Result, sym, ap, subst, ◌∙◌, arith}
 use Rattle.mesh_model.specs.Memory.{Memory}
 use Rattle.mesh_model.specs.declared.refusals.Refusal.{Refusal}
+use Rattle.mesh_model.specs.declared.refusals.Refusal.TheVariants.{Stray}
 use Rattle.mesh_model.specs.Mesh.{is_blocked}
-use Rattle.mesh_steps.specs.Heap.{IsStore, stored_in, table_of}
-use Rattle.mesh_steps.proofs.Stores.{stored_held, stored_stray}
+use Rattle.mesh_steps.specs.Heap.{IsStore, plain_of, stored_at_address, stored_in, table_of}
+use Rattle.mesh_steps.proofs.Stores.{answers_refused, stored_held, stored_stray}
+use Rattle.mesh_steps.proofs.heap.Heap.poke.Goals.{After-save}
 use Rattle.mesh_steps.proofs.heap.Heap.poke.Goals as goal
 
-pub returns-in_default : goal.returns-in_default
-returns-in_default c = record { told = stored_stray c.args.self.now c.args.addr c.args.byte c.in_default.ensures.none; same = refl }
+pub returns-in_default-clause-refused : goal.returns-in_default-clause-refused
+returns-in_default-clause-refused c refusal e =
+    answers_refused c.args.self.now (stored_at_address (plain_of c.args.self.now) c.args.addr c.args.byte) Stray refusal
+    (stored_stray c.args.self.now c.args.addr c.args.byte c.in_default.ensures.none) e
 
 pub save-requires-clause-live : goal.save-requires-clause-live
 save-requires-clause-live c =
@@ -16,14 +20,25 @@ save-requires-clause-live c =
     let within = held.within in
     rw at (record { len = c.in-Some.held.len; recorded = held.recorded; enough = omega (arith, within) })
 
-pub returns : goal.returns
-returns c =
+-- what the store in the object comes to as one at the address
+stored : (c : After-save) → IsStore c.args.self.now c.save.new.self (stored_at_address (plain_of c.args.self.now) c.args.addr c.args.byte)
+    (is_blocked (table_of c.args.self.now) c.args.addr 1) c.save.result
+stored c =
     let held = c.in-Some.ensures.there in
     let at : c.args.addr - c.in-Some.held.offset ≡ held.address = (let sum = held.at in omega (arith, sum)) in
     let same = stored_held c.args.self.now c.args.addr c.args.byte c.in-Some.held held c.holder.ensures.sound in
     let low = held.at in
     let back : c.args.addr - c.in-Some.held.offset + c.in-Some.held.offset ≡ c.args.addr = omega (arith, low) in
-    let stored = subst (λ (a : ℕ). IsStore c.args.self.now c.save.new.self (stored_in c.args.self.now c.in-Some.held.serial (c.args.addr - c.in-Some.held.offset)
+    let whole = subst (λ (a : ℕ). IsStore c.args.self.now c.save.new.self (stored_in c.args.self.now c.in-Some.held.serial (c.args.addr - c.in-Some.held.offset)
     c.in-Some.held.offset (c.args.byte ∷ [])) (is_blocked (table_of c.args.self.now) a 1) c.save.result) back c.save.ensures in
     subst (λ (after : Result Memory Refusal). IsStore c.args.self.now c.save.new.self after (is_blocked (table_of c.args.self.now) c.args.addr 1) c.save.result)
-    (ap (λ (a : ℕ). stored_in c.args.self.now c.in-Some.held.serial a c.in-Some.held.offset (c.args.byte ∷ [])) at ∙ sym same) stored
+    (ap (λ (a : ℕ). stored_in c.args.self.now c.in-Some.held.serial a c.in-Some.held.offset (c.args.byte ∷ [])) at ∙ sym same) whole
+
+pub returns-clause-done : goal.returns-clause-done
+returns-clause-done c = (stored c).done
+
+pub returns-clause-blocked : goal.returns-clause-blocked
+returns-clause-blocked c = (stored c).blocked
+
+pub returns-clause-refused : goal.returns-clause-refused
+returns-clause-refused c = (stored c).refused
