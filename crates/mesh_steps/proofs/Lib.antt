@@ -1,3 +1,4 @@
+pub mod Copies
 pub mod GrowthLemmas
 pub mod Making
 pub mod Objects

@@ -6,7 +6,7 @@ use Rattle.mesh_layout.specs.PageHeap.{bytes_in, targets_of}
 use Rattle.mesh_model.specs.Classes.{class_for}
 use Rattle.mesh_model.specs.Memory.{Memory, Object, object_of, with_object, with_new}
 use Rattle.mesh_model.specs.Places.{Record, meaning, object_at, records_of, record_with}
-use Rattle.mesh_model.specs.Plain.{Named, ends_outside, holding, stored}
+use Rattle.mesh_model.specs.Plain.{Named, copied, ends_outside, holding, stored}
 use Rattle.mesh_model.specs.Sound.{IsSound, IsTied}
 use Rattle.mesh_model.specs.Table.{Placed, Table, place_new, without_object}
 use Rattle.mesh_model.specs.Words.{◌>>=◌, or_refuse, refuse_if}
@@ -76,6 +76,12 @@ bytes_at m object off len =
 abbrev pub stored_at : Memory → Ref → ℕ → List ℕ → Result Memory Refusal
 stored_at m object off bytes =
     referred m object >>= λ named. refuse_if Outside (ends_outside named.object off (length bytes)) >>= λ _. Ok (stored m named off bytes)
+
+-- the memory after a copy between ranges of two references, whether the two are one or not; FREED of either comes before OUTSIDE of either
+abbrev pub copied_at : Memory → Ref → ℕ → Ref → ℕ → ℕ → Result Memory Refusal
+copied_at m to to_off from from_off len =
+    referred m to >>= λ target. referred m from >>= λ source. refuse_if Outside (ends_outside target.object to_off len) >>= λ _.
+    refuse_if Outside (ends_outside source.object from_off len) >>= λ _. Ok (copied m target to_off source from_off len)
 
 -- the memory after a free through a reference
 abbrev pub freed_at : Memory → Ref → Result Memory Refusal

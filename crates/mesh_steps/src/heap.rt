@@ -7,7 +7,7 @@ ghost use Rattle.mesh_model.specs.Plain.{holding};
 ghost use Rattle.mesh_model.specs.Table.{empty_table, report_of};
 ghost use Rattle.mesh_steps.specs.Always.{HasHeldPagesTaken, HasObjectsApart, HasPlacesApart, HasReadOnlyOfMeshes, LiesAsMeshesHaveIt};
 ghost use Rattle.mesh_steps.specs.PageHeap.{counts_told};
-ghost use Rattle.mesh_steps.specs.Heap.{IsFree, IsHeap, IsHeld, IsHeldBack, IsLiveFor, IsMade, IsNotMade, IsObjectAt, IsReferred, IsRefused, IsStore, IsStored, arena_of, byte_at_address, bytes_at, freed_at, live_records, memory_of, plain_of, referred, stored_at, stored_at_address, stored_in, table_of};
+ghost use Rattle.mesh_steps.specs.Heap.{IsFree, IsHeap, IsHeld, IsHeldBack, IsLiveFor, IsMade, IsNotMade, IsObjectAt, IsReferred, IsRefused, IsStore, IsStored, arena_of, byte_at_address, bytes_at, copied_at, freed_at, live_records, memory_of, plain_of, referred, stored_at, stored_at_address, stored_in, table_of};
 
 use crate::answers::Occupied;
 use crate::page_heap::PageHeap;
@@ -111,6 +111,36 @@ impl Heap {
             return Stored::Refused(Refusal::Outside);
         }
         self.save(object.serial, object.addr, off, bytes)
+    }
+
+    /// Copies 1 to 32 bytes from offset `from_off` of one object to offset `to_off` of another, or of the same. It takes no memory.
+    ///
+    /// Where the two ranges overlap, each byte is the one that was there before the copy. Refused with FREED where either object isn't live,
+    /// else with OUTSIDE where either range ends past its object. Blocked where neither holds and a page that the written range touches is
+    /// read-only; the other range may lie in one. Neither stores a byte.
+    pub fn copy(&mut self, to: Ref, to_off: u32, from: Ref, from_off: u32, len: u32) -> Stored
+        requires some { 1 ≤ len }
+        requires few { len ≤ 32 }
+        ensures done { result ≡ Stored.Done
+            → IsStored self.old self.new (copied_at (plain_of self.old) to to_off from from_off len)
+            (is_blocked (table_of self.old) (to.addr + to_off) len) }
+        ensures blocked { result ≡ Stored.Blocked
+            → IsHeldBack self.old self.new (copied_at (plain_of self.old) to to_off from from_off len)
+            (is_blocked (table_of self.old) (to.addr + to_off) len) }
+        ensures refused { (refusal : Refusal) → result ≡ Stored.Refused refusal
+            → IsRefused self.old self.new (copied_at (plain_of self.old) to to_off from from_off len) refusal }
+    {
+        let Some(target) = self.live(to) else {
+            return Stored::Refused(Refusal::Freed);
+        };
+        let Some(source) = self.live(from) else {
+            return Stored::Refused(Refusal::Freed);
+        };
+        if !target.has_range(to_off, len) || !source.has_range(from_off, len) {
+            return Stored::Refused(Refusal::Outside);
+        }
+        let bytes = self.fetch(from, from_off, len);
+        self.save(to.serial, to.addr, to_off, bytes.as_slice())
     }
 
     /// The byte at an address. It takes no memory. Refused with STRAY where no live object's range has the address.
@@ -223,6 +253,7 @@ impl Heap {
     fn live(&self, object: Ref) -> Option<Occupied>
         ensures there { IfSome result (IsReferred self.now object) }
         ensures none { IfNone result (referred (plain_of self.now) object ≡ Err Refusal.Freed) }
+        ensures sound { IsHeap self.now }
     {
         let found = self.object_at(object.addr)?;
         if found.offset == 0 && found.serial == object.serial {
