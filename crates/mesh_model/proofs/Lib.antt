@@ -4,6 +4,7 @@ mod Calls
 mod Chains
 mod CommandLines
 mod CopiedBytes
+mod CopiedRanges
 mod CountedPages
 mod FieldReadings
 mod Fields

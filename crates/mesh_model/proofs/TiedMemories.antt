@@ -67,7 +67,7 @@ put_elsewhere : (m : Memory) (serial other : ℕ) (object : Option Object) → o
 put_elsewhere m serial other object apart = get_or-set_other m.objects serial other object None apart
 
 -- bytes overwritten within a list leave its length
-overwritten_length : (bytes : List ℕ) (off : ℕ) (new : List ℕ) → off + length new ≤ length bytes → length (overwritten bytes off new) ≡ length bytes
+pub overwritten_length : (bytes : List ℕ) (off : ℕ) (new : List ℕ) → off + length new ≤ length bytes → length (overwritten bytes off new) ≡ length bytes
 overwritten_length bytes off new fits = simp (length-append, length-take, length-drop) (omega (arith, fits))
 
 -- bytes stored within a live object keep table and memory tied

@@ -1,5 +1,6 @@
 pub mod Classes
 pub mod Commands
+pub mod CopyLaws
 pub mod EffectLaws
 pub mod Faults
 pub mod Files

@@ -2,10 +2,11 @@
 //!
 //! This is the base crate: the plain enums that every layer speaks, the definitions that contracts cite (`specs/`), and what is
 //! proved of the definitions alone, a file a thought: `laws`, `step_laws`, `seat_laws`, `table_laws`, `mesh_laws`, `page_laws`,
-//! `effect_laws`, `history_laws`, `meaning_laws`, `record_laws`, `text_laws` and `reader_laws`. It has no other code.
+//! `effect_laws`, `copy_laws`, `history_laws`, `meaning_laws`, `record_laws`, `text_laws` and `reader_laws`. It has no other code.
 #![tactic(auto)]
 
 mod commands;
+pub mod copy_laws;
 pub mod effect_laws;
 mod faults;
 pub mod history_laws;
