@@ -66,6 +66,13 @@ impl Class {
     }
 }
 
+/// The default, the least class, only fills places that are not in use.
+impl Default for Class {
+    fn default() -> Class {
+        Class::row(16, 1, 256)
+    }
+}
+
 /// The class of a request of `len` bytes: the least one whose size is at least that.
 ///
 /// Refused with ZERO where `len` is 0, and with TOO_LARGE where it is above 2,048.

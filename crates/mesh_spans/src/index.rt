@@ -270,6 +270,15 @@ impl Spans {
         Some((span, slot, offset))
     }
 
+    /// The first virtual page of a span.
+    pub fn first_page(&self, span: Span) -> u32
+        requires { span < length self.now.spans }
+        ensures value { result ≡ (span_at self.now.spans span).first }
+        ensures sound { IsSpan (span_at self.now.spans span) }
+    {
+        self.spans[span.index()].first()
+    }
+
     /// The address of a slot of a span.
     pub fn address(&self, span: Span, slot: Slot) -> u32
         requires span { span < length self.now.spans }
