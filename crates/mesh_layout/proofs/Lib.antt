@@ -8,9 +8,12 @@ pub mod Stores
 pub mod Spans
 pub mod Stages
 pub mod MeshList
+pub mod MeshPlaces
 pub mod Groups
 pub mod Orderly
+pub mod StepEffects
 pub mod Whole
+pub mod WholeSteps
 pub mod Covered
 pub mod ReadOnly
 pub mod Meaning
@@ -18,10 +21,13 @@ pub mod Changes
 pub mod PageCopies
 pub mod Flags
 pub mod Loops
+pub mod MadeSteps
 pub mod PageHeapSteps
 pub mod PageHeapBytes
 pub mod PageHeapChanges
 pub mod Standing
 pub mod Heaps
+pub mod Beginnings
 pub mod Ends
+pub mod Unwinding
 pub mod NextSteps

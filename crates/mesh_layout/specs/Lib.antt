@@ -11,4 +11,5 @@ pub mod Growth
 pub mod Meshes
 pub mod Indexes
 pub mod PageHeap
+pub mod Effects
 pub mod Progress

@@ -1,7 +1,7 @@
 pub mod AnsweredCommands
 pub mod Apart
 mod Calls
-mod Chains
+pub mod Chains
 mod CommandLines
 mod CopiedBytes
 mod CopiedRanges
@@ -45,4 +45,4 @@ mod TextReadings
 pub mod TiedMemories
 pub mod TiedNewObjects
 pub mod TiedTables
-mod WholeMeshes
+pub mod WholeMeshes

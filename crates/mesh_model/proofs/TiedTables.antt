@@ -73,7 +73,7 @@ find_without_same n (x ∷ xs) = elim (eqb_tells x.number n) [
 ]
 
 -- a filled slot is counted
-filled_counted : (slots : List (Option Slot)) (k : ℕ) (slot : Slot) → slice_get slots k ≡ Some (Some slot) → 1 ≤ count_by is_some slots
+pub filled_counted : (slots : List (Option Slot)) (k : ℕ) (slot : Slot) → slice_get slots k ≡ Some (Some slot) → 1 ≤ count_by is_some slots
 filled_counted [] k slot h = absurd (cc)
 filled_counted (None ∷ slots) zero slot h = absurd (cc)
 filled_counted (Some x ∷ slots) zero slot h =
