@@ -1,8 +1,14 @@
+pub mod Beginning
 pub mod Copies
+pub mod Emptied
+pub mod Flagging
 pub mod GrowthLemmas
 pub mod Making
 pub mod Objects
 pub mod Placing
+pub mod MeshEnds
+pub mod MeshHeaps
+pub mod MeshRuns
 pub mod Slots
 pub mod Standing
 pub mod Stores

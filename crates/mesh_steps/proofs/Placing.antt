@@ -20,7 +20,7 @@ use Rattle.mesh_model.proofs.NewObjects.{span_sound}
 use Rattle.mesh_model.proofs.OpenGroups.{found_open, open_tests}
 use Rattle.mesh_model.specs.Classes.{Row, row_of}
 use Rattle.mesh_model.specs.Sound.{IsSound}
-use Rattle.mesh_model.specs.Table.{Group, Slot, Table, free_from, fresh_group, is_open, object_count, picked_slot, place_in, placed_in, room_for_span, slot_address, takes_objects, takes_part, with_span}
+use Rattle.mesh_model.specs.Table.{Group, Mesh, Slot, Table, free_from, fresh_group, is_open, object_count, picked_slot, place_in, placed_in, room_for_span, slot_address, takes_objects, takes_part, with_span}
 use Rattle.mesh_model.specs.Words.{◌>>=◌}
 use Rattle.mesh_model.specs.declared.refusals.Refusal.{Refusal}
 use Rattle.mesh_pagemap.specs.Entries.{Entries}
@@ -119,11 +119,11 @@ place_fresh old new class word span k sound none fresh at =
       kept = fresh.kept;
     }
 
--- a page heap without meshes is known by its parts
-pub page_heap_is : (map : Entries) (next : ℕ) (arena arena' : Pages) (index index' : Index) → arena ≡ arena' → index ≡ index'
-    → ◌≡◌ {A = PageHeap} (record { arena = arena; map = map; index = index; next_page = next; meshes = [] })
-    (record { arena = arena'; map = map; index = index'; next_page = next; meshes = [] })
-page_heap_is map next arena arena' index index' same_arena same_index = rw (same_arena, same_index) refl
+-- a page heap is known by its parts
+pub page_heap_is : (map : Entries) (next : ℕ) (meshes : List Mesh) (arena arena' : Pages) (index index' : Index) → arena ≡ arena' → index ≡ index'
+    → ◌≡◌ {A = PageHeap} (record { arena = arena; map = map; index = index; next_page = next; meshes = meshes })
+    (record { arena = arena'; map = map; index = index'; next_page = next; meshes = meshes })
+page_heap_is map next meshes arena arena' index index' same_arena same_index = rw (same_arena, same_index) refl
 
 -- there is room for a span where pages and addresses are enough
 pub room_is : (t : Table) (class : ℕ) → pages_of class ≤ t.free_pages → t.next_page + pages_of class ≤ 65536 → room_for_span t class ≡ Ok tt

@@ -6,6 +6,13 @@ pub use Rattle.mesh_pagemap.specs.Entries
 pub use Rattle.mesh_spans.specs.Groups
 pub use Rattle.mesh_spans.specs.Index
 pub use Rattle.mesh_store.specs.Places
+pub mod Phases
+pub mod Running
+pub mod Plans
+pub mod Steps
 pub mod Always
 pub mod PageHeap
+pub mod Meshes
+pub mod Sweeping
 pub mod Heap
+pub mod HeapMeshes

@@ -1,5 +1,5 @@
 -- Physical pages, page map, span index and running meshes together, and how they change as objects come and go.
-use Rattle.std.specs.Prelude.{◌≡◌, ℕ, ◌+◌, ◌/◌, ◌%◌, ◌<◌, ◌≤◌, ◌⊎◌, false, List, find, length, Option, Some, None, Result, Ok, Err, refl}
+use Rattle.std.specs.Prelude.{◌≡◌, ℕ, ◌+◌, ◌/◌, ◌%◌, ◌<◌, ◌≤◌, ◌⊎◌, false, List, find, length, Option, None, Result, Ok, Err, refl}
 use Rattle.std.specs.Coded.{Coded, code_by, coded×, coded_ℕ, coded_list, coded_option}
 use Rattle.std.specs.FinMap as map
 use Rattle.mesh_arena.specs.Pages.{Pages, byte_at}
@@ -7,11 +7,12 @@ use Rattle.mesh_class.specs.Classes.{slots_of}
 use Rattle.mesh_layout.specs.Indexes.{layout_of, table_with}
 use Rattle.mesh_layout.specs.Layout.{IsLiveAt}
 use Rattle.mesh_layout.specs.Steps.{Keeps}
-use Rattle.mesh_model.specs.Table.{Group, Made, Mesh, Progress, Slot, Report as PlainReport, Table, Unwinding, emptied_at, is_open, place_in, placed_in, room_for_span, with_group, with_object_in, with_span}
+use Rattle.mesh_model.specs.Table.{Group, Mesh, Slot, Report as PlainReport, Table, emptied_at, is_open, place_in, placed_in, room_for_span, with_group, with_object_in, with_span}
 use Rattle.mesh_model.specs.declared.refusals.Refusal.{Refusal}
 use Rattle.mesh_pagemap.specs.Entries.{Entries, entry_code, page_of}
 use Rattle.mesh_spans.specs.Groups.{IsPicked, is_closed}
 use Rattle.mesh_spans.specs.Index.{Index, IsRecorded, IsSpan, IsVacant, address_in, index_code, span_at}
+use Rattle.mesh_steps.specs.Phases.{mesh_code}
 use Rattle.mesh_steps.specs.declared.answers.NewFault.{NewFault}
 use Rattle.mesh_steps.specs.declared.answers.Report.{Report}
 use Rattle.mesh_steps.specs.declared.answers.NewFault.TheVariants.{Memory, Refused}
@@ -24,31 +25,7 @@ pub record PageHeap : Type 0 where
   pub next_page : ℕ
   pub meshes : List Mesh
 
--- a progress is stored as its steps, and what was unprotected of them where it is unwinding
-abbrev pub progress_code : Coded Progress
-progress_code = code_by (ℕ × Option ℕ) (coded× coded_ℕ (coded_option coded_ℕ)) to from back
-  where
-    to : Progress → ℕ × Option ℕ
-    to (Made d) = (d, None)
-    to (Unwinding q u) = (q, Some u)
-
-    from : ℕ × Option ℕ → Progress
-    from (d, None) = Made d
-    from (q, Some u) = Unwinding q u
-
-    back : (p : Progress) → from (to p) ≡ p
-    back (Made d) = refl
-    back (Unwinding q u) = refl
-
--- a mesh is stored as its parts
-abbrev pub mesh_code : Coded Mesh
-mesh_code =
-    code_by (ℕ × (ℕ × (ℕ × Progress))) (coded× coded_ℕ (coded× coded_ℕ (coded× coded_ℕ progress_code)))
-    (λ m. (m.class, (m.source, (m.destination, m.progress))))
-    (λ p. record { class = p.0; source = p.1.0; destination = p.1.1.0; progress = p.1.1.1 })
-    (λ _. refl)
-
--- and a page heap
+-- a page heap is stored as its parts
 abbrev pub page_heap_code : Coded PageHeap
 page_heap_code =
     code_by (Pages × (Entries × (Index × (ℕ × List Mesh))))

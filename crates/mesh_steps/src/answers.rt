@@ -1,5 +1,5 @@
 //! What the heap's calls answer.
-use mesh_model::Refusal;
+use mesh_model::{Refusal, StepKind};
 use mesh_spans::{Slot, Span};
 
 /// A reference to an object: its serial and its address. It is stale once the record at that address hasn't that serial.
@@ -40,6 +40,15 @@ impl From<Refusal> for NewFault {
     fn from(refusal: Refusal) -> NewFault {
         NewFault::Refused(refusal)
     }
+}
+
+/// A step of a mesh that was made.
+#[derive(Clone, Copy, Debug, PartialEq, Eq)]
+pub struct StepDone {
+    /// Its kind.
+    pub kind: StepKind,
+    /// How many steps are to come; 0 once the mesh is over.
+    pub left: u32,
 }
 
 /// What a heap counts.

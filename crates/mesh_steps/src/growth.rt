@@ -1,7 +1,7 @@
 //! Physical pages for a new span.
 ghost use Rattle.std.specs.Prelude.{◌≡◌, ◌+◌, ◌<◌, ◌≤◌, length};
 ghost use Rattle.mesh_arena.specs.Pages.{free_count};
-ghost use Rattle.mesh_layout.specs.Growth.{TakesAll, MapsFirst, AreTaken, AreUnmapped, given_back};
+ghost use Rattle.mesh_layout.specs.Growth.{TakesAll, MapsFirst, GivesFirst, AreTaken, AreUnmapped, given_back};
 
 use arrayvec::ArrayVec;
 use mesh_arena::{Arena, Page};
@@ -27,7 +27,8 @@ pub fn take_pages(arena: &mut Arena, count: u32) -> ArrayVec<Page, MAX_SPAN_PAGE
 /// Gives taken pages back.
 pub fn give_pages(arena: &mut Arena, pages: &[Page])
     requires { AreTaken arena.old pages.now }
-    ensures { arena.new ≡ given_back arena.old pages.now }
+    ensures back { arena.new ≡ given_back arena.old pages.now }
+    ensures gives { GivesFirst arena.old arena.new pages.now (length pages.now) }
 {
     for page in pages {
         arena.give(*page);

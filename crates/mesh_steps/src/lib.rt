@@ -4,9 +4,14 @@
 #![tactic(auto)]
 
 mod answers;
+mod busy;
 mod growth;
 mod heap;
 mod page_heap;
+mod phase;
+mod plan;
+mod running;
+mod steps;
 
-pub use answers::{NewFault, Ref, Report, Stored};
+pub use answers::{NewFault, Ref, Report, StepDone, Stored};
 pub use heap::Heap;

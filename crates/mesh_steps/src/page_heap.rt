@@ -1,19 +1,25 @@
 //! `PageHeap`: physical pages, page map and span index together, without serials or meaning.
 ghost use Rattle.std.specs.Prelude.{◌≡◌, ℕ, ◌+◌, ◌<◌, ◌≤◌, ◌↔◌, Some, replicate, length, IsTrue, slice_get, slice_index, IfOk, IfErr, IfSome, IsSome, IsSomeAnd};
 ghost use Rattle.std.specs.Bool.{OnFalse};
+ghost use Rattle.std.specs.Option.{option_map};
 ghost use Rattle.mesh_arena.specs.Pages.{run_of};
 ghost use Rattle.mesh_class.specs.Classes.{IsClass, slots_of};
 ghost use Rattle.mesh_layout.specs.Indexes.{layout_of};
 ghost use Rattle.mesh_layout.specs.Layout.{AreInObject};
 ghost use Rattle.mesh_layout.specs.PageHeap.{IsPageHeap};
 ghost use Rattle.mesh_model.specs.Sound.{IsSound};
-ghost use Rattle.mesh_model.specs.Table.{empty_table, report_of, slot_address};
+ghost use Rattle.mesh_model.specs.Table.{empty_table, group_of, report_of, slot_address};
 ghost use Rattle.mesh_spans.specs.Index.{GroupEntry, IsIndex, address_in, group_at, record_at, span_at};
 ghost use Rattle.mesh_store.specs.Places.{AreBacked, IsBlocked, IsOpen, Saves, byte_of};
 ghost use Rattle.mesh_steps.specs.PageHeap.{IsFreeSlot, IsFreshSpan, IsInSlotOf, IsPlace, IsPlaceFault, IsSpanFault, KeepsOutside, counts_told, table_emptied, table_in, table_with_object};
 
+mod meshes;
+mod sweep;
+
 use crate::answers::{NewFault, Occupied, Report};
 use crate::growth::{give_pages, map_pages, take_pages};
+use crate::running::{MAX_MESHES, Running};
+use arrayvec::ArrayVec;
 use mesh_class::Class;
 use mesh_model::Refusal;
 use mesh_spans::{Slot, Span, Spans};
@@ -34,10 +40,11 @@ pub(crate) struct PageHeap {
     spans: Spans,
     // The lowest virtual page that was never used.
     next_page: u32,
+    // The running meshes in the order of their beginning, at most one a class.
+    meshes: ArrayVec<Running, MAX_MESHES>,
 }
 
 impl Model for PageHeap {
-    ghost use Rattle.std.specs.Prelude.{[]};
     ghost use Rattle.mesh_layout.specs.PageHeap.{IsPageHeap};
     ghost use Rattle.mesh_steps.specs.PageHeap.{PageHeap as Parts, page_heap_code};
 
@@ -45,9 +52,9 @@ impl Model for PageHeap {
 
     ghost coded = { page_heap_code };
 
-    ghost view = { λ g. record { arena = g.store.arena; map = g.store.map; index = g.spans; next_page = g.next_page; meshes = [] } };
+    ghost view = { λ g. record { arena = g.store.arena; map = g.store.map; index = g.spans; next_page = g.next_page; meshes = g.meshes.items } };
 
-    ghost invariant = { λ g. IsPageHeap g.store.arena g.store.map g.spans g.next_page [] };
+    ghost invariant = { λ g. IsPageHeap g.store.arena g.store.map g.spans g.next_page g.meshes.items };
 }
 
 impl PageHeap {
@@ -63,6 +70,7 @@ impl PageHeap {
             store,
             spans,
             next_page: 1,
+            meshes: ArrayVec::new(),
         })
     }
 
@@ -173,6 +181,16 @@ impl PageHeap {
             serial,
             len,
         })
+    }
+
+    /// The class of a group. None only where the number is no group.
+    pub fn class_of(&self, n: u32) -> Option<Class>
+        ensures { result ≡ option_map (λ g. g.class) (group_of (table_in self.now) n) }
+    {
+        let Some(group) = self.spans.group(n) else {
+            return None;
+        };
+        Some(group.class())
     }
 
     /// What it counts. No group and no page is looked at.

@@ -1,4 +1,4 @@
-use Rattle.std.proofs.Common.{◌≡◌, ℕ, List, [], ◌+◌, ◌≤◌, length, ap, subst, refl, ◌∙◌, arith}
+use Rattle.std.proofs.Common.{◌≡◌, ℕ, List, ◌+◌, ◌≤◌, length, ap, subst, refl, ◌∙◌, arith}
 use Rattle.mesh_arena.specs.Pages.{free_count}
 use Rattle.mesh_class.specs.Classes.{pages_of}
 use Rattle.mesh_layout.specs.Growth.{MapsFirst, given_back}
@@ -14,7 +14,7 @@ before c = record {
   map = c.self.inside.store.map;
   index = c.self.inside.spans;
   next_page = c.self.inside.next_page;
-  meshes = [];
+  meshes = c.self.inside.meshes.items;
 }
 
 abbrev after : After-self-1 → PageHeap
@@ -23,7 +23,7 @@ after c = record {
   map = c.map_pages.new.map;
   index = c.add_span.new.self;
   next_page = c.self.inside.next_page + c.pages-count.result;
-  meshes = [];
+  meshes = c.self.inside.meshes.items;
 }
 
 -- the span was added over the pages that were taken and mapped
@@ -55,7 +55,7 @@ invariant_of-self c =
 pub invariant_of-self-in-Err : goal.invariant_of-self-in-Err
 invariant_of-self-in-Err c =
     let back : c.give_pages.new.arena ≡ c.self.inside.store.arena
-    = c.give_pages.ensures ∙ ap (λ (ps : List ℕ). given_back c.take_pages-pages.new.arena ps) c.as_slice-in-Err.ensures.value
+    = c.give_pages.ensures.back ∙ ap (λ (ps : List ℕ). given_back c.take_pages-pages.new.arena ps) c.as_slice-in-Err.ensures.value
     ∙ c.take_pages-pages.ensures.back in
     rw (back, c.in-Err.ensures.err) c.self.invariant
 
@@ -67,7 +67,7 @@ returns-in-Ok-clause-ok c =
 pub returns-in-Err-clause-err : goal.returns-in-Err-clause-err
 returns-in-Err-clause-err c =
     let back : c.give_pages.new.arena ≡ c.self.inside.store.arena
-    = c.give_pages.ensures ∙ ap (λ (ps : List ℕ). given_back c.take_pages-pages.new.arena ps) c.as_slice-in-Err.ensures.value
+    = c.give_pages.ensures.back ∙ ap (λ (ps : List ℕ). given_back c.take_pages-pages.new.arena ps) c.as_slice-in-Err.ensures.value
     ∙ c.take_pages-pages.ensures.back in
     let size : c.pages-count.result ≡ pages_of c.args.class = c.pages-count.ensures.value in
     let last : c.self.inside.next_page + pages_of c.args.class ≤ 65536 = omega (arith, size, c.self.invariant.most) in
@@ -78,8 +78,8 @@ returns-in-Err-clause-err c =
         map = c.self.inside.store.map;
         index = c.self.inside.spans;
         next_page = c.self.inside.next_page;
-        meshes = [];
+        meshes = c.self.inside.meshes.items;
       })) c.args.class room last;
-      same = page_heap_is c.self.inside.store.map c.self.inside.next_page c.give_pages.new.arena c.self.inside.store.arena c.add_span.new.self
+      same = page_heap_is c.self.inside.store.map c.self.inside.next_page c.self.inside.meshes.items c.give_pages.new.arena c.self.inside.store.arena c.add_span.new.self
           c.self.inside.spans back c.in-Err.ensures.err;
     })

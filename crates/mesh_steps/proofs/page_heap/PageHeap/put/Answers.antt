@@ -1,4 +1,4 @@
-use Rattle.std.proofs.Common.{◌≡◌, ℕ, ◌≤◌, [], sym, subst}
+use Rattle.std.proofs.Common.{◌≡◌, ℕ, ◌≤◌, sym, subst}
 use Rattle.mesh_layout.proofs.PageHeapBytes.{slot_backed}
 use Rattle.mesh_model.specs.Sound.{IsSound}
 use Rattle.mesh_spans.specs.Index.{span_at}
@@ -18,7 +18,7 @@ fits_inside seen inside span len same fits = subst (λ (g : PageHeap). len ≤ (
 
 pub clear-requires-clause-backed : goal.clear-requires-clause-backed
 clear-requires-clause-backed c =
-    slot_backed c.self.inside.store.arena c.self.inside.store.map c.self.inside.spans c.self.inside.next_page []
+    slot_backed c.self.inside.store.arena c.self.inside.store.map c.self.inside.spans c.self.inside.next_page c.self.inside.meshes.items
     (group_number c.self.inside.spans c.args.span) 0 c.args.slot c.address-addr.result c.args.len c.sound.ensures c.self.invariant
     (free_covered c.self.inside.spans (span_at c.self.inside.spans.spans c.args.span).class c.args.span c.args.slot c.address-addr.result c.args.len
     c.sound.ensures (free_inside _ _ c.args.span c.args.slot c.self.view_is c.requires.free) c.address-addr.ensures.value
@@ -31,7 +31,7 @@ clear-requires-clause-writable c =
       map = c.self.inside.store.map;
       index = c.self.inside.spans;
       next_page = c.self.inside.next_page;
-      meshes = [];
+      meshes = c.self.inside.meshes.items;
     }) (span_at c.self.inside.spans.spans c.args.span).class c.args.span c.args.slot c.address-addr.result c.args.len c.sound.ensures c.self.invariant
     (free_inside _ _ c.args.span c.args.slot c.self.view_is c.requires.free) c.address-addr.ensures.value
     (fits_inside _ _ c.args.span c.args.len c.self.view_is c.requires.fits)
@@ -43,7 +43,7 @@ invariant_of-self c =
       map = c.self.inside.store.map;
       index = c.self.inside.spans;
       next_page = c.self.inside.next_page;
-      meshes = [];
+      meshes = c.self.inside.meshes.items;
     }) c.clear.new.store.arena c.occupy.new.self (span_at c.self.inside.spans.spans c.args.span).class c.args.span c.args.slot c.args.serial c.args.len
     c.address-addr.result c.sound.ensures c.sound-2.ensures c.self.invariant
     (free_inside _ _ c.args.span c.args.slot c.self.view_is c.requires.free) c.address-addr.ensures.value
@@ -59,7 +59,7 @@ returns-clause-table c =
       map = c.self.inside.store.map;
       index = c.self.inside.spans;
       next_page = c.self.inside.next_page;
-      meshes = [];
+      meshes = c.self.inside.meshes.items;
     }) c.clear.new.store.arena c.occupy.new.self c.args.span c.args.slot c.args.serial c.args.len
     (record { spans = c.occupy.ensures.spans; groups = c.occupy.ensures.groups; table = c.occupy.ensures.table; closed = c.occupy.ensures.closed })
     c.clear.ensures.saves.same_free)
@@ -71,7 +71,7 @@ returns-clause-others c =
       map = c.self.inside.store.map;
       index = c.self.inside.spans;
       next_page = c.self.inside.next_page;
-      meshes = [];
+      meshes = c.self.inside.meshes.items;
     }) c.clear.new.store.arena c.occupy.new.self (span_at c.self.inside.spans.spans c.args.span).class c.args.span c.args.slot c.args.serial c.args.len
     c.address-addr.result c.sound.ensures c.sound-2.ensures c.self.invariant
     (free_inside _ _ c.args.span c.args.slot c.self.view_is c.requires.free) c.address-addr.ensures.value

@@ -1,4 +1,4 @@
-use Rattle.std.proofs.Common.{[], sym, subst}
+use Rattle.std.proofs.Common.{sym, subst}
 use Rattle.mesh_model.specs.Sound.{IsSound}
 use Rattle.mesh_steps.specs.PageHeap.{PageHeap, table_emptied}
 use Rattle.mesh_steps.proofs.Slots.{out_paged, out_table}
@@ -11,7 +11,7 @@ invariant_of-self c =
       map = c.self.inside.store.map;
       index = c.self.inside.spans;
       next_page = c.self.inside.next_page;
-      meshes = [];
+      meshes = c.self.inside.meshes.items;
     }) c.vacate.new.self c.args.span c.args.slot c.self.invariant
     (record { spans = c.vacate.ensures.spans; groups = c.vacate.ensures.groups; table = c.vacate.ensures.table; closed = c.vacate.ensures.closed })
     (subst (λ (g : PageHeap). IsSound (table_emptied g c.args.span c.args.slot)) (sym c.self.view_is) c.requires.sound)
@@ -23,6 +23,6 @@ returns-clause-table c =
       map = c.self.inside.store.map;
       index = c.self.inside.spans;
       next_page = c.self.inside.next_page;
-      meshes = [];
+      meshes = c.self.inside.meshes.items;
     }) c.vacate.new.self c.args.span c.args.slot
     (record { spans = c.vacate.ensures.spans; groups = c.vacate.ensures.groups; table = c.vacate.ensures.table; closed = c.vacate.ensures.closed }))

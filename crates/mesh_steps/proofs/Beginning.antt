@@ -1,0 +1,173 @@
+-- Whether a mesh of two groups may begin, told by the index.
+use Rattle.std.proofs.Common.{◌≡◌, ◌≢◌, ℕ, ◌+◌, ◌<◌, ◌≤◌, Bool, true, false, not, nat_eq, map, is_some, length, IsSome, Option, Some, None, Ok, Err, ap, subst, refl, sym, ◌∙◌, arith, inl, inr}
+use Rattle.std.proofs.lemmas.Bool.Decides.{eqb_tells, leb_tells}
+use Rattle.std.proofs.lemmas.List.{length-map}
+use Rattle.mesh_class.specs.Classes.{pages_of, slots_of}
+use Rattle.mesh_bits.specs.Bits.{are_meshable}
+use Rattle.mesh_layout.proofs.Beginnings.{Begins, Closes, busy_class, few_meshes, many_members, may_go, no_destination, no_source, other_class, overlapping, page_heap_begins, same_group}
+use Rattle.mesh_layout.proofs.Groups.{IsEntry, entry_in_table, none_in_table, table_entry}
+use Rattle.mesh_layout.proofs.MadeSteps.{pages_counted}
+use Rattle.mesh_layout.specs.Indexes.{class_in, layout_of}
+use Rattle.mesh_layout.specs.PageHeap.{IsPageHeap}
+use Rattle.mesh_model.proofs.Chains.{may_begin_gives}
+use Rattle.mesh_model.proofs.GroupPages.{found_sound}
+use Rattle.mesh_model.proofs.MeshLists.{any_tells, class_tells}
+use Rattle.mesh_model.proofs.Searches.{overlap_by_sets}
+use Rattle.mesh_model.specs.Mesh.{Pair, do_overlap, may_begin, step_count}
+use Rattle.mesh_model.specs.Table.{Group, Made, Table, group_of, has_number}
+use Rattle.mesh_model.specs.Classes.{row_of}
+use Rattle.mesh_model.specs.Sound.{meshes_of}
+use Rattle.mesh_model.specs.TableLaws.{IsBusyTest}
+use Rattle.mesh_model.specs.declared.refusals.Refusal.TheVariants.{Busy as BusyClass, Class, Members, NoGroup, Overlap, Same}
+use Rattle.mesh_spans.specs.Groups.{first_of, table_group}
+use Rattle.mesh_spans.specs.Index.{GroupEntry, Index, IsIndex, group_at}
+use Rattle.mesh_steps.specs.Meshes.{IsPair, busy_by}
+use Rattle.mesh_steps.specs.PageHeap.{PageHeap, table_in}
+use Rattle.mesh_steps.specs.Plans.{IsPlanOf, plan_steps}
+use Rattle.mesh_steps.specs.declared.busy.Busy.{Busy}
+use Rattle.mesh_steps.specs.declared.busy.Busy.TheVariants.{Any, OfClass}
+use Rattle.mesh_steps.specs.declared.plan.Plan.{Plan}
+
+-- a group of the index inside is one of the page heap that is seen
+pub group_seen : (inside seen : PageHeap) (n : ℕ) (o : Option GroupEntry) → inside ≡ seen → o ≡ group_at inside.index.groups n → group_at seen.index.groups n ≡ o
+group_seen inside seen n o same at = subst (λ (g : PageHeap). group_at g.index.groups n ≡ o) same (sym at)
+
+-- groups of one class have as many slots
+pub same_slots : (index : Index) (s d : ℕ) (a b : GroupEntry) → IsIndex index.spans index.groups → Some a ≡ group_at index.groups s → Some b ≡ group_at index.groups d
+    → a.class ≡ b.class → length (map is_some a.slots) ≡ length (map is_some b.slots)
+same_slots index s d a b sound is is' same =
+    length-map a.slots is_some ∙ (sound.each s a (sym is)).slots ∙ ap slots_of same ∙ sym ((sound.each d b (sym is')).slots) ∙ sym (length-map b.slots is_some)
+
+-- sets of occupied slots that can't be meshed tell an overlap
+pub overlap_told : (a b : GroupEntry) (apart : Bool) → apart ≡ are_meshable (map is_some a.slots) (map is_some b.slots) → do_overlap a.slots b.slots ≡ not apart
+overlap_told a b apart is = overlap_by_sets a.slots b.slots ∙ ap not (sym is)
+
+-- there is no source
+pub refuses_source : (busy : Busy) (g : PageHeap) (s d : ℕ) → group_at g.index.groups s ≡ None → may_begin (busy_by busy) (table_in g) s d ≡ Err NoGroup
+refuses_source busy g s d none = no_source (busy_by busy) (table_in g) s d (none_in_table g.index s none)
+
+-- there is no destination
+pub refuses_destination : (busy : Busy) (g : PageHeap) (s d : ℕ) (a : GroupEntry) → group_at g.index.groups s ≡ Some a → group_at g.index.groups d ≡ None
+    → may_begin (busy_by busy) (table_in g) s d ≡ Err NoGroup
+refuses_destination busy g s d a is none =
+    no_destination (busy_by busy) (table_in g) s d (table_group g.index.spans s a) (entry_in_table g.index s a is) (none_in_table g.index d none)
+
+module _ (busy : Busy) (g : PageHeap) (s d : ℕ) (a b : GroupEntry) (is : group_at g.index.groups s ≡ Some a) (is' : group_at g.index.groups d ≡ Some b) where
+  from : group_of (table_in g) s ≡ Some (table_group g.index.spans s a)
+  from = entry_in_table g.index s a is
+
+  into : group_of (table_in g) d ≡ Some (table_group g.index.spans d b)
+  into = entry_in_table g.index d b is'
+
+  apart : s ≢ d → nat_eq s d ≡ false
+  apart two = elim (eqb_tells s d) [ inl same ↦ absurd (two same.1) | inr other ↦ other.0 ]
+
+  alike : a.class ≡ b.class → nat_eq a.class b.class ≡ true
+  alike same = elim (eqb_tells a.class b.class) [ inl yes_ ↦ yes_.0 | inr other ↦ absurd (other.1 same) ]
+
+  members : length (map (first_of g.index.spans) a.members) + length (map (first_of g.index.spans) b.members) ≡ length a.members + length b.members
+  members = let x = length-map a.members (first_of g.index.spans) in let y = length-map b.members (first_of g.index.spans) in omega (arith, x, y)
+
+  pub refuses_same : s ≡ d → may_begin (busy_by busy) (table_in g) s d ≡ Err Same
+  refuses_same same = same_group (busy_by busy) (table_in g) s d (table_group g.index.spans s a) (table_group g.index.spans d b) from into
+      (elim (eqb_tells s d) [ inl yes_ ↦ yes_.0 | inr other ↦ absurd (other.1 same) ])
+
+  pub refuses_class : s ≢ d → a.class ≢ b.class → may_begin (busy_by busy) (table_in g) s d ≡ Err Class
+  refuses_class two other = other_class (busy_by busy) (table_in g) s d (table_group g.index.spans s a) (table_group g.index.spans d b) from into (apart two)
+      (elim (eqb_tells a.class b.class) [ inl same ↦ absurd (other same.1) | inr no_ ↦ no_.0 ])
+
+  pub refuses_busy : s ≢ d → a.class ≡ b.class → busy_by busy (table_in g) a.class ≡ true → may_begin (busy_by busy) (table_in g) s d ≡ Err BusyClass
+  refuses_busy two same taken = busy_class (busy_by busy) (table_in g) s d (table_group g.index.spans s a) (table_group g.index.spans d b) from into (apart two)
+      (alike same) taken
+
+  -- the slots overlap where the sets of the occupied ones can't be meshed
+  pub refuses_overlap : s ≢ d → a.class ≡ b.class → busy_by busy (table_in g) a.class ≡ false → do_overlap a.slots b.slots ≡ true
+      → may_begin (busy_by busy) (table_in g) s d ≡ Err Overlap
+  refuses_overlap two same idle both = overlapping (busy_by busy) (table_in g) s d (table_group g.index.spans s a) (table_group g.index.spans d b) from into
+      (apart two) (alike same) idle both
+
+  pub refuses_members : s ≢ d → a.class ≡ b.class → busy_by busy (table_in g) a.class ≡ false → do_overlap a.slots b.slots ≡ false
+      → 8 < length a.members + length b.members → may_begin (busy_by busy) (table_in g) s d ≡ Err Members
+  refuses_members two same idle no_ many = many_members (busy_by busy) (table_in g) s d (table_group g.index.spans s a) (table_group g.index.spans d b) from into
+      (apart two) (alike same) idle no_
+      (elim (leb_tells 9 (length (map (first_of g.index.spans) a.members) + length (map (first_of g.index.spans) b.members))) [
+        | inl yes_ ↦ yes_.0
+        | inr few ↦ absurd (let f = few.1 in let m = members in omega (arith, f, m, many))
+      ])
+
+  pub allows : s ≢ d → a.class ≡ b.class → busy_by busy (table_in g) a.class ≡ false → do_overlap a.slots b.slots ≡ false
+      → length a.members + length b.members ≤ 8 → IsPair busy g s d a.class
+  allows two same idle no_ few = record {
+    pair = record { source = table_group g.index.spans s a; destination = table_group g.index.spans d b };
+    may = may_go (busy_by busy) (table_in g) s d (table_group g.index.spans s a) (table_group g.index.spans d b) from into (apart two) (alike same) idle no_
+        (elim (leb_tells 9 (length (map (first_of g.index.spans) a.members) + length (map (first_of g.index.spans) b.members))) [
+          | inl many ↦ absurd (let h = many.1 in let m = members in omega (arith, h, m, few))
+          | inr no_more ↦ no_more.0
+        ]);
+    class_is = refl;
+  }
+
+-- where nothing keeps a class busy no mesh of it runs
+pub busy_tells : (busy : Busy) (t : Table) → IsBusyTest (busy_by busy) t
+busy_tells OfClass t class h = class_tells class t.meshes h
+busy_tells Any t class h = any_tells class t.meshes h
+
+-- what is known of a pair of groups of which a mesh may begin
+pub record HasPair (busy : Busy) (g : PageHeap) (s d class : ℕ) : Type 0 where
+  pub a : GroupEntry
+  pub b : GroupEntry
+  pub pair : Pair
+  pub source : group_at g.index.groups s ≡ Some a
+  pub destination : group_at g.index.groups d ≡ Some b
+  pub may : may_begin (busy_by busy) (table_in g) s d ≡ Ok pair
+  pub source_is : pair.source ≡ table_group g.index.spans s a
+  pub class_is : pair.source.class ≡ class
+  pub idle : meshes_of class g.meshes ≡ 0
+
+has_pair : (busy : Busy) (g : PageHeap) (s d class : ℕ) → IsPair busy g s d class → HasPair busy g s d class
+has_pair busy g s d class is =
+    let may = may_begin_gives (busy_by busy) (table_in g) s d is.pair is.may in
+    let a : IsEntry g.index s is.pair.source = table_entry g.index s is.pair.source may.source_is in
+    let b : IsEntry g.index d is.pair.destination = table_entry g.index d is.pair.destination may.destination_is in
+    record {
+      a = a.entry;
+      b = b.entry;
+      pair = is.pair;
+      source = a.there;
+      destination = b.there;
+      may = is.may;
+      source_is = a.same;
+      class_is = is.class_is;
+      idle = subst (λ (c : ℕ). meshes_of c g.meshes ≡ 0) is.class_is (busy_tells busy (table_in g) is.pair.source.class may.idle);
+    }
+
+-- the same of the page heap inside, where it is known of the one that is seen
+pub pair_inside : (busy : Busy) (inside seen : PageHeap) (s d class : ℕ) → inside ≡ seen → IsPair busy seen s d class → HasPair busy inside s d class
+pair_inside busy inside seen s d class same is = has_pair busy inside s d class (subst (λ (g : PageHeap). IsPair busy g s d class) (sym same) is)
+
+-- so many steps has a mesh from the source
+pub steps_told : (busy : Busy) (g : PageHeap) (s d class : ℕ) (plan : Plan) → (h : HasPair busy g s d class) → IsPlanOf (layout_of g.index) s plan
+    → step_count h.pair.source ≡ plan_steps plan
+steps_told busy g s d class plan h is =
+    let total = pages_counted g.index s h.a h.source in
+    let same = ap class_in h.source in
+    let slots = ap slots_of same in
+    let pages = ap pages_of same in
+    let t = is.total in let c = is.slots in let p = is.pages in
+    ap step_count h.source_is ∙ (let sum : step_count (table_group g.index.spans s h.a) ≡ plan_steps plan = omega (arith, total, slots, pages, t, c, p) in sum)
+
+-- fewer than ten meshes run before one begins
+pub few_running : (busy : Busy) (g : PageHeap) (s d class : ℕ) → IsPageHeap g.arena g.map g.index g.next_page g.meshes → HasPair busy g s d class → length g.meshes < 10
+few_running busy g s d class paged h =
+    let found = entry_in_table g.index s h.a h.source in
+    let row = (found_sound (table_in g) (has_number s) (table_group g.index.spans s h.a) paged.sound found).class in
+    few_meshes (table_in g) class paged.sound
+    (subst (λ (c : ℕ). IsSome (row_of c)) (sym (ap (λ (x : Group). x.class) h.source_is) ∙ h.class_is) row) h.idle
+
+-- what a mesh that begins leaves
+pub begun_heap : (busy : Busy) (g : PageHeap) (index : Index) (s d class left : ℕ) → IsPageHeap g.arena g.map g.index g.next_page g.meshes
+    → (h : HasPair busy g s d class) → Closes g.index index s d → step_count h.pair.source ≡ left
+    → Begins (busy_by busy) g.arena g.map g.index index g.next_page g.meshes (record { class = class; source = s; destination = d; progress = Made 0 }) left
+begun_heap busy g index s d class left paged h closes count =
+    subst (λ (c : ℕ). Begins (busy_by busy) g.arena g.map g.index index g.next_page g.meshes (record { class = c; source = s; destination = d; progress = Made 0 }) left)
+    h.class_is (page_heap_begins (busy_by busy) g.arena g.map g.index index g.next_page g.meshes h.pair s d left paged (busy_tells busy (table_in g)) h.may closes count)

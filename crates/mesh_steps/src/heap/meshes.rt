@@ -1,0 +1,137 @@
+//! The meshes of a heap: what a mesher asks of it.
+ghost use Rattle.std.specs.Prelude.{◌≡◌, Err, Ok, IfErr, IfOk, IsOk};
+ghost use Rattle.mesh_model.specs.Mesh.{any_mesh, begin, cancel, mesh_in, mesh_of_class, mesh_whole, step};
+ghost use Rattle.mesh_model.specs.MeshLaws.{steps_of_class};
+ghost use Rattle.mesh_model.specs.Table.{sweep};
+ghost use Rattle.mesh_steps.specs.Heap.{table_of};
+ghost use Rattle.mesh_steps.specs.HeapMeshes.{IsMeshBegun, IsMeshCancelled, IsMeshed, IsStepMade, IsSwept, MeansTheSame};
+ghost use Rattle.mesh_steps.specs.Meshes.{busy_by};
+
+use super::Heap;
+use crate::StepDone;
+use crate::busy::Busy;
+use mesh_class::Class;
+use mesh_model::Refusal;
+
+impl Heap {
+    /// Begins a mesh of the group `source` into the group `destination`, and answers how many steps are to come. Both groups are closed to
+    /// new objects until it has ended. It takes no memory.
+    ///
+    /// Refused with NO_GROUP, SAME, CLASS, BUSY where a mesh of their class runs, OVERLAP or MEMBERS, the first that holds.
+    pub fn begin(&mut self, source: u32, destination: u32) -> Result<u32, Refusal>
+        ensures begun { IfOk result (IsMeshBegun mesh_of_class self.old self.new source destination) }
+        ensures refused { IfErr result (λ refusal.
+            (begin mesh_of_class (table_of self.old) source destination ≡ Err refusal) × (self.new ≡ self.old)) }
+    {
+        self.start(source, destination, Busy::OfClass)
+    }
+
+    /// Begins a mesh as `begin` does, but is refused with BUSY where a mesh of any class runs. It takes no memory.
+    pub fn begin_alone(&mut self, source: u32, destination: u32) -> Result<u32, Refusal>
+        ensures begun { IfOk result (IsMeshBegun any_mesh self.old self.new source destination) }
+        ensures refused { IfErr result (λ refusal.
+            (begin any_mesh (table_of self.old) source destination ≡ Err refusal) × (self.new ≡ self.old)) }
+    {
+        self.start(source, destination, Busy::Any)
+    }
+
+    /// Makes the next step of the mesh of a class. It takes no memory, and its cost is the same whatever the number of groups.
+    ///
+    /// Refused with NO_MESH exactly where no mesh of the class runs.
+    pub fn step(&mut self, class: Class) -> Result<StepDone, Refusal>
+        ensures made { IfOk result (IsStepMade self.old self.new class) }
+        ensures refused { IfErr result (λ refusal.
+            (step (table_of self.old) (mesh_in (table_of self.old) class) ≡ Err refusal) × (self.new ≡ self.old)) }
+    {
+        self.pages.sound();
+        self.pages.step(class)
+    }
+
+    /// Cancels the mesh of a class before its first remap, and answers how many unprotects are to come; with none the mesh is over. A
+    /// further cancel answers what is left then, and changes nothing. It takes no memory.
+    ///
+    /// Refused with NO_MESH where no mesh of the class runs, with TOO_LATE once a page was remapped.
+    pub fn cancel(&mut self, class: Class) -> Result<u32, Refusal>
+        ensures cancelled { IfOk result (IsMeshCancelled self.old self.new class) }
+        ensures refused { IfErr result (λ refusal.
+            (cancel (table_of self.old) (mesh_in (table_of self.old) class) ≡ Err refusal) × (self.new ≡ self.old)) }
+    {
+        self.pages.sound();
+        self.pages.cancel(class)
+    }
+
+    /// Meshes the group `source` into the group `destination` by `begin` and all its steps, and answers how many physical pages came free. It
+    /// takes no memory.
+    ///
+    /// Refused with NO_GROUP, SAME, CLASS, BUSY where a mesh of their class runs, OVERLAP or MEMBERS, the first that holds.
+    pub fn mesh_whole(&mut self, source: u32, destination: u32) -> Result<u32, Refusal>
+        ensures meshed { IfOk result (IsMeshed mesh_of_class self.old self.new source destination) }
+        ensures refused { IfErr result (λ refusal.
+            (mesh_whole mesh_of_class (table_of self.old) source destination ≡ Err refusal) × (self.new ≡ self.old)) }
+    {
+        self.whole(source, destination, Busy::OfClass)
+    }
+
+    /// Meshes two groups as `mesh_whole` does, but is refused with BUSY where a mesh of any class runs. It takes no memory.
+    pub fn whole_alone(&mut self, source: u32, destination: u32) -> Result<u32, Refusal>
+        ensures meshed { IfOk result (IsMeshed any_mesh self.old self.new source destination) }
+        ensures refused { IfErr result (λ refusal.
+            (mesh_whole any_mesh (table_of self.old) source destination ≡ Err refusal) × (self.new ≡ self.old)) }
+    {
+        self.whole(source, destination, Busy::Any)
+    }
+
+    /// Gives an empty group's pages back, and answers how many physical pages came free. The virtual pages of its members are unmapped, and
+    /// never used again. It takes no memory.
+    ///
+    /// Refused with NO_GROUP, BUSY where the group is in a mesh, or NOT_EMPTY, the first that holds.
+    pub fn sweep(&mut self, group: u32) -> Result<u32, Refusal>
+        ensures swept { IfOk result (IsSwept self.old self.new group) }
+        ensures refused { IfErr result (λ refusal. (sweep (table_of self.old) group ≡ Err refusal) × (self.new ≡ self.old)) }
+    {
+        self.pages.sound();
+        self.pages.sweep(group)
+    }
+
+    /// Whether a mesh of the class runs.
+    pub fn running(&self, class: Class) -> bool
+        ensures { result ≡ mesh_of_class (table_of self.now) class }
+    {
+        self.pages.is_busy(Busy::OfClass, class)
+    }
+
+    // Begins a mesh, where no running mesh keeps its class busy.
+    fn start(&mut self, source: u32, destination: u32, busy: Busy) -> Result<u32, Refusal>
+        ensures begun { IfOk result (IsMeshBegun (busy_by busy) self.old self.new source destination) }
+        ensures refused { IfErr result (λ refusal.
+            (begin (busy_by busy) (table_of self.old) source destination ≡ Err refusal) × (self.new ≡ self.old)) }
+    {
+        self.pages.sound();
+        self.pages.begin(source, destination, busy)
+    }
+
+    // Begins a mesh and makes all its steps.
+    fn whole(&mut self, source: u32, destination: u32, busy: Busy) -> Result<u32, Refusal>
+        ensures meshed { IfOk result (IsMeshed (busy_by busy) self.old self.new source destination) }
+        ensures refused { IfErr result (λ refusal.
+            (mesh_whole (busy_by busy) (table_of self.old) source destination ≡ Err refusal) × (self.new ≡ self.old)) }
+    {
+        self.sound();
+        let left = self.start(source, destination, busy)?;
+        let class = self.pages.class_of(source).unwrap();
+        self.finish(class, left);
+        Ok(class.pages())
+    }
+
+    // Makes so many steps of the mesh of a class.
+    fn finish(&mut self, class: Class, steps: u32)
+        requires { IsOk (steps_of_class class steps (table_of self.old)) }
+        ensures table { steps_of_class class steps (table_of self.old) ≡ Ok (table_of self.new) }
+        ensures memory { MeansTheSame self.old self.new }
+        ensures serial { self.new.next_serial ≡ self.old.next_serial }
+    {
+        'steps: for _made in 0..steps {
+            let _done = self.step(class);
+        }
+    }
+}

@@ -1,0 +1,70 @@
+//! `Plan`, the steps of a mesh.
+ghost use Rattle.std.specs.Prelude.{◌≡◌, ◌+◌, ◌*◌, ◌<◌, IsSome};
+ghost use Rattle.mesh_layout.specs.Indexes.{layout_of};
+ghost use Rattle.mesh_layout.specs.Steps.{IsStepAt};
+ghost use Rattle.mesh_spans.specs.Index.{group_at};
+ghost use Rattle.mesh_steps.specs.Plans.{IsPlan, IsPlanOf, plan_steps};
+
+use mesh_model::StepKind;
+use mesh_spans::Spans;
+
+/// How many steps of each kind a mesh makes.
+#[derive(Clone, Copy)]
+pub(crate) struct Plan {
+    /// The source's virtual pages: each is protected, remapped and unprotected.
+    pub total: u32,
+    /// The slots of the class: each is copied.
+    pub slots: u32,
+    /// The source's physical pages: each is released.
+    pub pages: u32,
+}
+
+impl Plan {
+    /// The plan of a mesh from a group.
+    pub fn of(spans: &Spans, source: u32) -> Plan
+        requires { IsSome (group_at spans.now.groups source) }
+        ensures of { IsPlanOf (layout_of spans.now) source result }
+        ensures few { IsPlan result }
+    {
+        spans.sound();
+        let group = spans.group(source).unwrap();
+        let class = group.class();
+        Plan {
+            total: group.members().len() as u32 * class.pages(),
+            slots: class.slots(),
+            pages: class.pages(),
+        }
+    }
+
+    /// How many steps there are.
+    pub fn steps(self) -> u32
+        requires { IsPlan self }
+        ensures { result ≡ plan_steps self }
+    {
+        3 * self.total + self.slots + self.pages
+    }
+
+    /// The kind of the step after so many, and its number among those of its kind.
+    pub fn step_after(self, made: u32) -> (StepKind, u32)
+        requires few { IsPlan self }
+        requires more { made < plan_steps self }
+        ensures { IsStepAt self.total self.slots self.pages made result.0 result.1 }
+    {
+        if made < self.total {
+            return (StepKind::Protect, made);
+        }
+        let made = made - self.total;
+        if made < self.slots {
+            return (StepKind::Copy, made);
+        }
+        let made = made - self.slots;
+        if made < self.total {
+            return (StepKind::Remap, made);
+        }
+        let made = made - self.total;
+        if made < self.total {
+            return (StepKind::Unprotect, made);
+        }
+        (StepKind::Release, made - self.total)
+    }
+}
