@@ -1,2 +1,3 @@
 pub mod BitsLemmas
 pub mod TwoSets
+pub mod FourLanes

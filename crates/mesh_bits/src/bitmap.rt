@@ -1,8 +1,11 @@
 //! `Bits`, a set of numbers below a width.
 ghost use Rattle.std.specs.Prelude.{◌≡◌, ◌<◌, ◌≤◌, ◌+◌, ◌||◌, ◌↔◌, true, false, length, replicate, slice_index, slice_set, take, IsTrue, IfSome, IfNone, ℕ, ◌^◌};
+ghost use Rattle.std.specs.Int.Bits.{bit_and, bit_or};
+ghost use Rattle.std.specs.Simd.Lanes.{fold_l, zip2};
 ghost use Rattle.mesh_bits.specs.Bits.{is_member, member_count, clear_count, are_meshable, AreApart, union_of, has, members, ones_of, PutsBit, HaveNoBitInBoth, HasBitsOfEither};
 
 use std::marker::Model;
+use std::simd::prelude::*;
 
 // The bits of a word.
 const WORD_BITS: u32 = 64;
@@ -39,6 +42,16 @@ impl Bits {
         Bits {
             words: [0; WORDS],
             width,
+        }
+    }
+
+    /// The same set, as a value of its own.
+    pub fn copied(&self) -> Bits
+        ensures { result ≡ self.now }
+    {
+        Bits {
+            words: self.words,
+            width: self.width,
         }
     }
 
@@ -97,7 +110,7 @@ impl Bits {
         ensures meshable { result ≡ are_meshable self.now other.now }
         ensures apart { IsTrue result ↔ AreApart self.now other.now }
     {
-        share_no_bit(&self.words, &other.words)
+        share_no_bit(self.words, other.words)
     }
 
     /// The numbers that are in either set, where both are below one width.
@@ -190,13 +203,28 @@ fn count_bits(words: &[u64; WORDS]) -> u32
     a.count_ones() + b.count_ones() + c.count_ones() + d.count_ones()
 }
 
-// Whether no bit is set in both.
-fn share_no_bit(words: &[u64; WORDS], others: &[u64; WORDS]) -> bool
-    ensures { IsTrue result ↔ HaveNoBitInBoth words.now others.now }
+// Whether no bit is set in both, four lanes at once.
+fn share_no_bit(words: [u64; WORDS], others: [u64; WORDS]) -> bool
+    ensures { IsTrue result ↔ HaveNoBitInBoth words others }
 {
-    let [a, b, c, d] = *words;
-    let [e, f, g, h] = *others;
-    (a & e) | (b & f) | (c & g) | (d & h) == 0
+    any_lane(both_lanes(words, others)) == 0
+}
+
+// The bits that are set in both, lane by lane.
+fn both_lanes(words: [u64; WORDS], others: [u64; WORDS]) -> [u64; WORDS]
+    ensures both { result ≡ zip2 bit_and words others }
+    ensures words { (j : ℕ) → slice_index words j < 2 ^ 64 }
+    ensures many { length words ≡ 4 }
+    ensures as_many { length others ≡ 4 }
+{
+    (u64x4::from_array(words) & u64x4::from_array(others)).to_array()
+}
+
+// The bits that are set in a lane.
+fn any_lane(lanes: [u64; WORDS]) -> u64
+    ensures { result ≡ fold_l bit_or 0 lanes }
+{
+    u64x4::from_array(lanes).reduce_or()
 }
 
 // The bits that are set in either.
