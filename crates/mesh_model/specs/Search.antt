@@ -6,10 +6,14 @@ use Rattle.mesh_bits.specs.Bits.{are_meshable, member_count}
 use Rattle.mesh_model.specs.Classes.{slots_of, table}
 use Rattle.mesh_model.specs.Table.{Group, Table, is_meshing, object_count, occupied_of}
 
--- the group may be paired: it is of the class, in no mesh, not empty and not full
+-- the group may be paired: it is of the class, its number is not closed, and it is not empty and not full
+abbrev pub may_be_paired : (ℕ → Bool) → ℕ → Group → Bool
+may_be_paired closed class group =
+    nat_eq group.class class && not (closed group.number) && nat_lt 0 (object_count group) && nat_lt (object_count group) (slots_of class)
+
+-- the same where the groups that are in a mesh are closed
 abbrev pub is_candidate : Table → ℕ → Group → Bool
-is_candidate t class group =
-    nat_eq group.class class && not (is_meshing t group.number) && nat_lt 0 (object_count group) && nat_lt (object_count group) (slots_of class)
+is_candidate t class group = may_be_paired (is_meshing t) class group
 
 -- the groups of a class that may be paired, ascending
 abbrev pub candidate_groups : Table → ℕ → List Group
@@ -29,9 +33,13 @@ pub record View : Type 0 where
   pub class : ℕ
   pub candidates : List Candidate
 
+-- what a search knows of these groups of a class
+abbrev pub viewed : ℕ → List Group → View
+viewed class groups = record { class = class; candidates = map candidate_of groups }
+
 -- the view of a class
 abbrev pub view_of : Table → ℕ → View
-view_of t class = record { class = class; candidates = map candidate_of (candidate_groups t class) }
+view_of t class = viewed class (candidate_groups t class)
 
 -- the views of all classes, ascending
 abbrev pub views : Table → List View

@@ -1,9 +1,11 @@
 -- In which bin a group is: three for each class, of the groups that are empty, partly filled and full.
-use Rattle.std.specs.Prelude.{◌≡◌, ℕ, ◌+◌, ◌*◌, ◌<◌, Bool, false, not, ◌&&◌, if◌then◌else◌, nat_eq, nat_le, nat_lt, count_by, is_some, List, Option, Some, None, length, slice_index_or, slice_set}
+use Rattle.std.specs.Prelude.{◌≡◌, ℕ, ◌+◌, ◌*◌, ◌<◌, Bool, false, not, ◌&&◌, if◌then◌else◌, nat_eq, nat_le, nat_lt, count_by, is_some, filter, List, Option, Some, None, length, slice_index_or, slice_set}
 use Rattle.std.specs.Ordering.{nat_cmp}
 use Rattle.std.specs.FinSet as set
-use Rattle.mesh_model.specs.Table.{Group, object_count}
-use Rattle.mesh_spans.specs.Index.{GroupEntry, group_at}
+use Rattle.mesh_model.specs.Search.{may_be_paired}
+use Rattle.mesh_model.specs.Table.{Group}
+use Rattle.mesh_spans.specs.Groups.{groups_of, is_closed}
+use Rattle.mesh_spans.specs.Index.{GroupEntry, Index, group_at}
 
 -- the place of a class in the class table
 unfoldable pub class_place : ℕ → ℕ
@@ -59,5 +61,8 @@ is_partial (Some group) class =
 
 -- the group may be paired, and its number is `from` or above
 abbrev pub candidate_from : (ℕ → Bool) → ℕ → ℕ → Group → Bool
-candidate_from closed class from group =
-    nat_le from group.number && (nat_eq group.class class && not (closed group.number) && nat_lt 0 (object_count group) && nat_lt (object_count group) (length group.slots))
+candidate_from closed class from group = nat_le from group.number && may_be_paired closed class group
+
+-- the groups that may be paired, of the numbers from `from` on, ascending
+abbrev pub candidates_from : Index → ℕ → ℕ → List Group
+candidates_from index class from = filter (candidate_from (is_closed index) class from) (groups_of index)

@@ -4,12 +4,12 @@ ghost use Rattle.std.specs.Option.{option_map};
 ghost use Rattle.mesh_class.specs.Classes.{pages_of, slots_of};
 ghost use Rattle.mesh_model.specs.Table.{changed_at, fresh_group, object_count, slot_address, with_object_in, emptied_at, takes_objects};
 ghost use Rattle.mesh_spans.specs.Counts.{IsPart, IsWithin, byte_count};
-ghost use Rattle.mesh_spans.specs.Groups.{IsPicked, groups_of, is_closed};
+ghost use Rattle.mesh_spans.specs.Groups.{IsPicked, groups_of, is_closed, table_group};
 ghost use Rattle.mesh_spans.specs.Index.{AreUnused, GroupEntry, IsFoundAt, IsIndex, IsObject, IsRecorded, IsSpan, IsVacant, OwnsUpTo, address_in, group_at, has_room, is_open, new_group, new_span, record_at, span_at, with_entry};
 ghost use Rattle.mesh_model.specs.Mesh.{do_overlap, merged, page_count};
 ghost use Rattle.mesh_model.specs.Table.{Group as TableGroup, has_number};
 ghost use Rattle.mesh_bins.specs.Words.{IsLeast};
-ghost use Rattle.mesh_spans.specs.Filing.{candidate_from, is_partial};
+ghost use Rattle.mesh_spans.specs.Filing.{candidate_from, candidates_from, is_partial};
 ghost use Rattle.mesh_spans.specs.Changes.{IsMergeable, Merges, Regroups, merged_entry, merged_groups, with_flag};
 
 use crate::extent::{Extent, PAGE_BYTES};
@@ -127,6 +127,9 @@ impl Spans {
     pub fn next_candidate(&self, class: Class, from: u32) -> Option<u32>
         ensures least { IsLeast (λ n. is_partial (group_at self.now.groups n) class) from 65536 result }
         ensures table { result ≡ option_map (λ g. g.number) (find (candidate_from (is_closed self.now) class from) (groups_of self.now)) }
+        ensures next { IfSome result (λ n. IsSomeAnd (group_at self.now.groups n) (λ group.
+            candidates_from self.now class from ≡ table_group self.now.spans n group ∷ candidates_from self.now class (n + 1))) }
+        ensures none { IfNone result (candidates_from self.now class from ≡ []) }
     {
         lowest_partial(self.files.bins.as_slice(), class, from)
     }
