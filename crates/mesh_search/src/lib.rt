@@ -6,6 +6,7 @@
 #![tactic(auto)]
 
 mod candidate;
+mod from_index;
 mod gate;
 mod parallel;
 mod parts;
@@ -16,6 +17,7 @@ mod split;
 mod view;
 
 pub use candidate::{Candidate, Pair};
+pub use from_index::class_view;
 pub use gate::{Actor, Gate, NoGate, Point};
 pub use mesh_model::StepKind;
 pub use parallel::SearchError;
