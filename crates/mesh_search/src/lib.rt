@@ -25,5 +25,5 @@ pub use parts::part;
 pub use picking::shuffle;
 pub use rounds::Found;
 pub use searching::search;
-pub use split::search_one;
+pub use split::{search_one, split_mesh};
 pub use view::ClassView;
