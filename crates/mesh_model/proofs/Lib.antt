@@ -38,6 +38,7 @@ pub mod SameRecords
 pub mod Searches
 mod Seating
 mod Settling
+pub mod Shuffles
 mod Spelling
 mod StepCounts
 pub mod TableChanges

@@ -5,7 +5,7 @@ use Rattle.std.specs.List.{Contains, list_any}
 use Rattle.mesh_bits.specs.Bits.{are_meshable}
 use Rattle.mesh_model.specs.Memory.{Memory, empty_memory}
 use Rattle.mesh_model.specs.Mesh.{any_mesh, begin, cancelled, step_count, table_after, table_unwound, do_overlap, first_mesh, is_blocked, is_protected, mesh_whole, page_count, read_only_pages, step, virtual_pages}
-use Rattle.mesh_model.specs.Search.{Candidate, Pairing, split_search, tries}
+use Rattle.mesh_model.specs.Search.{Candidate, Pairing, shuffle, split_search, tries}
 use Rattle.mesh_model.specs.Seats.{Call, DifferFirstAt, has_stranger, missing_seat}
 use Rattle.mesh_model.specs.Places.{Place, Record, Target, byte_of, holds, meaning, place_of, records_from, with_protection}
 use Rattle.mesh_model.specs.Plain.{plain, PlainStep, IsVacantRange, IsLegal, Entry}
@@ -126,6 +126,14 @@ times_paired n (pair ∷ pairs) =
 -- no group is in two pairs: a number is paired at most as often as it is in the order
 abbrev pub GroupsPairOnce : Type 0
 GroupsPairOnce = (order : List Candidate) (t n : ℕ) → times_paired n (split_search order t).pairs ≤ times_in n (map (λ candidate. candidate.number) order)
+
+-- a shuffle has each number as often as the list has it
+abbrev pub ShufflesKeepNumbers : Type 0
+ShufflesKeepNumbers = (list words : List ℕ) (n : ℕ) → times_in n (shuffle list words) ≡ times_in n list
+
+-- each candidate of a shuffle is one of the list
+abbrev pub ShufflesPick : Type 0
+ShufflesPick = (list : List Candidate) (words : List ℕ) → All (Contains list) (shuffle list words)
 
 -- at most one probe a round for each group of the first half
 abbrev pub ProbesAreFew : Type 0

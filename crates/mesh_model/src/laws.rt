@@ -1,5 +1,5 @@
 //! Laws of the definitions. Each is the contract of a function that does nothing: a theorem that other crates may rely on.
-ghost use Rattle.mesh_model.specs.Laws.{PlainIsStep, PlainRefusalIsStep, StepDetermined, LegalGoesOn, LegalHasOneEnd, StartsWritable, ProtectsNext, HoldsWhileCopying, UnprotectsNext, ReleasesWritable, CancelHolds, UnwindsNext, UnwoundIsWritable, ReadOnlyByMeshes, BlockedByPages, TriesAreIndexed, TriesAreOfBoth, ProbesAreFew, PairsAreMeshable, OverlapIsBySets, GroupsPairOnce, WholeIsAllSteps, RefusedByAddresses, PlacesAreByPage, NoObjectMeansNone, ObjectsMeanTheirBytes, SlotsHaveRecords, ObjectsAreHeld, HoldsWhereLed, StepsLeaveGroups, UnwindingLeavesGroups, CancelLeavesGroups, ProtectionLeavesPlaces, SeatsAreAll, SwappedSeatsAreMissing, StrangersAreMissing, EntriesHaveSeats, FirstDifferenceIsOne};
+ghost use Rattle.mesh_model.specs.Laws.{PlainIsStep, PlainRefusalIsStep, StepDetermined, LegalGoesOn, LegalHasOneEnd, StartsWritable, ProtectsNext, HoldsWhileCopying, UnprotectsNext, ReleasesWritable, CancelHolds, UnwindsNext, UnwoundIsWritable, ReadOnlyByMeshes, BlockedByPages, TriesAreIndexed, TriesAreOfBoth, ProbesAreFew, PairsAreMeshable, OverlapIsBySets, GroupsPairOnce, ShufflesKeepNumbers, ShufflesPick, WholeIsAllSteps, RefusedByAddresses, PlacesAreByPage, NoObjectMeansNone, ObjectsMeanTheirBytes, SlotsHaveRecords, ObjectsAreHeld, HoldsWhereLed, StepsLeaveGroups, UnwindingLeavesGroups, CancelLeavesGroups, ProtectionLeavesPlaces, SeatsAreAll, SwappedSeatsAreMissing, StrangersAreMissing, EntriesHaveSeats, FirstDifferenceIsOne};
 
 /// What the plain function answers and leaves is a plain step, and so is its refusal.
 pub fn plain_is_step()
@@ -41,6 +41,12 @@ pub fn search_tries()
     ensures indexed { TriesAreIndexed }
     ensures of_both { TriesAreOfBoth }
     ensures few { ProbesAreFew }
+{}
+
+/// A shuffle has what the list has.
+pub fn shuffles_keep()
+    ensures numbers { ShufflesKeepNumbers }
+    ensures candidates { ShufflesPick }
 {}
 
 /// The pairs of a search are meshable, and no group is in two of them.
