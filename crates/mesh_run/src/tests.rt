@@ -9,9 +9,11 @@ mod arguments;
 mod devices;
 mod faults;
 mod files;
+mod indexes;
 mod memory;
 mod rows;
 mod search;
+mod searchers;
 
 /// What one run of the program wrote, and its exit status.
 #[derive(Drop)]
