@@ -1,2 +1,3 @@
 pub mod CommandLines
 pub mod Telling
+mod WorkedView

@@ -11,6 +11,7 @@ mod faults;
 mod files;
 mod indexes;
 mod memory;
+mod numbers;
 mod rows;
 mod search;
 mod searchers;
