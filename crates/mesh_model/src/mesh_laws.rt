@@ -1,4 +1,5 @@
-//! Laws of running meshes: how their steps are counted, that at most one runs a class, and when a step or a cancel is refused. Each is the contract of a function that does nothing.
+//! Laws of running meshes: how their steps are counted, that at most one runs a class, and when a step or a cancel is refused. Each is the contract of a
+//! function that does nothing.
 ghost use Rattle.mesh_model.specs.MeshLaws.{BeginAnswersAllSteps, BeginLeavesSteps, StepTakesOne, LastStepEnds, CancelAnswersLeft, CancelOfNoneEnds, OthersKeepTheirSteps, StepsCountDown, SoundHasOneAClass, BeginKeepsOneAClass, WholeKeepsOneAClass, StepKeepsOneAClass, CancelKeepsOneAClass, MeshInIsOfClass, ClassHasMesh, StepIsRefusedWithoutMesh, CancelIsRefusedWithoutMesh, CancelIsRefusedLate, CancelHasTwoRefusals};
 
 /// `begin` answers all steps of the mesh, and leaves as many to come.
@@ -36,13 +37,9 @@ pub fn mesh_of_class_is_found()
     ensures some { ClassHasMesh }
 {}
 
-/// A step of a class is refused only where no mesh of the class runs.
-pub fn steps_are_refused_without_mesh()
-    ensures { StepIsRefusedWithoutMesh }
-{}
-
-/// A cancel of a class is refused only where no mesh of the class runs, or where the mesh has remapped a page.
-pub fn cancels_are_refused_late()
+/// A step of a class is refused only where no mesh of the class runs, a cancel only there, or where the mesh has remapped a page.
+pub fn steps_and_cancels_are_refused()
+    ensures step { StepIsRefusedWithoutMesh }
     ensures none { CancelIsRefusedWithoutMesh }
     ensures late { CancelIsRefusedLate }
     ensures only { CancelHasTwoRefusals }

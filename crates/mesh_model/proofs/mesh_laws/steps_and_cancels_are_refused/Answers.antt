@@ -1,5 +1,8 @@
-use Rattle.mesh_model.proofs.Refused.{cancel_late, cancel_none, cancel_refused}
-use Rattle.mesh_model.proofs.mesh_laws.cancels_are_refused_late.Goals as goal
+use Rattle.mesh_model.proofs.Refused.{cancel_late, cancel_none, cancel_refused, step_refused}
+use Rattle.mesh_model.proofs.mesh_laws.steps_and_cancels_are_refused.Goals as goal
+
+pub returns-clause-step : goal.returns-clause-step
+returns-clause-step c = step_refused
 
 pub returns-clause-none : goal.returns-clause-none
 returns-clause-none c = cancel_none
