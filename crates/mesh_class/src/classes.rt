@@ -1,6 +1,6 @@
 //! `Class`, and the class of a request.
-ghost use Rattle.std.specs.Prelude.{◌≡◌, ◌<◌, ◌≤◌, ◌↔◌, ◌⊎◌, Err, Some, IfOk, OnOk, IfErr};
-ghost use Rattle.mesh_model.specs.Classes.{row, row_of, pages_of, slots_of, class_for, IsClass};
+ghost use Rattle.std.specs.Prelude.{◌≡◌, ◌<◌, ◌≤◌, ◌↔◌, ◌⊎◌, Err, Some, map, IfOk, OnOk, IfErr};
+ghost use Rattle.mesh_model.specs.Classes.{row, row_of, pages_of, slots_of, class_for, table, IsClass};
 
 use mesh_model::Refusal;
 use std::marker::Model;
@@ -98,4 +98,22 @@ pub fn class_of(len: u32) -> Result<Class, Refusal>
         1537..=2048 => Ok(Class::row(2048, 1, 2)),
         _ => Err(Refusal::TooLarge),
     }
+}
+
+/// The ten size classes, by size.
+pub fn all_classes() -> [Class; 10]
+    ensures { result ≡ map (λ r. r.size) table }
+{
+    [
+        Class::row(16, 1, 256),
+        Class::row(32, 1, 128),
+        Class::row(64, 1, 64),
+        Class::row(128, 1, 32),
+        Class::row(256, 1, 16),
+        Class::row(384, 3, 32),
+        Class::row(512, 1, 8),
+        Class::row(1024, 1, 4),
+        Class::row(1536, 3, 8),
+        Class::row(2048, 1, 2),
+    ]
 }

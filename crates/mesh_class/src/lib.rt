@@ -5,5 +5,5 @@
 
 mod classes;
 
-pub use classes::{Class, class_of};
+pub use classes::{Class, all_classes, class_of};
 pub use mesh_model::Refusal;

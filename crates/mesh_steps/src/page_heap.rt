@@ -7,6 +7,7 @@ ghost use Rattle.mesh_class.specs.Classes.{IsClass, slots_of};
 ghost use Rattle.mesh_layout.specs.Indexes.{layout_of};
 ghost use Rattle.mesh_layout.specs.Layout.{AreInObject};
 ghost use Rattle.mesh_layout.specs.PageHeap.{IsPageHeap};
+ghost use Rattle.mesh_model.specs.Search.{view_of};
 ghost use Rattle.mesh_model.specs.Sound.{IsSound};
 ghost use Rattle.mesh_model.specs.Table.{empty_table, group_of, report_of, slot_address};
 ghost use Rattle.mesh_spans.specs.Index.{GroupEntry, IsIndex, address_in, group_at, record_at, span_at};
@@ -22,6 +23,7 @@ use crate::running::{MAX_MESHES, Running};
 use arrayvec::ArrayVec;
 use mesh_class::Class;
 use mesh_model::Refusal;
+use mesh_search::{ClassView, class_view};
 use mesh_spans::{Slot, Span, Spans};
 use mesh_store::Store;
 use std::alloc::{AllocError, Global};
@@ -191,6 +193,13 @@ impl PageHeap {
             return None;
         };
         Some(group.class())
+    }
+
+    /// The groups of a class that may be paired. An error is want of memory.
+    pub fn view(&self, alloc: Global, class: Class) -> Result<ClassView, AllocError>
+        ensures { IfOk result (λ view. view ≡ view_of (table_in self.now) class) }
+    {
+        class_view(alloc, &self.spans, class)
     }
 
     /// What it counts. No group and no page is looked at.
