@@ -1,3 +1,4 @@
 pub mod Answering
 pub mod Chains
 pub mod Booking
+pub mod KeptBooks

@@ -7,3 +7,4 @@ pub use Rattle.mesh_steps.specs.Heap
 pub mod Attempts
 pub mod Book
 pub mod Codes
+pub mod Mesher

@@ -9,6 +9,8 @@ ghost use Rattle.mesh_mutator.specs.Book.{IsAttempt, IsLooked, memory_of_book, t
 ghost use Rattle.mesh_mutator.specs.declared.attempts.Attempt.{Attempt};
 ghost use Rattle.mesh_steps.specs.Always.{HasHeldPagesTaken, HasObjectsApart, HasPlacesApart, HasReadOnlyOfMeshes, LiesAsMeshesHaveIt};
 
+mod mesher;
+
 use crate::attempts::{address, get, peek, perform};
 use crate::entry::Entry;
 use crate::roots::Roots;

@@ -1,0 +1,116 @@
+//! What a mesher asks of a book: its heap's own calls. None of them is recorded, and the journal still ends in what heap and roots stand for.
+ghost use Rattle.std.specs.Prelude.{◌≡◌, length, Err, IfErr, IfOk};
+ghost use Rattle.mesh_model.specs.Mesh.{any_mesh, begin, cancel, mesh_in, mesh_of_class, mesh_whole, step};
+ghost use Rattle.mesh_model.specs.Search.{views};
+ghost use Rattle.mesh_model.specs.Table.{report_of, sweep};
+ghost use Rattle.mesh_mutator.specs.Book.{table_of_book};
+ghost use Rattle.mesh_mutator.specs.Mesher.{KeepsBook};
+ghost use Rattle.mesh_steps.specs.Heap.{arena_of};
+ghost use Rattle.mesh_steps.specs.HeapMeshes.{IsMeshBegun, IsMeshCancelled, IsMeshed, IsStepMade, IsSwept};
+ghost use Rattle.mesh_steps.specs.PageHeap.{counts_told};
+
+use super::Book;
+use mesh_class::Class;
+use mesh_model::Refusal;
+use mesh_search::ClassView;
+use mesh_steps::{Report, StepDone};
+use std::alloc::{AllocError, Global};
+
+impl Book {
+    /// The groups of each class that may be paired, classes ascending by size. An error is want of memory.
+    pub fn views(&self, alloc: Global) -> Result<Vec<ClassView>, AllocError>
+        ensures { IfOk result (λ list. list.items ≡ views (table_of_book self.now)) }
+    {
+        self.heap.views(alloc)
+    }
+
+    /// Begins a mesh of the group `source` into the group `destination`, and answers how many steps are to come.
+    ///
+    /// Refused with NO_GROUP, SAME, CLASS, BUSY where a mesh of their class runs, OVERLAP or MEMBERS, the first that holds.
+    pub fn begin(&mut self, source: u32, destination: u32) -> Result<u32, Refusal>
+        ensures begun { IfOk result (IsMeshBegun mesh_of_class self.old.heap self.new.heap source destination) }
+        ensures refused { IfErr result (λ refusal.
+            (begin mesh_of_class (table_of_book self.old) source destination ≡ Err refusal) × (self.new ≡ self.old)) }
+        ensures kept { KeepsBook self.old self.new }
+    {
+        self.heap.begin(source, destination)
+    }
+
+    /// Begins a mesh as `begin` does, but is refused with BUSY where a mesh of any class runs.
+    pub fn begin_alone(&mut self, source: u32, destination: u32) -> Result<u32, Refusal>
+        ensures begun { IfOk result (IsMeshBegun any_mesh self.old.heap self.new.heap source destination) }
+        ensures refused { IfErr result (λ refusal.
+            (begin any_mesh (table_of_book self.old) source destination ≡ Err refusal) × (self.new ≡ self.old)) }
+        ensures kept { KeepsBook self.old self.new }
+    {
+        self.heap.begin_alone(source, destination)
+    }
+
+    /// Makes the next step of the mesh of a class. Refused with NO_MESH exactly where no mesh of the class runs.
+    pub fn step(&mut self, class: Class) -> Result<StepDone, Refusal>
+        ensures made { IfOk result (IsStepMade self.old.heap self.new.heap class) }
+        ensures refused { IfErr result (λ refusal.
+            (step (table_of_book self.old) (mesh_in (table_of_book self.old) class) ≡ Err refusal) × (self.new ≡ self.old)) }
+        ensures kept { KeepsBook self.old self.new }
+    {
+        self.heap.step(class)
+    }
+
+    /// Cancels the mesh of a class before its first remap, and answers how many unprotects are to come; with none the mesh is over. A
+    /// further cancel answers what is left then, and changes nothing.
+    ///
+    /// Refused with NO_MESH where no mesh of the class runs, with TOO_LATE once a page was remapped.
+    pub fn cancel(&mut self, class: Class) -> Result<u32, Refusal>
+        ensures cancelled { IfOk result (IsMeshCancelled self.old.heap self.new.heap class) }
+        ensures refused { IfErr result (λ refusal.
+            (cancel (table_of_book self.old) (mesh_in (table_of_book self.old) class) ≡ Err refusal) × (self.new ≡ self.old)) }
+        ensures kept { KeepsBook self.old self.new }
+    {
+        self.heap.cancel(class)
+    }
+
+    /// Meshes two groups by `begin` and all its steps, and answers how many physical pages came free. Refused as `begin` is.
+    pub fn mesh_whole(&mut self, source: u32, destination: u32) -> Result<u32, Refusal>
+        ensures meshed { IfOk result (IsMeshed mesh_of_class self.old.heap self.new.heap source destination) }
+        ensures refused { IfErr result (λ refusal.
+            (mesh_whole mesh_of_class (table_of_book self.old) source destination ≡ Err refusal) × (self.new ≡ self.old)) }
+        ensures kept { KeepsBook self.old self.new }
+    {
+        self.heap.mesh_whole(source, destination)
+    }
+
+    /// Meshes two groups as `mesh_whole` does, but is refused with BUSY where a mesh of any class runs.
+    pub fn whole_alone(&mut self, source: u32, destination: u32) -> Result<u32, Refusal>
+        ensures meshed { IfOk result (IsMeshed any_mesh self.old.heap self.new.heap source destination) }
+        ensures refused { IfErr result (λ refusal.
+            (mesh_whole any_mesh (table_of_book self.old) source destination ≡ Err refusal) × (self.new ≡ self.old)) }
+        ensures kept { KeepsBook self.old self.new }
+    {
+        self.heap.whole_alone(source, destination)
+    }
+
+    /// Gives an empty group's pages back, and answers how many physical pages came free.
+    ///
+    /// Refused with NO_GROUP, BUSY where the group is in a mesh, or NOT_EMPTY, the first that holds.
+    pub fn sweep(&mut self, group: u32) -> Result<u32, Refusal>
+        ensures swept { IfOk result (IsSwept self.old.heap self.new.heap group) }
+        ensures refused { IfErr result (λ refusal. (sweep (table_of_book self.old) group ≡ Err refusal) × (self.new ≡ self.old)) }
+        ensures kept { KeepsBook self.old self.new }
+    {
+        self.heap.sweep(group)
+    }
+
+    /// Whether a mesh of the class runs.
+    pub fn running(&self, class: Class) -> bool
+        ensures { result ≡ mesh_of_class (table_of_book self.now) class }
+    {
+        self.heap.running(class)
+    }
+
+    /// What the heap counts: live objects and their bytes, mapped and taken pages, and how many pages meshing saves.
+    pub fn report(&self) -> Report
+        ensures { counts_told result ≡ report_of (length (arena_of self.now.heap)) (table_of_book self.now) }
+    {
+        self.heap.report()
+    }
+}
