@@ -389,3 +389,10 @@ partial_least groups bins bins0 class from r same is each y low least = moved r 
     moved : (r : Option ℕ) → IsLeast (contains (bin_at bins0 (3 * class_place class + 1))) from 65536 r → IsLeast (λ n. is_partial (group_at groups n) class) from 65536 r
     moved None h = λ m above below. sym (told m) ∙ h m above below
     moved (Some n) h = record { above = h.above; below = h.below; passes = sym (told n) ∙ h.passes; first = λ m above below. sym (told m) ∙ h.first m above below }
+
+-- there are as many bins after a number is refiled
+pub filed_sized : (bins new : List (FinSet nat_cmp)) (n : ℕ) (from to : Option ℕ) → length bins ≡ 30 → new ≡ filed (unfiled bins n from) n to → length new ≡ 30
+filed_sized bins new n None None sized is = ap (λ (xs : List (FinSet nat_cmp)). length xs) is ∙ sized
+filed_sized bins new n None (Some q) sized is = ap (λ (xs : List (FinSet nat_cmp)). length xs) is ∙ length-set bins q _ ∙ sized
+filed_sized bins new n (Some p) None sized is = ap (λ (xs : List (FinSet nat_cmp)). length xs) is ∙ length-set bins p _ ∙ sized
+filed_sized bins new n (Some p) (Some q) sized is = ap (λ (xs : List (FinSet nat_cmp)). length xs) is ∙ length-set _ q _ ∙ length-set bins p _ ∙ sized

@@ -8,3 +8,4 @@ pub mod MergeLemmas
 pub mod FilingLemmas
 pub mod FindLemmas
 pub mod CountLemmas
+pub mod ReadSpans

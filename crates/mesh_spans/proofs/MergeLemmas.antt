@@ -1,18 +1,19 @@
 -- What a merge keeps, and what it makes of the table.
-use Rattle.std.proofs.Common.{◌≡◌, ◌≢◌, ℕ, ◌+◌, ◌≤◌, find, List, Option, Some, None, length, slice_set, ap, sym, ◌∙◌, arith}
+use Rattle.std.proofs.Common.{◌≡◌, ◌≢◌, ℕ, ◌+◌, ◌≤◌, false, find, IfSome, List, Option, Some, None, length, slice_set, ap, subst, sym, ◌∙◌, arith}
 use Rattle.std.proofs.Common.{not, ◌&&◌, nat_eq, inl, inr}
 use Rattle.std.proofs.Math.ListN.{length-set}
 use Rattle.std.proofs.lemmas.Bool.Decides.{eqb_tells}
 use Rattle.std.specs.Option.{option_map}
 use Rattle.std.proofs.lemmas.List.{get_or-set_other, get_or-set_same}
-use Rattle.mesh_model.specs.Mesh.{merged}
+use Rattle.mesh_model.specs.Mesh.{do_overlap, merged}
 use Rattle.mesh_model.specs.Table.{Group, has_number}
-use Rattle.mesh_spans.specs.Changes.{IsMergeable, Regroups, merged_entry, merged_groups}
+use Rattle.mesh_spans.specs.Changes.{IsMergeable, Merges, Regroups, merged_entry, merged_groups}
 use Rattle.mesh_spans.specs.Groups.{is_in_mesh, groups_from, table_group}
-use Rattle.mesh_spans.specs.Index.{GroupEntry, IsIndex, IsOwned, SpanEntry, group_at}
+use Rattle.mesh_spans.specs.Index.{GroupEntry, Index, IsIndex, IsOwned, SpanEntry, group_at}
 use Rattle.mesh_spans.proofs.IndexLemmas.{group_below}
 use Rattle.mesh_spans.proofs.MergedIndex.{IsIndex_merged, IsOwned_merged}
 use Rattle.mesh_spans.proofs.MergedTable.{group_found, groups_merged}
+use Rattle.mesh_spans.proofs.ReadSpans.{if_there}
 
 -- the groups after one was taken out and another one took its members and slots
 abbrev pub absorbed : List (Option GroupEntry) → ℕ → ℕ → GroupEntry → List (Option GroupEntry)
@@ -61,3 +62,42 @@ module _ (spans spans' : List SpanEntry) (groups after : List (Option GroupEntry
           ∙ get_or-set_other groups s m None None not_s.1)
     ])
   ]
+
+  -- what the merge tells of the index
+  pub merges_is : (index : Index) → record { spans = spans; groups = groups } ≡ index → (x b : GroupEntry) → group_at index.groups s ≡ Some x → group_at index.groups d ≡ Some b
+      → Merges index (record { spans = spans'; groups = after }) s d x b
+  merges_is index e = subst (λ (i : Index). (x b : GroupEntry) → group_at i.groups s ≡ Some x → group_at i.groups d ≡ Some b
+      → Merges i (record { spans = spans'; groups = after }) s d x b) e go
+    where
+      go : (x b : GroupEntry) → group_at groups s ≡ Some x → group_at groups d ≡ Some b
+          → Merges (record { spans = spans; groups = groups }) (record { spans = spans'; groups = after }) s d x b
+      go x b there here =
+          let same : a ≡ x = (let both : Some a ≡ Some x = sym at ∙ there in cc both) in
+          subst (λ (g : GroupEntry). Merges (record { spans = spans; groups = groups }) (record { spans = spans'; groups = after }) s d g b) same (record {
+            source = at;
+            destination = here;
+            groups = is ∙ absorbed_is groups s d a b pair.two here;
+            spans = moved;
+          })
+
+module _ (spans : List SpanEntry) (groups middle : List (Option GroupEntry)) (s d : ℕ) (a : GroupEntry)
+    (pair : IsMergeable (record { spans = spans; groups = groups }) d s) (at : group_at groups s ≡ Some a) (is : middle ≡ slice_set groups s None) where
+  still_there : group_at middle d ≡ Some pair.b
+  still_there = ap (λ (gs : List (Option GroupEntry)). group_at gs d) is ∙ get_or-set_other groups s d None None (λ e. pair.two (sym e)) ∙ pair.destination
+
+  is_source : pair.a ≡ a
+  is_source = let both : Some pair.a ≡ Some a = sym pair.source ∙ at in cc both
+
+  -- the group that takes the source's objects is of its class
+  pub same_classes : IfSome (group_at middle d) (λ g. a.class ≡ g.class)
+  same_classes = if_there middle d pair.b (λ g. a.class ≡ g.class) still_there (subst (λ (x : GroupEntry). x.class ≡ pair.b.class) is_source pair.same_class)
+
+  -- has room for its members
+  pub few_together : IfSome (group_at middle d) (λ g. length a.members + length g.members ≤ 8)
+  few_together = if_there middle d pair.b (λ g. length a.members + length g.members ≤ 8) still_there
+      (subst (λ (x : GroupEntry). length x.members + length pair.b.members ≤ 8) is_source pair.few)
+
+  -- and for its objects
+  pub slots_apart : IfSome (group_at middle d) (λ g. do_overlap a.slots g.slots ≡ false)
+  slots_apart = if_there middle d pair.b (λ g. do_overlap a.slots g.slots ≡ false) still_there
+      (subst (λ (x : GroupEntry). do_overlap x.slots pair.b.slots ≡ false) is_source pair.apart)

@@ -1,13 +1,14 @@
-use Rattle.std.proofs.Common.{None, ◌≡◌, ◌<◌, Some, length, slice_set, subst, sym, ◌∙◌}
+use Rattle.std.proofs.Common.{None, ◌≡◌, ◌<◌, Some, length, refl, slice_set, subst, sym, ◌∙◌}
 use Rattle.std.proofs.Math.ListN.{length-set}
 use Rattle.mesh_spans.specs.Changes.{IsMergeable}
 use Rattle.mesh_spans.specs.Groups.{groups_of}
 use Rattle.mesh_spans.specs.Index.{Index, group_at}
 use Rattle.mesh_spans.proofs.CountLemmas.{part_is, recounted_is, totals_few}
 use Rattle.mesh_spans.proofs.FlagLemmas.{IsIndex_replaced, replaced_none}
-use Rattle.mesh_spans.proofs.MergeLemmas.{absorbed, merge_closed, merge_keeps, merge_table}
-use Rattle.mesh_spans.proofs.FilingLemmas.{merged_filed, number_fits}
+use Rattle.mesh_spans.proofs.MergeLemmas.{absorbed, few_together, merge_closed, merge_keeps, merge_table, merges_is, same_classes, slots_apart}
+use Rattle.mesh_spans.proofs.FilingLemmas.{filed_sized, merged_filed, number_fits}
 use Rattle.mesh_spans.proofs.IndexLemmas.{group_below}
+use Rattle.mesh_spans.proofs.ReadSpans.{members_below, set_below}
 use Rattle.mesh_spans.proofs.index.Spans.merge.Goals as goal
 
 pub refile-requires-clause-number : goal.refile-requires-clause-number
@@ -99,3 +100,104 @@ returns-in-Some-clause-table c = λ a found.
     let found' = rw (← c.self.view_is) at found in
     rw (← c.self.view_is) (merge_table c.self.inside.spans.items c.regroup.new.spans.items c.self.inside.groups.items c.absorb.new.groups.items c.args.src c.args.dst c.in-Some.source
     pair at is moved a found')
+
+pub file_at-from-requires : goal.file_at-from-requires
+file_at-from-requires c =
+    let pair = subst (λ (x : Index). IsMergeable x c.args.dst c.args.src) (sym c.self.view_is) c.requires.pair in
+    rw c.as_slice.ensures.value (group_below c.self.inside.groups.items c.args.src pair.a pair.source)
+
+pub remove-requires : goal.remove-requires
+remove-requires c =
+    let pair = subst (λ (x : Index). IsMergeable x c.args.dst c.args.src) (sym c.self.view_is) c.requires.pair in
+    group_below c.self.inside.groups.items c.args.src pair.a pair.source
+
+pub refile-requires-clause-there : goal.refile-requires-clause-there
+refile-requires-clause-there c =
+    let pair = subst (λ (x : Index). IsMergeable x c.args.dst c.args.src) (sym c.self.view_is) c.requires.pair in
+    set_below c.self.inside.groups.items c.as_slice-in-Some.result.now c.remove.new.groups.items c.args.src c.args.src None c.as_slice-in-Some.ensures.value c.remove.ensures.groups
+    (group_below c.self.inside.groups.items c.args.src pair.a pair.source)
+
+pub refile-requires-clause-sized : goal.refile-requires-clause-sized
+refile-requires-clause-sized c = c.self.invariant.1.sized
+
+pub refile-requires-clause-place : goal.refile-requires-clause-place
+refile-requires-clause-place c = c.file_at-from.ensures.place
+
+pub file_at-before-requires : goal.file_at-before-requires
+file_at-before-requires c =
+    let pair = subst (λ (x : Index). IsMergeable x c.args.dst c.args.src) (sym c.self.view_is) c.requires.pair in
+    set_below c.self.inside.groups.items c.as_slice-in-Some-2.result.now c.remove.new.groups.items c.args.dst c.args.src None c.as_slice-in-Some-2.ensures.value c.remove.ensures.groups
+    (group_below c.self.inside.groups.items c.args.dst pair.b pair.destination)
+
+pub absorb-requires-clause-there : goal.absorb-requires-clause-there
+absorb-requires-clause-there c =
+    let pair = subst (λ (x : Index). IsMergeable x c.args.dst c.args.src) (sym c.self.view_is) c.requires.pair in
+    set_below c.self.inside.groups.items c.remove.new.groups.items c.remove.new.groups.items c.args.dst c.args.src None refl c.remove.ensures.groups
+    (group_below c.self.inside.groups.items c.args.dst pair.b pair.destination)
+
+pub absorb-requires-clause-class : goal.absorb-requires-clause-class
+absorb-requires-clause-class c =
+    let pair = subst (λ (x : Index). IsMergeable x c.args.dst c.args.src) (sym c.self.view_is) c.requires.pair in
+    let at : group_at c.self.inside.groups.items c.args.src ≡ Some c.in-Some.source = sym c.remove.ensures.result ∙ c.in-Some.is in
+    same_classes c.self.inside.spans.items c.self.inside.groups.items c.remove.new.groups.items c.args.src c.args.dst c.in-Some.source pair at c.remove.ensures.groups
+
+pub absorb-requires-clause-few : goal.absorb-requires-clause-few
+absorb-requires-clause-few c =
+    let pair = subst (λ (x : Index). IsMergeable x c.args.dst c.args.src) (sym c.self.view_is) c.requires.pair in
+    let at : group_at c.self.inside.groups.items c.args.src ≡ Some c.in-Some.source = sym c.remove.ensures.result ∙ c.in-Some.is in
+    few_together c.self.inside.spans.items c.self.inside.groups.items c.remove.new.groups.items c.args.src c.args.dst c.in-Some.source pair at c.remove.ensures.groups
+
+pub absorb-requires-clause-apart : goal.absorb-requires-clause-apart
+absorb-requires-clause-apart c =
+    let pair = subst (λ (x : Index). IsMergeable x c.args.dst c.args.src) (sym c.self.view_is) c.requires.pair in
+    let at : group_at c.self.inside.groups.items c.args.src ≡ Some c.in-Some.source = sym c.remove.ensures.result ∙ c.in-Some.is in
+    slots_apart c.self.inside.spans.items c.self.inside.groups.items c.remove.new.groups.items c.args.src c.args.dst c.in-Some.source pair at c.remove.ensures.groups
+
+pub refile-requires-in-Some-clause-there : goal.refile-requires-in-Some-clause-there
+refile-requires-in-Some-clause-there c =
+    let pair = subst (λ (x : Index). IsMergeable x c.args.dst c.args.src) (sym c.self.view_is) c.requires.pair in
+    set_below c.remove.new.groups.items c.as_slice-in-Some-3.result.now c.absorb.new.groups.items c.args.dst c.args.dst _ c.as_slice-in-Some-3.ensures.value c.absorb.ensures
+    (set_below c.self.inside.groups.items c.remove.new.groups.items c.remove.new.groups.items c.args.dst c.args.src None refl c.remove.ensures.groups
+    (group_below c.self.inside.groups.items c.args.dst pair.b pair.destination))
+
+pub refile-requires-in-Some-clause-sized : goal.refile-requires-in-Some-clause-sized
+refile-requires-in-Some-clause-sized c =
+    filed_sized c.self.inside.files.bins.items c.refile.new.self.bins.items c.args.src c.file_at-from.result.bin _ c.self.invariant.1.sized c.refile.ensures.bins
+
+pub refile-requires-in-Some-clause-place : goal.refile-requires-in-Some-clause-place
+refile-requires-in-Some-clause-place c = c.file_at-before.ensures.place
+
+pub regroup-requires : goal.regroup-requires
+regroup-requires c =
+    let at : group_at c.self.inside.groups.items c.args.src ≡ Some c.in-Some.source = sym c.remove.ensures.result ∙ c.in-Some.is in
+    members_below c.self.inside.spans.items c.self.inside.groups.items c.args.src c.in-Some.source c.members.result.now c.self.invariant.0.0 at c.members.ensures.value
+
+pub returns-in-Some-clause-merges : goal.returns-in-Some-clause-merges
+returns-in-Some-clause-merges c =
+    let pair = subst (λ (x : Index). IsMergeable x c.args.dst c.args.src) (sym c.self.view_is) c.requires.pair in
+    let at : group_at c.self.inside.groups.items c.args.src ≡ Some c.in-Some.source = sym c.remove.ensures.result ∙ c.in-Some.is in
+    let is : c.absorb.new.groups.items ≡ absorbed c.self.inside.groups.items c.args.src c.args.dst c.in-Some.source
+    = rw c.remove.ensures.groups at c.absorb.ensures in
+    let moved = rw c.members.ensures.value at c.regroup.ensures in
+    merges_is c.self.inside.spans.items c.regroup.new.spans.items c.self.inside.groups.items c.absorb.new.groups.items c.args.src c.args.dst c.in-Some.source
+    pair at is moved c.args.self.now c.self.view_is
+
+pub invariant_of-self-in_default : goal.invariant_of-self-in_default
+invariant_of-self-in_default c =
+    let pair = subst (λ (x : Index). IsMergeable x c.args.dst c.args.src) (sym c.self.view_is) c.requires.pair in
+    absurd (c.in_default.not-Some pair.a (c.remove.ensures.result ∙ pair.source))
+
+pub returns-in_default-clause-merges : goal.returns-in_default-clause-merges
+returns-in_default-clause-merges c = λ a b at_a at_b.
+    let pair = subst (λ (x : Index). IsMergeable x c.args.dst c.args.src) (sym c.self.view_is) c.requires.pair in
+    absurd (c.in_default.not-Some pair.a (c.remove.ensures.result ∙ pair.source))
+
+pub returns-in_default-clause-table : goal.returns-in_default-clause-table
+returns-in_default-clause-table c = λ a found.
+    let pair = subst (λ (x : Index). IsMergeable x c.args.dst c.args.src) (sym c.self.view_is) c.requires.pair in
+    absurd (c.in_default.not-Some pair.a (c.remove.ensures.result ∙ pair.source))
+
+pub returns-in_default-clause-closed : goal.returns-in_default-clause-closed
+returns-in_default-clause-closed c = λ m.
+    let pair = subst (λ (x : Index). IsMergeable x c.args.dst c.args.src) (sym c.self.view_is) c.requires.pair in
+    absurd (c.in_default.not-Some pair.a (c.remove.ensures.result ∙ pair.source))

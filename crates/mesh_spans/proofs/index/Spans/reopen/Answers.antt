@@ -5,9 +5,11 @@ use Rattle.std.proofs.lemmas.List.{get_or-set_other}
 use Rattle.mesh_spans.proofs.CountLemmas.{part_is, recounted_is, totals_few}
 use Rattle.mesh_spans.proofs.FilingLemmas.{number_fits, refiled_is}
 use Rattle.mesh_spans.specs.Changes.{with_flag}
-use Rattle.mesh_spans.specs.Groups.{groups_of}
+use Rattle.mesh_spans.specs.Groups.{groups_of, is_in_mesh}
 use Rattle.mesh_spans.specs.Index.{GroupEntry, Index, group_at}
-use Rattle.mesh_spans.proofs.FlagLemmas.{IsIndex_replaced, IsOwned_replaced, replaced_flag, some_below}
+use Rattle.mesh_spans.proofs.FlagLemmas.{IsIndex_replaced, IsOwned_replaced, replaced_flag, open_flag, some_below}
+use Rattle.mesh_spans.proofs.ReadSpans.{set_below}
+use Rattle.std.proofs.Common.{nat_eq, not, ◌&&◌}
 use Rattle.mesh_spans.proofs.MergedTable.{groups_flagged}
 use Rattle.mesh_spans.proofs.index.Spans.reopen.Goals as goal
 
@@ -48,3 +50,36 @@ pub returns-clause-table : goal.returns-clause-table
 unfolding groups_of
 returns-clause-table c =
     rw (← c.self.view_is, c.flag.ensures) (groups_flagged c.self.inside.spans.items 0 c.args.n false c.self.inside.groups.items)
+
+pub file_at-before-requires : goal.file_at-before-requires
+file_at-before-requires c =
+    let some = subst (λ (x : Index). IsSome (group_at x.groups c.args.n)) (sym c.self.view_is) c.requires in
+    rw c.as_slice.ensures.value (some_below c.self.inside.groups.items c.args.n some)
+
+pub flag-requires : goal.flag-requires
+flag-requires c =
+    let some = subst (λ (x : Index). IsSome (group_at x.groups c.args.n)) (sym c.self.view_is) c.requires in
+    some_below c.self.inside.groups.items c.args.n some
+
+pub refile-requires-clause-there : goal.refile-requires-clause-there
+refile-requires-clause-there c =
+    let some = subst (λ (x : Index). IsSome (group_at x.groups c.args.n)) (sym c.self.view_is) c.requires in
+    set_below c.self.inside.groups.items c.as_slice-2.result.now c.flag.new.groups.items c.args.n c.args.n _ c.as_slice-2.ensures.value c.flag.ensures (some_below c.self.inside.groups.items c.args.n some)
+
+pub refile-requires-clause-sized : goal.refile-requires-clause-sized
+refile-requires-clause-sized c = c.self.invariant.1.sized
+
+pub refile-requires-clause-place : goal.refile-requires-clause-place
+refile-requires-clause-place c = c.file_at-before.ensures.place
+
+pub returns-clause-spans : goal.returns-clause-spans
+returns-clause-spans c = ap (λ (x : Index). x.spans) c.self.view_is
+
+pub returns-clause-groups : goal.returns-clause-groups
+returns-clause-groups c = c.flag.ensures ∙ ap (λ (gs : List (Option GroupEntry)). with_flag gs c.args.n false) (ap (λ (x : Index). x.groups) c.self.view_is)
+
+pub returns-clause-closed : goal.returns-clause-closed
+returns-clause-closed c = λ m.
+    let some = subst (λ (x : Index). IsSome (group_at x.groups c.args.n)) (sym c.self.view_is) c.requires in
+    ap (λ (gs : List (Option GroupEntry)). is_in_mesh (group_at gs m)) c.flag.ensures
+    ∙ open_flag c.self.inside.groups.items c.args.n m some ∙ ap (λ (x : Index). not (nat_eq m c.args.n) && is_in_mesh (group_at x.groups m)) c.self.view_is
