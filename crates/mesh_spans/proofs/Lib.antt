@@ -9,3 +9,4 @@ pub mod FilingLemmas
 pub mod FindLemmas
 pub mod CountLemmas
 pub mod ReadSpans
+pub mod Added
