@@ -3,3 +3,4 @@ pub mod HexText
 pub mod Parts
 pub mod PlanLines
 pub mod Turning
+pub mod PlayEnds

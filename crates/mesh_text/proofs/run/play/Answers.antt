@@ -8,6 +8,7 @@ use Rattle.mesh_text.specs.Transfer.{AppendsBeginning}
 use Rattle.mesh_text.specs.Turns.{HasGathered, state_up_to}
 use Rattle.mesh_text.proofs.Gathering.{all_written, gathered_more, next_at, output_written, part_written}
 use Rattle.mesh_text.proofs.PlanLines.{all_lines, turn_of_line, worker_fits}
+use Rattle.mesh_text.proofs.PlayEnds.{gathered_none, is_memory, is_write, last_fails, last_kind, last_not_memory, last_ok, never_ok, not_memory, not_write, nothing_written}
 use Rattle.mesh_text.proofs.run.play.Goals as goal
 use Rattle.mesh_text.proofs.run.play.Goals.{then-len-ge-CHUNK_BYTES+in_ok-write_answers, else-len-ge-CHUNK_BYTES}
 
@@ -86,3 +87,98 @@ returns-clause-beginning g c is =
     = subst (λ r. OnErr r (AppendsBeginning (g.O.Sink.written c.loop-line.output) (g.O.Sink.written c.write_answers-2.new.output) c.as_slice-2.result.now)) is c.write_answers-2.ensures.err in
     part_written c.args.job.now c.loop-line.line-index _ _ _ c.loop-line.text.items c.loop-line.invariant.gathered
     (subst (λ bytes. AppendsBeginning (g.O.Sink.written c.loop-line.output) (g.O.Sink.written c.write_answers-2.new.output) bytes) c.as_slice-2.ensures.value part)
+
+pub returns-in_err-turns-clause-ok : goal.returns-in_err-turns-clause-ok
+returns-in_err-turns-clause-ok g c = never_ok _ c.from_residual.result c.from_residual.ensures.0
+
+pub returns-in_err-turns-clause-whole : goal.returns-in_err-turns-clause-whole
+returns-in_err-turns-clause-whole g c = never_ok _ c.from_residual.result c.from_residual.ensures.0
+
+pub returns-in_err-turns-clause-fails : goal.returns-in_err-turns-clause-fails
+returns-in_err-turns-clause-fails g c is = absurd (not_write c.from_residual.result c.from_residual.ensures.1 is)
+
+pub returns-in_err-turns-clause-beginning : goal.returns-in_err-turns-clause-beginning
+returns-in_err-turns-clause-beginning g c is = absurd (not_write c.from_residual.result c.from_residual.ensures.1 is)
+
+pub returns-in_err-turns-clause-lines : goal.returns-in_err-turns-clause-lines
+returns-in_err-turns-clause-lines g c is = (0, nothing_written (g.O.Sink.written c.args.output.now))
+
+pub returns-in_err-turns-clause-kinds : goal.returns-in_err-turns-clause-kinds
+returns-in_err-turns-clause-kinds g c = is_memory c.from_residual.result c.from_residual.ensures.1
+
+pub returns-in_err-answer-clause-ok : goal.returns-in_err-answer-clause-ok
+returns-in_err-answer-clause-ok g c = never_ok _ c.from_residual-in_err-answer.result c.from_residual-in_err-answer.ensures.0
+
+pub returns-in_err-answer-clause-whole : goal.returns-in_err-answer-clause-whole
+returns-in_err-answer-clause-whole g c = never_ok _ c.from_residual-in_err-answer.result c.from_residual-in_err-answer.ensures.0
+
+pub returns-in_err-answer-clause-fails : goal.returns-in_err-answer-clause-fails
+returns-in_err-answer-clause-fails g c is = absurd (not_write c.from_residual-in_err-answer.result c.from_residual-in_err-answer.ensures.1 is)
+
+pub returns-in_err-answer-clause-beginning : goal.returns-in_err-answer-clause-beginning
+returns-in_err-answer-clause-beginning g c is = absurd (not_write c.from_residual-in_err-answer.result c.from_residual-in_err-answer.ensures.1 is)
+
+pub returns-in_err-answer-clause-lines : goal.returns-in_err-answer-clause-lines
+returns-in_err-answer-clause-lines g c is = (c.loop-line.invariant.gathered.lines, c.loop-line.invariant.gathered.wrote)
+
+pub returns-in_err-answer-clause-kinds : goal.returns-in_err-answer-clause-kinds
+returns-in_err-answer-clause-kinds g c = is_memory c.from_residual-in_err-answer.result c.from_residual-in_err-answer.ensures.1
+
+pub returns-in_err-add_to-clause-ok : goal.returns-in_err-add_to-clause-ok
+returns-in_err-add_to-clause-ok g c = never_ok _ c.from_residual-in_err-add_to.result c.from_residual-in_err-add_to.ensures.0
+
+pub returns-in_err-add_to-clause-whole : goal.returns-in_err-add_to-clause-whole
+returns-in_err-add_to-clause-whole g c = never_ok _ c.from_residual-in_err-add_to.result c.from_residual-in_err-add_to.ensures.0
+
+pub returns-in_err-add_to-clause-fails : goal.returns-in_err-add_to-clause-fails
+returns-in_err-add_to-clause-fails g c is = absurd (not_write c.from_residual-in_err-add_to.result c.from_residual-in_err-add_to.ensures.1 is)
+
+pub returns-in_err-add_to-clause-beginning : goal.returns-in_err-add_to-clause-beginning
+returns-in_err-add_to-clause-beginning g c is = absurd (not_write c.from_residual-in_err-add_to.result c.from_residual-in_err-add_to.ensures.1 is)
+
+pub returns-in_err-add_to-clause-lines : goal.returns-in_err-add_to-clause-lines
+returns-in_err-add_to-clause-lines g c is = (c.loop-line.invariant.gathered.lines, c.loop-line.invariant.gathered.wrote)
+
+pub returns-in_err-add_to-clause-kinds : goal.returns-in_err-add_to-clause-kinds
+returns-in_err-add_to-clause-kinds g c = is_memory c.from_residual-in_err-add_to.result c.from_residual-in_err-add_to.ensures.1
+
+pub returns-in_err-write_answers-clause-ok : goal.returns-in_err-write_answers-clause-ok
+returns-in_err-write_answers-clause-ok g c = never_ok _ c.from_residual-in_err-write_answers.result c.from_residual-in_err-write_answers.ensures.0
+
+pub returns-in_err-write_answers-clause-whole : goal.returns-in_err-write_answers-clause-whole
+returns-in_err-write_answers-clause-whole g c = never_ok _ c.from_residual-in_err-write_answers.result c.from_residual-in_err-write_answers.ensures.0
+
+pub returns-in_err-write_answers-clause-fails : goal.returns-in_err-write_answers-clause-fails
+returns-in_err-write_answers-clause-fails g c is = c.in_err-write_answers.ensures.fails
+
+pub returns-in_err-write_answers-clause-lines : goal.returns-in_err-write_answers-clause-lines
+returns-in_err-write_answers-clause-lines g c is = absurd (not_memory c.from_residual-in_err-write_answers.result c.in_err-write_answers.field-0.0 c.from_residual-in_err-write_answers.ensures.1 c.in_err-write_answers.ensures.fault is)
+
+pub returns-in_err-write_answers-clause-kinds : goal.returns-in_err-write_answers-clause-kinds
+returns-in_err-write_answers-clause-kinds g c = is_write c.from_residual-in_err-write_answers.result c.in_err-write_answers.field-0.0 c.from_residual-in_err-write_answers.ensures.1 c.in_err-write_answers.ensures.fault
+
+pub write_answers-requires : goal.write_answers-requires
+write_answers-requires g c = c.loop-line.invariant.fresh
+
+pub write_answers-requires-2 : goal.write_answers-requires-2
+write_answers-requires-2 g c = c.loop-line.invariant.fresh
+
+pub returns-clause-ok : goal.returns-clause-ok
+returns-clause-ok g c = last_ok c.write_answers-2.result _ c.write_answers-2.ensures.fails
+
+pub returns-clause-fails : goal.returns-clause-fails
+returns-clause-fails g c is = last_fails c.write_answers-2.result _ c.write_answers-2.ensures.fails is
+
+pub returns-clause-lines : goal.returns-clause-lines
+returns-clause-lines g c is = absurd (last_not_memory c.write_answers-2.result c.write_answers-2.ensures.fault is)
+
+pub returns-clause-kinds : goal.returns-clause-kinds
+returns-clause-kinds g c = last_kind c.write_answers-2.result c.write_answers-2.ensures.fault
+
+pub loop-line-init : goal.loop-line-init
+loop-line-init g c = record {
+  workers = c.in_ok-turns.ensures.workers;
+  fresh = c.requires;
+  at = c.in_ok-turns.ensures.opening;
+  gathered = gathered_none c.args.job.now (g.O.Sink.written c.args.output.now) c.new-text.result.items c.new-text.ensures.items;
+}
