@@ -11,6 +11,7 @@ mod faults;
 mod files;
 mod indexes;
 mod memory;
+mod meshes;
 mod numbers;
 mod rows;
 mod search;
