@@ -28,3 +28,7 @@ room_for_one n most room = omega (arith, room)
 -- nothing is said of no place
 pub no_place : (place : Option ℕ) → place ≡ None → IfSome place (λ p. p < 30)
 no_place place is = subst (λ (o : Option ℕ). IfSome o (λ p. p < 30)) (sym is) tt
+
+-- what holds of a value holds where nothing is found
+pub if_nothing : {T : Type 0} (P : T → Type 0) (r : Option T) → r ≡ None → IfSome r P
+if_nothing {T} P r is = subst (λ (o : Option T). IfSome o P) (sym is) tt

@@ -91,3 +91,15 @@ pub members_below : (spans : List SpanEntry) (groups : List (Option GroupEntry))
     → group_at groups n ≡ Some group → members ≡ group.members → (place : ℕ) → place < length members → slice_index members place < length spans
 members_below spans groups n group members sound at same place below =
     rw same (sound.members n place group at (omega (arith, below, ap (λ (xs : List ℕ). length xs) same))).below
+
+-- the span that a look-up finds is the one of the index
+pub looked_up : (index : Index) (spans found : List SpanEntry) (groups : List (Option GroupEntry)) (span i : ℕ) (extent : SpanEntry) → record { spans = spans; groups = groups } ≡ index
+    → found ≡ spans → i ≡ span → extent ≡ slice_index_or found i no_span → extent ≡ span_at index.spans span
+looked_up index spans found groups span i extent e same here read =
+    read ∙ ap (λ (xs : List SpanEntry). slice_index_or xs i no_span) (same ∙ ap (λ (x : Index). x.spans) e) ∙ ap (λ (k : ℕ). span_at index.spans k) here
+
+-- and below their count
+pub looked_below : (index : Index) (spans found : List SpanEntry) (groups : List (Option GroupEntry)) (span i : ℕ) → record { spans = spans; groups = groups } ≡ index
+    → found ≡ spans → i ≡ span → i < length found → span < length index.spans
+looked_below index spans found groups span i e same here below =
+    omega (arith, here, below, ap (λ (xs : List SpanEntry). length xs) (same ∙ ap (λ (x : Index). x.spans) e))
