@@ -10,14 +10,18 @@ use std::process::Abort;
 // A call of a heap. It names an object by its serial, and a class by its size.
 #[derive(Clone, Copy, Debug)]
 enum Call {
+    // Of a length, by a word.
     New(u32, u64),
+    // From an object's offset, so many bytes.
     Read(u32, u32, u32),
+    // To an object's offset.
     Write(u32, u32, &'static [u8]),
     // To an object's offset, from an object's offset, so many bytes.
     Copy(u32, u32, u32, u32, u32),
     Peek(u32),
     Poke(u32, u8),
     Free(u32),
+    // Of a source into a destination, as the other calls with two groups.
     Begin(u32, u32),
     BeginAlone(u32, u32),
     Step(u32),
@@ -456,7 +460,16 @@ fn groups_of_a_running_mesh_are_closed(rt: HostRuntime) {
     );
 }
 
-// Two groups of three pages, with seven objects and one. The last one crosses from the second group's first page to its second.
+// Bytes of the object that crosses pages. The first four lie in one page, the others in the next.
+const CROSSING: &[u8] = &[1, 2, 3, 4, 5, 6, 7, 8];
+
+// A read of them.
+const HELD: (Call, Answer) = (
+    Call::Read(10, 1020, 8),
+    Answer::Bytes(8, 0x0102_0304_0506_0708),
+);
+
+// Two groups of three pages, with seven objects and one. The last one crosses from its group's first page to the second.
 static LONG: [(Call, Answer); 15] = [
     (Call::New(1500, 0), Answer::Made(0, 0x1000)),
     (Call::New(1500, 0), Answer::Made(1, 0x1600)),
@@ -469,16 +482,13 @@ static LONG: [(Call, Answer); 15] = [
     (Call::New(1500, 0), Answer::Made(8, 0x4000)),
     (Call::New(1500, 0), Answer::Made(9, 0x4600)),
     (Call::New(1500, 0), Answer::Made(10, 0x4c00)),
-    (
-        Call::Write(10, 1020, &[1, 2, 3, 4, 5, 6, 7, 8]),
-        Answer::Done,
-    ),
+    (Call::Write(10, 1020, CROSSING), Answer::Done),
     (Call::Free(2), Answer::Done),
     (Call::Free(8), Answer::Done),
     (Call::Free(9), Answer::Done),
 ];
 
-// The steps of their mesh, the first 3 and so on up to 20.
+// The steps of their mesh.
 static LONG_STEPS: [(Call, Answer); 20] = [
     (Call::Step(1536), Answer::Stepped(StepKind::Protect, 19)),
     (Call::Step(1536), Answer::Stepped(StepKind::Protect, 18)),
@@ -518,10 +528,7 @@ fn an_object_across_pages_is_remapped_page_by_page(rt: HostRuntime) {
         &rt,
         &mut tried,
         &[
-            (
-                Call::Read(10, 1020, 8),
-                Answer::Bytes(8, 0x0102_0304_0506_0708),
-            ),
+            HELD,
             (Call::Peek(0x4fff), Answer::Bytes(1, 0x04)),
             (Call::Peek(0x5000), Answer::Bytes(1, 0x05)),
             (Call::Write(10, 0, &[0xff]), Answer::Blocked),
@@ -557,31 +564,24 @@ fn cancelled_after(steps: usize) -> Answer {
     }
 }
 
-// The bytes that cross the pages.
-static CROSSING: &[u8] = &[1, 2, 3, 4, 5, 6, 7, 8];
-
 #[test]
 fn an_abandoned_mesh_keeps_its_answers(rt: HostRuntime) {
     for steps in 0..21 {
         let mut tried = stopped_after(&rt, steps);
         let first = stored(1 <= steps && steps <= 14);
         let both = stored(1 <= steps && steps <= 15);
-        let held = (
-            Call::Read(10, 1020, 8),
-            Answer::Bytes(8, 0x0102_0304_0506_0708),
-        );
         play(
             &rt,
             &mut tried,
             &[
-                held,
+                HELD,
                 (Call::Write(10, 0, &[0xff]), first),
                 (Call::Write(10, 1020, CROSSING), both),
-                held,
+                HELD,
                 (Call::Copy(0, 0, 10, 1020, 8), Answer::Done),
                 (Call::Copy(10, 1020, 1, 0, 8), both),
                 (Call::Copy(10, 1020, 0, 0, 8), both),
-                held,
+                HELD,
                 (Call::Cancel(1536), cancelled_after(steps)),
             ],
         );
