@@ -1,6 +1,7 @@
 -- A command answered over a sound table tied to the memory is a plain step, and leaves them sound and tied.
-use Rattle.std.proofs.Common.{◌≡◌, ℕ, suc, ◌+◌, ◌-◌, ◌<◌, ◌≤◌, Bool, true, false, nat_eq, nat_lt, nat_le, List, [], ◌∷◌, length, find, slice_index, slice_index_or, slice_range, option_map, ap, subst, refl, sym, ◌∙◌, arith, ◌⊎◌, inl, inr, Option, Some, None, Result, Ok, Err}
+use Rattle.std.proofs.Common.{◌≡◌, ℕ, suc, ◌+◌, ◌-◌, ◌<◌, ◌≤◌, Bool, true, false, ◌||◌, nat_eq, nat_lt, nat_le, List, [], ◌∷◌, length, find, slice_index, slice_index_or, slice_range, option_map, ap, subst, refl, sym, ◌∙◌, arith, ◌⊎◌, inl, inr, Option, Some, None, Result, Ok, Err}
 use Rattle.std.proofs.lemmas.Bool.Decides.{eqb_tells, leb_tells}
+use Rattle.std.proofs.lemmas.List.{length-take, length-drop}
 use Rattle.mesh_model.proofs.Chains.{or_refuse_went, went_on, refuse_if_went}
 use Rattle.mesh_model.proofs.GroupLists.{tells}
 use Rattle.mesh_model.proofs.NewApart.{new_vacant}
@@ -11,12 +12,12 @@ use Rattle.mesh_model.proofs.TiedNewObjects.{new_tied}
 use Rattle.mesh_model.specs.Classes.{Row, class_for, pages_of, table}
 use Rattle.mesh_model.specs.Jobs.{Outcome, answered, new_answered, others_answered, table_freed}
 use Rattle.mesh_model.specs.Memory.{Memory, Object, has_address, holder_from, holder_of, next_serial, object_of, root_of, with_object, with_root}
-use Rattle.mesh_model.specs.Plain.{Follows, IsNewRefusal, Named, PlainStep, ends_outside, holding, named_by, plain, stored}
+use Rattle.mesh_model.specs.Plain.{Follows, IsNewRefusal, Named, PlainStep, both_named, copied, ends_outside, holding, named_by, plain, stored}
 use Rattle.mesh_model.specs.Sound.{IsSound, IsTied}
 use Rattle.mesh_model.specs.Table.{Group, Placed, Table, is_open, place_in, place_new, room_for_span, without_object}
 use Rattle.mesh_model.specs.Words.{◌>>=◌, or_refuse, refuse_if}
 use Rattle.mesh_model.specs.declared.commands.Command.{Command}
-use Rattle.mesh_model.specs.declared.commands.Command.TheVariants.{Addr, Alias, Free, Get, New, Peek, Poke, Put}
+use Rattle.mesh_model.specs.declared.commands.Command.TheVariants.{Addr, Alias, Copy as CopyBytes, Free, Get, New, Peek, Poke, Put}
 use Rattle.mesh_model.specs.declared.commands.Reply.{Reply}
 use Rattle.mesh_model.specs.declared.commands.Reply.TheVariants.{At, Byte, Bytes, Done}
 use Rattle.mesh_model.specs.declared.refusals.Refusal.{Refusal}
@@ -291,6 +292,40 @@ poke_tied m t place byte x tied h =
     (stored_tied m t named.value (place - named.value.object.address) (byte ∷ []) held.live
     (let from = held.from in let below = held.below in omega (arith, from, below)) tied) named.then
 
+-- the first of the two objects that cells name is live
+pub both_live : (m : Memory) (to from : ℕ) (pair : Named × Named) → both_named m to from ≡ Ok pair
+    → (object_of m pair.0.serial ≡ Some pair.0.object) × (object_of m pair.1.serial ≡ Some pair.1.object)
+both_live m to from pair h =
+    let s = or_refuse_went Empty (root_of m to) _ pair h in let u = or_refuse_went Empty (root_of m from) _ pair s.then in
+    let a = or_refuse_went Freed (object_of m s.value) _ pair u.then in let b = or_refuse_went Freed (object_of m u.value) _ pair a.then in
+    let done = b.then in
+    let is : (record { serial = s.value; object = a.value }, record { serial = u.value; object = b.value }) ≡ pair = cc done in
+    subst (λ (x : Named × Named). (object_of m x.0.serial ≡ Some x.0.object) × (object_of m x.1.serial ≡ Some x.1.object)) is (a.is, b.is)
+
+-- neither of two tests holds
+neither_holds : (a b : Bool) → (a || b) ≡ false → (a ≡ false) × (b ≡ false)
+neither_holds false false h = (refl, refl)
+neither_holds false true h = absurd (cc h)
+neither_holds true b h = absurd (cc h)
+
+-- as many bytes as were read
+read_length : (bytes : List ℕ) (off len : ℕ) → off + len ≤ length bytes → length (slice_range bytes off (off + len)) ≡ len
+read_length bytes off len within = simp (length-take, length-drop) (omega (arith, within))
+
+-- what a `copy` leaves is tied
+copy_tied : (m : Memory) (t : Table) (to to_off from from_off len : ℕ) (x : Reply × Memory) → IsTied m t
+    → plain m 0 (CopyBytes to to_off from from_off len) ≡ Ok x → IsTied x.1 t
+copy_tied m t to to_off from from_off len x tied h =
+    let pair = went_on (both_named m to from) _ x h in
+    let inside = refuse_if_went Outside (ends_outside pair.value.0.object to_off len || ends_outside pair.value.1.object from_off len) _ x pair.then in
+    let both = neither_holds (ends_outside pair.value.0.object to_off len) (ends_outside pair.value.1.object from_off len) inside.0 in
+    let read = read_length pair.value.1.object.bytes from_off len (within_object pair.value.1.object from_off len both.1) in
+    let room : to_off + length (slice_range pair.value.1.object.bytes from_off (from_off + len)) ≤ length pair.value.0.object.bytes =
+    rw read (within_object pair.value.0.object to_off len both.0) in
+    said_tied (copied m pair.value.0 to_off pair.value.1 from_off len) t x Done
+    (stored_tied m t pair.value.0 to_off (slice_range pair.value.1.object.bytes from_off (from_off + len)) (both_live m to from pair.value pair.is).0 room tied)
+    inside.1
+
 -- a command answered is a plain step, and leaves table and memory sound and tied
 pub answered_well : (m : Memory) (t : Table) (command : Command) → IsSound t → IsTied m t → IsWell m command (answered m t command)
 answered_well m t (New cell len word) sound tied = new_well m t cell len word (place_new t len word (next_serial m)) sound tied refl
@@ -328,6 +363,11 @@ answered_well m t (Poke place byte) sound tied = record {
   step = others_follow m t t (plain m 0 (Poke place byte));
   sound = others_sound m t t (plain m 0 (Poke place byte)) sound sound;
   tied = others_tied m t t (plain m 0 (Poke place byte)) tied (λ x h. poke_tied m t place byte x tied h);
+}
+answered_well m t (CopyBytes to to_off from from_off len) sound tied = record {
+  step = others_follow m t t (plain m 0 (CopyBytes to to_off from from_off len));
+  sound = others_sound m t t (plain m 0 (CopyBytes to to_off from from_off len)) sound sound;
+  tied = others_tied m t t (plain m 0 (CopyBytes to to_off from from_off len)) tied (λ x h. copy_tied m t to to_off from from_off len x tied h);
 }
 
 -- and so of at least one byte

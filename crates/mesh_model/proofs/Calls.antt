@@ -1,10 +1,11 @@
 -- Two calls are one or not.
 use Rattle.std.proofs.Common.{◌≡◌, ◌≢◌, ℕ, if◌then◌else◌, nat_eq, List, [], ◌∷◌, ap, refl, sym, ◌∙◌, ◌⊎◌, inl, inr}
+use Rattle.std.specs.Prelude.{slice_index}
 use Rattle.std.proofs.lemmas.Bool.Decides.{eqb_tells}
 use Rattle.mesh_model.specs.Refusals.{number_of}
 use Rattle.mesh_model.specs.Seats.{Call}
 use Rattle.mesh_model.specs.declared.commands.Command.{Command}
-use Rattle.mesh_model.specs.declared.commands.Command.TheVariants.{New, Put, Get, Free, Alias, Addr, Peek, Poke}
+use Rattle.mesh_model.specs.declared.commands.Command.TheVariants.{New, Put, Get, Free, Alias, Addr, Peek, Poke, Copy as CopyBytes}
 use Rattle.mesh_model.specs.declared.commands.Reply.{Reply}
 use Rattle.mesh_model.specs.declared.commands.Reply.TheVariants.{Object as Made, Done, Bytes, At, Byte, Refused}
 use Rattle.mesh_model.specs.declared.refusals.Refusal.{Refusal}
@@ -50,13 +51,15 @@ command_code (Alias to from) = 4 ∷ to ∷ from ∷ 0 ∷ []
 command_code (Addr cell) = 5 ∷ cell ∷ 0 ∷ 0 ∷ []
 command_code (Peek place) = 6 ∷ place ∷ 0 ∷ 0 ∷ []
 command_code (Poke place byte) = 7 ∷ place ∷ byte ∷ 0 ∷ []
+command_code (CopyBytes to to_off from from_off len) = 8 ∷ to ∷ to_off ∷ from ∷ from_off ∷ len ∷ []
 
 -- the command of these numbers
 command_of : List ℕ → Command
 command_of (tag ∷ a ∷ b ∷ d ∷ items) =
     if nat_eq tag 0 then New a b d else (if nat_eq tag 1 then Put a b (record { items = items }) else (if nat_eq tag 2 then Get a b d
     else (if nat_eq tag 3 then Free a else (if nat_eq tag 4 then Alias a b else (if nat_eq tag 5 then Addr a
-    else (if nat_eq tag 6 then Peek a else Poke a b))))))
+    else (if nat_eq tag 6 then Peek a else (if nat_eq tag 7 then Poke a b
+    else CopyBytes a b d (slice_index items 0) (slice_index items 1))))))))
 command_of _ = Free 0
 
 -- a command is the one of its numbers
@@ -70,6 +73,7 @@ command_back (Alias to from) = refl
 command_back (Addr cell) = refl
 command_back (Peek place) = refl
 command_back (Poke place byte) = refl
+command_back (CopyBytes to to_off from from_off len) = refl
 
 -- a reply as numbers
 reply_code : Reply → List ℕ

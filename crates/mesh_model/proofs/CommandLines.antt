@@ -8,12 +8,13 @@ use Rattle.std.proofs.lemmas.Bool.{lt-leb, ne_eqb, true≢false}
 use Rattle.std.proofs.lemmas.List.{length-map}
 use Rattle.mesh_model.specs.Classes.{row_of}
 use Rattle.mesh_model.specs.Files.{are_same, Draft, InScript, InPlan, take_line, command_in, line_in, class_in, words_in, IsValidCommand, IsValidLine}
-use Rattle.mesh_model.specs.Jobs.{Line, RunWorker, PairClass, BeginMesh, StepMesh, CancelMesh, WholeMesh, SweepGroup, MakeReport}
+use Rattle.mesh_model.specs.Jobs.{Line, RunWorker, PairClass, BeginMesh, StepMesh, CancelMesh, StepClass, CancelClass, WholeMesh, SweepGroup, MakeReport}
 use Rattle.mesh_model.specs.Texts.{address_text, byte_text, bytes_text, field, number_field, command_text, line_text}
 use Rattle.mesh_model.specs.Words.{◌>>=◌, or_refuse}
 use Rattle.mesh_model.specs.declared.commands.Command.{Command}
-use Rattle.mesh_model.specs.declared.commands.Command.TheVariants.{New, Put, Get, Free, Alias, Addr, Peek, Poke}
+use Rattle.mesh_model.specs.declared.commands.Command.TheVariants.{New, Put, Get, Free, Alias, Addr, Peek, Poke, Copy as CopyBytes}
 use Rattle.mesh_model.specs.declared.faults.FaultKind.TheVariants.{Number}
+use Rattle.mesh_model.specs.declared.versions.Version.{Version}
 use Rattle.mesh_model.proofs.Fields.{AreWithin, number_back, address_back, byte_back, bytes_back, decimal_within, decimal_short, hex_within, byte_within, bytes_within, within_from_all}
 use Rattle.mesh_model.proofs.Spelling.{IsField, IsWord, AreFields, word_by_test, line_taken, line_within}
 
@@ -27,6 +28,7 @@ word_of (Alias to from) = codes "alias"
 word_of (Addr cell) = codes "addr"
 word_of (Peek address) = codes "peek"
 word_of (Poke address byte) = codes "poke"
+word_of (CopyBytes to to_off from from_off len) = codes "copy"
 
 -- the fields of a command, after its word
 abbrev pub fields_of : Command → List (List ℕ)
@@ -38,6 +40,7 @@ fields_of (Alias to from) = decimal to ∷ decimal from ∷ []
 fields_of (Addr cell) = decimal cell ∷ []
 fields_of (Peek address) = address_text address ∷ []
 fields_of (Poke address byte) = address_text address ∷ byte_text byte ∷ []
+fields_of (CopyBytes to to_off from from_off len) = decimal to ∷ decimal to_off ∷ decimal from ∷ decimal from_off ∷ decimal len ∷ []
 
 -- a field of at most 64 bytes
 abbrev pub IsShortField : List ℕ → Type 0
@@ -67,33 +70,44 @@ command_spelt (Alias to from) = simp (append_assoc, append-nil) refl
 command_spelt (Addr cell) = rw append-nil refl
 command_spelt (Peek address) = rw append-nil refl
 command_spelt (Poke address byte) = simp (append_assoc, append-nil) refl
+command_spelt (CopyBytes to to_off from from_off len) = simp (append_assoc, append-nil) refl
 
 -- a command's word and fields are read as the command
-command_back : (command : Command) → IsValidCommand command → command_in (word_of command) (fields_of command) ≡ Ok command
-command_back (New cell len word) valid =
+command_back : (version : Version) (command : Command) → IsValidCommand version command
+    → command_in version (word_of command) (fields_of command) ≡ Ok command
+command_back version (New cell len word) valid =
     rw (
       number_back 0 255 cell (omega (arith, valid.0)) (omega arith) valid.0,
       number_back 0 65535 len (omega (arith, valid.1)) (omega arith) valid.1,
       number_back 0 18446744073709551615 word (omega (arith, valid.2)) (omega arith) valid.2,
     ) refl
-command_back (Put cell off bytes) valid =
+command_back version (Put cell off bytes) valid =
     rw (
       number_back 0 255 cell (omega (arith, valid.0)) (omega arith) valid.0,
       number_back 0 65535 off (omega (arith, valid.1)) (omega arith) valid.1,
       bytes_back bytes.items valid.2 valid.3 valid.4,
     ) refl
-command_back (Get cell off len) valid =
+command_back version (Get cell off len) valid =
     rw (
       number_back 0 255 cell (omega (arith, valid.0)) (omega arith) valid.0,
       number_back 0 65535 off (omega (arith, valid.1)) (omega arith) valid.1,
       number_back 1 32 len (omega (arith, valid.3)) valid.2 valid.3,
     ) refl
-command_back (Free cell) valid = rw (number_back 0 255 cell (omega (arith, valid)) (omega arith) valid) refl
-command_back (Alias to from) valid =
+command_back version (Free cell) valid = rw (number_back 0 255 cell (omega (arith, valid)) (omega arith) valid) refl
+command_back version (Alias to from) valid =
     rw (number_back 0 255 to (omega (arith, valid.0)) (omega arith) valid.0, number_back 0 255 from (omega (arith, valid.1)) (omega arith) valid.1) refl
-command_back (Addr cell) valid = rw (number_back 0 255 cell (omega (arith, valid)) (omega arith) valid) refl
-command_back (Peek address) valid = rw (address_back address valid) refl
-command_back (Poke address byte) valid = rw (address_back address valid.0, byte_back byte valid.1) refl
+command_back version (Addr cell) valid = rw (number_back 0 255 cell (omega (arith, valid)) (omega arith) valid) refl
+command_back version (Peek address) valid = rw (address_back address valid) refl
+command_back version (Poke address byte) valid = rw (address_back address valid.0, byte_back byte valid.1) refl
+command_back version (CopyBytes to to_off from from_off len) valid =
+    rw (
+      valid.0,
+      number_back 0 255 to (omega (arith, valid.1)) (omega arith) valid.1,
+      number_back 0 65535 to_off (omega (arith, valid.2)) (omega arith) valid.2,
+      number_back 0 255 from (omega (arith, valid.3)) (omega arith) valid.3,
+      number_back 0 65535 from_off (omega (arith, valid.4)) (omega arith) valid.4,
+      number_back 1 32 len (omega (arith, valid.6)) valid.5 valid.6,
+    ) refl
 
 -- every part is a short field
 abbrev pub AreShortFields : List (List ℕ) → Type 0
@@ -110,24 +124,27 @@ fields_length : (fields : List (List ℕ)) → AreShortFields fields → length 
 fields_length [] are = omega arith
 fields_length (f ∷ fs) are = omega (arith, length-append f (flat_map field fs), are.0.1, fields_length fs are.1)
 
--- at most three short fields are fields, and have room in a line
-pub short_room : (fields : List (List ℕ)) → AreShortFields fields → length fields ≤ 3 → AreFields fields × (length (flat_map field fields) ≤ 1000)
+-- a few short fields are fields, and have room in a line
+pub short_room : (fields : List (List ℕ)) → AreShortFields fields → length fields ≤ 5 → AreFields fields × (length (flat_map field fields) ≤ 1000)
 short_room fields are few = (fields_from_short fields are, omega (arith, fields_length fields are, few))
 
 -- the fields of a command, and their room
-command_room : (command : Command) → IsValidCommand command → AreFields (fields_of command) × (length (flat_map field (fields_of command)) ≤ 1000)
-command_room (New cell len word) valid = short_room (fields_of (New cell len word))
+command_room : (version : Version) (command : Command) → IsValidCommand version command → AreFields (fields_of command) × (length (flat_map field (fields_of command)) ≤ 1000)
+command_room version (New cell len word) valid = short_room (fields_of (New cell len word))
     (decimal_field cell (omega (arith, valid.0)), (decimal_field len (omega (arith, valid.1)), (decimal_field word (omega (arith, valid.2)), tt))) (omega arith)
-command_room (Put cell off bytes) valid = short_room (fields_of (Put cell off bytes))
+command_room version (Put cell off bytes) valid = short_room (fields_of (Put cell off bytes))
     (decimal_field cell (omega (arith, valid.0)), (decimal_field off (omega (arith, valid.1)), (bytes_field bytes.items valid.2 valid.3 valid.4, tt))) (omega arith)
-command_room (Get cell off len) valid = short_room (fields_of (Get cell off len))
+command_room version (Get cell off len) valid = short_room (fields_of (Get cell off len))
     (decimal_field cell (omega (arith, valid.0)), (decimal_field off (omega (arith, valid.1)), (decimal_field len (omega (arith, valid.3)), tt))) (omega arith)
-command_room (Free cell) valid = short_room (fields_of (Free cell)) (decimal_field cell (omega (arith, valid)), tt) (omega arith)
-command_room (Alias to from) valid = short_room (fields_of (Alias to from))
+command_room version (Free cell) valid = short_room (fields_of (Free cell)) (decimal_field cell (omega (arith, valid)), tt) (omega arith)
+command_room version (Alias to from) valid = short_room (fields_of (Alias to from))
     (decimal_field to (omega (arith, valid.0)), (decimal_field from (omega (arith, valid.1)), tt)) (omega arith)
-command_room (Addr cell) valid = short_room (fields_of (Addr cell)) (decimal_field cell (omega (arith, valid)), tt) (omega arith)
-command_room (Peek address) valid = short_room (fields_of (Peek address)) (address_field address, tt) (omega arith)
-command_room (Poke address byte) valid = short_room (fields_of (Poke address byte)) (address_field address, (byte_field byte valid.1, tt)) (omega arith)
+command_room version (Addr cell) valid = short_room (fields_of (Addr cell)) (decimal_field cell (omega (arith, valid)), tt) (omega arith)
+command_room version (Peek address) valid = short_room (fields_of (Peek address)) (address_field address, tt) (omega arith)
+command_room version (Poke address byte) valid = short_room (fields_of (Poke address byte)) (address_field address, (byte_field byte valid.1, tt)) (omega arith)
+command_room version (CopyBytes to to_off from from_off len) valid = short_room (fields_of (CopyBytes to to_off from from_off len))
+    (decimal_field to (omega (arith, valid.1)), (decimal_field to_off (omega (arith, valid.2)), (decimal_field from (omega (arith, valid.3)),
+    (decimal_field from_off (omega (arith, valid.4)), (decimal_field len (omega (arith, valid.6)), tt))))) (omega arith)
 
 -- the word of a command, which begins no other section
 command_word : (command : Command)
@@ -140,18 +157,19 @@ command_word (Alias to from) = (word_by_test (codes "alias") refl, refl, refl)
 command_word (Addr cell) = (word_by_test (codes "addr") refl, refl, refl)
 command_word (Peek address) = (word_by_test (codes "peek") refl, refl, refl)
 command_word (Poke address byte) = (word_by_test (codes "poke") refl, refl, refl)
+command_word (CopyBytes to to_off from from_off len) = (word_by_test (codes "copy") refl, refl, refl)
 
 -- a command's line goes to the end of the script that is being read
-pub command_taken : (draft : Draft) (worker : ℕ) (command : Command) → draft.section ≡ InScript worker → IsValidCommand command
+pub command_taken : (draft : Draft) (worker : ℕ) (command : Command) → draft.section ≡ InScript worker → IsValidCommand draft.version command
     → take_line draft (command_text command) ≡ Ok (record draft { script = draft.script ++ command ∷ [] })
-command_taken draft worker command here valid = let word = command_word command in let fields = command_room command valid in
+command_taken draft worker command here valid = let word = command_word command in let fields = command_room draft.version command valid in
     rw (command_spelt command) (line_taken draft (word_of command) (fields_of command) word.0 fields.0 fields.1
-    ∙ rw (here, word.1, word.2, command_back command valid) refl)
+    ∙ rw (here, word.1, word.2, command_back draft.version command valid) refl)
 
 -- a command's line is printable
-pub command_printable : (command : Command) → IsValidCommand command → AreWithin 32 126 (command_text command)
-command_printable command valid =
-    rw (command_spelt command) (line_within (word_of command) (fields_of command) (command_word command).0.0 (command_room command valid).0)
+pub command_printable : (version : Version) (command : Command) → IsValidCommand version command → AreWithin 32 126 (command_text command)
+command_printable version command valid =
+    rw (command_spelt command) (line_within (word_of command) (fields_of command) (command_word command).0.0 (command_room version command valid).0)
 
 -- the word of a line of the plan
 abbrev pub line_word : Line → List ℕ
@@ -160,6 +178,8 @@ line_word (PairClass class t words) = codes "pair"
 line_word (BeginMesh source destination) = codes "begin"
 line_word StepMesh = codes "step"
 line_word CancelMesh = codes "cancel"
+line_word (StepClass class) = codes "step"
+line_word (CancelClass class) = codes "cancel"
 line_word (WholeMesh source destination) = codes "whole"
 line_word (SweepGroup group) = codes "sweep"
 line_word MakeReport = codes "report"
@@ -171,6 +191,8 @@ line_fields (PairClass class t words) = decimal class ∷ decimal t ∷ map deci
 line_fields (BeginMesh source destination) = decimal source ∷ decimal destination ∷ []
 line_fields StepMesh = []
 line_fields CancelMesh = []
+line_fields (StepClass class) = decimal class ∷ []
+line_fields (CancelClass class) = decimal class ∷ []
 line_fields (WholeMesh source destination) = decimal source ∷ decimal destination ∷ []
 line_fields (SweepGroup group) = decimal group ∷ []
 line_fields MakeReport = []
@@ -188,6 +210,8 @@ line_spelt (PairClass class t words) = rw (words_spelt words)
 line_spelt (BeginMesh source destination) = simp (append_assoc, append-nil) refl
 line_spelt StepMesh = refl
 line_spelt CancelMesh = refl
+line_spelt (StepClass class) = rw append-nil refl
+line_spelt (CancelClass class) = rw append-nil refl
 line_spelt (WholeMesh source destination) = simp (append_assoc, append-nil) refl
 line_spelt (SweepGroup group) = rw append-nil refl
 line_spelt MakeReport = refl
@@ -231,29 +255,32 @@ class_back class some = let small = class_small class some in
     rw (number_back 0 18446744073709551615 class small (omega arith) (omega (arith, small))) (some_passes class (row_of class) some)
 
 -- a line's word and fields are read as the line
-line_back : (workers : ℕ) (line : Line) → workers ≤ 64 → IsValidLine workers line → line_in workers (line_word line) (line_fields line) ≡ Ok line
-line_back workers (RunWorker worker) few valid = rw (number_back 0 (workers - 1) worker (omega (arith, few, valid)) (omega arith) (omega (arith, valid))) refl
-line_back workers (PairClass class t words) few valid =
+line_back : (version : Version) (workers : ℕ) (line : Line) → workers ≤ 64 → IsValidLine version workers line
+    → line_in version workers (line_word line) (line_fields line) ≡ Ok line
+line_back version workers (RunWorker worker) few valid = rw (number_back 0 (workers - 1) worker (omega (arith, few, valid)) (omega arith) (omega (arith, valid))) refl
+line_back version workers (PairClass class t words) few valid =
     rw (
       lt-leb 33 (length (map decimal words)) (rw (length-map words decimal) (omega (arith, valid.2))),
       class_back class valid.0,
       number_back 0 64 t (omega (arith, valid.1)) (omega arith) valid.1,
       words_back words (within_from_all 18446744073709551615 words valid.3),
     ) refl
-line_back workers (BeginMesh source destination) few valid =
+line_back version workers (BeginMesh source destination) few valid =
     rw (
       number_back 0 65535 source (omega (arith, valid.0)) (omega arith) valid.0,
       number_back 0 65535 destination (omega (arith, valid.1)) (omega arith) valid.1,
     ) refl
-line_back workers StepMesh few valid = refl
-line_back workers CancelMesh few valid = refl
-line_back workers (WholeMesh source destination) few valid =
+line_back version workers StepMesh few valid = rw valid refl
+line_back version workers CancelMesh few valid = rw valid refl
+line_back version workers (StepClass class) few valid = rw (valid.0, class_back class valid.1) refl
+line_back version workers (CancelClass class) few valid = rw (valid.0, class_back class valid.1) refl
+line_back version workers (WholeMesh source destination) few valid =
     rw (
       number_back 0 65535 source (omega (arith, valid.0)) (omega arith) valid.0,
       number_back 0 65535 destination (omega (arith, valid.1)) (omega arith) valid.1,
     ) refl
-line_back workers (SweepGroup group) few valid = rw (number_back 0 65535 group (omega (arith, valid)) (omega arith) valid) refl
-line_back workers MakeReport few valid = refl
+line_back version workers (SweepGroup group) few valid = rw (number_back 0 65535 group (omega (arith, valid)) (omega arith) valid) refl
+line_back version workers MakeReport few valid = refl
 
 -- decimal fields, each after a space, have at most 21 bytes each
 words_field : (words : List ℕ) → AreWithin 0 18446744073709551615 words
@@ -265,10 +292,10 @@ words_field (w ∷ ws) small = let later = words_field ws small.2 in (
 )
 
 -- the fields of a line, and their room
-line_room : (workers : ℕ) (line : Line) → workers ≤ 64 → IsValidLine workers line
+line_room : (version : Version) (workers : ℕ) (line : Line) → workers ≤ 64 → IsValidLine version workers line
     → AreFields (line_fields line) × (length (flat_map field (line_fields line)) ≤ 1000)
-line_room workers (RunWorker worker) few valid = short_room (decimal worker ∷ []) (decimal_field worker (omega (arith, few, valid)), tt) (omega arith)
-line_room workers (PairClass class t words) few valid =
+line_room version workers (RunWorker worker) few valid = short_room (decimal worker ∷ []) (decimal_field worker (omega (arith, few, valid)), tt) (omega arith)
+line_room version workers (PairClass class t words) few valid =
     let first = decimal_field class (class_small class valid.0) in let second = decimal_field t (omega (arith, valid.1)) in
     let others = words_field words (within_from_all 18446744073709551615 words valid.3) in (
       (first.0, (second.0, others.0)),
@@ -282,14 +309,16 @@ line_room workers (PairClass class t words) few valid =
         valid.2,
       ),
     )
-line_room workers (BeginMesh source destination) few valid = short_room (decimal source ∷ decimal destination ∷ [])
+line_room version workers (BeginMesh source destination) few valid = short_room (decimal source ∷ decimal destination ∷ [])
     (decimal_field source (omega (arith, valid.0)), (decimal_field destination (omega (arith, valid.1)), tt)) (omega arith)
-line_room workers StepMesh few valid = (tt, omega arith)
-line_room workers CancelMesh few valid = (tt, omega arith)
-line_room workers (WholeMesh source destination) few valid = short_room (decimal source ∷ decimal destination ∷ [])
+line_room version workers StepMesh few valid = (tt, omega arith)
+line_room version workers CancelMesh few valid = (tt, omega arith)
+line_room version workers (StepClass class) few valid = short_room (decimal class ∷ []) (decimal_field class (class_small class valid.1), tt) (omega arith)
+line_room version workers (CancelClass class) few valid = short_room (decimal class ∷ []) (decimal_field class (class_small class valid.1), tt) (omega arith)
+line_room version workers (WholeMesh source destination) few valid = short_room (decimal source ∷ decimal destination ∷ [])
     (decimal_field source (omega (arith, valid.0)), (decimal_field destination (omega (arith, valid.1)), tt)) (omega arith)
-line_room workers (SweepGroup group) few valid = short_room (decimal group ∷ []) (decimal_field group (omega (arith, valid)), tt) (omega arith)
-line_room workers MakeReport few valid = (tt, omega arith)
+line_room version workers (SweepGroup group) few valid = short_room (decimal group ∷ []) (decimal_field group (omega (arith, valid)), tt) (omega arith)
+line_room version workers MakeReport few valid = (tt, omega arith)
 
 -- the word of a line, which isn't that of the end
 line_word_fits : (line : Line) → IsWord (line_word line) × (are_same (line_word line) (codes "end") ≡ false)
@@ -298,18 +327,20 @@ line_word_fits (PairClass class t words) = (word_by_test (codes "pair") refl, re
 line_word_fits (BeginMesh source destination) = (word_by_test (codes "begin") refl, refl)
 line_word_fits StepMesh = (word_by_test (codes "step") refl, refl)
 line_word_fits CancelMesh = (word_by_test (codes "cancel") refl, refl)
+line_word_fits (StepClass class) = (word_by_test (codes "step") refl, refl)
+line_word_fits (CancelClass class) = (word_by_test (codes "cancel") refl, refl)
 line_word_fits (WholeMesh source destination) = (word_by_test (codes "whole") refl, refl)
 line_word_fits (SweepGroup group) = (word_by_test (codes "sweep") refl, refl)
 line_word_fits MakeReport = (word_by_test (codes "report") refl, refl)
 
 -- a line of the plan goes to the end of the plan
-pub plan_line_taken : (draft : Draft) (line : Line) → draft.section ≡ InPlan → draft.workers ≤ 64 → IsValidLine draft.workers line
+pub plan_line_taken : (draft : Draft) (line : Line) → draft.section ≡ InPlan → draft.workers ≤ 64 → IsValidLine draft.version draft.workers line
     → take_line draft (line_text line) ≡ Ok (record draft { plan = draft.plan ++ line ∷ [] })
-plan_line_taken draft line here few valid = let word = line_word_fits line in let fields = line_room draft.workers line few valid in
+plan_line_taken draft line here few valid = let word = line_word_fits line in let fields = line_room draft.version draft.workers line few valid in
     rw (line_spelt line) (line_taken draft (line_word line) (line_fields line) word.0 fields.0 fields.1
-    ∙ rw (here, word.1, line_back draft.workers line few valid) refl)
+    ∙ rw (here, word.1, line_back draft.version draft.workers line few valid) refl)
 
 -- a line of the plan is printable
-pub plan_line_printable : (workers : ℕ) (line : Line) → workers ≤ 64 → IsValidLine workers line → AreWithin 32 126 (line_text line)
-plan_line_printable workers line few valid =
-    rw (line_spelt line) (line_within (line_word line) (line_fields line) (line_word_fits line).0.0 (line_room workers line few valid).0)
+pub plan_line_printable : (version : Version) (workers : ℕ) (line : Line) → workers ≤ 64 → IsValidLine version workers line → AreWithin 32 126 (line_text line)
+plan_line_printable version workers line few valid =
+    rw (line_spelt line) (line_within (line_word line) (line_fields line) (line_word_fits line).0.0 (line_room version workers line few valid).0)

@@ -5,19 +5,21 @@ use Rattle.std.proofs.lemmas.List.{get_or-set_same, get_or-set_other, get_or_pas
 use Rattle.mesh_model.proofs.AnsweredCommands.{answered_well}
 use Rattle.mesh_model.proofs.GroupLists.{tells}
 use Rattle.mesh_model.proofs.Histories.{Runs_more}
-use Rattle.mesh_model.proofs.MeshLists.{any_tells}
+use Rattle.mesh_model.proofs.MeshLists.{any_tells, class_tells}
 use Rattle.mesh_model.proofs.TableChanges.{begin_sound, cancel_sound, empty_sound, step_sound, sweep_sound, whole_sound}
 use Rattle.mesh_model.proofs.TiedTables.{begin_tied, cancel_tied, step_tied, sweep_tied, whole_tied}
 use Rattle.mesh_model.specs.HistoryLaws.{IsRunning, commands_of}
-use Rattle.mesh_model.specs.Jobs.{Answer, Job, Line, Outcome, PagesMeshed, PagesSwept, State, StepsLeft, answer, answered, attempted, is_held_back, counted, later_commands, opening, run_next, state_after, step_answered, with_reply, RunWorker, PairClass, BeginMesh, StepMesh, CancelMesh, WholeMesh, SweepGroup, MakeReport}
+use Rattle.mesh_model.specs.Jobs.{Answer, Job, Line, Outcome, PagesMeshed, PagesSwept, State, StepsLeft, answer, answered, attempted, is_held_back, counted, later_commands, busy_in, opening, run_next, state_after, step_answered, with_reply, RunWorker, PairClass, BeginMesh, StepMesh, CancelMesh, StepClass, CancelClass, WholeMesh, SweepGroup, MakeReport}
 use Rattle.mesh_model.specs.Memory.{Object, empty_memory, object_of}
-use Rattle.mesh_model.specs.Mesh.{Stepped, any_mesh, begin, cancel, first_mesh, mesh_whole, step}
+use Rattle.mesh_model.specs.Mesh.{Stepped, begin, cancel, first_mesh, mesh_in, mesh_whole, step}
 use Rattle.mesh_model.specs.Plain.{Entry, IsLegal}
 use Rattle.mesh_model.specs.Sound.{IsSound, IsTied}
 use Rattle.mesh_model.specs.Table.{Counted, Table, empty_table, sweep}
 use Rattle.mesh_model.specs.TableLaws.{IsBusyTest}
 use Rattle.mesh_model.specs.declared.commands.Command.{Command}
 use Rattle.mesh_model.specs.declared.refusals.Refusal.{Refusal}
+use Rattle.mesh_model.specs.declared.versions.Version.{Version}
+use Rattle.mesh_model.specs.declared.versions.Version.TheVariants.{One, Two}
 
 -- the memory with no object is tied to the table with no span
 empty_tied : (pages : ℕ) → IsTied empty_memory (empty_table pages)
@@ -78,27 +80,36 @@ step_running : (state : State) (r : Result Stepped Refusal) → IsRunning state
 step_running state (Err refusal) running keeps = running
 step_running state (Ok x) running keeps = let kept = keeps x refl in record { sound = kept.0; tied = kept.1; legal = running.legal }
 
--- where no mesh runs, none of any class does
-pub busy : (t : Table) → IsBusyTest any_mesh t
-busy t class h = any_tells class t.meshes h
+-- where no mesh is in the way, none of the class runs
+pub busy : (version : Version) (t : Table) → IsBusyTest (busy_in version) t
+busy One t class h = any_tells class t.meshes h
+busy Two t class h = class_tells class t.meshes h
 
 -- each line of a plan keeps it so
 pub answer_running : (job : Job) (state : State) (line : Line) → IsRunning state → IsRunning (answer job state line).state
 answer_running job state (RunWorker worker) running = run_running job state worker (slice_index_or state.scripts worker []) running
 answer_running job state (PairClass class t words) running = running
 answer_running job state (BeginMesh source destination) running =
-    counted_running state StepsLeft (begin any_mesh state.table source destination) running (λ x h. (
-      begin_sound any_mesh state.table source destination x (busy state.table) running.sound h,
-      begin_tied state.memory any_mesh state.table source destination x running.tied h,
+    counted_running state StepsLeft (begin (busy_in job.version) state.table source destination) running (λ x h. (
+      begin_sound (busy_in job.version) state.table source destination x (busy job.version state.table) running.sound h,
+      begin_tied state.memory (busy_in job.version) state.table source destination x running.tied h,
     ))
 answer_running job state StepMesh running = step_running state (step state.table (first_mesh state.table)) running (λ x h.
     (step_sound state.table (λ mesh. true) x running.sound h, step_tied state.memory state.table (λ mesh. true) x running.sound running.tied h))
 answer_running job state CancelMesh running = counted_running state StepsLeft (cancel state.table (first_mesh state.table)) running (λ x h.
     (cancel_sound state.table (λ mesh. true) x running.sound h, cancel_tied state.memory state.table (first_mesh state.table) x running.tied h))
+answer_running job state (StepClass class) running = step_running state (step state.table (mesh_in state.table class)) running (λ x h. (
+  step_sound state.table (λ mesh. nat_eq mesh.class class) x running.sound h,
+  step_tied state.memory state.table (λ mesh. nat_eq mesh.class class) x running.sound running.tied h,
+))
+answer_running job state (CancelClass class) running = counted_running state StepsLeft (cancel state.table (mesh_in state.table class)) running (λ x h. (
+  cancel_sound state.table (λ mesh. nat_eq mesh.class class) x running.sound h,
+  cancel_tied state.memory state.table (mesh_in state.table class) x running.tied h,
+))
 answer_running job state (WholeMesh source destination) running =
-    counted_running state PagesMeshed (mesh_whole any_mesh state.table source destination) running (λ x h. (
-      whole_sound any_mesh state.table source destination x (busy state.table) running.sound h,
-      whole_tied state.memory any_mesh state.table source destination x running.tied h,
+    counted_running state PagesMeshed (mesh_whole (busy_in job.version) state.table source destination) running (λ x h. (
+      whole_sound (busy_in job.version) state.table source destination x (busy job.version state.table) running.sound h,
+      whole_tied state.memory (busy_in job.version) state.table source destination x running.tied h,
     ))
 answer_running job state (SweepGroup group) running = counted_running state PagesSwept (sweep state.table group) running (λ x h.
     (sweep_sound state.table group x running.sound h, sweep_tied state.memory state.table group x running.tied h))
@@ -197,11 +208,14 @@ line_begun : (job : Job) (worker : ℕ) (script : List Command) (state : State) 
 line_begun job worker script state (RunWorker runner) begun = run_begun job state worker runner script (slice_index_or state.scripts runner []) refl begun
 line_begun job worker script state (PairClass class t words) begun = begun
 line_begun job worker script state (BeginMesh source destination) begun =
-    counted_begun state worker script StepsLeft (begin any_mesh state.table source destination) begun
+    counted_begun state worker script StepsLeft (begin (busy_in job.version) state.table source destination) begun
 line_begun job worker script state StepMesh begun = step_begun state worker script (step state.table (first_mesh state.table)) begun
 line_begun job worker script state CancelMesh begun = counted_begun state worker script StepsLeft (cancel state.table (first_mesh state.table)) begun
+line_begun job worker script state (StepClass class) begun = step_begun state worker script (step state.table (mesh_in state.table class)) begun
+line_begun job worker script state (CancelClass class) begun =
+    counted_begun state worker script StepsLeft (cancel state.table (mesh_in state.table class)) begun
 line_begun job worker script state (WholeMesh source destination) begun =
-    counted_begun state worker script PagesMeshed (mesh_whole any_mesh state.table source destination) begun
+    counted_begun state worker script PagesMeshed (mesh_whole (busy_in job.version) state.table source destination) begun
 line_begun job worker script state (SweepGroup group) begun = counted_begun state worker script PagesSwept (sweep state.table group) begun
 line_begun job worker script state MakeReport begun = begun
 

@@ -1,17 +1,17 @@
 -- A job's walk keeps the count of physical pages, so its reports add up.
-use Rattle.std.proofs.Common.{◌≡◌, ℕ, ◌+◌, true, List, [], ◌∷◌, Result, Ok, Err, slice_index_or, refl, arith}
+use Rattle.std.proofs.Common.{◌≡◌, ℕ, ◌+◌, true, nat_eq, List, [], ◌∷◌, Result, Ok, Err, slice_index_or, refl, arith}
 use Rattle.mesh_model.proofs.CountedPages.{begin_counted, cancel_counted, free_counted, new_counted, step_counted, sweep_counted, taken_mapped, whole_counted}
 use Rattle.mesh_model.proofs.JobHistories.{answer_running, busy, lines_keep, opening_running, run_keeps}
 use Rattle.mesh_model.specs.HistoryLaws.{IsRunning}
-use Rattle.mesh_model.specs.Jobs.{Answer, Job, Line, PagesMeshed, PagesSwept, State, StepsLeft, answer, answered, counted, new_answered, new_at, opening, others_answered, run_next, state_after, step_answered, table_freed, RunWorker, PairClass, BeginMesh, StepMesh, CancelMesh, WholeMesh, SweepGroup, MakeReport}
+use Rattle.mesh_model.specs.Jobs.{Answer, Job, Line, PagesMeshed, PagesSwept, State, StepsLeft, answer, answered, counted, new_answered, new_at, opening, others_answered, run_next, busy_in, state_after, step_answered, table_freed, RunWorker, PairClass, BeginMesh, StepMesh, CancelMesh, StepClass, CancelClass, WholeMesh, SweepGroup, MakeReport}
 use Rattle.mesh_model.specs.Memory.{Memory, next_serial}
-use Rattle.mesh_model.specs.Mesh.{Stepped, any_mesh, begin, cancel, first_mesh, mesh_whole, step}
+use Rattle.mesh_model.specs.Mesh.{Stepped, begin, cancel, first_mesh, mesh_in, mesh_whole, step}
 use Rattle.mesh_model.specs.PageCounts.{AreCounted}
 use Rattle.mesh_model.specs.Plain.{Named, named_by, plain}
 use Rattle.mesh_model.specs.Sound.{IsSound}
 use Rattle.mesh_model.specs.Table.{Counted, Placed, Table, place_new, report_of, sweep}
 use Rattle.mesh_model.specs.declared.commands.Command.{Command}
-use Rattle.mesh_model.specs.declared.commands.Command.TheVariants.{New, Put, Get, Free, Alias, Addr, Peek, Poke}
+use Rattle.mesh_model.specs.declared.commands.Command.TheVariants.{New, Put, Get, Free, Alias, Addr, Peek, Poke, Copy as CopyBytes}
 use Rattle.mesh_model.specs.declared.commands.Reply.{Reply}
 use Rattle.mesh_model.specs.declared.refusals.Refusal.{Refusal}
 
@@ -49,6 +49,8 @@ answered_counted pages m t (Alias to from) sound done = others_keep_count pages 
 answered_counted pages m t (Addr cell) sound done = others_keep_count pages m t t (plain m 0 (Addr cell)) done done
 answered_counted pages m t (Peek place) sound done = others_keep_count pages m t t (plain m 0 (Peek place)) done done
 answered_counted pages m t (Poke place byte) sound done = others_keep_count pages m t t (plain m 0 (Poke place byte)) done done
+answered_counted pages m t (CopyBytes to to_off from from_off len) sound done =
+    others_keep_count pages m t t (plain m 0 (CopyBytes to to_off from from_off len)) done done
 
 -- the state's table has so many pages
 abbrev HasPages : ℕ → State → Type 0
@@ -78,15 +80,19 @@ answer_counted : (job : Job) (state : State) (line : Line) → IsSound state.tab
 answer_counted job state (RunWorker worker) sound done = run_counted job state worker (slice_index_or state.scripts worker []) sound done
 answer_counted job state (PairClass class t words) sound done = done
 answer_counted job state (BeginMesh source destination) sound done =
-    counted_keeps job.pages state StepsLeft (begin any_mesh state.table source destination) done
-    (λ x h. begin_counted job.pages any_mesh state.table source destination x done h)
+    counted_keeps job.pages state StepsLeft (begin (busy_in job.version) state.table source destination) done
+    (λ x h. begin_counted job.pages (busy_in job.version) state.table source destination x done h)
 answer_counted job state StepMesh sound done = step_keeps job.pages state (step state.table (first_mesh state.table)) done
     (λ x h. step_counted job.pages state.table (λ mesh. true) x sound done h)
 answer_counted job state CancelMesh sound done = counted_keeps job.pages state StepsLeft (cancel state.table (first_mesh state.table)) done
     (λ x h. cancel_counted job.pages state.table (λ mesh. true) x sound done h)
+answer_counted job state (StepClass class) sound done = step_keeps job.pages state (step state.table (mesh_in state.table class)) done
+    (λ x h. step_counted job.pages state.table (λ mesh. nat_eq mesh.class class) x sound done h)
+answer_counted job state (CancelClass class) sound done = counted_keeps job.pages state StepsLeft (cancel state.table (mesh_in state.table class)) done
+    (λ x h. cancel_counted job.pages state.table (λ mesh. nat_eq mesh.class class) x sound done h)
 answer_counted job state (WholeMesh source destination) sound done =
-    counted_keeps job.pages state PagesMeshed (mesh_whole any_mesh state.table source destination) done
-    (λ x h. whole_counted job.pages any_mesh state.table source destination x (busy state.table) sound done h)
+    counted_keeps job.pages state PagesMeshed (mesh_whole (busy_in job.version) state.table source destination) done
+    (λ x h. whole_counted job.pages (busy_in job.version) state.table source destination x (busy job.version state.table) sound done h)
 answer_counted job state (SweepGroup group) sound done = counted_keeps job.pages state PagesSwept (sweep state.table group) done
     (λ x h. sweep_counted job.pages state.table group x sound done h)
 answer_counted job state MakeReport sound done = done

@@ -16,6 +16,7 @@ mod Histories
 pub mod Holders
 mod JobHistories
 mod JobPages
+mod JobReplies
 mod KeptRecords
 mod LineReadings
 pub mod MadeObjects

@@ -1,22 +1,24 @@
 -- What a line that was taken says: the line is the text of the command, the line of the plan or the header that was read.
 use Rattle.std.proofs.Common.{◌≡◌, ℕ, suc, ◌+◌, ◌-◌, ◌≤◌, true, false, ◌&&◌, not, if◌then◌else◌, nat_eq, nat_lt, List, [], ◌∷◌, ◌++◌, map, Result, Ok, Err, length, ap, refl, sym, subst, ◌∙◌, arith, inl, inr, append-nil}
-use Rattle.std.specs.Prelude.{codes, ◌⊎◌}
+use Rattle.std.specs.Prelude.{codes, IsSome, ◌⊎◌}
 use Rattle.std.specs.Fmt.{decimal}
 use Rattle.std.specs.List.{flat_map, list_all, list_any, slice_split, join_with_byte}
 use Rattle.std.proofs.lemmas.Bool.Decides.{leb_tells}
 use Rattle.std.proofs.lemmas.Bool.{and_parts, leb-true, true≢false}
-use Rattle.std.proofs.lemmas.Fmt.{decimal_digit}
 use Rattle.std.proofs.lemmas.List.{length-map}
 use Rattle.std.proofs.lemmas.List.Splits.{join_with_byte-slice_split}
-use Rattle.mesh_model.specs.Files.{are_same, number_in, address_in, bytes_in, byte_in, cell_in, short_in, word_in, class_in, words_in, one_field, two_fields, three_fields, no_field, new_in, put_in, get_in, free_in, alias_in, addr_in, peek_in, poke_in, command_in, run_in, pair_in, begin_in, whole_in, sweep_in, bare_in, line_in, Section, Draft, AtVersion, AtPages, AtHistory, AtWorkers, AtFirstWorker, InScript, InPlan, AtEnd, script_closed, header_in, take_in, is_printable, is_empty, take_fields, take_line, IsValidLine, IsValidCommand}
-use Rattle.mesh_model.specs.Jobs.{Line, RunWorker, PairClass, BeginMesh, StepMesh, CancelMesh, WholeMesh, SweepGroup, MakeReport}
+use Rattle.mesh_model.specs.Files.{are_same, number_in, address_in, bytes_in, byte_in, cell_in, short_in, word_in, class_in, words_in, one_field, two_fields, three_fields, five_fields, no_field, new_in, put_in, get_in, free_in, alias_in, addr_in, peek_in, poke_in, copy_in, is_second, command_in, run_in, pair_in, begin_in, whole_in, sweep_in, bare_in, of_class_in, of_mesh_in, line_in, Section, Draft, AtVersion, AtPages, AtHistory, AtWorkers, AtFirstWorker, InScript, InPlan, AtEnd, script_closed, version_of, header_in, take_in, is_printable, is_empty, take_fields, take_line, IsValidLine, IsValidCommand}
+use Rattle.mesh_model.specs.Jobs.{Line, RunWorker, PairClass, BeginMesh, StepMesh, CancelMesh, StepClass, CancelClass, WholeMesh, SweepGroup, MakeReport}
 use Rattle.mesh_model.specs.ReaderLaws.{IsHeader, IsNextWorker, IsPlanHead, IsCommandLine, IsEnd, IsPlanLine}
 use Rattle.mesh_model.specs.Texts.{field, number_field, command_text, line_text}
 use Rattle.mesh_model.specs.Words.{◌>>=◌, refuse_if}
 use Rattle.mesh_model.specs.declared.commands.Command.{Command}
-use Rattle.mesh_model.specs.declared.commands.Command.TheVariants.{New, Put, Get, Free, Alias, Addr, Peek, Poke}
+use Rattle.mesh_model.specs.declared.commands.Command.TheVariants.{New, Put, Get, Free, Alias, Addr, Peek, Poke, Copy as CopyBytes}
+use Rattle.mesh_model.specs.Classes.{row_of}
 use Rattle.mesh_model.specs.declared.faults.FaultKind.{FaultKind}
 use Rattle.mesh_model.specs.declared.faults.FaultKind.TheVariants.{LongLine, Byte, Word}
+use Rattle.mesh_model.specs.declared.versions.Version.{Version}
+use Rattle.mesh_model.specs.declared.versions.Version.TheVariants.{One, Two}
 use Rattle.mesh_model.proofs.Chains.{went_on, refuse_if_went}
 use Rattle.mesh_model.proofs.CommandLines.{word_of, fields_of, command_spelt, line_word, line_fields, line_spelt}
 use Rattle.mesh_model.proofs.FieldReadings.{if_tells, not_refused, equal_by_test, same_by_test, number_told, address_told, byte_told, bytes_told, class_told, words_told}
@@ -43,77 +45,122 @@ three_told (a ∷ b ∷ c ∷ []) f h =
     let is : (a, b, c) ≡ f = cc h in subst (λ (g : List ℕ × List ℕ × List ℕ). a ∷ b ∷ c ∷ [] ≡ g.0 ∷ g.1 ∷ g.2 ∷ []) is refl
 three_told (a ∷ b ∷ c ∷ d ∷ more) f h = absurd (cc h)
 
+-- the five fields that there are
+five_told : (fields : List (List ℕ)) (f : List ℕ × List ℕ × List ℕ × List ℕ × List ℕ) → five_fields fields ≡ Ok f
+    → fields ≡ f.0 ∷ f.1 ∷ f.2 ∷ f.3 ∷ f.4 ∷ []
+five_told [] f h = absurd (cc h)
+five_told (a ∷ []) f h = absurd (cc h)
+five_told (a ∷ b ∷ []) f h = absurd (cc h)
+five_told (a ∷ b ∷ c ∷ []) f h = absurd (cc h)
+five_told (a ∷ b ∷ c ∷ d ∷ []) f h = absurd (cc h)
+five_told (a ∷ b ∷ c ∷ d ∷ e ∷ []) f h = let is : (a, b, c, d, e) ≡ f = cc h in
+    subst (λ (g : List ℕ × List ℕ × List ℕ × List ℕ × List ℕ). a ∷ b ∷ c ∷ d ∷ e ∷ [] ≡ g.0 ∷ g.1 ∷ g.2 ∷ g.3 ∷ g.4 ∷ []) is refl
+five_told (a ∷ b ∷ c ∷ d ∷ e ∷ f' ∷ more) f h = absurd (cc h)
+
 -- there is no field
 none_told : (fields : List (List ℕ)) (u : Unit {0}) → no_field fields ≡ Ok u → fields ≡ []
 none_told [] u h = refl
 none_told (a ∷ more) u h = absurd (cc h)
 
 -- a word and fields are those of a command in its ranges
-abbrev IsCommand : List ℕ → List (List ℕ) → Command → Type 0
-IsCommand word fields command = (word ≡ word_of command) × (fields ≡ fields_of command) × IsValidCommand command
+abbrev IsCommand : Version → List ℕ → List (List ℕ) → Command → Type 0
+IsCommand version word fields command = (word ≡ word_of command) × (fields ≡ fields_of command) × IsValidCommand version command
 
 -- what each of the commands says of its fields
-new_told : (fields : List (List ℕ)) (command : Command) → new_in fields ≡ Ok command → IsCommand (codes "new") fields command
-new_told fields command h =
+new_told : (version : Version) (fields : List (List ℕ)) (command : Command) → new_in fields ≡ Ok command → IsCommand version (codes "new") fields command
+new_told version fields command h =
     let f = went_on (three_fields fields) _ command h in let cell = went_on (cell_in f.value.0) _ command f.then in
     let len = went_on (short_in f.value.1) _ command cell.then in let word = went_on (word_in f.value.2) _ command len.then in
     let a = number_told 0 255 f.value.0 cell.value cell.is in let b = number_told 0 65535 f.value.1 len.value len.is in
     let c = number_told 0 18446744073709551615 f.value.2 word.value word.is in
     let is : New cell.value len.value word.value ≡ command = cc word.then in
-    subst (λ (x : Command). IsCommand (codes "new") fields x) is (refl, cc (three_told fields f.value f.is, a.0, b.0, c.0), (a.2, b.2, c.2))
+    subst (λ (x : Command). IsCommand version (codes "new") fields x) is (refl, cc (three_told fields f.value f.is, a.0, b.0, c.0), (a.2, b.2, c.2))
 
-put_told : (fields : List (List ℕ)) (command : Command) → put_in fields ≡ Ok command → IsCommand (codes "put") fields command
-put_told fields command h =
+put_told : (version : Version) (fields : List (List ℕ)) (command : Command) → put_in fields ≡ Ok command → IsCommand version (codes "put") fields command
+put_told version fields command h =
     let f = went_on (three_fields fields) _ command h in let cell = went_on (cell_in f.value.0) _ command f.then in
     let off = went_on (short_in f.value.1) _ command cell.then in let bytes = went_on (bytes_in f.value.2) _ command off.then in
     let a = number_told 0 255 f.value.0 cell.value cell.is in let b = number_told 0 65535 f.value.1 off.value off.is in
     let c = bytes_told f.value.2 bytes.value bytes.is in
     let is : Put cell.value off.value (record { items = bytes.value }) ≡ command = cc bytes.then in
-    subst (λ (x : Command). IsCommand (codes "put") fields x) is
+    subst (λ (x : Command). IsCommand version (codes "put") fields x) is
     (refl, cc (three_told fields f.value f.is, a.0, b.0, c.0), (a.2, b.2, c.1, c.2, c.3))
 
-get_told : (fields : List (List ℕ)) (command : Command) → get_in fields ≡ Ok command → IsCommand (codes "get") fields command
-get_told fields command h =
+get_told : (version : Version) (fields : List (List ℕ)) (command : Command) → get_in fields ≡ Ok command → IsCommand version (codes "get") fields command
+get_told version fields command h =
     let f = went_on (three_fields fields) _ command h in let cell = went_on (cell_in f.value.0) _ command f.then in
     let off = went_on (short_in f.value.1) _ command cell.then in let len = went_on (number_in 1 32 f.value.2) _ command off.then in
     let a = number_told 0 255 f.value.0 cell.value cell.is in let b = number_told 0 65535 f.value.1 off.value off.is in
     let c = number_told 1 32 f.value.2 len.value len.is in
     let is : Get cell.value off.value len.value ≡ command = cc len.then in
-    subst (λ (x : Command). IsCommand (codes "get") fields x) is (refl, cc (three_told fields f.value f.is, a.0, b.0, c.0), (a.2, b.2, c.1, c.2))
+    subst (λ (x : Command). IsCommand version (codes "get") fields x) is (refl, cc (three_told fields f.value f.is, a.0, b.0, c.0), (a.2, b.2, c.1, c.2))
 
-free_told : (fields : List (List ℕ)) (command : Command) → free_in fields ≡ Ok command → IsCommand (codes "free") fields command
-free_told fields command h =
+free_told : (version : Version) (fields : List (List ℕ)) (command : Command) → free_in fields ≡ Ok command → IsCommand version (codes "free") fields command
+free_told version fields command h =
     let f = went_on (one_field fields) _ command h in let cell = went_on (cell_in f.value) _ command f.then in
     let a = number_told 0 255 f.value cell.value cell.is in let is : Free cell.value ≡ command = cc cell.then in
-    subst (λ (x : Command). IsCommand (codes "free") fields x) is (refl, cc (one_told fields f.value f.is, a.0), a.2)
+    subst (λ (x : Command). IsCommand version (codes "free") fields x) is (refl, cc (one_told fields f.value f.is, a.0), a.2)
 
-alias_told : (fields : List (List ℕ)) (command : Command) → alias_in fields ≡ Ok command → IsCommand (codes "alias") fields command
-alias_told fields command h =
+alias_told : (version : Version) (fields : List (List ℕ)) (command : Command) → alias_in fields ≡ Ok command → IsCommand version (codes "alias") fields command
+alias_told version fields command h =
     let f = went_on (two_fields fields) _ command h in let to = went_on (cell_in f.value.0) _ command f.then in
     let from = went_on (cell_in f.value.1) _ command to.then in
     let a = number_told 0 255 f.value.0 to.value to.is in let b = number_told 0 255 f.value.1 from.value from.is in
     let is : Alias to.value from.value ≡ command = cc from.then in
-    subst (λ (x : Command). IsCommand (codes "alias") fields x) is (refl, cc (two_told fields f.value f.is, a.0, b.0), (a.2, b.2))
+    subst (λ (x : Command). IsCommand version (codes "alias") fields x) is (refl, cc (two_told fields f.value f.is, a.0, b.0), (a.2, b.2))
 
-addr_told : (fields : List (List ℕ)) (command : Command) → addr_in fields ≡ Ok command → IsCommand (codes "addr") fields command
-addr_told fields command h =
+addr_told : (version : Version) (fields : List (List ℕ)) (command : Command) → addr_in fields ≡ Ok command → IsCommand version (codes "addr") fields command
+addr_told version fields command h =
     let f = went_on (one_field fields) _ command h in let cell = went_on (cell_in f.value) _ command f.then in
     let a = number_told 0 255 f.value cell.value cell.is in let is : Addr cell.value ≡ command = cc cell.then in
-    subst (λ (x : Command). IsCommand (codes "addr") fields x) is (refl, cc (one_told fields f.value f.is, a.0), a.2)
+    subst (λ (x : Command). IsCommand version (codes "addr") fields x) is (refl, cc (one_told fields f.value f.is, a.0), a.2)
 
-peek_told : (fields : List (List ℕ)) (command : Command) → peek_in fields ≡ Ok command → IsCommand (codes "peek") fields command
-peek_told fields command h =
+peek_told : (version : Version) (fields : List (List ℕ)) (command : Command) → peek_in fields ≡ Ok command → IsCommand version (codes "peek") fields command
+peek_told version fields command h =
     let f = went_on (one_field fields) _ command h in let address = went_on (address_in f.value) _ command f.then in
     let a = address_told f.value address.value address.is in let is : Peek address.value ≡ command = cc address.then in
-    subst (λ (x : Command). IsCommand (codes "peek") fields x) is (refl, cc (one_told fields f.value f.is, a.0), a.1)
+    subst (λ (x : Command). IsCommand version (codes "peek") fields x) is (refl, cc (one_told fields f.value f.is, a.0), a.1)
 
-poke_told : (fields : List (List ℕ)) (command : Command) → poke_in fields ≡ Ok command → IsCommand (codes "poke") fields command
-poke_told fields command h =
+poke_told : (version : Version) (fields : List (List ℕ)) (command : Command) → poke_in fields ≡ Ok command → IsCommand version (codes "poke") fields command
+poke_told version fields command h =
     let f = went_on (two_fields fields) _ command h in let address = went_on (address_in f.value.0) _ command f.then in
     let byte = went_on (byte_in f.value.1) _ command address.then in
     let a = address_told f.value.0 address.value address.is in let b = byte_told f.value.1 byte.value byte.is in
     let is : Poke address.value byte.value ≡ command = cc byte.then in
-    subst (λ (x : Command). IsCommand (codes "poke") fields x) is (refl, cc (two_told fields f.value f.is, a.0, b.0), (a.1, b.1))
+    subst (λ (x : Command). IsCommand version (codes "poke") fields x) is (refl, cc (two_told fields f.value f.is, a.0, b.0), (a.1, b.1))
+
+five_spelt : (f : List ℕ × List ℕ × List ℕ × List ℕ × List ℕ) (a b c d e : List ℕ) → f.0 ≡ a → f.1 ≡ b → f.2 ≡ c → f.3 ≡ d → f.4 ≡ e
+    → f.0 ∷ f.1 ∷ f.2 ∷ f.3 ∷ f.4 ∷ [] ≡ a ∷ b ∷ c ∷ d ∷ e ∷ []
+five_spelt f a b c d e is_a is_b is_c is_d is_e = rw (is_a, is_b, is_c, is_d, is_e) refl
+
+copy_told : (version : Version) (fields : List (List ℕ)) (command : Command) → version ≡ Two → copy_in fields ≡ Ok command
+    → IsCommand version (codes "copy") fields command
+copy_told version fields command second h =
+    let f = went_on (five_fields fields) _ command h in let to = went_on (cell_in f.value.0) _ command f.then in
+    let to_off = went_on (short_in f.value.1) _ command to.then in let from = went_on (cell_in f.value.2) _ command to_off.then in
+    let from_off = went_on (short_in f.value.3) _ command from.then in let len = went_on (number_in 1 32 f.value.4) _ command from_off.then in
+    let a = number_told 0 255 f.value.0 to.value to.is in let b = number_told 0 65535 f.value.1 to_off.value to_off.is in
+    let c = number_told 0 255 f.value.2 from.value from.is in let d = number_told 0 65535 f.value.3 from_off.value from_off.is in
+    let e = number_told 1 32 f.value.4 len.value len.is in
+    let is : CopyBytes to.value to_off.value from.value from_off.value len.value ≡ command = cc len.then in
+    subst (λ (x : Command). IsCommand version (codes "copy") fields x) is
+    (refl, five_told fields f.value f.is ∙ five_spelt f.value _ _ _ _ _ a.0 b.0 c.0 d.0 e.0, (second, a.2, b.2, c.2, d.2, e.1, e.2))
+
+-- a file that is second is of version 2
+second_told : (version : Version) → is_second version ≡ true → version ≡ Two
+second_told One h = absurd (cc h)
+second_told Two h = refl
+
+-- the last choice of a command: a copy, in version 2
+copy_chosen : (version : Version) (word : List ℕ) (fields : List (List ℕ)) (command : Command)
+    → (if are_same word (codes "copy") && is_second version then copy_in fields else Err Word) ≡ Ok command → IsCommand version word fields command
+copy_chosen version word fields command h =
+    elim (if_tells (are_same word (codes "copy") && is_second version) (copy_in fields) (Err Word) (Ok command) h) [
+      | inl both ↦ let parts = and_parts (are_same word (codes "copy")) (is_second version) both.0 in
+          subst (λ (w : List ℕ). IsCommand version w fields command) (sym (same_by_test word (codes "copy") parts.0))
+          (copy_told version fields command (second_told version parts.1) both.1)
+      | inr none ↦ absurd (cc none.1)
+    ]
 
 -- a choice by a line's word: the word is this one and its fields are read, or the later words are tried
 chosen : {A : Type 0} (P : List ℕ → Type 0) (word wanted : List ℕ) (first later : Result A FaultKind) (x : A)
@@ -124,37 +171,38 @@ chosen P word wanted first later x is isn't h = elim (if_tells (are_same word wa
 ]
 
 -- a word and fields that are read as a command are its word and its fields
-command_told : (word : List ℕ) (fields : List (List ℕ)) (command : Command) → command_in word fields ≡ Ok command → IsCommand word fields command
-command_told word fields command =
-    let P : List ℕ → Type 0 = λ w. IsCommand w fields command in
-    chosen P word (codes "new") (new_in fields) _ command (new_told fields command)
-    (chosen P word (codes "put") (put_in fields) _ command (put_told fields command)
-    (chosen P word (codes "get") (get_in fields) _ command (get_told fields command)
-    (chosen P word (codes "free") (free_in fields) _ command (free_told fields command)
-    (chosen P word (codes "alias") (alias_in fields) _ command (alias_told fields command)
-    (chosen P word (codes "addr") (addr_in fields) _ command (addr_told fields command)
-    (chosen P word (codes "peek") (peek_in fields) _ command (peek_told fields command)
-    (chosen P word (codes "poke") (poke_in fields) (Err Word) command (poke_told fields command) (λ h. absurd (cc h)))))))))
+command_told : (version : Version) (word : List ℕ) (fields : List (List ℕ)) (command : Command) → command_in version word fields ≡ Ok command
+    → IsCommand version word fields command
+command_told version word fields command =
+    let P : List ℕ → Type 0 = λ w. IsCommand version w fields command in
+    chosen P word (codes "new") (new_in fields) _ command (new_told version fields command)
+    (chosen P word (codes "put") (put_in fields) _ command (put_told version fields command)
+    (chosen P word (codes "get") (get_in fields) _ command (get_told version fields command)
+    (chosen P word (codes "free") (free_in fields) _ command (free_told version fields command)
+    (chosen P word (codes "alias") (alias_in fields) _ command (alias_told version fields command)
+    (chosen P word (codes "addr") (addr_in fields) _ command (addr_told version fields command)
+    (chosen P word (codes "peek") (peek_in fields) _ command (peek_told version fields command)
+    (chosen P word (codes "poke") (poke_in fields) _ command (poke_told version fields command) (copy_chosen version word fields command))))))))
 
 -- a word and fields are those of a line of the plan in its ranges
-abbrev IsStep : ℕ → List ℕ → List (List ℕ) → Line → Type 0
-IsStep workers word fields step = (word ≡ line_word step) × (fields ≡ line_fields step) × IsValidLine workers step
+abbrev IsStep : Version → ℕ → List ℕ → List (List ℕ) → Line → Type 0
+IsStep version workers word fields step = (word ≡ line_word step) × (fields ≡ line_fields step) × IsValidLine version workers step
 
 -- a count that isn't refused for its size is in its range
 pub few_by_test : (most n : ℕ) → nat_lt most n ≡ false → n ≤ most
 few_by_test most n h = elim (leb_tells (suc most) n) [ inl many ↦ absurd (true≢false (rw many.0 at h)) | inr few ↦ omega (arith, few.1) ]
 
 -- what each of the lines of a plan says of its fields
-run_told : (workers : ℕ) (fields : List (List ℕ)) (step : Line) → 1 ≤ workers → run_in workers fields ≡ Ok step → IsStep workers (codes "run") fields step
-run_told workers fields step some h =
+run_told : (version : Version) (workers : ℕ) (fields : List (List ℕ)) (step : Line) → 1 ≤ workers → run_in workers fields ≡ Ok step → IsStep version workers (codes "run") fields step
+run_told version workers fields step some h =
     let f = went_on (one_field fields) _ step h in let worker = went_on (number_in 0 (workers - 1) f.value) _ step f.then in
     let a = number_told 0 (workers - 1) f.value worker.value worker.is in let is : RunWorker worker.value ≡ step = cc worker.then in
-    subst (λ (x : Line). IsStep workers (codes "run") fields x) is (refl, cc (one_told fields f.value f.is, a.0), omega (arith, a.2, some))
+    subst (λ (x : Line). IsStep version workers (codes "run") fields x) is (refl, cc (one_told fields f.value f.is, a.0), omega (arith, a.2, some))
 
-pair_told : (workers : ℕ) (fields : List (List ℕ)) (step : Line) → pair_in fields ≡ Ok step → IsStep workers (codes "pair") fields step
-pair_told workers [] step h = absurd (cc h)
-pair_told workers (f ∷ []) step h = absurd (cc h)
-pair_told workers (f ∷ g ∷ more) step h =
+pair_told : (version : Version) (workers : ℕ) (fields : List (List ℕ)) (step : Line) → pair_in fields ≡ Ok step → IsStep version workers (codes "pair") fields step
+pair_told version workers [] step h = absurd (cc h)
+pair_told version workers (f ∷ []) step h = absurd (cc h)
+pair_told version workers (f ∷ g ∷ more) step h =
     let fs = went_on (refuse_if Word (nat_lt 32 (length more)) >>= λ _. Ok (f, g, more)) _ step h in
     let few = refuse_if_went Word (nat_lt 32 (length more)) _ fs.value fs.is in
     let is_fields : (f, g, more) ≡ fs.value = cc few.1 in
@@ -166,7 +214,7 @@ pair_told workers (f ∷ g ∷ more) step h =
     let g_is : g ≡ fs.value.1 = ap (λ (x : List ℕ × List ℕ × List (List ℕ)). x.1) is_fields in
     let more_is : more ≡ map decimal words.value = ap (λ (x : List ℕ × List ℕ × List (List ℕ)). x.2) is_fields ∙ c.0 in
     let is : PairClass class.value t.value words.value ≡ step = cc words.then in
-    subst (λ (x : Line). IsStep workers (codes "pair") (f ∷ g ∷ more) x) is (
+    subst (λ (x : Line). IsStep version workers (codes "pair") (f ∷ g ∷ more) x) is (
       refl,
       cc (f_is, g_is, more_is, a.0, b.0),
       (
@@ -177,47 +225,73 @@ pair_told workers (f ∷ g ∷ more) step h =
       ),
     )
 
-begin_told : (workers : ℕ) (fields : List (List ℕ)) (step : Line) → begin_in fields ≡ Ok step → IsStep workers (codes "begin") fields step
-begin_told workers fields step h =
+begin_told : (version : Version) (workers : ℕ) (fields : List (List ℕ)) (step : Line) → begin_in fields ≡ Ok step → IsStep version workers (codes "begin") fields step
+begin_told version workers fields step h =
     let f = went_on (two_fields fields) _ step h in let source = went_on (short_in f.value.0) _ step f.then in
     let destination = went_on (short_in f.value.1) _ step source.then in
     let a = number_told 0 65535 f.value.0 source.value source.is in let b = number_told 0 65535 f.value.1 destination.value destination.is in
     let is : BeginMesh source.value destination.value ≡ step = cc destination.then in
-    subst (λ (x : Line). IsStep workers (codes "begin") fields x) is (refl, cc (two_told fields f.value f.is, a.0, b.0), (a.2, b.2))
+    subst (λ (x : Line). IsStep version workers (codes "begin") fields x) is (refl, cc (two_told fields f.value f.is, a.0, b.0), (a.2, b.2))
 
-whole_told : (workers : ℕ) (fields : List (List ℕ)) (step : Line) → whole_in fields ≡ Ok step → IsStep workers (codes "whole") fields step
-whole_told workers fields step h =
+whole_told : (version : Version) (workers : ℕ) (fields : List (List ℕ)) (step : Line) → whole_in fields ≡ Ok step → IsStep version workers (codes "whole") fields step
+whole_told version workers fields step h =
     let f = went_on (two_fields fields) _ step h in let source = went_on (short_in f.value.0) _ step f.then in
     let destination = went_on (short_in f.value.1) _ step source.then in
     let a = number_told 0 65535 f.value.0 source.value source.is in let b = number_told 0 65535 f.value.1 destination.value destination.is in
     let is : WholeMesh source.value destination.value ≡ step = cc destination.then in
-    subst (λ (x : Line). IsStep workers (codes "whole") fields x) is (refl, cc (two_told fields f.value f.is, a.0, b.0), (a.2, b.2))
+    subst (λ (x : Line). IsStep version workers (codes "whole") fields x) is (refl, cc (two_told fields f.value f.is, a.0, b.0), (a.2, b.2))
 
-sweep_told : (workers : ℕ) (fields : List (List ℕ)) (step : Line) → sweep_in fields ≡ Ok step → IsStep workers (codes "sweep") fields step
-sweep_told workers fields step h =
+sweep_told : (version : Version) (workers : ℕ) (fields : List (List ℕ)) (step : Line) → sweep_in fields ≡ Ok step → IsStep version workers (codes "sweep") fields step
+sweep_told version workers fields step h =
     let f = went_on (one_field fields) _ step h in let group = went_on (short_in f.value) _ step f.then in
     let a = number_told 0 65535 f.value group.value group.is in let is : SweepGroup group.value ≡ step = cc group.then in
-    subst (λ (x : Line). IsStep workers (codes "sweep") fields x) is (refl, cc (one_told fields f.value f.is, a.0), a.2)
+    subst (λ (x : Line). IsStep version workers (codes "sweep") fields x) is (refl, cc (one_told fields f.value f.is, a.0), a.2)
 
 -- a line without a field
-bare_told : (workers : ℕ) (bare : Line) (fields : List (List ℕ)) (step : Line) → line_fields bare ≡ [] → IsValidLine workers bare
-    → bare_in bare fields ≡ Ok step → IsStep workers (line_word bare) fields step
-bare_told workers bare fields step without valid h = let none = went_on (no_field fields) _ step h in let is : bare ≡ step = cc none.then in
-    subst (λ (x : Line). IsStep workers (line_word bare) fields x) is (refl, none_told fields none.value none.is ∙ sym without, valid)
+bare_told : (version : Version) (workers : ℕ) (bare : Line) (fields : List (List ℕ)) (step : Line) → line_fields bare ≡ []
+    → IsValidLine version workers bare
+    → bare_in bare fields ≡ Ok step → IsStep version workers (line_word bare) fields step
+bare_told version workers bare fields step without valid h = let none = went_on (no_field fields) _ step h in let is : bare ≡ step = cc none.then in
+    subst (λ (x : Line). IsStep version workers (line_word bare) fields x) is (refl, none_told fields none.value none.is ∙ sym without, valid)
+
+-- a line with the size of a class
+of_class_told : (version : Version) (workers : ℕ) (line : ℕ → Line) (word : List ℕ) (fields : List (List ℕ)) (step : Line)
+    → ((class : ℕ) → IsSome (row_of class) → IsStep version workers word (decimal class ∷ []) (line class))
+    → of_class_in line fields ≡ Ok step → IsStep version workers word fields step
+of_class_told version workers line word fields step each h =
+    let f = went_on (one_field fields) _ step h in let class = went_on (class_in f.value) _ step f.then in
+    let a = class_told f.value class.value class.is in let is : line class.value ≡ step = cc class.then in
+    let one : fields ≡ decimal class.value ∷ [] = cc (one_told fields f.value f.is, a.0) in
+    subst (λ (x : Line). IsStep version workers word fields x) is
+    (subst (λ (fs : List (List ℕ)). IsStep version workers word fs (line class.value)) (sym one) (each class.value a.1))
+
+-- `step` and `cancel`, with a class in version 2
+steps_told : (version : Version) (workers : ℕ) (fields : List (List ℕ)) (step : Line) → of_mesh_in version StepMesh StepClass fields ≡ Ok step
+    → IsStep version workers (codes "step") fields step
+steps_told One workers fields step = bare_told One workers StepMesh fields step refl refl
+steps_told Two workers fields step =
+    of_class_told Two workers (λ class. StepClass class) (codes "step") fields step (λ class some. (refl, refl, (refl, some)))
+
+cancels_told : (version : Version) (workers : ℕ) (fields : List (List ℕ)) (step : Line) → of_mesh_in version CancelMesh CancelClass fields ≡ Ok step
+    → IsStep version workers (codes "cancel") fields step
+cancels_told One workers fields step = bare_told One workers CancelMesh fields step refl refl
+cancels_told Two workers fields step =
+    of_class_told Two workers (λ class. CancelClass class) (codes "cancel") fields step (λ class some. (refl, refl, (refl, some)))
 
 -- a word and fields that are read as a line of the plan are its word and its fields
-step_told : (workers : ℕ) (word : List ℕ) (fields : List (List ℕ)) (step : Line) → 1 ≤ workers → line_in workers word fields ≡ Ok step
-    → IsStep workers word fields step
-step_told workers word fields step some =
-    let P : List ℕ → Type 0 = λ w. IsStep workers w fields step in
-    chosen P word (codes "run") (run_in workers fields) _ step (run_told workers fields step some)
-    (chosen P word (codes "pair") (pair_in fields) _ step (pair_told workers fields step)
-    (chosen P word (codes "begin") (begin_in fields) _ step (begin_told workers fields step)
-    (chosen P word (codes "step") (bare_in StepMesh fields) _ step (bare_told workers StepMesh fields step refl tt)
-    (chosen P word (codes "cancel") (bare_in CancelMesh fields) _ step (bare_told workers CancelMesh fields step refl tt)
-    (chosen P word (codes "whole") (whole_in fields) _ step (whole_told workers fields step)
-    (chosen P word (codes "sweep") (sweep_in fields) _ step (sweep_told workers fields step)
-    (chosen P word (codes "report") (bare_in MakeReport fields) (Err Word) step (bare_told workers MakeReport fields step refl tt) (λ h. absurd (cc h)))))))))
+step_told : (version : Version) (workers : ℕ) (word : List ℕ) (fields : List (List ℕ)) (step : Line) → 1 ≤ workers
+    → line_in version workers word fields ≡ Ok step
+    → IsStep version workers word fields step
+step_told version workers word fields step some =
+    let P : List ℕ → Type 0 = λ w. IsStep version workers w fields step in
+    chosen P word (codes "run") (run_in workers fields) _ step (run_told version workers fields step some)
+    (chosen P word (codes "pair") (pair_in fields) _ step (pair_told version workers fields step)
+    (chosen P word (codes "begin") (begin_in fields) _ step (begin_told version workers fields step)
+    (chosen P word (codes "step") (of_mesh_in version StepMesh StepClass fields) _ step (steps_told version workers fields step)
+    (chosen P word (codes "cancel") (of_mesh_in version CancelMesh CancelClass fields) _ step (cancels_told version workers fields step)
+    (chosen P word (codes "whole") (whole_in fields) _ step (whole_told version workers fields step)
+    (chosen P word (codes "sweep") (sweep_in fields) _ step (sweep_told version workers fields step)
+    (chosen P word (codes "report") (bare_in MakeReport fields) (Err Word) step (bare_told version workers MakeReport fields step refl tt) (λ h. absurd (cc h)))))))))
 
 -- a line that was taken: its word and its fields, taken in the draft's section
 record Taken (draft : Draft) (line : List ℕ) (draft' : Draft) : Type 0 where
@@ -272,13 +346,11 @@ in_section draft line draft' taken section here = subst (λ (s : Section). take_
 
 -- the version that was taken
 pub version_told : (draft draft' : Draft) (line : List ℕ) → draft.section ≡ AtVersion → take_line draft line ≡ Ok draft'
-    → (line ≡ codes "mesh 1") × (draft' ≡ record draft { section = AtPages })
+    → IsHeader (codes "mesh") 1 2 (λ n. record draft { section = AtPages; version = version_of n }) line draft'
 version_told draft draft' line here h =
     let taken = taken_told draft line draft' h in
-    let header = header_line_told (codes "mesh") 1 1 (λ n. record draft { section = AtPages }) taken.word taken.fields line draft' taken.is
-    (in_section draft line draft' taken AtVersion here) in
-    let one : header.0 ≡ 1 = omega (arith, header.2, header.3) in
-    (header.1 ∙ rw (one, decimal_digit 1 (omega arith)) refl, header.4)
+    header_line_told (codes "mesh") 1 2 (λ n. record draft { section = AtPages; version = version_of n }) taken.word taken.fields line draft' taken.is
+    (in_section draft line draft' taken AtVersion here)
 
 -- the count of pages that was taken
 pub pages_told : (draft draft' : Draft) (line : List ℕ) → draft.section ≡ AtPages → take_line draft line ≡ Ok draft'
@@ -341,18 +413,18 @@ plan_head_told draft worker word fields line draft' is test h =
     )
 
 -- the word and the fields of a command are its text
-command_joined : (word : List ℕ) (fields : List (List ℕ)) (command : Command) → IsCommand word fields command
+command_joined : (version : Version) (word : List ℕ) (fields : List (List ℕ)) (command : Command) → IsCommand version word fields command
     → word ++ flat_map field fields ≡ command_text command
-command_joined word fields command is = rw (is.0, is.1) (sym (command_spelt command))
+command_joined version word fields command is = rw (is.0, is.1) (sym (command_spelt command))
 
 -- the command that was taken
 command_line_told : (draft : Draft) (word : List ℕ) (fields : List (List ℕ)) (line : List ℕ) (draft' : Draft)
     → line ≡ word ++ flat_map field fields
-    → (command_in word fields >>= λ command. Ok (record draft { script = draft.script ++ command ∷ [] })) ≡ Ok draft'
+    → (command_in draft.version word fields >>= λ command. Ok (record draft { script = draft.script ++ command ∷ [] })) ≡ Ok draft'
     → IsCommandLine draft line draft'
 command_line_told draft word fields line draft' is h =
-    let command = went_on (command_in word fields) _ draft' h in let told = command_told word fields command.value command.is in
-    (command.value, is ∙ command_joined word fields command.value told, told.2, cc command.then)
+    let command = went_on (command_in draft.version word fields) _ draft' h in let told = command_told draft.version word fields command.value command.is in
+    (command.value, is ∙ command_joined draft.version word fields command.value told, told.2, cc command.then)
 
 -- a line that was taken in a worker's section
 pub script_line_told : (draft draft' : Draft) (worker : ℕ) (line : List ℕ) → draft.section ≡ InScript worker → take_line draft line ≡ Ok draft'
@@ -376,18 +448,18 @@ end_told draft word fields line draft' is test h = let none = went_on (no_field 
     (is ∙ rw (same_by_test word (codes "end") test, none_told fields none.value none.is) refl, cc none.then)
 
 -- the word and the fields of a line of the plan are its text
-step_joined : (workers : ℕ) (word : List ℕ) (fields : List (List ℕ)) (step : Line) → IsStep workers word fields step
+step_joined : (version : Version) (workers : ℕ) (word : List ℕ) (fields : List (List ℕ)) (step : Line) → IsStep version workers word fields step
     → word ++ flat_map field fields ≡ line_text step
-step_joined workers word fields step is = rw (is.0, is.1) (sym (line_spelt step))
+step_joined version workers word fields step is = rw (is.0, is.1) (sym (line_spelt step))
 
 -- the line of the plan that was taken
 step_line_told : (draft : Draft) (word : List ℕ) (fields : List (List ℕ)) (line : List ℕ) (draft' : Draft)
     → line ≡ word ++ flat_map field fields → 1 ≤ draft.workers
-    → (line_in draft.workers word fields >>= λ step. Ok (record draft { plan = draft.plan ++ step ∷ [] })) ≡ Ok draft'
+    → (line_in draft.version draft.workers word fields >>= λ step. Ok (record draft { plan = draft.plan ++ step ∷ [] })) ≡ Ok draft'
     → IsPlanLine draft line draft'
 step_line_told draft word fields line draft' is some h =
-    let step = went_on (line_in draft.workers word fields) _ draft' h in let told = step_told draft.workers word fields step.value some step.is in
-    (step.value, is ∙ step_joined draft.workers word fields step.value told, told.2, cc step.then)
+    let step = went_on (line_in draft.version draft.workers word fields) _ draft' h in let told = step_told draft.version draft.workers word fields step.value some step.is in
+    (step.value, is ∙ step_joined draft.version draft.workers word fields step.value told, told.2, cc step.then)
 
 -- a line that was taken in the plan
 pub plan_line_told : (draft draft' : Draft) (line : List ℕ) → draft.section ≡ InPlan → 1 ≤ draft.workers → take_line draft line ≡ Ok draft'

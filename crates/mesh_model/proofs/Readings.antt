@@ -4,11 +4,12 @@ use Rattle.std.specs.Prelude.{codes}
 use Rattle.std.specs.Fmt.{decimal}
 use Rattle.std.specs.List.{All, flat_map}
 use Rattle.std.proofs.lemmas.Bool.{le-leb, lt-leb, eq-eqb}
-use Rattle.std.proofs.lemmas.Fmt.{decimal_digit}
 use Rattle.mesh_model.specs.Files.{Draft, AtPages, AtHistory, AtWorkers, AtFirstWorker, InScript, InPlan, AtEnd, blank_draft, script_closed, header_in, take_in, take_line, has_ended, job_of, lines_in, read_text, IsValidCommand, IsValidLine, IsValidJob}
 use Rattle.mesh_model.specs.Jobs.{Line, Job}
-use Rattle.mesh_model.specs.Texts.{field, number_field, command_text, line_text, sections_from, job_lines, text}
+use Rattle.mesh_model.specs.Texts.{field, number_field, command_text, line_text, sections_from, version_number, job_lines, text}
 use Rattle.mesh_model.specs.declared.commands.Command.{Command}
+use Rattle.mesh_model.specs.declared.versions.Version.{Version}
+use Rattle.mesh_model.specs.declared.versions.Version.TheVariants.{One, Two}
 use Rattle.mesh_model.proofs.CommandLines.{short_room, decimal_field, command_taken, command_printable, plan_line_taken, plan_line_printable}
 use Rattle.mesh_model.proofs.Fields.{AreWithin, number_back, same_bytes, within_by_test}
 use Rattle.mesh_model.proofs.Spelling.{IsWord, AreFields, word_by_test, line_taken, line_within, AreLines, lines_append, lines_cut}
@@ -35,7 +36,7 @@ script_going draft worker here = rw here refl
 
 -- a script's lines, and what follows them
 script_reads : (draft : Draft) (worker : ℕ) (commands : List Command) (rest : List (List ℕ)) (last : Draft) → draft.section ≡ InScript worker
-    → All IsValidCommand commands → Reads (record draft { script = draft.script ++ commands }) rest last
+    → All (IsValidCommand draft.version) commands → Reads (record draft { script = draft.script ++ commands }) rest last
     → Reads draft (map command_text commands ++ rest) last
 script_reads draft worker [] rest last here valid reads =
     subst (λ (s : List Command). Reads (record draft { script = s }) rest last) (append-nil draft.script) reads
@@ -43,12 +44,12 @@ script_reads draft worker (c ∷ cs) rest last here valid reads = (
   record draft { script = draft.script ++ c ∷ [] },
   script_going draft worker here,
   command_taken draft worker c here (valid 0 c (omega arith)),
-  script_reads (record draft { script = draft.script ++ c ∷ [] }) worker cs rest last here (all_later IsValidCommand c cs valid)
+  script_reads (record draft { script = draft.script ++ c ∷ [] }) worker cs rest last here (all_later (IsValidCommand draft.version) c cs valid)
       (subst (λ (s : List Command). Reads (record draft { script = s }) rest last) (sym (append_assoc draft.script (c ∷ []) cs)) reads),
 )
 
 -- a plan's lines, and the end
-plan_reads : (draft : Draft) (plan : List Line) → draft.section ≡ InPlan → draft.workers ≤ 64 → All (IsValidLine draft.workers) plan
+plan_reads : (draft : Draft) (plan : List Line) → draft.section ≡ InPlan → draft.workers ≤ 64 → All (IsValidLine draft.version draft.workers) plan
     → Reads draft (map line_text plan ++ codes "end" ∷ []) (record draft { section = AtEnd; plan = draft.plan ++ plan })
 plan_reads draft [] here few valid = (
   record draft { section = AtEnd },
@@ -62,7 +63,7 @@ plan_reads draft (l ∷ ls) here few valid = (
   plan_line_taken draft l here few (valid 0 l (omega arith)),
   subst (λ (p : List Line). Reads (record draft { plan = draft.plan ++ l ∷ [] }) (map line_text ls ++ codes "end" ∷ []) (record draft { section = AtEnd; plan = p }))
       (append_assoc draft.plan (l ∷ []) ls)
-      (plan_reads (record draft { plan = draft.plan ++ l ∷ [] }) ls here few (all_later (IsValidLine draft.workers) l ls valid)),
+      (plan_reads (record draft { plan = draft.plan ++ l ∷ [] }) ls here few (all_later (IsValidLine draft.version draft.workers) l ls valid)),
 )
 
 -- a number's field, and its room
@@ -82,7 +83,7 @@ header_back word least most n small low high = rw (same_bytes word, number_back 
 
 -- the sections after a script, the plan's head, and what follows it
 sections_read : (draft : Draft) (worker : ℕ) (scripts : List (List Command)) (rest : List (List ℕ)) (last : Draft) → draft.section ≡ InScript worker
-    → worker + 1 + length scripts ≡ draft.workers → draft.workers ≤ 64 → All (λ script. All IsValidCommand script) scripts
+    → worker + 1 + length scripts ≡ draft.workers → draft.workers ≤ 64 → All (λ script. All (IsValidCommand draft.version) script) scripts
     → Reads (record draft { section = InPlan; finished = draft.finished ++ draft.script ∷ scripts; script = [] }) rest last
     → Reads draft (sections_from (worker + 1) scripts ++ codes "plan" ∷ rest) last
 sections_read draft worker [] rest last here count few valid reads = (
@@ -106,15 +107,16 @@ sections_read draft worker (s ∷ ss) rest last here count few valid reads = (
       (script_reads (script_closed draft (InScript (worker + 1))) (worker + 1) s (sections_from (worker + 1 + 1) ss ++ codes "plan" ∷ rest) last refl
       (valid 0 s (omega arith))
       (sections_read (record draft { section = InScript (worker + 1); finished = draft.finished ++ draft.script ∷ []; script = s }) (worker + 1) ss rest last
-      refl (omega (arith, count)) few (all_later (λ script. All IsValidCommand script) s ss valid)
+      refl (omega (arith, count)) few (all_later (λ script. All (IsValidCommand draft.version) script) s ss valid)
       (subst (λ (f : List (List Command)). Reads (record draft { section = InPlan; finished = f; script = [] }) rest last)
       (sym (append_assoc draft.finished (draft.script ∷ []) (s ∷ ss))) reads))),
 )
 
 -- the draft of a whole job that was read to its end
-abbrev read_to_end : ℕ → ℕ → List (List Command) → List Line → Draft
-read_to_end pages history scripts plan = record {
+abbrev read_to_end : Version → ℕ → ℕ → List (List Command) → List Line → Draft
+read_to_end version pages history scripts plan = record {
   section = AtEnd;
+  version = version;
   pages = pages;
   history = history;
   workers = length scripts;
@@ -123,23 +125,30 @@ read_to_end pages history scripts plan = record {
   plan = plan;
 }
 
+-- the line of a version is taken
+version_taken : (version : Version)
+    → take_line blank_draft (codes "mesh" ++ number_field (version_number version)) ≡ Ok (record blank_draft { section = AtPages; version = version })
+version_taken One = header_taken blank_draft (codes "mesh") 1 (word_by_test (codes "mesh") refl) (omega arith)
+    ∙ rw (header_back (codes "mesh") 1 2 1 (omega arith) (omega arith) (omega arith)) refl
+version_taken Two = header_taken blank_draft (codes "mesh") 2 (word_by_test (codes "mesh") refl) (omega arith)
+    ∙ rw (header_back (codes "mesh") 1 2 2 (omega arith) (omega arith) (omega arith)) refl
+
 -- the lines of a whole job are taken to its end
-whole_read : (pages history : ℕ) (scripts : List (List Command)) (plan : List Line) → 1 ≤ pages → pages ≤ 4096 → history ≤ 65536
-    → 1 ≤ length scripts → length scripts ≤ 64 → All (λ script. All IsValidCommand script) scripts → All (IsValidLine (length scripts)) plan
-    → Reads blank_draft (job_lines (record { pages = pages; history = history; scripts = scripts; plan = plan })) (read_to_end pages history scripts plan)
-whole_read pages history [] plan some_page most_pages most_history some few valid lines = absurd (omega (arith, some))
-whole_read pages history (s ∷ ss) plan some_page most_pages most_history some few valid lines =
-    let at_pages : Draft = record blank_draft { section = AtPages } in
-    let at_history : Draft = record blank_draft { section = AtHistory; pages = pages } in
+whole_read : (version : Version) (pages history : ℕ) (scripts : List (List Command)) (plan : List Line) → 1 ≤ pages → pages ≤ 4096 → history ≤ 65536
+    → 1 ≤ length scripts → length scripts ≤ 64 → All (λ script. All (IsValidCommand version) script) scripts → All (IsValidLine version (length scripts)) plan
+    → Reads blank_draft (job_lines (record { version = version; pages = pages; history = history; scripts = scripts; plan = plan }))
+    (read_to_end version pages history scripts plan)
+whole_read version pages history [] plan some_page most_pages most_history some few valid lines = absurd (omega (arith, some))
+whole_read version pages history (s ∷ ss) plan some_page most_pages most_history some few valid lines =
+    let at_pages : Draft = record blank_draft { section = AtPages; version = version } in
+    let at_history : Draft = record at_pages { section = AtHistory; pages = pages } in
     let at_workers : Draft = record at_history { section = AtWorkers; history = history } in
     let at_worker : Draft = record at_workers { section = AtFirstWorker; workers = length (s ∷ ss) } in
     let in_script : Draft = record at_worker { section = InScript 0 } in
     let in_plan : Draft = record at_worker { section = InPlan; finished = s ∷ ss; script = [] } in (
       at_pages,
       refl,
-      subst (λ (digits : List ℕ). take_line blank_draft (codes "mesh" ++ 32 ∷ digits) ≡ Ok at_pages) (decimal_digit 1 (omega arith))
-          (header_taken blank_draft (codes "mesh") 1 (word_by_test (codes "mesh") refl) (omega arith)
-          ∙ rw (header_back (codes "mesh") 1 1 1 (omega arith) (omega arith) (omega arith)) refl),
+      version_taken version,
       (
         at_history,
         refl,
@@ -160,12 +169,12 @@ whole_read pages history (s ∷ ss) plan some_page most_pages most_history some 
               refl,
               header_taken at_worker (codes "worker") 0 (word_by_test (codes "worker") refl) (omega arith)
                   ∙ rw (header_back (codes "worker") 0 0 0 (omega arith) (omega arith) (omega arith)) refl,
-              subst (λ (lines : List (List ℕ)). Reads in_script lines (read_to_end pages history (s ∷ ss) plan))
+              subst (λ (lines : List (List ℕ)). Reads in_script lines (read_to_end version pages history (s ∷ ss) plan))
                   (sym (append_assoc (map command_text s) (sections_from 1 ss) (codes "plan" ∷ (map line_text plan ++ codes "end" ∷ []))))
-                  (script_reads in_script 0 s (sections_from 1 ss ++ codes "plan" ∷ (map line_text plan ++ codes "end" ∷ [])) (read_to_end pages history (s ∷ ss) plan) refl
+                  (script_reads in_script 0 s (sections_from 1 ss ++ codes "plan" ∷ (map line_text plan ++ codes "end" ∷ [])) (read_to_end version pages history (s ∷ ss) plan) refl
                   (valid 0 s (omega arith))
-                  (sections_read (record in_script { script = s }) 0 ss (map line_text plan ++ codes "end" ∷ []) (read_to_end pages history (s ∷ ss) plan) refl
-                  (omega arith) few (all_later (λ script. All IsValidCommand script) s ss valid) (plan_reads in_plan plan refl few lines))),
+                  (sections_read (record in_script { script = s }) 0 ss (map line_text plan ++ codes "end" ∷ []) (read_to_end version pages history (s ∷ ss) plan) refl
+                  (omega arith) few (all_later (λ script. All (IsValidCommand version) script) s ss valid) (plan_reads in_plan plan refl few lines))),
             ),
           ),
         ),
@@ -173,15 +182,16 @@ whole_read pages history (s ∷ ss) plan some_page most_pages most_history some 
     )
 
 -- the lines of a script are printable
-script_printable : (commands : List Command) → All IsValidCommand commands → AreLines (map command_text commands)
-script_printable [] valid = tt
-script_printable (c ∷ cs) valid = (command_printable c (valid 0 c (omega arith)), script_printable cs (all_later IsValidCommand c cs valid))
+script_printable : (version : Version) (commands : List Command) → All (IsValidCommand version) commands → AreLines (map command_text commands)
+script_printable version [] valid = tt
+script_printable version (c ∷ cs) valid =
+    (command_printable version c (valid 0 c (omega arith)), script_printable version cs (all_later (IsValidCommand version) c cs valid))
 
 -- the lines of a plan are printable
-plan_printable : (workers : ℕ) (plan : List Line) → workers ≤ 64 → All (IsValidLine workers) plan → AreLines (map line_text plan)
-plan_printable workers [] few valid = tt
-plan_printable workers (l ∷ ls) few valid =
-    (plan_line_printable workers l few (valid 0 l (omega arith)), plan_printable workers ls few (all_later (IsValidLine workers) l ls valid))
+plan_printable : (version : Version) (workers : ℕ) (plan : List Line) → workers ≤ 64 → All (IsValidLine version workers) plan → AreLines (map line_text plan)
+plan_printable version workers [] few valid = tt
+plan_printable version workers (l ∷ ls) few valid =
+    (plan_line_printable version workers l few (valid 0 l (omega arith)), plan_printable version workers ls few (all_later (IsValidLine version workers) l ls valid))
 
 -- a word and one number are printable
 header_printable : (word : List ℕ) (n : ℕ) → IsWord word → n < 2 ^ 64 → AreWithin 32 126 (word ++ number_field n)
@@ -189,19 +199,25 @@ header_printable word n is small = subst (λ (digits : List ℕ). AreWithin 32 1
     (line_within word (decimal n ∷ []) is.0 (number_room n small).0)
 
 -- the lines of the sections are printable
-sections_printable : (worker : ℕ) (scripts : List (List Command)) → worker + length scripts ≤ 64 → All (λ script. All IsValidCommand script) scripts
+sections_printable : (version : Version) (worker : ℕ) (scripts : List (List Command)) → worker + length scripts ≤ 64
+    → All (λ script. All (IsValidCommand version) script) scripts
     → AreLines (sections_from worker scripts)
-sections_printable worker [] few valid = tt
-sections_printable worker (s ∷ ss) few valid = (
+sections_printable version worker [] few valid = tt
+sections_printable version worker (s ∷ ss) few valid = (
   header_printable (codes "worker") worker (word_by_test (codes "worker") refl) (omega (arith, few)),
-  lines_append (map command_text s) (sections_from (worker + 1) ss) (script_printable s (valid 0 s (omega arith)))
-      (sections_printable (worker + 1) ss (omega (arith, few)) (all_later (λ script. All IsValidCommand script) s ss valid)),
+  lines_append (map command_text s) (sections_from (worker + 1) ss) (script_printable version s (valid 0 s (omega arith)))
+      (sections_printable version (worker + 1) ss (omega (arith, few)) (all_later (λ script. All (IsValidCommand version) script) s ss valid)),
 )
+
+-- the number of a version is small
+version_small : (version : Version) → version_number version < 2 ^ 64
+version_small One = omega arith
+version_small Two = omega arith
 
 -- the lines of a job are printable
 job_printable : (job : Job) → IsValidJob job → AreLines (job_lines job)
 job_printable job valid = (
-  within_by_test 32 126 (codes "mesh 1") refl,
+  header_printable (codes "mesh") (version_number job.version) (word_by_test (codes "mesh") refl) (version_small job.version),
   (
     header_printable (codes "pages") job.pages (word_by_test (codes "pages") refl) (omega (arith, valid.most_pages)),
     (
@@ -209,10 +225,10 @@ job_printable job valid = (
       (
         header_printable (codes "workers") (length job.scripts) (word_by_test (codes "workers") refl) (omega (arith, valid.most_workers)),
         lines_append (sections_from 0 job.scripts) (codes "plan" ∷ (map line_text job.plan ++ codes "end" ∷ []))
-            (sections_printable 0 job.scripts (omega (arith, valid.most_workers)) valid.commands) (
+            (sections_printable job.version 0 job.scripts (omega (arith, valid.most_workers)) valid.commands) (
               within_by_test 32 126 (codes "plan") refl,
               lines_append (map line_text job.plan) (codes "end" ∷ [])
-                  (plan_printable (length job.scripts) job.plan valid.most_workers valid.lines) (within_by_test 32 126 (codes "end") refl, tt),
+                  (plan_printable job.version (length job.scripts) job.plan valid.most_workers valid.lines) (within_by_test 32 126 (codes "end") refl, tt),
             ),
       ),
     ),
@@ -223,6 +239,6 @@ job_printable job valid = (
 pub job_back : (job : Job) → IsValidJob job → length (text job) ≤ 1048576 → read_text (text job) ≡ Ok job
 job_back job valid short =
     rw (lt-leb (suc 1048576) (length (text job)) (omega (arith, short)), lines_cut (job_lines job) (job_printable job valid))
-    (job_read 1 blank_draft (job_lines job) (read_to_end job.pages job.history job.scripts job.plan)
-    (whole_read job.pages job.history job.scripts job.plan valid.some_page valid.most_pages valid.most_history valid.some_worker valid.most_workers
+    (job_read 1 blank_draft (job_lines job) (read_to_end job.version job.pages job.history job.scripts job.plan)
+    (whole_read job.version job.pages job.history job.scripts job.plan valid.some_page valid.most_pages valid.most_history valid.some_worker valid.most_workers
     valid.commands valid.lines) refl)

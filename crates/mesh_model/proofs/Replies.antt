@@ -5,7 +5,7 @@ use Rattle.mesh_model.specs.Memory.{Memory}
 use Rattle.mesh_model.specs.Plain.{Follows, IsNewRefusal, PlainStep, plain}
 use Rattle.mesh_model.specs.StepLaws.{asks_for_room}
 use Rattle.mesh_model.specs.declared.commands.Command.{Command}
-use Rattle.mesh_model.specs.declared.commands.Command.TheVariants.{New, Put, Get, Free, Alias, Addr, Peek, Poke}
+use Rattle.mesh_model.specs.declared.commands.Command.TheVariants.{New, Put, Get, Free, Alias, Addr, Peek, Poke, Copy as CopyBytes}
 use Rattle.mesh_model.specs.declared.commands.Reply.{Reply}
 use Rattle.mesh_model.specs.declared.commands.Reply.TheVariants.{Object as Made, Refused}
 use Rattle.mesh_model.specs.declared.refusals.Refusal.{Refusal}
@@ -64,3 +64,5 @@ one_reply m (Alias to from) reply reply' n n' h step step' = one_follows (plain 
 one_reply m (Addr cell) reply reply' n n' h step step' = one_follows (plain m 0 (Addr cell)) m n n' reply reply' step step'
 one_reply m (Peek place) reply reply' n n' h step step' = one_follows (plain m 0 (Peek place)) m n n' reply reply' step step'
 one_reply m (Poke place byte) reply reply' n n' h step step' = one_follows (plain m 0 (Poke place byte)) m n n' reply reply' step step'
+one_reply m (CopyBytes to to_off from from_off len) reply reply' n n' h step step' =
+    one_follows (plain m 0 (CopyBytes to to_off from from_off len)) m n n' reply reply' step step'

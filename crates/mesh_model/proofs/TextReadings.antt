@@ -2,14 +2,16 @@
 use Rattle.std.proofs.Common.{◌≡◌, ◌↔◌, ℕ, ◌+◌, ◌≤◌, Bool, true, false, if◌then◌else◌, nat_eq, nat_lt, List, [], ◌∷◌, ◌++◌, map, Result, Ok, Err, length, ap, refl, sym, subst, ◌∙◌, arith, inl, inr, append-nil, append_assoc}
 use Rattle.std.specs.Prelude.{codes}
 use Rattle.std.specs.List.{All, flat_map, slice_split, join_with_byte}
+use Rattle.std.proofs.lemmas.Bool.Decides.{eqb_tells, leb_tells}
 use Rattle.std.proofs.lemmas.List.Elements.{All-cons, All-nil}
 use Rattle.std.proofs.lemmas.List.Splits.{join_with_byte-slice_split}
-use Rattle.mesh_model.specs.Files.{Section, Draft, AtPages, AtHistory, AtWorkers, AtFirstWorker, InScript, InPlan, AtEnd, blank_draft, script_closed, take_line, fault_at, has_ended, job_of, or_fault, lines_in, read_text, IsValidLine, IsValidCommand, IsValidJob}
+use Rattle.mesh_model.specs.Files.{Section, Draft, AtPages, AtHistory, AtWorkers, AtFirstWorker, InScript, InPlan, AtEnd, blank_draft, script_closed, take_line, version_of, fault_at, has_ended, job_of, or_fault, lines_in, read_text, IsValidLine, IsValidCommand, IsValidJob}
 use Rattle.mesh_model.specs.Jobs.{Line, Job}
-use Rattle.mesh_model.specs.Texts.{number_field, command_text, line_text, ended, sections_from, job_lines, text}
+use Rattle.mesh_model.specs.Texts.{number_field, command_text, line_text, ended, sections_from, version_number, job_lines, text}
 use Rattle.mesh_model.specs.declared.commands.Command.{Command}
 use Rattle.mesh_model.specs.declared.faults.FaultKind.{FaultKind}
 use Rattle.mesh_model.specs.declared.faults.FaultKind.TheVariants.{TooLong}
+use Rattle.mesh_model.specs.declared.versions.Version.{Version}
 use Rattle.mesh_model.proofs.Readings.{job_back}
 use Rattle.mesh_model.proofs.Chains.{went_on, refuse_if_went}
 use Rattle.mesh_model.proofs.LineReadings.{few_by_test, version_told, pages_told, history_told, workers_told, first_worker_told, script_line_told, plan_line_told}
@@ -66,8 +68,8 @@ over number draft (line ∷ next ∷ lines) job ended h = let is : Err (fault_at
 record PlanRest (draft : Draft) (lines : List (List ℕ)) (job : Job) : Type 0 where
   pub steps : List Line
   pub are : lines ≡ map line_text steps ++ codes "end" ∷ [] ∷ []
-  pub valid : All (IsValidLine draft.workers) steps
-  pub is : job ≡ record { pages = draft.pages; history = draft.history; scripts = draft.finished; plan = draft.plan ++ steps }
+  pub valid : All (IsValidLine draft.version draft.workers) steps
+  pub is : job ≡ record { version = draft.version; pages = draft.pages; history = draft.history; scripts = draft.finished; plan = draft.plan ++ steps }
 
 -- lines that were read in the plan are those of its rest
 plan_rest : (number : ℕ) (draft : Draft) (lines : List (List ℕ)) (job : Job) → draft.section ≡ InPlan → 1 ≤ draft.workers
@@ -81,7 +83,7 @@ plan_rest number draft (line ∷ next ∷ lines) job here some h =
           let end : Draft = record draft { section = AtEnd } in
           let read = subst (λ (d : Draft). lines_in (number + 1) d (next ∷ lines) ≡ Ok job) last.1 step.2 in
           let done = over (number + 1) end (next ∷ lines) job refl read in
-          record { steps = []; are = cc (last.0, done.0); valid = All-nil (IsValidLine draft.workers); is = rw (append-nil draft.plan) done.1 }
+          record { steps = []; are = cc (last.0, done.0); valid = All-nil (IsValidLine draft.version draft.workers); is = rw (append-nil draft.plan) done.1 }
       | inr more ↦
           let after : Draft = record draft { plan = draft.plan ++ more.0 ∷ [] } in
           let read = subst (λ (d : Draft). lines_in (number + 1) d (next ∷ lines) ≡ Ok job) more.3 step.2 in
@@ -89,8 +91,8 @@ plan_rest number draft (line ∷ next ∷ lines) job here some h =
           record {
             steps = more.0 ∷ rest.steps;
             are = cc (more.1, rest.are);
-            valid = All-cons (IsValidLine draft.workers) more.0 rest.steps more.2 rest.valid;
-            is = rest.is ∙ ap (λ (p : List Line). record { pages = draft.pages; history = draft.history; scripts = draft.finished; plan = p })
+            valid = All-cons (IsValidLine draft.version draft.workers) more.0 rest.steps more.2 rest.valid;
+            is = rest.is ∙ ap (λ (p : List Line). record { version = draft.version; pages = draft.pages; history = draft.history; scripts = draft.finished; plan = p })
                 (append_assoc draft.plan (more.0 ∷ []) rest.steps);
           }
     ]
@@ -105,11 +107,12 @@ record ScriptRest (worker : ℕ) (draft : Draft) (lines : List (List ℕ)) (job 
   pub scripts : List (List Command)
   pub steps : List Line
   pub are : lines ≡ map command_text commands ++ (sections_from (worker + 1) scripts ++ plan_lines steps)
-  pub valid : All IsValidCommand commands
-  pub all_valid : All (λ script. All IsValidCommand script) scripts
-  pub steps_valid : All (IsValidLine draft.workers) steps
+  pub valid : All (IsValidCommand draft.version) commands
+  pub all_valid : All (λ script. All (IsValidCommand draft.version) script) scripts
+  pub steps_valid : All (IsValidLine draft.version draft.workers) steps
   pub count : worker + 1 + length scripts ≡ draft.workers
   pub is : job ≡ record {
+    version = draft.version;
     pages = draft.pages;
     history = draft.history;
     scripts = draft.finished ++ (draft.script ++ commands) ∷ scripts;
@@ -124,7 +127,7 @@ script_rest number worker draft (line ∷ []) job here h = absurd (not_cut numbe
 script_rest number worker draft (line ∷ next ∷ lines) job here h =
     let step = first_taken number draft line next lines job (rw here refl) h in
     let with_scripts : List Line → List (List Command) → Job =
-    λ plan scripts. record { pages = draft.pages; history = draft.history; scripts = scripts; plan = draft.plan ++ plan } in
+    λ plan scripts. record { version = draft.version; pages = draft.pages; history = draft.history; scripts = scripts; plan = draft.plan ++ plan } in
     elim (script_line_told draft step.0 worker line here step.1) [
       | inl head ↦
           let after : Draft = script_closed draft (InScript (worker + 1)) in
@@ -139,8 +142,8 @@ script_rest number worker draft (line ∷ next ∷ lines) job here h =
               rest.are,
               append_assoc (map command_text rest.commands) (sections_from (worker + 1 + 1) rest.scripts) (plan_lines rest.steps),
             );
-            valid = All-nil IsValidCommand;
-            all_valid = All-cons (λ script. All IsValidCommand script) rest.commands rest.scripts rest.valid rest.all_valid;
+            valid = All-nil (IsValidCommand draft.version);
+            all_valid = All-cons (λ script. All (IsValidCommand draft.version) script) rest.commands rest.scripts rest.valid rest.all_valid;
             steps_valid = rest.steps_valid;
             count = omega (arith, rest.count);
             is = rest.is ∙ ap (with_scripts rest.steps)
@@ -157,8 +160,8 @@ script_rest number worker draft (line ∷ next ∷ lines) job here h =
               scripts = [];
               steps = rest.steps;
               are = cc (head.0, rest.are);
-              valid = All-nil IsValidCommand;
-              all_valid = All-nil (λ script. All IsValidCommand script);
+              valid = All-nil (IsValidCommand draft.version);
+              all_valid = All-nil (λ script. All (IsValidCommand draft.version) script);
               steps_valid = rest.valid;
               count = omega (arith, head.1);
               is = rest.is
@@ -173,7 +176,7 @@ script_rest number worker draft (line ∷ next ∷ lines) job here h =
               scripts = rest.scripts;
               steps = rest.steps;
               are = cc (command.1, rest.are);
-              valid = All-cons IsValidCommand command.0 rest.commands command.2 rest.valid;
+              valid = All-cons (IsValidCommand draft.version) command.0 rest.commands command.2 rest.valid;
               all_valid = rest.all_valid;
               steps_valid = rest.steps_valid;
               count = rest.count;
@@ -206,9 +209,9 @@ front : {lines rest rest' : List (List ℕ)} {line line' : List ℕ} → lines �
 front is first others = cc (is, first, others)
 
 -- a draft in its header
-abbrev headed : Section → ℕ → ℕ → ℕ → Draft
-headed section pages history workers =
-    record { section = section; pages = pages; history = history; workers = workers; finished = []; script = []; plan = [] }
+abbrev headed : Version → Section → ℕ → ℕ → ℕ → Draft
+headed version section pages history workers =
+    record { section = section; version = version; pages = pages; history = history; workers = workers; finished = []; script = []; plan = [] }
 
 -- the lines of a job after its header, with what follows the last line end
 abbrev body_lines : Job → List (List ℕ)
@@ -227,17 +230,17 @@ abbrev pages_lines : Job → List (List ℕ)
 pages_lines job = (codes "pages" ++ number_field job.pages) ∷ history_lines job
 
 -- what lines from the first worker on say of their job
-abbrev BodyTold : ℕ → ℕ → ℕ → List (List ℕ) → Job → Type 0
-BodyTold pages history workers lines job =
-    IsValidJob job × (lines ≡ body_lines job) × (job.pages ≡ pages) × (job.history ≡ history) × (length job.scripts ≡ workers)
+abbrev BodyTold : Version → ℕ → ℕ → ℕ → List (List ℕ) → Job → Type 0
+BodyTold version pages history workers lines job =
+    IsValidJob job × (job.version ≡ version) × (lines ≡ body_lines job) × (job.pages ≡ pages) × (job.history ≡ history) × (length job.scripts ≡ workers)
 
 -- the parts of a job in their ranges, and their lines
-parts_told : (pages history workers : ℕ) (commands : List Command) (scripts : List (List Command)) (steps : List Line) (lines : List (List ℕ))
-    → 1 ≤ pages → pages ≤ 4096 → history ≤ 65536 → workers ≤ 64 → 1 + length scripts ≡ workers → All IsValidCommand commands
-    → All (λ script. All IsValidCommand script) scripts → All (IsValidLine workers) steps
+parts_told : (version : Version) (pages history workers : ℕ) (commands : List Command) (scripts : List (List Command)) (steps : List Line) (lines : List (List ℕ))
+    → 1 ≤ pages → pages ≤ 4096 → history ≤ 65536 → workers ≤ 64 → 1 + length scripts ≡ workers → All (IsValidCommand version) commands
+    → All (λ script. All (IsValidCommand version) script) scripts → All (IsValidLine version workers) steps
     → lines ≡ sections_from 0 (commands ∷ scripts) ++ plan_lines steps
-    → BodyTold pages history workers lines (record { pages = pages; history = history; scripts = commands ∷ scripts; plan = steps })
-parts_told pages history workers commands scripts steps lines some_page most_pages most_history most_workers count valid all_valid steps_valid are =
+    → BodyTold version pages history workers lines (record { version = version; pages = pages; history = history; scripts = commands ∷ scripts; plan = steps })
+parts_told version pages history workers commands scripts steps lines some_page most_pages most_history most_workers count valid all_valid steps_valid are =
     let same : workers ≡ length (commands ∷ scripts) = omega (arith, count) in (
       record {
         some_page = some_page;
@@ -245,9 +248,10 @@ parts_told pages history workers commands scripts steps lines some_page most_pag
         most_history = most_history;
         some_worker = omega arith;
         most_workers = omega (arith, same, most_workers);
-        commands = All-cons (λ script. All IsValidCommand script) commands scripts valid all_valid;
-        lines = subst (λ (n : ℕ). All (IsValidLine n) steps) same steps_valid;
+        commands = All-cons (λ script. All (IsValidCommand version) script) commands scripts valid all_valid;
+        lines = subst (λ (n : ℕ). All (IsValidLine version n) steps) same steps_valid;
       },
+      refl,
       are,
       refl,
       refl,
@@ -255,67 +259,81 @@ parts_told pages history workers commands scripts steps lines some_page most_pag
     )
 
 -- the first worker's head, and what follows it
-first_told : (pages history workers : ℕ) (lines later : List (List ℕ)) (job : Job) → 1 ≤ pages → pages ≤ 4096 → history ≤ 65536 → workers ≤ 64
-    → lines ≡ (codes "worker" ++ number_field 0) ∷ later → ScriptRest 0 (headed (InScript 0) pages history workers) later job
-    → BodyTold pages history workers lines job
-first_told pages history workers lines later job some_page most_pages most_history most_workers is rest =
+first_told : (version : Version) (pages history workers : ℕ) (lines later : List (List ℕ)) (job : Job) → 1 ≤ pages → pages ≤ 4096 → history ≤ 65536 → workers ≤ 64
+    → lines ≡ (codes "worker" ++ number_field 0) ∷ later → ScriptRest 0 (headed version (InScript 0) pages history workers) later job
+    → BodyTold version pages history workers lines job
+first_told version pages history workers lines later job some_page most_pages most_history most_workers is rest =
     let others : later ≡ (map command_text rest.commands ++ sections_from 1 rest.scripts) ++ plan_lines rest.steps =
     rest.are ∙ sym (append_assoc (map command_text rest.commands) (sections_from 1 rest.scripts) (plan_lines rest.steps)) in
-    subst (BodyTold pages history workers lines) (sym rest.is)
-    (parts_told pages history workers rest.commands rest.scripts rest.steps lines some_page most_pages most_history most_workers (omega (arith, rest.count))
+    subst (BodyTold version pages history workers lines) (sym rest.is)
+    (parts_told version pages history workers rest.commands rest.scripts rest.steps lines some_page most_pages most_history most_workers (omega (arith, rest.count))
     rest.valid rest.all_valid rest.steps_valid (front is refl others))
 
 -- lines that were read from the first worker on
-body_told : (number pages history workers : ℕ) (lines : List (List ℕ)) (job : Job) → 1 ≤ pages → pages ≤ 4096 → history ≤ 65536 → workers ≤ 64
-    → lines_in number (headed AtFirstWorker pages history workers) lines ≡ Ok job → BodyTold pages history workers lines job
-body_told number pages history workers lines job some_page most_pages most_history most_workers h =
-    let first = some_taken number (headed AtFirstWorker pages history workers) lines job refl h in
-    let head = first_worker_told (headed AtFirstWorker pages history workers) first.draft' first.line refl first.taken in
-    first_told pages history workers lines first.rest job some_page most_pages most_history most_workers (front first.is head.0 refl)
-    (script_rest (number + 1) 0 (headed (InScript 0) pages history workers) first.rest job refl
-    (read_on first (headed (InScript 0) pages history workers) head.1))
+body_told : (version : Version) (number pages history workers : ℕ) (lines : List (List ℕ)) (job : Job) → 1 ≤ pages → pages ≤ 4096 → history ≤ 65536 → workers ≤ 64
+    → lines_in number (headed version AtFirstWorker pages history workers) lines ≡ Ok job → BodyTold version pages history workers lines job
+body_told version number pages history workers lines job some_page most_pages most_history most_workers h =
+    let first = some_taken number (headed version AtFirstWorker pages history workers) lines job refl h in
+    let head = first_worker_told (headed version AtFirstWorker pages history workers) first.draft' first.line refl first.taken in
+    first_told version pages history workers lines first.rest job some_page most_pages most_history most_workers (front first.is head.0 refl)
+    (script_rest (number + 1) 0 (headed version (InScript 0) pages history workers) first.rest job refl
+    (read_on first (headed version (InScript 0) pages history workers) head.1))
 
 -- lines that were read from the count of workers on
-from_workers_told : (number pages history : ℕ) (lines : List (List ℕ)) (job : Job) → 1 ≤ pages → pages ≤ 4096 → history ≤ 65536
-    → lines_in number (headed AtWorkers pages history 0) lines ≡ Ok job
-    → IsValidJob job × (lines ≡ workers_lines job) × (job.pages ≡ pages) × (job.history ≡ history)
-from_workers_told number pages history lines job some_page most_pages most_history h =
-    let first = some_taken number (headed AtWorkers pages history 0) lines job refl h in
-    let head = workers_told (headed AtWorkers pages history 0) first.draft' first.line refl first.taken in
-    let body = body_told (number + 1) pages history head.0 first.rest job some_page most_pages most_history head.3
-    (read_on first (headed AtFirstWorker pages history head.0) head.4) in
-    (body.0, front first.is (head.1 ∙ ap (λ (n : ℕ). codes "workers" ++ number_field n) (sym body.4)) body.1, body.2, body.3)
+from_workers_told : (version : Version) (number pages history : ℕ) (lines : List (List ℕ)) (job : Job) → 1 ≤ pages → pages ≤ 4096 → history ≤ 65536
+    → lines_in number (headed version AtWorkers pages history 0) lines ≡ Ok job
+    → IsValidJob job × (job.version ≡ version) × (lines ≡ workers_lines job) × (job.pages ≡ pages) × (job.history ≡ history)
+from_workers_told version number pages history lines job some_page most_pages most_history h =
+    let first = some_taken number (headed version AtWorkers pages history 0) lines job refl h in
+    let head = workers_told (headed version AtWorkers pages history 0) first.draft' first.line refl first.taken in
+    let body = body_told version (number + 1) pages history head.0 first.rest job some_page most_pages most_history head.3
+    (read_on first (headed version AtFirstWorker pages history head.0) head.4) in
+    (body.0, body.1, front first.is (head.1 ∙ ap (λ (n : ℕ). codes "workers" ++ number_field n) (sym body.5)) body.2, body.3, body.4)
 
 -- lines that were read from the journal's room on
-from_history_told : (number pages : ℕ) (lines : List (List ℕ)) (job : Job) → 1 ≤ pages → pages ≤ 4096
-    → lines_in number (headed AtHistory pages 0 0) lines ≡ Ok job → IsValidJob job × (lines ≡ history_lines job) × (job.pages ≡ pages)
-from_history_told number pages lines job some_page most_pages h =
-    let first = some_taken number (headed AtHistory pages 0 0) lines job refl h in
-    let head = history_told (headed AtHistory pages 0 0) first.draft' first.line refl first.taken in
-    let later = from_workers_told (number + 1) pages head.0 first.rest job some_page most_pages head.3
-    (read_on first (headed AtWorkers pages head.0 0) head.4) in
-    (later.0, front first.is (head.1 ∙ ap (λ (n : ℕ). codes "history" ++ number_field n) (sym later.3)) later.1, later.2)
+from_history_told : (version : Version) (number pages : ℕ) (lines : List (List ℕ)) (job : Job) → 1 ≤ pages → pages ≤ 4096
+    → lines_in number (headed version AtHistory pages 0 0) lines ≡ Ok job 
+    → IsValidJob job × (job.version ≡ version) × (lines ≡ history_lines job) × (job.pages ≡ pages)
+from_history_told version number pages lines job some_page most_pages h =
+    let first = some_taken number (headed version AtHistory pages 0 0) lines job refl h in
+    let head = history_told (headed version AtHistory pages 0 0) first.draft' first.line refl first.taken in
+    let later = from_workers_told version (number + 1) pages head.0 first.rest job some_page most_pages head.3
+    (read_on first (headed version AtWorkers pages head.0 0) head.4) in
+    (later.0, later.1, front first.is (head.1 ∙ ap (λ (n : ℕ). codes "history" ++ number_field n) (sym later.4)) later.2, later.3)
 
 -- lines that were read from the count of pages on
-from_pages_told : (number : ℕ) (lines : List (List ℕ)) (job : Job) → lines_in number (headed AtPages 0 0 0) lines ≡ Ok job
-    → IsValidJob job × (lines ≡ pages_lines job)
-from_pages_told number lines job h =
-    let first = some_taken number (headed AtPages 0 0 0) lines job refl h in
-    let head = pages_told (headed AtPages 0 0 0) first.draft' first.line refl first.taken in
-    let later = from_history_told (number + 1) head.0 first.rest job head.2 head.3
-    (read_on first (headed AtHistory head.0 0 0) head.4) in
-    (later.0, front first.is (head.1 ∙ ap (λ (n : ℕ). codes "pages" ++ number_field n) (sym later.2)) later.1)
+from_pages_told : (version : Version) (number : ℕ) (lines : List (List ℕ)) (job : Job) → lines_in number (headed version AtPages 0 0 0) lines ≡ Ok job
+    → IsValidJob job × (job.version ≡ version) × (lines ≡ pages_lines job)
+from_pages_told version number lines job h =
+    let first = some_taken number (headed version AtPages 0 0 0) lines job refl h in
+    let head = pages_told (headed version AtPages 0 0 0) first.draft' first.line refl first.taken in
+    let later = from_history_told version (number + 1) head.0 first.rest job head.2 head.3
+    (read_on first (headed version AtHistory head.0 0 0) head.4) in
+    (later.0, later.1, front first.is (head.1 ∙ ap (λ (n : ℕ). codes "pages" ++ number_field n) (sym later.3)) later.2)
+
+-- a number from 1 to 2 is that of its version
+version_numbered : (n : ℕ) → 1 ≤ n → n ≤ 2 → n ≡ version_number (version_of n)
+version_numbered n some few = elim (eqb_tells n 2) [
+  | inl two ↦ rw two.1 refl
+  | inr other ↦ rw other.0 (omega (arith, some, few, below n few other.1))
+]
+  where
+    below : (n : ℕ) → n ≤ 2 → (n ≡ 2 → ⊥) → n ≤ 1
+    below n few other = elim (leb_tells n 1) [ inl is ↦ is.1 | inr past ↦ absurd (other (omega (arith, few, past.1))) ]
 
 -- lines that were read are those of their job, which is in its ranges
 lines_told : (number : ℕ) (lines : List (List ℕ)) (job : Job) → lines_in number blank_draft lines ≡ Ok job
     → IsValidJob job × (lines ≡ job_lines job ++ [] ∷ [])
 lines_told number lines job h =
     let first = some_taken number blank_draft lines job refl h in
-    let version = version_told blank_draft first.draft' first.line refl first.taken in
-    let later = from_pages_told (number + 1) first.rest job
-    (read_on first (headed AtPages 0 0 0) version.1) in (
+    let head = version_told blank_draft first.draft' first.line refl first.taken in
+    let later = from_pages_told (version_of head.0) (number + 1) first.rest job
+    (read_on first (headed (version_of head.0) AtPages 0 0 0) head.4) in
+    let same : head.0 ≡ version_number job.version =
+    version_numbered head.0 head.2 head.3 ∙ ap (λ (v : Version). version_number v) (sym later.1) in (
       later.0,
-      front first.is version.0 (later.1 ∙ ap (λ (body : List (List ℕ)). (codes "pages" ++ number_field job.pages)
+      front first.is (head.1 ∙ ap (λ (n : ℕ). codes "mesh" ++ number_field n) same)
+          (later.2 ∙ ap (λ (body : List (List ℕ)). (codes "pages" ++ number_field job.pages)
           ∷ (codes "history" ++ number_field job.history) ∷ (codes "workers" ++ number_field (length job.scripts)) ∷ body)
           (sym (sections_end job.scripts job.plan))),
     )

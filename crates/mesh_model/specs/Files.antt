@@ -1,15 +1,17 @@
 -- Reading a job's text: the job, or the first fault with its line. The format is this project's own choice.
-use Rattle.std.specs.Prelude.{ℕ, ◌+◌, ◌-◌, ◌*◌, ◌<◌, ◌≤◌, Bool, true, false, ◌&&◌, not, if◌then◌else◌, nat_eq, nat_le, nat_lt, List, [], ◌∷◌, ◌++◌, Option, Some, None, IsSome, Result, Ok, Err, length, codes, decimal}
+use Rattle.std.specs.Prelude.{ℕ, ◌≡◌, ◌+◌, ◌-◌, ◌*◌, ◌<◌, ◌≤◌, Bool, true, false, ◌&&◌, not, if◌then◌else◌, nat_eq, nat_le, nat_lt, List, [], ◌∷◌, ◌++◌, Option, Some, None, IsSome, Result, Ok, Err, length, codes, decimal}
 use Rattle.std.specs.List.{All, fold, list_all, list_any, slice_split}
 use Rattle.mesh_model.specs.Classes.{row_of}
-use Rattle.mesh_model.specs.Jobs.{Line, RunWorker, PairClass, BeginMesh, StepMesh, CancelMesh, WholeMesh, SweepGroup, MakeReport, Job}
+use Rattle.mesh_model.specs.Jobs.{Line, RunWorker, PairClass, BeginMesh, StepMesh, CancelMesh, StepClass, CancelClass, WholeMesh, SweepGroup, MakeReport, Job}
 use Rattle.mesh_model.specs.Texts.{address_text, output}
 use Rattle.mesh_model.specs.Words.{◌>>=◌, or_refuse, refuse_if}
 use Rattle.mesh_model.specs.declared.commands.Command.{Command}
-use Rattle.mesh_model.specs.declared.commands.Command.TheVariants.{New, Put, Get, Free, Alias, Addr, Peek, Poke}
+use Rattle.mesh_model.specs.declared.commands.Command.TheVariants.{New, Put, Get, Free, Alias, Addr, Peek, Poke, Copy as CopyBytes}
 use Rattle.mesh_model.specs.declared.faults.FaultKind.{FaultKind}
 use Rattle.mesh_model.specs.declared.faults.FaultKind.TheVariants.{TooLong, Trailing, LongLine, Cut, Byte, Word, Number, Hex}
 use Rattle.mesh_model.specs.declared.faults.TextFault.{TextFault}
+use Rattle.mesh_model.specs.declared.versions.Version.{Version}
+use Rattle.mesh_model.specs.declared.versions.Version.TheVariants.{One, Two}
 
 -- the bytes are the same
 abbrev pub are_same : List ℕ → List ℕ → Bool
@@ -108,6 +110,11 @@ abbrev pub three_fields : List (List ℕ) → Result (List ℕ × List ℕ × Li
 three_fields (a ∷ b ∷ c ∷ []) = Ok (a, b, c)
 three_fields fields = Err Word
 
+-- five of them
+abbrev pub five_fields : List (List ℕ) → Result (List ℕ × List ℕ × List ℕ × List ℕ × List ℕ) FaultKind
+five_fields (a ∷ b ∷ c ∷ d ∷ e ∷ []) = Ok (a, b, c, d, e)
+five_fields fields = Err Word
+
 -- none of them
 abbrev pub no_field : List (List ℕ) → Result (Unit {0}) FaultKind
 no_field [] = Ok tt
@@ -154,9 +161,20 @@ peek_in fields = one_field fields >>= λ f. address_in f >>= λ address. Ok (Pee
 abbrev pub poke_in : List (List ℕ) → Result Command FaultKind
 poke_in fields = two_fields fields >>= λ f. address_in f.0 >>= λ address. byte_in f.1 >>= λ byte. Ok (Poke address byte)
 
+-- `copy TO OFF FROM OFF LEN`
+abbrev pub copy_in : List (List ℕ) → Result Command FaultKind
+copy_in fields =
+    five_fields fields >>= λ f. cell_in f.0 >>= λ to. short_in f.1 >>= λ to_off. cell_in f.2 >>= λ from. short_in f.3 >>= λ from_off.
+    number_in 1 32 f.4 >>= λ len. Ok (CopyBytes to to_off from from_off len)
+
+-- the file is of version 2
+abbrev pub is_second : Version → Bool
+is_second One = false
+is_second Two = true
+
 -- a command by its word
-abbrev pub command_in : List ℕ → List (List ℕ) → Result Command FaultKind
-command_in word fields =
+abbrev pub command_in : Version → List ℕ → List (List ℕ) → Result Command FaultKind
+command_in version word fields =
     if are_same word (codes "new") then new_in fields
     else (if are_same word (codes "put") then put_in fields
     else (if are_same word (codes "get") then get_in fields
@@ -164,7 +182,8 @@ command_in word fields =
     else (if are_same word (codes "alias") then alias_in fields
     else (if are_same word (codes "addr") then addr_in fields
     else (if are_same word (codes "peek") then peek_in fields
-    else (if are_same word (codes "poke") then poke_in fields else Err Word)))))))
+    else (if are_same word (codes "poke") then poke_in fields
+    else (if are_same word (codes "copy") && is_second version then copy_in fields else Err Word))))))))
 
 -- `run W`
 abbrev pub run_in : ℕ → List (List ℕ) → Result Line FaultKind
@@ -191,14 +210,23 @@ sweep_in fields = one_field fields >>= λ f. short_in f >>= λ group. Ok (SweepG
 abbrev pub bare_in : Line → List (List ℕ) → Result Line FaultKind
 bare_in line fields = no_field fields >>= λ _. Ok line
 
+-- a line with the size of a class after its word
+abbrev pub of_class_in : (ℕ → Line) → List (List ℕ) → Result Line FaultKind
+of_class_in line fields = one_field fields >>= λ f. class_in f >>= λ class. Ok (line class)
+
+-- `step` or `cancel` in version 1, `step CLASS` or `cancel CLASS` in version 2
+abbrev pub of_mesh_in : Version → Line → (ℕ → Line) → List (List ℕ) → Result Line FaultKind
+of_mesh_in One bare of_class fields = bare_in bare fields
+of_mesh_in Two bare of_class fields = of_class_in of_class fields
+
 -- a line of the plan by its word
-abbrev pub line_in : ℕ → List ℕ → List (List ℕ) → Result Line FaultKind
-line_in workers word fields =
+abbrev pub line_in : Version → ℕ → List ℕ → List (List ℕ) → Result Line FaultKind
+line_in version workers word fields =
     if are_same word (codes "run") then run_in workers fields
     else (if are_same word (codes "pair") then pair_in fields
     else (if are_same word (codes "begin") then begin_in fields
-    else (if are_same word (codes "step") then bare_in StepMesh fields
-    else (if are_same word (codes "cancel") then bare_in CancelMesh fields
+    else (if are_same word (codes "step") then of_mesh_in version StepMesh StepClass fields
+    else (if are_same word (codes "cancel") then of_mesh_in version CancelMesh CancelClass fields
     else (if are_same word (codes "whole") then whole_in fields
     else (if are_same word (codes "sweep") then sweep_in fields
     else (if are_same word (codes "report") then bare_in MakeReport fields else Err Word)))))))
@@ -217,6 +245,7 @@ pub data Section : Type 0 where
 -- a job as far as it was read: the finished scripts, and the one that is being read
 pub record Draft : Type 0 where
   pub section : Section
+  pub version : Version
   pub pages : ℕ
   pub history : ℕ
   pub workers : ℕ
@@ -227,7 +256,7 @@ pub record Draft : Type 0 where
 -- nothing read
 abbrev pub blank_draft : Draft
 blank_draft =
-    record { section = AtVersion; pages = 0; history = 0; workers = 0; finished = []; script = []; plan = [] }
+    record { section = AtVersion; version = One; pages = 0; history = 0; workers = 0; finished = []; script = []; plan = [] }
 
 -- the draft at another section, its script finished
 abbrev pub script_closed : Draft → Section → Draft
@@ -246,17 +275,22 @@ script_line draft worker word fields =
     then (one_field fields >>= λ f. number_in (worker + 1) (worker + 1) f >>= λ next. Ok (script_closed draft (InScript (worker + 1))))
     else (if are_same word (codes "plan") && nat_eq (worker + 1) draft.workers
     then (no_field fields >>= λ _. Ok (script_closed draft InPlan))
-    else (command_in word fields >>= λ command. Ok (record draft { script = draft.script ++ command ∷ [] })))
+    else (command_in draft.version word fields >>= λ command. Ok (record draft { script = draft.script ++ command ∷ [] })))
 
 -- a line in the plan: the end, or a line of the plan
 abbrev pub plan_line : Draft → List ℕ → List (List ℕ) → Result Draft FaultKind
 plan_line draft word fields =
     if are_same word (codes "end") then (no_field fields >>= λ _. Ok (record draft { section = AtEnd }))
-    else (line_in draft.workers word fields >>= λ line. Ok (record draft { plan = draft.plan ++ line ∷ [] }))
+    else (line_in draft.version draft.workers word fields >>= λ line. Ok (record draft { plan = draft.plan ++ line ∷ [] }))
+
+-- the version of a number from 1 to 2
+abbrev pub version_of : ℕ → Version
+version_of n = if nat_eq n 2 then Two else One
 
 -- the fields of a line taken in a section
 abbrev pub take_in : Section → Draft → List ℕ → List (List ℕ) → Result Draft FaultKind
-take_in AtVersion draft word fields = header_in (codes "mesh") 1 1 word fields >>= λ n. Ok (record draft { section = AtPages })
+take_in AtVersion draft word fields =
+    header_in (codes "mesh") 1 2 word fields >>= λ n. Ok (record draft { section = AtPages; version = version_of n })
 take_in AtPages draft word fields =
     header_in (codes "pages") 1 4096 word fields >>= λ n. Ok (record draft { section = AtHistory; pages = n })
 take_in AtHistory draft word fields =
@@ -301,7 +335,7 @@ has_ended section = false
 
 -- the job that a whole draft is
 abbrev pub job_of : Draft → Job
-job_of draft = record { pages = draft.pages; history = draft.history; scripts = draft.finished; plan = draft.plan }
+job_of draft = record { version = draft.version; pages = draft.pages; history = draft.history; scripts = draft.finished; plan = draft.plan }
 
 -- what follows the last line end: nothing, once the end was read
 abbrev pub last_in : ℕ → Draft → List ℕ → Result Job TextFault
@@ -327,29 +361,33 @@ abbrev pub read_text : List ℕ → Result Job TextFault
 read_text bytes =
     refuse_if (fault_at 0 TooLong) (nat_lt 1048576 (length bytes)) >>= λ _. lines_in 1 blank_draft (slice_split (λ b. nat_eq b 10) bytes)
 
--- the ranges of a line of the plan
-abbrev pub IsValidLine : ℕ → Line → Type 0
-IsValidLine workers (RunWorker worker) = worker < workers
-IsValidLine workers (PairClass class t words) =
+-- the ranges of a line of the plan, in a file of this version
+abbrev pub IsValidLine : Version → ℕ → Line → Type 0
+IsValidLine version workers (RunWorker worker) = worker < workers
+IsValidLine version workers (PairClass class t words) =
     (IsSome (row_of class)) × (t ≤ 64) × (length words ≤ 32) × All (λ w. w ≤ 18446744073709551615) words
-IsValidLine workers (BeginMesh source destination) = (source ≤ 65535) × (destination ≤ 65535)
-IsValidLine workers StepMesh = Unit {0}
-IsValidLine workers CancelMesh = Unit {0}
-IsValidLine workers (WholeMesh source destination) = (source ≤ 65535) × (destination ≤ 65535)
-IsValidLine workers (SweepGroup group) = group ≤ 65535
-IsValidLine workers MakeReport = Unit {0}
+IsValidLine version workers (BeginMesh source destination) = (source ≤ 65535) × (destination ≤ 65535)
+IsValidLine version workers StepMesh = version ≡ One
+IsValidLine version workers CancelMesh = version ≡ One
+IsValidLine version workers (StepClass class) = (version ≡ Two) × IsSome (row_of class)
+IsValidLine version workers (CancelClass class) = (version ≡ Two) × IsSome (row_of class)
+IsValidLine version workers (WholeMesh source destination) = (source ≤ 65535) × (destination ≤ 65535)
+IsValidLine version workers (SweepGroup group) = group ≤ 65535
+IsValidLine version workers MakeReport = Unit {0}
 
--- the ranges of a command in a file
-abbrev pub IsValidCommand : Command → Type 0
-IsValidCommand (New cell len word) = (cell ≤ 255) × (len ≤ 65535) × (word ≤ 18446744073709551615)
-IsValidCommand (Put cell off bytes) =
+-- the ranges of a command in a file of this version
+abbrev pub IsValidCommand : Version → Command → Type 0
+IsValidCommand version (New cell len word) = (cell ≤ 255) × (len ≤ 65535) × (word ≤ 18446744073709551615)
+IsValidCommand version (Put cell off bytes) =
     (cell ≤ 255) × (off ≤ 65535) × (1 ≤ length bytes.items) × (length bytes.items ≤ 32) × All (λ b. b ≤ 255) bytes.items
-IsValidCommand (Get cell off len) = (cell ≤ 255) × (off ≤ 65535) × (1 ≤ len) × (len ≤ 32)
-IsValidCommand (Free cell) = cell ≤ 255
-IsValidCommand (Alias to from) = (to ≤ 255) × (from ≤ 255)
-IsValidCommand (Addr cell) = cell ≤ 255
-IsValidCommand (Peek address) = address ≤ 268435455
-IsValidCommand (Poke address byte) = (address ≤ 268435455) × (byte ≤ 255)
+IsValidCommand version (Get cell off len) = (cell ≤ 255) × (off ≤ 65535) × (1 ≤ len) × (len ≤ 32)
+IsValidCommand version (Free cell) = cell ≤ 255
+IsValidCommand version (Alias to from) = (to ≤ 255) × (from ≤ 255)
+IsValidCommand version (Addr cell) = cell ≤ 255
+IsValidCommand version (Peek address) = address ≤ 268435455
+IsValidCommand version (Poke address byte) = (address ≤ 268435455) × (byte ≤ 255)
+IsValidCommand version (CopyBytes to to_off from from_off len) =
+    (version ≡ Two) × (to ≤ 255) × (to_off ≤ 65535) × (from ≤ 255) × (from_off ≤ 65535) × (1 ≤ len) × (len ≤ 32)
 
 -- a job whose numbers are in their ranges
 pub record IsValidJob (job : Job) : Type 0 where
@@ -358,8 +396,8 @@ pub record IsValidJob (job : Job) : Type 0 where
   pub most_history : job.history ≤ 65536
   pub some_worker : 1 ≤ length job.scripts
   pub most_workers : length job.scripts ≤ 64
-  pub commands : All (λ script. All IsValidCommand script) job.scripts
-  pub lines : All (IsValidLine (length job.scripts)) job.plan
+  pub commands : All (λ script. All (IsValidCommand job.version) script) job.scripts
+  pub lines : All (IsValidLine job.version (length job.scripts)) job.plan
 
 -- what a file is replayed to: the output of its job, or its first fault
 abbrev pub replayed : List ℕ → Result (List ℕ) TextFault

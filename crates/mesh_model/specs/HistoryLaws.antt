@@ -1,6 +1,6 @@
 -- Table and memory stay tied, and so every history of a job is legal.
 use Rattle.std.specs.Prelude.{◌≡◌, ℕ, ◌+◌, ◌≤◌, Bool, if◌then◌else◌, nat_eq, List, [], ◌∷◌, ◌++◌, Option, Some, None, Ok, find, length, slice_index_or, map}
-use Rattle.mesh_model.specs.Jobs.{Job, Line, State, answer, answered, opening, state_after}
+use Rattle.mesh_model.specs.Jobs.{Answer, Job, Line, RunWorker, Replied, State, answer, answered, answers_from, opening, state_after}
 use Rattle.mesh_model.specs.Memory.{Memory, Object, next_serial, object_of, with_object, with_root}
 use Rattle.mesh_model.specs.Mesh.{Stepped, begin, cancel, mesh_whole, step}
 use Rattle.mesh_model.specs.Plain.{Entry, IsLegal, Named, PlainStep, made, stored}
@@ -8,6 +8,7 @@ use Rattle.mesh_model.specs.Seats.{calls_of}
 use Rattle.mesh_model.specs.Sound.{IsSound, IsTied}
 use Rattle.mesh_model.specs.Table.{Counted, Mesh, Placed, Table, place_new, sweep, without_object}
 use Rattle.mesh_model.specs.declared.commands.Command.{Command}
+use Rattle.mesh_model.specs.declared.commands.Reply.{Reply}
 
 -- a sweep keeps table and memory tied
 abbrev pub SweepKeepsTied : Type 0
@@ -95,3 +96,27 @@ EntriesBeginScripts = (job : Job) (lines : List Line) (worker : ℕ)
 -- the calls of a worker's entries are these commands with their replies
 abbrev pub CallsHaveCommands : Type 0
 CallsHaveCommands = (worker : ℕ) (entries : List Entry) → map (λ call. call.command) (calls_of worker entries) ≡ commands_of worker entries
+
+-- a reply that a worker was given
+pub record Given : Type 0 where
+  pub worker : ℕ
+  pub reply : Reply
+
+-- what a line of a plan gave a worker: a reply, where it ran one and was answered so
+abbrev pub given_by : Line → Answer → List Given
+given_by (RunWorker worker) (Replied reply) = record { worker = worker; reply = reply } ∷ []
+given_by line answer = []
+
+-- the replies that lines of a plan gave, in the plan's order
+abbrev pub replies_given : List Line → List Answer → List Given
+replies_given (line ∷ lines) (answer ∷ answers) = given_by line answer ++ replies_given lines answers
+replies_given lines answers = []
+
+-- the replies of entries, in their order
+abbrev pub replies_recorded : List Entry → List Given
+replies_recorded entries = map (λ entry. record { worker = entry.worker; reply = entry.reply }) entries
+
+-- the replies among the answers to lines of a plan are those of the entries, each worker's and in the plan's order
+abbrev pub RepliesAreRecorded : Type 0
+RepliesAreRecorded = (job : Job) (lines : List Line)
+    → replies_given lines (answers_from job (opening job) lines) ≡ replies_recorded (state_after job (opening job) lines).entries

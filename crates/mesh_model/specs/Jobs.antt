@@ -1,30 +1,35 @@
 -- A job, and its answers: plain memory and table together walk through the plan. This project's own choice.
 use Rattle.std.specs.Prelude.{ℕ, ◌+◌, Bool, true, false, if◌then◌else◌, nat_le, List, [], ◌∷◌, ◌++◌, Result, Ok, Err, length, slice_index_or, slice_set}
 use Rattle.mesh_model.specs.Memory.{Memory, empty_memory, next_serial}
-use Rattle.mesh_model.specs.Mesh.{any_mesh, begin, step, cancel, mesh_whole, first_mesh, is_blocked, Stepped}
-use Rattle.mesh_model.specs.Plain.{Named, named_by, plain, Entry}
+use Rattle.mesh_model.specs.Mesh.{any_mesh, mesh_of_class, begin, step, cancel, mesh_whole, first_mesh, mesh_in, is_blocked, Stepped}
+use Rattle.mesh_model.specs.Plain.{Named, named_by, both_named, plain, Entry}
 use Rattle.mesh_model.specs.Search.{Found, search, view_of}
 use Rattle.mesh_model.specs.Table.{Table, Counted, Placed, Report, empty_table, place_new, report_of, sweep, without_object}
 use Rattle.mesh_model.specs.declared.commands.Command.{Command}
-use Rattle.mesh_model.specs.declared.commands.Command.TheVariants.{New, Put, Free, Poke}
+use Rattle.mesh_model.specs.declared.commands.Command.TheVariants.{New, Put, Free, Poke, Copy as CopyBytes}
 use Rattle.mesh_model.specs.declared.commands.Reply.{Reply}
 use Rattle.mesh_model.specs.declared.commands.Reply.TheVariants.{Refused}
 use Rattle.mesh_model.specs.declared.commands.StepKind.{StepKind}
 use Rattle.mesh_model.specs.declared.refusals.Refusal.{Refusal}
+use Rattle.mesh_model.specs.declared.versions.Version.{Version}
+use Rattle.mesh_model.specs.declared.versions.Version.TheVariants.{One, Two}
 
--- a line of a job's plan: a worker's attempt, or a call of the mesher
+-- a line of a job's plan: a worker's attempt, or a call of the mesher; a step and a cancel are of the one running mesh, or of that of a class
 pub data Line : Type 0 where
   RunWorker : ℕ → Line
   PairClass : ℕ → ℕ → List ℕ → Line
   BeginMesh : ℕ → ℕ → Line
   StepMesh : Line
   CancelMesh : Line
+  StepClass : ℕ → Line
+  CancelClass : ℕ → Line
   WholeMesh : ℕ → ℕ → Line
   SweepGroup : ℕ → Line
   MakeReport : Line
 
--- a job: physical pages, room of the journal, a script for each worker, and the plan
+-- a job: the version of its file, physical pages, room of the journal, a script for each worker, and the plan
 pub record Job : Type 0 where
+  pub version : Version
   pub pages : ℕ
   pub history : ℕ
   pub scripts : List (List Command)
@@ -97,10 +102,16 @@ abbrev pub put_blocked : Table → ℕ → ℕ → Result Named Refusal → Bool
 put_blocked t off len (Err refusal) = false
 put_blocked t off len (Ok named) = is_blocked t (named.object.address + off) len
 
+-- a copy of so many bytes to an object that a cell names touches a read-only page
+abbrev pub copy_blocked : Table → ℕ → ℕ → Result (Named × Named) Refusal → Bool
+copy_blocked t off len (Err refusal) = false
+copy_blocked t off len (Ok pair) = is_blocked t (pair.0.object.address + off) len
+
 -- the command is held back by a read-only page, if it isn't refused
 abbrev pub touches_read_only : Memory → Table → Command → Bool
 touches_read_only m t (Put cell off bytes) = put_blocked t off (length bytes.items) (named_by m cell)
 touches_read_only m t (Poke address byte) = is_blocked t address 1
+touches_read_only m t (CopyBytes to to_off from from_off len) = copy_blocked t to_off len (both_named m to from)
 touches_read_only m t command = false
 
 -- the reply is a refusal
@@ -153,14 +164,21 @@ abbrev pub step_answered : State → Result Stepped Refusal → Next
 step_answered state (Err refusal) = told state (MesherRefused refusal)
 step_answered state (Ok x) = record { answer = StepMade x.kind x.left; state = record state { table = x.table } }
 
+-- which meshes keep two groups of a class from being meshed: any one, or one of their class
+abbrev pub busy_in : Version → Table → ℕ → Bool
+busy_in One = any_mesh
+busy_in Two = mesh_of_class
+
 -- the answer to a line of the plan, and where the job stands after it
 abbrev pub answer : Job → State → Line → Next
 answer job state (RunWorker worker) = run_next job state worker (slice_index_or state.scripts worker [])
 answer job state (PairClass class t words) = told state (PairsFound (search (view_of state.table class) words t))
-answer job state (BeginMesh source destination) = counted state StepsLeft (begin any_mesh state.table source destination)
+answer job state (BeginMesh source destination) = counted state StepsLeft (begin (busy_in job.version) state.table source destination)
 answer job state StepMesh = step_answered state (step state.table (first_mesh state.table))
 answer job state CancelMesh = counted state StepsLeft (cancel state.table (first_mesh state.table))
-answer job state (WholeMesh source destination) = counted state PagesMeshed (mesh_whole any_mesh state.table source destination)
+answer job state (StepClass class) = step_answered state (step state.table (mesh_in state.table class))
+answer job state (CancelClass class) = counted state StepsLeft (cancel state.table (mesh_in state.table class))
+answer job state (WholeMesh source destination) = counted state PagesMeshed (mesh_whole (busy_in job.version) state.table source destination)
 answer job state (SweepGroup group) = counted state PagesSwept (sweep state.table group)
 answer job state MakeReport = told state (Reported (report_of job.pages state.table))
 

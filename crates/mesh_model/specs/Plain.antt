@@ -1,9 +1,9 @@
 -- The plain step: what one command may answer and leave on a plain memory. This project's own choice.
-use Rattle.std.specs.Prelude.{◌≡◌, ℕ, ◌+◌, ◌-◌, ◌<◌, ◌≤◌, Bool, false, nat_eq, nat_lt, List, [], ◌∷◌, Some, None, Result, Ok, Err, length, slice_index, slice_range}
+use Rattle.std.specs.Prelude.{◌≡◌, ℕ, ◌+◌, ◌-◌, ◌<◌, ◌≤◌, Bool, false, ◌||◌, nat_eq, nat_lt, List, [], ◌∷◌, Some, None, Result, Ok, Err, length, slice_index, slice_range}
 use Rattle.mesh_model.specs.Memory.{Object, Memory, empty_memory, next_serial, object_of, root_of, has_address, holder_of, overwritten, with_new, with_object, with_root}
 use Rattle.mesh_model.specs.Words.{◌>>=◌, or_refuse, refuse_if}
 use Rattle.mesh_model.specs.declared.commands.Command.{Command}
-use Rattle.mesh_model.specs.declared.commands.Command.TheVariants.{New, Put, Get, Free, Alias, Addr, Peek, Poke}
+use Rattle.mesh_model.specs.declared.commands.Command.TheVariants.{New, Put, Get, Free, Alias, Addr, Peek, Poke, Copy as CopyBytes}
 use Rattle.mesh_model.specs.declared.commands.Reply.{Reply}
 use Rattle.mesh_model.specs.declared.commands.Reply.TheVariants.{Object as Made, Done, Bytes, At, Byte, Refused}
 use Rattle.mesh_model.specs.declared.refusals.Refusal.{Refusal}
@@ -18,6 +18,13 @@ pub record Named : Type 0 where
 abbrev pub named_by : Memory → ℕ → Result Named Refusal
 named_by m cell =
     or_refuse Empty (root_of m cell) >>= λ serial. or_refuse Freed (object_of m serial) >>= λ object. Ok (record { serial = serial; object = object })
+
+-- the live objects that two cells name, the first one before the second: both cells are looked at before either object
+abbrev pub both_named : Memory → ℕ → ℕ → Result (Named × Named) Refusal
+both_named m to from =
+    or_refuse Empty (root_of m to) >>= λ s. or_refuse Empty (root_of m from) >>= λ u.
+    or_refuse Freed (object_of m s) >>= λ a. or_refuse Freed (object_of m u) >>= λ b.
+    Ok (record { serial = s; object = a }, record { serial = u; object = b })
 
 -- the live object that has an address
 abbrev pub holding : Memory → ℕ → Result Named Refusal
@@ -57,6 +64,10 @@ plain m address (Peek place) =
     holding m place >>= λ named. Ok (Byte (slice_index named.object.bytes (place - named.object.address)), m)
 plain m address (Poke place byte) =
     holding m place >>= λ named. Ok (Done, stored m named (place - named.object.address) (byte ∷ []))
+plain m address (CopyBytes to to_off from from_off len) =
+    both_named m to from >>= λ pair.
+    refuse_if Outside (ends_outside pair.0.object to_off len || ends_outside pair.1.object from_off len) >>= λ _.
+    Ok (Done, copied m pair.0 to_off pair.1 from_off len)
 
 -- no live object has an address of the range
 abbrev pub IsVacantRange : Memory → ℕ → ℕ → Type 0

@@ -4,7 +4,7 @@ use Rattle.std.specs.List.{All}
 use Rattle.mesh_model.specs.Classes.{row_of}
 use Rattle.mesh_model.specs.Jobs.{Line, Job}
 use Rattle.mesh_model.specs.Texts.{address_text, byte_text, bytes_text, number_field, command_text, line_text, text}
-use Rattle.mesh_model.specs.Files.{number_in, address_in, bytes_in, byte_in, class_in, words_in, Draft, AtVersion, AtPages, AtHistory, AtWorkers, AtFirstWorker, InScript, InPlan, AtEnd, script_closed, take_line, read_text, IsValidLine, IsValidCommand, IsValidJob}
+use Rattle.mesh_model.specs.Files.{number_in, address_in, bytes_in, byte_in, class_in, words_in, Draft, AtVersion, AtPages, AtHistory, AtWorkers, AtFirstWorker, InScript, InPlan, AtEnd, script_closed, take_line, version_of, read_text, IsValidLine, IsValidCommand, IsValidJob}
 use Rattle.mesh_model.specs.declared.commands.Command.{Command}
 
 -- a decimal field that is read is the one spelling of a number in its range
@@ -49,7 +49,7 @@ IsPlanHead draft worker line draft' = (line ≡ codes "plan") × (worker + 1 ≡
 
 -- a line is the text of a command in its ranges, and the draft after it has the command at the end of its script
 abbrev pub IsCommandLine : Draft → List ℕ → Draft → Type 0
-IsCommandLine draft line draft' = (command : Command) × (line ≡ command_text command) × IsValidCommand command
+IsCommandLine draft line draft' = (command : Command) × (line ≡ command_text command) × IsValidCommand draft.version command
     × (draft' ≡ record draft { script = draft.script ++ command ∷ [] })
 
 -- a line is the end, and the draft after it is at its end
@@ -58,13 +58,13 @@ IsEnd draft line draft' = (line ≡ codes "end") × (draft' ≡ record draft { s
 
 -- a line is the text of a line of the plan in its ranges, and the draft after it has it at the end of its plan
 abbrev pub IsPlanLine : Draft → List ℕ → Draft → Type 0
-IsPlanLine draft line draft' = (step : Line) × (line ≡ line_text step) × IsValidLine draft.workers step
+IsPlanLine draft line draft' = (step : Line) × (line ≡ line_text step) × IsValidLine draft.version draft.workers step
     × (draft' ≡ record draft { plan = draft.plan ++ step ∷ [] })
 
 -- the first line that is taken is the version
 abbrev pub VersionIsSpelt : Type 0
 VersionIsSpelt = (draft draft' : Draft) (line : List ℕ) → draft.section ≡ AtVersion → take_line draft line ≡ Ok draft'
-    → (line ≡ codes "mesh 1") × (draft' ≡ record draft { section = AtPages })
+    → IsHeader (codes "mesh") 1 2 (λ n. record draft { section = AtPages; version = version_of n }) line draft'
 
 -- the line of the pages that is taken
 abbrev pub PagesAreSpelt : Type 0

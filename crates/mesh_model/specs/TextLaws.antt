@@ -24,12 +24,12 @@ BytesReadBack = (bytes : List ℕ) → 1 ≤ length bytes → length bytes ≤ 3
 
 -- a command's line goes to the end of the script that is being read
 abbrev pub CommandReadsBack : Type 0
-CommandReadsBack = (draft : Draft) (worker : ℕ) (command : Command) → draft.section ≡ InScript worker → IsValidCommand command
+CommandReadsBack = (draft : Draft) (worker : ℕ) (command : Command) → draft.section ≡ InScript worker → IsValidCommand draft.version command
     → take_line draft (command_text command) ≡ Ok (record draft { script = draft.script ++ command ∷ [] })
 
 -- a line of the plan goes to the end of the plan
 abbrev pub LineReadsBack : Type 0
-LineReadsBack = (draft : Draft) (line : Line) → draft.section ≡ InPlan → draft.workers ≤ 64 → IsValidLine draft.workers line
+LineReadsBack = (draft : Draft) (line : Line) → draft.section ≡ InPlan → draft.workers ≤ 64 → IsValidLine draft.version draft.workers line
     → take_line draft (line_text line) ≡ Ok (record draft { plan = draft.plan ++ line ∷ [] })
 
 -- the text of a job is read as the job

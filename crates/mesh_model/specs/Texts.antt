@@ -1,17 +1,19 @@
 -- The text of jobs and of answers: the one spelling of each line. This project's own choice.
 use Rattle.std.specs.Prelude.{ℕ, zero, suc, ◌+◌, ◌/◌, ◌%◌, if◌then◌else◌, nat_lt, List, [], ◌∷◌, ◌++◌, length, map, codes, decimal}
 use Rattle.std.specs.List.{flat_map}
-use Rattle.mesh_model.specs.Jobs.{Line, RunWorker, PairClass, BeginMesh, StepMesh, CancelMesh, WholeMesh, SweepGroup, MakeReport, Job, Answer, Replied, StoreBlocked, JournalFull, ScriptOver, StepsLeft, StepMade, PagesMeshed, PagesSwept, PairsFound, Reported, MesherRefused, answers}
+use Rattle.mesh_model.specs.Jobs.{Line, RunWorker, PairClass, BeginMesh, StepMesh, CancelMesh, StepClass, CancelClass, WholeMesh, SweepGroup, MakeReport, Job, Answer, Replied, StoreBlocked, JournalFull, ScriptOver, StepsLeft, StepMade, PagesMeshed, PagesSwept, PairsFound, Reported, MesherRefused, answers}
 use Rattle.mesh_model.specs.Refusals.{number_of, name_of}
 use Rattle.mesh_model.specs.Search.{Pairing, Found}
 use Rattle.mesh_model.specs.Table.{Report}
 use Rattle.mesh_model.specs.declared.commands.Command.{Command}
-use Rattle.mesh_model.specs.declared.commands.Command.TheVariants.{New, Put, Get, Free, Alias, Addr, Peek, Poke}
+use Rattle.mesh_model.specs.declared.commands.Command.TheVariants.{New, Put, Get, Free, Alias, Addr, Peek, Poke, Copy as CopyBytes}
 use Rattle.mesh_model.specs.declared.commands.Reply.{Reply}
 use Rattle.mesh_model.specs.declared.commands.Reply.TheVariants.{Object as Made, Done, Bytes, At, Byte, Refused}
 use Rattle.mesh_model.specs.declared.commands.StepKind.{StepKind}
 use Rattle.mesh_model.specs.declared.commands.StepKind.TheVariants.{Protect, Copy, Remap, Unprotect, Release}
 use Rattle.mesh_model.specs.declared.refusals.Refusal.{Refusal}
+use Rattle.mesh_model.specs.declared.versions.Version.{Version}
+use Rattle.mesh_model.specs.declared.versions.Version.TheVariants.{One, Two}
 
 -- the hexadecimal digit of a value below 16, in lower case
 abbrev pub hex_digit : ℕ → ℕ
@@ -52,6 +54,8 @@ command_text (Alias to from) = codes "alias" ++ number_field to ++ number_field 
 command_text (Addr cell) = codes "addr" ++ number_field cell
 command_text (Peek address) = codes "peek" ++ field (address_text address)
 command_text (Poke address byte) = codes "poke" ++ field (address_text address) ++ field (byte_text byte)
+command_text (CopyBytes to to_off from from_off len) =
+    codes "copy" ++ number_field to ++ number_field to_off ++ number_field from ++ number_field from_off ++ number_field len
 
 -- a line of the plan, without its end
 abbrev pub line_text : Line → List ℕ
@@ -60,9 +64,16 @@ line_text (PairClass class t words) = codes "pair" ++ number_field class ++ numb
 line_text (BeginMesh source destination) = codes "begin" ++ number_field source ++ number_field destination
 line_text StepMesh = codes "step"
 line_text CancelMesh = codes "cancel"
+line_text (StepClass class) = codes "step" ++ number_field class
+line_text (CancelClass class) = codes "cancel" ++ number_field class
 line_text (WholeMesh source destination) = codes "whole" ++ number_field source ++ number_field destination
 line_text (SweepGroup group) = codes "sweep" ++ number_field group
 line_text MakeReport = codes "report"
+
+-- the number of a version
+abbrev pub version_number : Version → ℕ
+version_number One = 1
+version_number Two = 2
 
 -- a line with its end
 abbrev pub ended : List ℕ → List ℕ
@@ -77,7 +88,7 @@ sections_from worker (script ∷ scripts) =
 -- the lines of a job, without their ends
 abbrev pub job_lines : Job → List (List ℕ)
 job_lines job =
-    codes "mesh 1" ∷ (codes "pages" ++ number_field job.pages) ∷ (codes "history" ++ number_field job.history)
+    (codes "mesh" ++ number_field (version_number job.version)) ∷ (codes "pages" ++ number_field job.pages) ∷ (codes "history" ++ number_field job.history)
     ∷ (codes "workers" ++ number_field (length job.scripts))
     ∷ (sections_from 0 job.scripts ++ codes "plan" ∷ (map line_text job.plan ++ codes "end" ∷ []))
 

@@ -1,4 +1,4 @@
-//! The eight commands of mutators, their replies, and the kinds of step of a mesh.
+//! The nine commands of mutators, their replies, and the kinds of step of a mesh.
 use crate::Refusal;
 use arrayvec::ArrayVec;
 
@@ -7,7 +7,7 @@ pub const MAX_BYTES: usize = 32;
 
 /// What a mutator asks of the heap. A cell is one of the 256 root cells, which all workers share.
 ///
-/// An offset counts bytes from the object's start. Of `Put` and `Get` 1 to 32 bytes are stored or loaded.
+/// An offset counts bytes from the object's start. Of `Put`, `Get` and `Copy` 1 to 32 bytes are stored, loaded or copied.
 #[derive(Clone, Debug, Drop, PartialEq, Eq)]
 pub enum Command {
     /// `New(cell, len, word)`: make an object of `len` zero bytes, and store its reference in `cell`. The word picks the slot.
@@ -26,6 +26,9 @@ pub enum Command {
     Peek(u32),
     /// `Poke(addr, byte)`: store a byte at an address.
     Poke(u32, u8),
+    /// `Copy(to, to_off, from, from_off, len)`: copy `len` bytes from offset `from_off` of the object that `from` names to offset `to_off` of the
+    /// one that `to` names. Where the two ranges overlap, each byte is the one that was there before.
+    Copy(u8, u32, u8, u32, u32),
 }
 
 /// What a mutator is answered.

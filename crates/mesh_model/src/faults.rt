@@ -1,15 +1,8 @@
-//! The lines of a job's plan, and the faults of its text.
+//! The faults of a job's text.
 ghost use Rattle.std.specs.Prelude.{◌≡◌};
 ghost use Rattle.mesh_model.specs.Faults.{kind_name_of};
 
 use thiserror::Error;
-
-/// One line of a job's plan.
-#[derive(Clone, Copy, Debug, PartialEq, Eq)]
-pub enum PlanLine {
-    /// `Run(w)`: worker `w` attempts its next command.
-    Run(u32),
-}
 
 /// What is wrong with a line of a job's text.
 ///

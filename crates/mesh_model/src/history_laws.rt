@@ -1,5 +1,5 @@
 //! Laws of a job's walk: table and memory stay tied, and so every history is legal. Each is the contract of a function that does nothing.
-ghost use Rattle.mesh_model.specs.HistoryLaws.{SweepKeepsTied, BeginKeepsTied, WholeKeepsTied, CancelKeepsTied, StepKeepsTied, StoreKeepsTied, RootKeepsTied, FreeKeepsTied, NewKeepsTied, AnsweredIsStep, OpeningIsRunning, AnswerKeepsRunning, LinesKeepRunning, HistoryIsLegal, EntriesBeginScripts, CallsHaveCommands};
+ghost use Rattle.mesh_model.specs.HistoryLaws.{SweepKeepsTied, BeginKeepsTied, WholeKeepsTied, CancelKeepsTied, StepKeepsTied, StoreKeepsTied, RootKeepsTied, FreeKeepsTied, NewKeepsTied, AnsweredIsStep, OpeningIsRunning, AnswerKeepsRunning, LinesKeepRunning, HistoryIsLegal, EntriesBeginScripts, CallsHaveCommands, RepliesAreRecorded};
 
 /// A sweep keeps table and memory tied.
 pub fn sweep_keeps_tied()
@@ -50,9 +50,10 @@ pub fn jobs_keep_running()
     ensures lines { LinesKeepRunning }
 {}
 
-/// The history of a job is legal after any lines of a plan.
+/// The history of a job is legal after any lines of a plan, and the replies that the plan's answers tell are its entries', in their order.
 pub fn history_is_legal()
-    ensures { HistoryIsLegal }
+    ensures legal { HistoryIsLegal }
+    ensures replies { RepliesAreRecorded }
 {}
 
 /// What a worker was answered is the beginning of its script.

@@ -21,7 +21,9 @@ pub mod seat_laws;
 pub mod step_laws;
 pub mod table_laws;
 pub mod text_laws;
+mod versions;
 
 pub use commands::{Command, MAX_BYTES, Reply, StepKind};
-pub use faults::{FaultKind, PlanLine, TextFault};
+pub use faults::{FaultKind, TextFault};
 pub use refusals::Refusal;
+pub use versions::Version;
