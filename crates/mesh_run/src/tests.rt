@@ -6,6 +6,7 @@ use crate::{Input, Output, replay_run};
 use std::alloc::Global;
 
 mod arguments;
+mod calls;
 mod devices;
 mod faults;
 mod files;
