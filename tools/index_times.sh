@@ -3,38 +3,17 @@
 #
 #     tools/index_times.sh
 #
-# It works on a copy of the files that git knows, and of what earlier checks kept: there tools/index_times is a crate over mesh_spans, which it
-# proves, builds and runs five times. It prints the least of each figure, in nanoseconds: of `open_slot` alone, of `open_slot`, `occupy`, `record`
-# and `vacate` together, and of these with `totals`. It judges nothing; none of the three should grow with the groups. It ends with status 1 where
-# the program can't be built or run.
-#
-# The crate's files end in `.in` here, since the gate allows no sources that it doesn't check.
+# The program is the crate tools/index_times over mesh_spans, run five times by `tools/times.sh`. It prints the least of each figure, in nanoseconds:
+# of `open_slot` alone, of `open_slot`, `occupy`, `record` and `vacate` together, and of these with `totals`. It judges nothing; none of the three
+# should grow with the groups. It ends with status 1 where the program can't be built or run.
 set -u
-cd "$(dirname "$0")/.."
+cd "$(dirname "$0")/.." || exit 1
 
-copy=$(mktemp -d)
-trap 'rm -rf "$copy"' EXIT
-git ls-files -z | xargs -0 cp --parents -t "$copy"
-for crate in mesh_bits mesh_bins mesh_model mesh_arena mesh_class mesh_spans; do
-    [ ! -d "crates/$crate/out" ] || cp -r "crates/$crate/out" "$copy/crates/$crate/"
-done
-mv "$copy/tools/index_times" "$copy/crates/index_times"
-find "$copy/crates/index_times" -name '*.in' | while read -r file; do
-    mv "$file" "${file%.in}"
-done
-echo "index_times: mesh_model mesh_class mesh_arena mesh_spans anyhow" >> "$copy/crates.txt"
+deps='mesh_model mesh_class mesh_arena mesh_spans anyhow'
+crates='mesh_bits mesh_bins mesh_model mesh_arena mesh_class mesh_spans'
+times=$(tools/times.sh index_times "$deps" $crates) || exit 1
 
-program=$copy/crates/index_times/out/index_times
-(cd "$copy/crates/index_times" && rt run) > "$copy/log" 2>&1
-if [ ! -x "$program" ]; then
-    tail -n 20 "$copy/log" >&2
-    exit 1
-fi
-
-for _ in 1 2 3 4 5; do
-    "$program" || exit 1
-done > "$copy/times" || exit 1
-awk '
+printf '%s\n' "$times" | awk '
     !($1 " " $2 in open) { names[++count] = $1 " " $2; open[$1 " " $2] = $3; pass[$1 " " $2] = $4; totals[$1 " " $2] = $5 }
     { name = $1 " " $2 }
     $3 < open[name] { open[name] = $3 }
@@ -47,4 +26,4 @@ awk '
             printf "%11d %12d %10d %30d %14d\n", shape[1], shape[2], open[names[i]], pass[names[i]], totals[names[i]]
         }
     }
-' "$copy/times"
+'

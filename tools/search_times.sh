@@ -3,38 +3,18 @@
 #
 #     tools/search_times.sh
 #
-# It works on a copy of the files that git knows, and of what earlier checks kept: there tools/search_times is a crate over mesh_search, which it
-# proves, builds and runs five times. The candidates are those of class 16, with one slot in 2 or in 64 occupied; the first mesh with none, the
-# second with most. It prints the least of each figure, in microseconds: of the view of the class, of a shuffle of its numbers, and of a search in
-# 1, 8 and 64 rounds, alone and by 1, 2 and 4 workers. It judges nothing. It ends with status 1 where the program can't be built or run.
-#
-# The crate's files end in `.in` here, since the gate allows no sources that it doesn't check.
+# The program is the crate tools/search_times over mesh_search, run five times by `tools/times.sh`. The candidates are those of class 16, with one
+# slot in 2 or in 64 occupied; the first mesh with none, the second with most. It prints the least of each figure, in microseconds: of the view of
+# the class, of a shuffle of its numbers, and of a search in 1, 8 and 64 rounds, alone and by 1, 2 and 4 workers. It judges nothing. It ends with
+# status 1 where the program can't be built or run.
 set -u
-cd "$(dirname "$0")/.."
+cd "$(dirname "$0")/.." || exit 1
 
-copy=$(mktemp -d)
-trap 'rm -rf "$copy"' EXIT
-git ls-files -z | xargs -0 cp --parents -t "$copy"
-for crate in mesh_bits mesh_bins mesh_model mesh_arena mesh_class mesh_spans mesh_search; do
-    [ ! -d "crates/$crate/out" ] || cp -r "crates/$crate/out" "$copy/crates/$crate/"
-done
-mv "$copy/tools/search_times" "$copy/crates/search_times"
-find "$copy/crates/search_times" -name '*.in' | while read -r file; do
-    mv "$file" "${file%.in}"
-done
-echo "search_times: mesh_model mesh_class mesh_arena mesh_spans mesh_search rand_core rand_xoshiro anyhow" >> "$copy/crates.txt"
+deps='mesh_model mesh_class mesh_arena mesh_spans mesh_search rand_core rand_xoshiro anyhow'
+crates='mesh_bits mesh_bins mesh_model mesh_arena mesh_class mesh_spans mesh_search'
+times=$(tools/times.sh search_times "$deps" $crates) || exit 1
 
-program=$copy/crates/search_times/out/search_times
-(cd "$copy/crates/search_times" && rt run) > "$copy/log" 2>&1
-if [ ! -x "$program" ]; then
-    tail -n 20 "$copy/log" >&2
-    exit 1
-fi
-
-for _ in 1 2 3 4 5; do
-    "$program" || exit 1
-done > "$copy/times" || exit 1
-awk '
+printf '%s\n' "$times" | awk '
     !($1 " " $2 in pairs) { names[++count] = $1 " " $2 }
     { name = $1 " " $2; pairs[name] = $3 }
     { for (i = 4; i <= 9; i++) if (!((name, i) in least) || $i < least[name, i]) least[name, i] = $i }
@@ -47,4 +27,4 @@ awk '
             printf " %9d %10d %10d\n", least[names[k], 7] / 1000, least[names[k], 8] / 1000, least[names[k], 9] / 1000
         }
     }
-' "$copy/times"
+'
