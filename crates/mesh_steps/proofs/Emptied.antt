@@ -23,6 +23,7 @@ use Rattle.mesh_model.specs.declared.refusals.Refusal.TheVariants.{Busy, NoGroup
 use Rattle.mesh_pagemap.specs.Entries.{Entries}
 use Rattle.mesh_spans.specs.Groups.{groups_of, is_in_mesh, table_group}
 use Rattle.mesh_spans.specs.Index.{GroupEntry, Index, IsIndex, SpanEntry, group_at}
+use Rattle.mesh_steps.proofs.GroupNumbers.{group_below}
 use Rattle.mesh_steps.specs.PageHeap.{PageHeap, table_in}
 use Rattle.mesh_steps.specs.Sweeping.{CanUnmap, HasGone}
 
@@ -142,9 +143,3 @@ swept g new n a arena map index sound paged there calm empty gives_pages unmaps 
     (gives_group (layout_of g.index) g.arena arena n a.pages (omega (arith, pages, class))
     (λ j. ap (λ (o : Option GroupEntry). slice_index (pages_in o) j) there) gives_pages) after in
     rw is (both.0, record { table = told; kept = both.1; unmapped = unmaps.gone })
-  where
-    group_below : (groups : List (Option GroupEntry)) (n : ℕ) (a : GroupEntry) → group_at groups n ≡ Some a → n < length groups
-    group_below groups n a there = elim (leb_tells (length groups) n) [
-      | inr less ↦ less.1
-      | inl past ↦ absurd (let two : ◌≡◌ {A = Option GroupEntry} None (Some a) = sym (get_or_past groups n None past.1) ∙ there in cc two)
-    ]

@@ -2,6 +2,7 @@ pub mod Beginning
 pub mod Copies
 pub mod Emptied
 pub mod Flagging
+pub mod GroupNumbers
 pub mod GrowthLemmas
 pub mod Making
 pub mod Objects

@@ -1,8 +1,8 @@
 -- The index after the last step of a mesh, and what each step leaves.
-use Rattle.std.proofs.Common.{◌≡◌, ◌≢◌, ℕ, ◌+◌, ◌*◌, ◌<◌, ◌≤◌, false, not, ◌&&◌, min, nat_eq, length, remove, slice_set, List, Option, Some, None, ap, subst, refl, sym, ◌∙◌, arith, inl, inr}
+use Rattle.std.proofs.Common.{◌≡◌, ◌≢◌, ℕ, ◌+◌, ◌*◌, ◌<◌, ◌≤◌, false, not, ◌&&◌, min, nat_eq, length, remove, slice_set, List, Option, Some, None, ap, subst, refl, ◌∙◌, arith, inl, inr}
 use Rattle.std.specs.Option.{option_map}
-use Rattle.std.proofs.lemmas.Bool.Decides.{eqb_tells, leb_tells}
-use Rattle.std.proofs.lemmas.List.{get_or-set_other, get_or-set_same, get_or_past}
+use Rattle.std.proofs.lemmas.Bool.Decides.{eqb_tells}
+use Rattle.std.proofs.lemmas.List.{get_or-set_other, get_or-set_same}
 use Rattle.std.proofs.Math.ListN.{length-set}
 use Rattle.mesh_arena.specs.Pages.{Pages}
 use Rattle.mesh_class.specs.Classes.{pages_of, slots_of}
@@ -23,16 +23,10 @@ use Rattle.mesh_pagemap.specs.Entries.{Entries, Protects, prot_of}
 use Rattle.mesh_spans.specs.Changes.{Merges, merged_entry, with_mesh}
 use Rattle.mesh_spans.specs.Groups.{groups_of, is_closed, table_group}
 use Rattle.mesh_spans.specs.Index.{GroupEntry, Index, SpanEntry, group_at, span_at}
+use Rattle.mesh_steps.proofs.GroupNumbers.{group_below}
 use Rattle.mesh_steps.proofs.MeshRuns.{Runs, sides}
 use Rattle.mesh_steps.specs.Meshes.{IsCancelled, IsStepped, OpensBoth}
 use Rattle.mesh_steps.specs.PageHeap.{PageHeap, table_in}
-
--- a group is within the list
-within : (groups : List (Option GroupEntry)) (n : ℕ) (a : GroupEntry) → group_at groups n ≡ Some a → n < length groups
-within groups n a there = elim (leb_tells (length groups) n) [
-  | inr less ↦ less.1
-  | inl past ↦ absurd (let two : ◌≡◌ {A = Option GroupEntry} None (Some a) = sym (get_or_past groups n None past.1) ∙ there in cc two)
-]
 
 -- a count that isn't 0
 pub positive : (n : ℕ) → n ≢ 0 → 0 < n
@@ -45,7 +39,7 @@ same_sides this s d source destination = rw (source, destination) refl
 -- the group that two were merged into
 pub merged_group : (old new : Index) (s d : ℕ) (a b : GroupEntry) → Merges old new s d a b → group_at new.groups d ≡ Some (merged_entry a b)
 merged_group old new s d a b merges =
-    let below = within old.groups d b merges.destination in
+    let below = group_below old.groups d b merges.destination in
     let long : length (slice_set old.groups s None) ≡ length old.groups = length-set old.groups s None in
     ap (λ (gs : List (Option GroupEntry)). group_at gs d) merges.groups
     ∙ get_or-set_same (slice_set old.groups s None) d (Some (merged_entry a b)) None (omega (arith, below, long))
@@ -73,10 +67,10 @@ module _ (old mid new : Index) (this : Mesh) (a b : GroupEntry) (two : this.sour
       b = b;
       source = merges.source;
       destination = merges.destination;
-      gone = other_than this.source two ∙ get_or-set_same old.groups this.source None None (within old.groups this.source a merges.source);
+      gone = other_than this.source two ∙ get_or-set_same old.groups this.source None None (group_below old.groups this.source a merges.source);
       merged = ap (λ (gs : List (Option GroupEntry)). group_at gs this.destination) opens.groups
           ∙ get_or-set_same mid.groups this.destination (option_map (with_mesh false) (group_at mid.groups this.destination)) None
-          (within mid.groups this.destination (merged_entry a b) merged_there)
+          (group_below mid.groups this.destination (merged_entry a b) merged_there)
           ∙ ap (option_map (with_mesh false)) merged_there;
       others = λ n not_s not_d. other_than n not_d ∙ get_or-set_other old.groups this.source n None None not_s;
       firsts = λ i. ap (λ (xs : List SpanEntry). (span_at xs i).first) opens.spans ∙ merges.spans.firsts i;

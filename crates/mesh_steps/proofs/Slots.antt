@@ -1,8 +1,8 @@
 -- What an object put into a free slot, and one taken out of its slot, leave of a page heap.
 use Rattle.std.proofs.Common.{◌≡◌, ℕ, ◌+◌, ◌<◌, ◌≤◌, ◌⊎◌, List, Option, Some, None, length, map, replicate, slice_index_or, ap, subst, refl, sym, ◌∙◌, arith, inl, inr}
 use Rattle.std.specs.Option.{option_map}
-use Rattle.std.proofs.lemmas.Bool.Decides.{eqb_tells, leb_tells}
-use Rattle.std.proofs.lemmas.List.{get_or-set_other, get_or-set_same, get_or_past, length-replicate}
+use Rattle.std.proofs.lemmas.Bool.Decides.{eqb_tells}
+use Rattle.std.proofs.lemmas.List.{get_or-set_other, get_or-set_same, length-replicate}
 use Rattle.std.proofs.lemmas.Option.{get_or_from_slice_get, slice_get_within}
 use Rattle.mesh_arena.specs.Pages.{Pages, free_count}
 use Rattle.mesh_class.specs.Classes.{slots_of}
@@ -21,6 +21,7 @@ use Rattle.mesh_model.specs.Table.{Slot, Table, changed_at, emptied_at, slot_add
 use Rattle.mesh_spans.specs.Groups.{groups_of, is_closed}
 use Rattle.mesh_spans.specs.Index.{GroupEntry, Index, IsIndex, address_in, group_at, span_at, with_entry, with_slot}
 use Rattle.mesh_store.specs.Places.{IsOpen, Saves}
+use Rattle.mesh_steps.proofs.GroupNumbers.{group_below}
 use Rattle.mesh_steps.specs.PageHeap.{IsFreeSlot, KeepsOutside, PageHeap, first_page, group_number, table_emptied, table_with_object}
 
 -- the addresses of a free slot are in its group
@@ -62,13 +63,6 @@ pub record IsOccupied (old new : Index) (span k serial len : ℕ) : Type 0 where
   pub table : groups_of new ≡ map (changed_at (group_number old span) (with_object_in k (put_object old span serial len))) (groups_of old)
   pub closed : (n : ℕ) → is_closed new n ≡ is_closed old n
 
--- a group of the index is within its list
-group_below : (index : Index) (n : ℕ) (group : GroupEntry) → group_at index.groups n ≡ Some group → n < length index.groups
-group_below index n group there = elim (leb_tells (length index.groups) n) [
-  | inr less ↦ less.1
-  | inl past ↦ absurd (let none = get_or_past index.groups n None past.1 in let two : ◌≡◌ {A = Option GroupEntry} None (Some group) = sym none ∙ there in cc two)
-]
-
 -- the object stands in the slot where it was put
 put_there : (old new : Index) (class span k serial len : ℕ) → IsFreeSlot old class span k → IsOccupied old new span k serial len
     → (layout_of new).slot (group_number old span) k ≡ Some (put_object old span serial len)
@@ -77,7 +71,7 @@ put_there old new class span k serial len f is =
     let slot : Slot = put_object old span serial len in
     let vacant = f.vacant in
     let there = vacant.there in
-    let below = group_below old n vacant.group there in
+    let below = group_below old.groups n vacant.group there in
     let inside : k < length vacant.group.slots = slice_get_within vacant.group.slots k None vacant.free in
     ap (λ (gs : List (Option GroupEntry)). slice_index_or (slots_in (group_at gs n)) k None) is.groups
     ∙ ap (λ (o : Option GroupEntry). slice_index_or (slots_in o) k None)
@@ -144,7 +138,7 @@ put_others old new class span k serial len f is m j slot filled =
         let entry : Option Slot = Some (put_object old span serial len) in
         let vacant = f.vacant in
         let there = vacant.there in
-        let below = group_below old n vacant.group there in
+        let below = group_below old.groups n vacant.group there in
         let now : slice_index_or vacant.group.slots j None ≡ Some slot = sym (ap (λ (o : Option GroupEntry). slice_index_or (slots_in o) j None) there) ∙ filled' in
         ap (λ (o : Option GroupEntry). slice_index_or (slots_in o) j None)
         (get_or-set_same old.groups n (option_map (with_slot k entry) (group_at old.groups n)) None below)
