@@ -1,4 +1,4 @@
-//! `Heap`: making, reading, writing and freeing objects.
+//! `Heap`: making, reading, writing, copying and freeing objects. The calls of a mesher stand in `meshes`, and what its search sees in `views`.
 ghost use Rattle.std.specs.Prelude.{◌≡◌, ℕ, ◌+◌, ◌-◌, ◌^◌, ◌<◌, ◌≤◌, Ok, Err, Some, [], ◌∷◌, length, List, Option, IfOk, IfErr, IfSome, IfNone, IsSomeAnd, is_ok};
 ghost use Rattle.std.specs.Bool.{OnFalse, OnTrue};
 ghost use Rattle.mesh_model.specs.Mesh.{is_blocked};
