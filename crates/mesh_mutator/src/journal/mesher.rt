@@ -1,7 +1,8 @@
 //! What a mesher asks of a book: its heap's own calls. None of them is recorded, and the journal still ends in what heap and roots stand for.
 ghost use Rattle.std.specs.Prelude.{◌≡◌, length, Err, IfErr, IfOk};
-ghost use Rattle.mesh_model.specs.Mesh.{any_mesh, begin, cancel, mesh_in, mesh_of_class, mesh_whole, step};
-ghost use Rattle.mesh_model.specs.Search.{views};
+ghost use Rattle.std.specs.Option.{option_map};
+ghost use Rattle.mesh_model.specs.Mesh.{any_mesh, begin, cancel, first_mesh, mesh_in, mesh_of_class, mesh_whole, step};
+ghost use Rattle.mesh_model.specs.Search.{view_of, views};
 ghost use Rattle.mesh_model.specs.Table.{report_of, sweep};
 ghost use Rattle.mesh_mutator.specs.Book.{table_of_book};
 ghost use Rattle.mesh_mutator.specs.Mesher.{KeepsBook};
@@ -22,6 +23,13 @@ impl Book {
         ensures { IfOk result (λ list. list.items ≡ views (table_of_book self.now)) }
     {
         self.heap.views(alloc)
+    }
+
+    /// The groups of one class that may be paired. An error is want of memory.
+    pub fn view(&self, alloc: Global, class: Class) -> Result<ClassView, AllocError>
+        ensures { IfOk result (λ view. view ≡ view_of (table_of_book self.now) class) }
+    {
+        self.heap.view(alloc, class)
     }
 
     /// Begins a mesh of the group `source` into the group `destination`, and answers how many steps are to come.
@@ -105,6 +113,13 @@ impl Book {
         ensures { result ≡ mesh_of_class (table_of_book self.now) class }
     {
         self.heap.running(class)
+    }
+
+    /// The class of the running mesh that began first, None where no mesh runs.
+    pub fn first_running(&self) -> Option<Class>
+        ensures { result ≡ option_map (λ mesh. mesh.class) (first_mesh (table_of_book self.now)) }
+    {
+        self.heap.first_running()
     }
 
     /// What the heap counts: live objects and their bytes, mapped and taken pages, and how many pages meshing saves.

@@ -1,6 +1,7 @@
 //! The meshes of a heap: what a mesher asks of it.
 ghost use Rattle.std.specs.Prelude.{◌≡◌, Err, Ok, IfErr, IfOk, IsOk};
-ghost use Rattle.mesh_model.specs.Mesh.{any_mesh, begin, cancel, mesh_in, mesh_of_class, mesh_whole, step};
+ghost use Rattle.std.specs.Option.{option_map};
+ghost use Rattle.mesh_model.specs.Mesh.{any_mesh, begin, cancel, first_mesh, mesh_in, mesh_of_class, mesh_whole, step};
 ghost use Rattle.mesh_model.specs.MeshLaws.{steps_of_class};
 ghost use Rattle.mesh_model.specs.Table.{sweep};
 ghost use Rattle.mesh_steps.specs.Heap.{table_of};
@@ -98,6 +99,13 @@ impl Heap {
         ensures { result ≡ mesh_of_class (table_of self.now) class }
     {
         self.pages.is_busy(Busy::OfClass, class)
+    }
+
+    /// The class of the running mesh that began first, None where no mesh runs.
+    pub fn first_running(&self) -> Option<Class>
+        ensures { result ≡ option_map (λ mesh. mesh.class) (first_mesh (table_of self.now)) }
+    {
+        self.pages.first_running()
     }
 
     // Begins a mesh, where no running mesh keeps its class busy.

@@ -1,10 +1,10 @@
 //! What a mesher's search sees of a heap.
 ghost use Rattle.std.specs.Prelude.{◌≡◌, IfOk};
-ghost use Rattle.mesh_model.specs.Search.{views};
+ghost use Rattle.mesh_model.specs.Search.{view_of, views};
 ghost use Rattle.mesh_steps.specs.Heap.{table_of};
 
 use super::Heap;
-use mesh_class::all_classes;
+use mesh_class::{Class, all_classes};
 use mesh_search::ClassView;
 use std::alloc::{AllocError, Global};
 
@@ -15,8 +15,15 @@ impl Heap {
     {
         let mut views = Vec::new(alloc);
         for class in all_classes() {
-            views.push(self.pages.view(alloc, class)?)?;
+            views.push(self.view(alloc, class)?)?;
         }
         Ok(views)
+    }
+
+    /// The groups of one class that may be paired. An error is want of memory.
+    pub fn view(&self, alloc: Global, class: Class) -> Result<ClassView, AllocError>
+        ensures { IfOk result (λ view. view ≡ view_of (table_of self.now) class) }
+    {
+        self.pages.view(alloc, class)
     }
 }
