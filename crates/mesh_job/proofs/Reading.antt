@@ -1,6 +1,5 @@
 -- The lines of a text, one by one.
-use Rattle.std.proofs.Common.{◌≡◌, ℕ, ◌+◌, ◌<◌, ◌≤◌, true, false, List, [], ◌∷◌, Result, Ok, Err, length, ap, refl, sym, subst, ◌∙◌, arith, inl, inr}
-use Rattle.std.specs.Prelude.{slice_index_or}
+use Rattle.std.proofs.Common.{◌≡◌, ℕ, ◌+◌, ◌≤◌, true, false, List, [], ◌∷◌, Result, Ok, Err, length, ap, refl, ◌∙◌, arith}
 use Rattle.std.specs.List.{list_all}
 use Rattle.std.proofs.lemmas.Bool.{lt-leb}
 use Rattle.mesh_model.specs.Files.{Draft, has_ended, is_printable, lines_in, or_fault, take_fields, take_line}
@@ -9,7 +8,7 @@ use Rattle.mesh_model.specs.Words.{◌>>=◌}
 use Rattle.mesh_model.specs.declared.faults.FaultKind.{FaultKind}
 use Rattle.mesh_model.specs.declared.faults.FaultKind.TheVariants.{Byte}
 use Rattle.mesh_model.specs.declared.faults.TextFault.{TextFault}
-use Rattle.mesh_job.specs.Reading.{IsFaultOfFields, IsFaultOfLine, IsFaultyLine, IsMesherCall, IsReadOn, line_at, line_fields, text_lines}
+use Rattle.mesh_job.specs.Reading.{IsFaultOfLine, IsFaultOfStep, IsFaultyLine, IsReadOn, line_fields, text_lines}
 use Rattle.mesh_job.specs.declared.faults.LineFault.{LineFault}
 use Rattle.mesh_job.specs.declared.faults.LineFault.TheVariants.{Kind as LineKind, Memory as LineMemory}
 use Rattle.mesh_job.proofs.Splits.{Parts, some_part}
@@ -55,19 +54,10 @@ line_taken text line rest draft draft' is going taken number =
     line_step text line rest number draft is.lines going
     ∙ ap (after_line number (text_lines rest)) (fields_taken draft line is.short is.printable ∙ taken)
 
--- a line that is ended is not the last one
-two_lines : (text line rest : List ℕ) → text_lines text ≡ line ∷ text_lines rest → 1 < length (text_lines text)
-two_lines text line rest is =
-    omega (arith, ap (λ (lines : List (List ℕ)). length lines) is, ap (λ (lines : List (List ℕ)). length lines) (some_part 10 rest).is)
-
 -- a fault of a line's fields is one of the line
 pub line_fault : (text line rest : List ℕ) (draft : Draft) (fault : LineFault) → IsLine text line rest → has_ended draft.section ≡ false
-    → IsFaultOfFields draft (line_fields line) fault → IsFaultOfLine draft text fault
-line_fault text line rest draft (LineKind kind) is going (inl refused) = inl (λ number.
+    → IsFaultOfStep (take_fields draft (line_fields line)) fault → IsFaultOfLine draft text fault
+line_fault text line rest draft (LineKind kind) is going refused = λ number.
     line_step text line rest number draft is.lines going
-    ∙ ap (after_line number (text_lines rest)) (fields_taken draft line is.short is.printable ∙ refused))
-line_fault text line rest draft (LineKind kind) is going (inr asks) =
-    let taken : take_line draft (line_at text 1) ≡ take_fields draft (line_fields line) =
-    ap (λ (lines : List (List ℕ)). take_line draft (slice_index_or lines 0 [])) is.lines ∙ fields_taken draft line is.short is.printable in
-    inr (two_lines text line rest is.lines, subst (IsMesherCall draft) (sym taken) asks.0, asks.1)
+    ∙ ap (after_line number (text_lines rest)) (fields_taken draft line is.short is.printable ∙ refused)
 line_fault text line rest draft LineMemory is going h = tt

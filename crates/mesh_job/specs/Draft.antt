@@ -2,7 +2,7 @@
 use Rattle.std.specs.Prelude.{◌≡◌, ◌<◌, ◌≤◌, Bool, true, false, [], length, map}
 use Rattle.std.specs.List.{All}
 use Rattle.mesh_model.specs.Files.{Section as PlainSection, Draft as PlainDraft, AtVersion, AtPages, AtHistory, AtWorkers, AtFirstWorker, InScript, InPlan, AtEnd, IsValidLine}
-use Rattle.mesh_job.specs.Job.{line_of}
+use Rattle.mesh_job.specs.Plan.{line_of}
 use Rattle.mesh_job.specs.declared.draft.Section.{Section}
 use Rattle.mesh_job.specs.declared.draft.Section.TheVariants.{Version, Pages, History, Workers, FirstWorker, Worker, Plan, Ended}
 use Rattle.mesh_job.specs.declared.draft.Draft.{Draft}
@@ -22,6 +22,7 @@ section_of Ended = AtEnd
 abbrev pub draft_of : Draft → PlainDraft
 draft_of d = record {
   section = section_of d.section;
+  version = d.version;
   pages = d.pages;
   history = d.history;
   workers = d.workers;
@@ -50,9 +51,9 @@ HasHistory d = HasPages d × (d.history ≤ 65536)
 abbrev pub HasWorkers : Draft → Type 0
 HasWorkers d = HasHistory d × (1 ≤ d.workers) × (d.workers ≤ 64)
 
--- each worker has its script, and the plan runs no other worker
+-- each worker has its script, and the plan has the lines of its version and runs no other worker
 abbrev pub HasScripts : Draft → Type 0
-HasScripts d = HasWorkers d × (length d.scripts.items ≡ d.workers) × All (IsValidLine d.workers) (map line_of d.plan.items)
+HasScripts d = HasWorkers d × (length d.scripts.items ≡ d.workers) × All (IsValidLine d.version d.workers) (map line_of d.plan.items)
 
 -- what was read before this section is in the draft
 abbrev pub HasAllBefore : Section → Draft → Type 0

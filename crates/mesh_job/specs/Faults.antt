@@ -1,6 +1,6 @@
 -- Why a file can't be read.
-use Rattle.std.specs.Prelude.{ℕ, List}
-use Rattle.mesh_job.specs.Reading.{IsFaultOf}
+use Rattle.std.specs.Prelude.{◌≡◌, ℕ, List, Err}
+use Rattle.mesh_model.specs.Files.{read_text}
 use Rattle.mesh_job.specs.declared.faults.LineFault.{LineFault}
 use Rattle.mesh_job.specs.declared.faults.LineFault.TheVariants.{Kind as LineKind, Memory as LineMemory}
 use Rattle.mesh_job.specs.declared.faults.ReadFault.{ReadFault}
@@ -11,7 +11,7 @@ abbrev pub read_fault_at : LineFault → ℕ → ReadFault
 read_fault_at (LineKind kind) line = ReadText (record { line = line; kind = kind })
 read_fault_at LineMemory line = ReadMemory
 
--- why a text gave no job: a fault of it, or want of memory
+-- why a text gave no job: its first fault, or want of memory
 abbrev pub IsReadFault : List ℕ → ReadFault → Type 0
-IsReadFault text (ReadText fault) = IsFaultOf text fault
+IsReadFault text (ReadText fault) = read_text text ≡ Err fault
 IsReadFault text ReadMemory = Unit {0}

@@ -1,20 +1,24 @@
 //! The command lines: the fields of each, from left to right.
 ghost use Rattle.std.specs.Prelude.{◌≡◌, IfOk};
 ghost use Rattle.mesh_model.specs.Commands.{IsInRange};
-ghost use Rattle.mesh_model.specs.Files.{addr_in, alias_in, command_in, free_in, get_in, new_in, peek_in, poke_in, put_in};
+ghost use Rattle.mesh_model.specs.Files.{addr_in, alias_in, command_in, copy_in, free_in, get_in, is_second, new_in, peek_in, poke_in, put_in};
 ghost use Rattle.mesh_job.specs.Reading.{texts};
 
 use crate::hex::{address, byte, bytes};
-use crate::lines::{is_word, one_field, three_fields, two_fields};
+use crate::lines::{five_fields, is_word, one_field, three_fields, two_fields};
 use crate::numbers::{cell, number, number32};
-use mesh_model::{Command, FaultKind};
+use mesh_model::{Command, FaultKind, Version};
 
-/// The greatest length that a `new` may ask for, and the greatest offset of a `put` or a `get`.
+/// The greatest length that a `new` may ask for, and the greatest offset of a `put`, a `get` or a `copy`.
 const MOST_LENGTH: u32 = 65_535;
 
-/// The command of a line with this word and these fields. WORD where there is no such command, or another number of fields.
-pub(crate) fn command_of(word: &[u8], fields: &[&[u8]]) -> Result<Command, FaultKind>
-    ensures value { result ≡ command_in word.now (texts fields.now) }
+/// The command of a line with this word and these fields. WORD where the version has no such command, or another number of fields.
+pub(crate) fn command_of(
+    version: Version,
+    word: &[u8],
+    fields: &[&[u8]],
+) -> Result<Command, FaultKind>
+    ensures value { result ≡ command_in version word.now (texts fields.now) }
     ensures in_range { IfOk result IsInRange }
 {
     if is_word(word, b"new") {
@@ -33,8 +37,20 @@ pub(crate) fn command_of(word: &[u8], fields: &[&[u8]]) -> Result<Command, Fault
         peek_of(fields)
     } else if is_word(word, b"poke") {
         poke_of(fields)
+    } else if is_word(word, b"copy") && is_second(version) {
+        copy_of(fields)
     } else {
         Err(FaultKind::Word)
+    }
+}
+
+/// Whether a file is of version 2.
+fn is_second(version: Version) -> bool
+    ensures { result ≡ is_second version }
+{
+    match version {
+        Version::One => false,
+        Version::Two => true,
     }
 }
 
@@ -124,4 +140,18 @@ fn poke_of(fields: &[&[u8]]) -> Result<Command, FaultKind>
     let at = address(at)?;
     let stored = byte(stored)?;
     Ok(Command::Poke(at, stored))
+}
+
+/// `copy TO OFF FROM OFF LEN`
+fn copy_of(fields: &[&[u8]]) -> Result<Command, FaultKind>
+    ensures value { result ≡ copy_in (texts fields.now) }
+    ensures in_range { IfOk result IsInRange }
+{
+    let (to, to_off, from, from_off, len) = five_fields(fields)?;
+    let to = cell(to)?;
+    let to_off = number32(to_off, 0, MOST_LENGTH)?;
+    let from = cell(from)?;
+    let from_off = number32(from_off, 0, MOST_LENGTH)?;
+    let count = number32(len, 1, 32)?;
+    Ok(Command::Copy(to, to_off, from, from_off, count))
 }

@@ -1,17 +1,17 @@
 //! The job as far as its file was read, line by line.
-ghost use Rattle.std.specs.Prelude.{◌≡◌, ◌<◌, true, false, [], ◌∷◌, ◌++◌, Ok, Err, drop, length, OnOk, IfOk, IfErr};
+ghost use Rattle.std.specs.Prelude.{◌≡◌, ◌<◌, true, false, [], ◌∷◌, ◌++◌, Ok, Err, length, OnOk, IfOk, IfErr};
 ghost use Rattle.std.specs.List.{list_any};
-ghost use Rattle.mesh_model.specs.Files.{blank_draft, has_ended, is_empty, job_of, plan_line, script_line, take_fields, take_in};
+ghost use Rattle.mesh_model.specs.Files.{blank_draft, has_ended, is_empty, job_of, plan_line, script_line, take_fields, take_in, version_of};
 ghost use Rattle.mesh_job.specs.Draft.{IsDraft, draft_of, is_in_header, section_of};
-ghost use Rattle.mesh_job.specs.Reading.{IsFaultOfFields, IsFaultOfLine, IsFaultOfPlan, IsFaultOfStep, IsReadOn, text_lines, texts};
+ghost use Rattle.mesh_job.specs.Reading.{IsFaultOfLine, IsFaultOfStep, IsReadOn, texts};
 
 use crate::commands::command_of;
 use crate::faults::LineFault;
 use crate::lines::{fields_of, header, is_word, next_line, no_field, one_field};
-use crate::mesher::mesher_call;
 use crate::numbers::number32;
-use crate::{Job, Plan, Script, Scripts};
-use mesh_model::{FaultKind, PlanLine};
+use crate::plan_lines::plan_line;
+use crate::{Job, Plan, PlanLine, Script, Scripts};
+use mesh_model::{FaultKind, Version};
 use std::alloc::Global;
 use std::mem;
 
@@ -26,7 +26,7 @@ const MOST_WORKERS: u32 = 64;
 /// Where in its file a line stands.
 #[derive(Clone, Copy)]
 enum Section {
-    /// `mesh 1` comes next.
+    /// `mesh 1` or `mesh 2` comes next.
     Version,
     /// `pages P` comes next.
     Pages,
@@ -49,6 +49,7 @@ enum Section {
 pub(crate) struct Draft {
     alloc: Global,
     section: Section,
+    version: Version,
     pages: u32,
     history: u32,
     workers: u32,
@@ -68,6 +69,7 @@ impl Draft {
         Draft {
             alloc,
             section: Section::Version,
+            version: Version::One,
             pages: 0,
             history: 0,
             workers: 0,
@@ -93,7 +95,6 @@ impl Draft {
         requires going { has_ended (draft_of self.old).section ≡ false }
         ensures draft { OnOk result (IsDraft self.new) }
         ensures shorter { IfOk result (λ rest. length rest.now < length text.now) }
-        ensures lines { IfOk result (λ rest. drop 1 (text_lines text.now) ≡ text_lines rest.now) }
         ensures ok { IfOk result (λ rest. IsReadOn (draft_of self.old) text.now (draft_of self.new) rest.now) }
         ensures err { IfErr result (λ fault. IsFaultOfLine (draft_of self.old) text.now fault) }
     {
@@ -109,7 +110,7 @@ impl Draft {
         requires filled { list_any is_empty (texts fields.now) ≡ false }
         ensures draft { OnOk result (IsDraft self.new) }
         ensures ok { OnOk result (take_fields (draft_of self.old) (texts fields.now) ≡ Ok (draft_of self.new)) }
-        ensures err { IfErr result (λ fault. IsFaultOfFields (draft_of self.old) (texts fields.now) fault) }
+        ensures err { IfErr result (IsFaultOfStep (take_fields (draft_of self.old) (texts fields.now))) }
     {
         let [word, fields @ ..] = fields else {
             return Err(LineFault::Kind(FaultKind::Word));
@@ -131,7 +132,7 @@ impl Draft {
     {
         match self.section {
             Section::Version => {
-                header(word, fields, b"mesh", 1, 1)?;
+                self.version = version_of(header(word, fields, b"mesh", 1, 2)?);
                 self.section = Section::Pages;
             }
             Section::Pages => {
@@ -179,31 +180,26 @@ impl Draft {
             close_script(self.alloc, &mut self.script, &mut self.scripts)?;
             self.section = Section::Plan;
         } else {
-            let command = command_of(word, fields)?;
+            let command = command_of(self.version, word, fields)?;
             self.script.push(command)?;
         }
         Ok(())
     }
 
-    /// Takes a line in the section of the plan: a turn of a worker, or the end. WORD where it asks for a call of the mesher, which
-    /// there isn't yet.
+    /// Takes a line in the section of the plan: a line of the plan, or the end.
     fn take_in_plan(&mut self, word: &[u8], fields: &[&[u8]]) -> Result<(), LineFault>
         requires section { self.old.section ≡ Section.Plan }
         requires draft { IsDraft self.old }
         ensures draft { OnOk result (IsDraft self.new) }
         ensures ok { OnOk result (plan_line (draft_of self.old) word.now (texts fields.now) ≡ Ok (draft_of self.new)) }
-        ensures err { IfErr result (λ fault. IsFaultOfPlan (draft_of self.old) word.now (texts fields.now) fault) }
+        ensures err { IfErr result (IsFaultOfStep (plan_line (draft_of self.old) word.now (texts fields.now))) }
     {
         if is_word(word, b"end") {
             no_field(fields)?;
             self.section = Section::Ended;
-        } else if is_word(word, b"run") {
-            let field = one_field(fields)?;
-            let worker = number32(field, 0, self.workers - 1)?;
-            self.plan.push(PlanLine::Run(worker))?;
         } else {
-            mesher_call(word, fields)?;
-            return Err(LineFault::Kind(FaultKind::Word));
+            let line = plan_line(self.alloc, self.version, self.workers, word, fields)?;
+            self.plan.push(line)?;
         }
         Ok(())
     }
@@ -215,11 +211,23 @@ impl Draft {
         ensures { result ≡ job_of (draft_of self) }
     {
         Job {
+            version: self.version,
             pages: self.pages,
             history: self.history,
             scripts: Scripts::new(self.scripts),
             plan: Plan::new(self.plan),
         }
+    }
+}
+
+/// The version of this number.
+fn version_of(number: u32) -> Version
+    ensures { result ≡ version_of number }
+{
+    if number == 2 {
+        Version::Two
+    } else {
+        Version::One
     }
 }
 

@@ -1,9 +1,8 @@
 //! What a job file says.
-ghost use Rattle.std.specs.Prelude.{◌≡◌, ◌<◌, ◌≤◌, length, map, slice_index_or};
-ghost use Rattle.mesh_job.specs.Job.{line_of};
+ghost use Rattle.std.specs.Prelude.{◌≡◌, ◌<◌, ◌≤◌, length, slice_index_or};
 
-use crate::Script;
-use mesh_model::PlanLine;
+use crate::{Plan, Script};
+use mesh_model::Version;
 use std::marker::Model;
 
 /// The scripts of a job's workers, 1 to 64 of them. Worker `w` has the script at place `w`.
@@ -51,44 +50,14 @@ impl Scripts {
     }
 }
 
-/// The lines of a job's plan, in their order.
-#[derive(Debug, Drop)]
-pub struct Plan {
-    lines: Vec<PlanLine>,
-}
-
-impl Model for Plan {
-    ghost use Rattle.std.specs.Prelude.{List, map};
-    ghost use Rattle.mesh_model.specs.Jobs.{Line};
-    ghost use Rattle.mesh_job.specs.Job.{line_of};
-
-    ghost Value = { List Line };
-
-    ghost view = { λ p. map line_of p.lines.items };
-}
-
-impl Plan {
-    /// A plan of these lines.
-    pub fn new(lines: Vec<PlanLine>) -> Self
-        ensures { result ≡ map line_of lines.items }
-    {
-        Plan { lines }
-    }
-
-    /// The lines, from the first.
-    pub fn lines(&self) -> &[PlanLine]
-        ensures { map line_of result.now ≡ self.now }
-    {
-        self.lines.as_slice()
-    }
-}
-
 /// A job: the size of a heap, the scripts of the workers that use it, and the plan by which they take turns.
 ///
 /// Its type keeps the limits: 1 to 4,096 pages, a journal of at most 65,536 entries, and a plan that runs only workers that there
-/// are. The limits are this project's own choice.
+/// are and has the lines of the job's version alone. The limits are this project's own choice.
 #[derive(Debug, Drop)]
 pub struct Job {
+    /// The version of its file.
+    pub version: Version,
     /// How many physical pages the arena has.
     pub pages: u32,
     /// How many entries the journal has room for.
@@ -106,7 +75,7 @@ impl Model for Job {
 
     ghost Value = { PlainJob };
 
-    ghost view = { λ j. record { pages = j.pages; history = j.history; scripts = j.scripts; plan = j.plan } };
+    ghost view = { λ j. record { version = j.version; pages = j.pages; history = j.history; scripts = j.scripts; plan = j.plan } };
 
-    ghost invariant = { λ j. IsJob j.pages j.history (length j.scripts) j.plan };
+    ghost invariant = { λ j. IsJob j.version j.pages j.history (length j.scripts) j.plan };
 }

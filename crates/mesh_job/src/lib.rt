@@ -12,13 +12,15 @@ mod faults;
 mod hex;
 mod job;
 mod lines;
-mod mesher;
 mod numbers;
+mod plan;
+mod plan_lines;
 mod reader;
 mod script;
 
 pub use faults::ReadFault;
-pub use job::{Job, Plan, Scripts};
-pub use mesh_model::{Command, FaultKind, PlanLine, TextFault};
+pub use job::{Job, Scripts};
+pub use mesh_model::{Command, FaultKind, TextFault, Version};
+pub use plan::{Plan, PlanLine};
 pub use reader::{MOST_FILE_BYTES, read_file};
 pub use script::Script;

@@ -1,7 +1,7 @@
 //! A text cut into lines, and a line cut into its fields.
 ghost use Rattle.std.specs.Prelude.{◌≡◌, ◌<◌, ◌≤◌, ◌⊎◌, ◌∷◌, [], Ok, Err, true, false, ◌++◌, length, take, nat_eq, IfSome, IfOk, IfErr, IsNone, OnOk, OnErr};
 ghost use Rattle.std.specs.List.{list_all, list_any, slice_split};
-ghost use Rattle.mesh_model.specs.Files.{are_same, header_in, is_empty, is_printable, no_field, one_field, three_fields, two_fields};
+ghost use Rattle.mesh_model.specs.Files.{are_same, five_fields, header_in, is_empty, is_printable, no_field, one_field, three_fields, two_fields};
 ghost use Rattle.mesh_job.specs.Reading.{IsFaultyLine, line_fields, text_lines, texts};
 
 use crate::numbers::number32;
@@ -157,6 +157,19 @@ pub(crate) fn three_fields<'a>(
 {
     match fields {
         [first, second, third] => Ok((*first, *second, *third)),
+        _ => Err(FaultKind::Word),
+    }
+}
+
+/// The five fields behind a line's word. WORD where there are more or fewer.
+pub(crate) fn five_fields<'a>(
+    fields: &[&'a [u8]],
+) -> Result<(&'a [u8], &'a [u8], &'a [u8], &'a [u8], &'a [u8]), FaultKind>
+    ensures ok { IfOk result (λ f. five_fields (texts fields.now) ≡ Ok (f.0.now, f.1.now, f.2.now, f.3.now, f.4.now)) }
+    ensures err { IfErr result (λ kind. five_fields (texts fields.now) ≡ Err kind) }
+{
+    match fields {
+        [first, second, third, fourth, fifth] => Ok((*first, *second, *third, *fourth, *fifth)),
         _ => Err(FaultKind::Word),
     }
 }

@@ -14,9 +14,8 @@ pub const MOST_FILE_BYTES: usize = 1_048_576;
 /// The job that a file's bytes spell.
 ///
 /// The lines are read in order, and the first that has a fault is told, numbered from 1, with the first kind of `FaultKind` that
-/// holds for it. The file's length is tested before any line. A line of the plan that has no fault and asks for a call of the
-/// mesher is told as WORD, since there are no such calls yet. Memory is answered where a growth of the job is refused. The format of
-/// the file is this project's own choice.
+/// holds for it. The file's length is tested before any line. Memory is answered where a growth of the job is refused. The format
+/// of the file is this project's own choice.
 pub fn read_file(alloc: Global, bytes: &[u8]) -> Result<Job, ReadFault>
     ensures ok { IfOk result (λ job. read_text bytes.now ≡ Ok job) }
     ensures fault { IfErr result (IsReadFault bytes.now) }

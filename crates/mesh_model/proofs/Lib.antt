@@ -18,7 +18,7 @@ mod JobHistories
 mod JobPages
 mod JobReplies
 mod KeptRecords
-mod LineReadings
+pub mod LineReadings
 pub mod MadeObjects
 pub mod Meanings
 mod MeshClasses

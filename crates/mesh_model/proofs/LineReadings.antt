@@ -293,6 +293,11 @@ step_told version workers word fields step some =
     (chosen P word (codes "sweep") (sweep_in fields) _ step (sweep_told version workers fields step)
     (chosen P word (codes "report") (bare_in MakeReport fields) (Err Word) step (bare_told version workers MakeReport fields step refl tt) (λ h. absurd (cc h)))))))))
 
+-- what is taken as a line of a plan is in its ranges
+pub line_in_range : (version : Version) (workers : ℕ) (word : List ℕ) (fields : List (List ℕ)) (line : Line) → 1 ≤ workers
+    → line_in version workers word fields ≡ Ok line → IsValidLine version workers line
+line_in_range version workers word fields line some h = (step_told version workers word fields line some h).2
+
 -- a line that was taken: its word and its fields, taken in the draft's section
 record Taken (draft : Draft) (line : List ℕ) (draft' : Draft) : Type 0 where
   pub word : List ℕ

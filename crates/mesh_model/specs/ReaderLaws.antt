@@ -4,8 +4,9 @@ use Rattle.std.specs.List.{All}
 use Rattle.mesh_model.specs.Classes.{row_of}
 use Rattle.mesh_model.specs.Jobs.{Line, Job}
 use Rattle.mesh_model.specs.Texts.{address_text, byte_text, bytes_text, number_field, command_text, line_text, text}
-use Rattle.mesh_model.specs.Files.{number_in, address_in, bytes_in, byte_in, class_in, words_in, Draft, AtVersion, AtPages, AtHistory, AtWorkers, AtFirstWorker, InScript, InPlan, AtEnd, script_closed, take_line, version_of, read_text, IsValidLine, IsValidCommand, IsValidJob}
+use Rattle.mesh_model.specs.Files.{number_in, address_in, bytes_in, byte_in, class_in, words_in, line_in, Draft, AtVersion, AtPages, AtHistory, AtWorkers, AtFirstWorker, InScript, InPlan, AtEnd, script_closed, take_line, version_of, read_text, IsValidLine, IsValidCommand, IsValidJob}
 use Rattle.mesh_model.specs.declared.commands.Command.{Command}
+use Rattle.mesh_model.specs.declared.versions.Version.{Version}
 
 -- a decimal field that is read is the one spelling of a number in its range
 abbrev pub NumberIsSpelt : Type 0
@@ -95,6 +96,11 @@ ScriptLineIsSpelt = (draft draft' : Draft) (worker : ℕ) (line : List ℕ) → 
 abbrev pub PlanLineIsSpelt : Type 0
 PlanLineIsSpelt = (draft draft' : Draft) (line : List ℕ) → draft.section ≡ InPlan → 1 ≤ draft.workers → take_line draft line ≡ Ok draft'
     → IsEnd draft line draft' ⊎ IsPlanLine draft line draft'
+
+-- what is taken as a line of a plan is in its ranges
+abbrev pub LineIsInRange : Type 0
+LineIsInRange = (version : Version) (workers : ℕ) (word : List ℕ) (fields : List (List ℕ)) (line : Line) → 1 ≤ workers
+    → line_in version workers word fields ≡ Ok line → IsValidLine version workers line
 
 -- a text that is read is the text of its job, which is in its ranges, and the text is no longer than a text may be
 abbrev pub ReadIsText : Type 0

@@ -1,7 +1,7 @@
-use Rattle.std.proofs.Common.{◌≡◌, ◌≤◌, true, length, inl, rules, arith}
+use Rattle.std.proofs.Common.{◌≡◌, ◌≤◌, ◌∙◌, true, length, rules, arith}
 use Rattle.mesh_model.specs.Files.{has_ended}
 use Rattle.mesh_job.specs.Draft.{draft_of}
-use Rattle.mesh_job.proofs.FileEnds.{file_fault, file_trailing, line_read}
+use Rattle.mesh_job.proofs.FileEnds.{file_fault, file_trailing}
 use Rattle.mesh_job.proofs.reader.read_file.Goals as goal
 
 pub loop-draft-preserved : goal.loop-draft-preserved
@@ -11,7 +11,7 @@ loop-draft-preserved c =
       draft = taken.draft;
       first = omega arith;
       counted = omega (arith, taken.shorter);
-      read = line_read c.args.bytes.now c.loop-draft.rest.now c.in-Ok.behind.now c.loop-draft.number (draft_of c.loop-draft.draft) (draft_of c.take_line.new.self) so_far.first so_far.read taken.lines taken.ok;
+      read = so_far.read ∙ taken.ok c.loop-draft.number;
     }
 
 pub returns-then-not-is_empty-clause-fault : goal.returns-then-not-is_empty-clause-fault
@@ -19,7 +19,7 @@ returns-then-not-is_empty-clause-fault c =
     let ended : has_ended (draft_of c.loop-draft.draft).section ≡ true = search rules in
     let some : 1 ≤ length c.loop-draft.rest.now = search rules in
     rw c.fault_at-then-not-is_empty.ensures
-    (inl (file_trailing c.args.bytes.now c.loop-draft.rest.now c.loop-draft.number (draft_of c.loop-draft.draft) c.loop-draft.invariant.read some ended))
+    (file_trailing c.args.bytes.now c.loop-draft.rest.now c.loop-draft.number (draft_of c.loop-draft.draft) c.loop-draft.invariant.read some ended)
 
 pub returns-in-Err-clause-fault : goal.returns-in-Err-clause-fault
 returns-in-Err-clause-fault c =

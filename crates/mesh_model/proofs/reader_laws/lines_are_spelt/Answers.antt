@@ -1,4 +1,4 @@
-use Rattle.mesh_model.proofs.LineReadings.{version_told, pages_told, history_told, workers_told, first_worker_told, script_line_told, plan_line_told}
+use Rattle.mesh_model.proofs.LineReadings.{line_in_range, version_told, pages_told, history_told, workers_told, first_worker_told, script_line_told, plan_line_told}
 use Rattle.mesh_model.proofs.reader_laws.lines_are_spelt.Goals as goal
 
 pub returns-clause-version : goal.returns-clause-version
@@ -21,3 +21,6 @@ returns-clause-script c draft draft' worker line here h = script_line_told draft
 
 pub returns-clause-plan : goal.returns-clause-plan
 returns-clause-plan c draft draft' line here some h = plan_line_told draft draft' line here some h
+
+pub returns-clause-ranges : goal.returns-clause-ranges
+returns-clause-ranges c = line_in_range

@@ -1,0 +1,23 @@
+-- The lines of a plan as the definitions have them.
+use Rattle.std.specs.Prelude.{Result, Ok, Err}
+use Rattle.mesh_model.specs.Jobs.{Line, RunWorker, PairClass, BeginMesh, StepMesh, CancelMesh, StepClass as StepsClass, CancelClass as CancelsClass, WholeMesh, SweepGroup, MakeReport}
+use Rattle.mesh_job.specs.declared.plan.PlanLine.{PlanLine}
+use Rattle.mesh_job.specs.declared.plan.PlanLine.TheVariants.{Run, Pair, Begin, Step, Cancel, StepClass, CancelClass, Whole, Sweep, Report}
+
+-- a line of a plan as the definitions have it
+abbrev pub line_of : PlanLine → Line
+line_of (Run worker) = RunWorker worker
+line_of (Pair class rounds words) = PairClass class rounds words.items
+line_of (Begin source destination) = BeginMesh source destination
+line_of Step = StepMesh
+line_of Cancel = CancelMesh
+line_of (StepClass class) = StepsClass class
+line_of (CancelClass class) = CancelsClass class
+line_of (Whole source destination) = WholeMesh source destination
+line_of (Sweep group) = SweepGroup group
+line_of Report = MakeReport
+
+-- a line that was read as the definitions have it, or its fault
+abbrev pub read_line : {E : Type 0} → Result PlanLine E → Result Line E
+read_line (Ok line) = Ok (line_of line)
+read_line (Err fault) = Err fault
