@@ -14,7 +14,7 @@ use Rattle.mesh_model.specs.Plain.{Named, Follows, ends_outside, holding, made, 
 use Rattle.mesh_model.specs.Table.{Placed, Table, place_new, without_object}
 use Rattle.mesh_model.specs.Words.{◌>>=◌, refuse_if}
 use Rattle.mesh_model.specs.declared.commands.Command.{Command}
-use Rattle.mesh_model.specs.declared.commands.Command.TheVariants.{New, Put, Get, Free, Alias, Addr, Peek, Poke}
+use Rattle.mesh_model.specs.declared.commands.Command.TheVariants.{New, Put, Get, Free, Alias, Addr, Peek, Poke, Copy}
 use Rattle.mesh_model.specs.declared.commands.Reply.{Reply}
 use Rattle.mesh_model.specs.declared.commands.Reply.TheVariants.{Object as Made, Done as ReplyDone, Bytes, At, Byte, Refused as ReplyRefused}
 use Rattle.mesh_model.specs.declared.refusals.Refusal.{Refusal}
@@ -146,9 +146,10 @@ keeps_same (Alias to from) h = refl
 keeps_same (Addr cell) h = refl
 keeps_same (Peek addr) h = refl
 keeps_same (Poke addr byte) h = tt
+keeps_same (Copy to to_off from from_off len) h = tt
 
 -- a command that is answered with a refusal and changes nothing
-answered_refused : (h h' : Heap) (cells : Cells) (command : Command) (refusal : Refusal)
+pub answered_refused : (h h' : Heap) (cells : Cells) (command : Command) (refusal : Refusal)
     → IsOutcome h' cells (answered (memory_in h cells) (table_of h) command) (ReplyRefused refusal) → h' ≡ h
     → IsAnswered h h' cells cells command (ReplyRefused refusal)
 answered_refused h h' cells command refusal outcome same = record {
@@ -244,7 +245,7 @@ freed_keeps m s serial live is = elim (object_with m s serial None live is) [
 ]
 
 -- what a reference names, or holds an address, is live
-referred_live : (m : Memory) (object : Ref) (named : Named) → referred m object ≡ Ok named → object_of m named.serial ≡ Some named.object
+pub referred_live : (m : Memory) (object : Ref) (named : Named) → referred m object ≡ Ok named → object_of m named.serial ≡ Some named.object
 referred_live m object named is = go (object_of m object.serial) refl
   where
     go : (o : Option Object) → object_of m object.serial ≡ o → object_of m named.serial ≡ Some named.object
@@ -337,7 +338,7 @@ referred_serial m object named is = go (object_of m object.serial) refl
       | inr other ↦ absurd (let two : Err Freed ≡ Ok named = subst (λ (x : Result Named Refusal). x ≡ Ok named) (rw (e, other.0) refl) is in cc two)
     ]
 
-referred_address : (m : Memory) (object : Ref) (named : Named) → referred m object ≡ Ok named → named.object.address ≡ object.addr
+pub referred_address : (m : Memory) (object : Ref) (named : Named) → referred m object ≡ Ok named → named.object.address ≡ object.addr
 referred_address m object named is = go (object_of m object.serial) refl
   where
     go : (o : Option Object) → object_of m object.serial ≡ o → named.object.address ≡ object.addr

@@ -1,4 +1,5 @@
 pub mod Answering
 pub mod Chains
+pub mod Copying
 pub mod Booking
 pub mod KeptBooks

@@ -1,6 +1,6 @@
 -- Which commands only look.
 use Rattle.mesh_model.specs.declared.commands.Command.{Command}
-use Rattle.mesh_model.specs.declared.commands.Command.TheVariants.{New, Put, Get, Free, Alias, Addr, Peek, Poke}
+use Rattle.mesh_model.specs.declared.commands.Command.TheVariants.{New, Put, Get, Free, Alias, Addr, Peek, Poke, Copy}
 use Rattle.std.specs.Prelude.{◌≤◌}
 
 -- the command reads and changes nothing
@@ -13,3 +13,4 @@ IsLook (Alias to from) = ⊥
 IsLook (Addr cell) = Unit {0}
 IsLook (Peek addr) = Unit {0}
 IsLook (Poke addr byte) = ⊥
+IsLook (Copy to to_off from from_off len) = ⊥

@@ -7,7 +7,7 @@ use Rattle.mesh_model.specs.Memory.{Memory, Object, object_of}
 use Rattle.mesh_model.specs.Plain.{Entry, Follows, IsLegal, named_by, plain}
 use Rattle.mesh_model.specs.Table.{Table}
 use Rattle.mesh_model.specs.declared.commands.Command.{Command}
-use Rattle.mesh_model.specs.declared.commands.Command.TheVariants.{Addr, Alias, Free, Get, New, Peek, Poke, Put}
+use Rattle.mesh_model.specs.declared.commands.Command.TheVariants.{Addr, Alias, Copy, Free, Get, New, Peek, Poke, Put}
 use Rattle.mesh_model.specs.declared.commands.Reply.{Reply}
 use Rattle.mesh_model.specs.declared.commands.Reply.TheVariants.{Done as ReplyDone, Refused as ReplyRefused}
 use Rattle.mesh_mutator.specs.Codes.{entry_code, ref_code}
@@ -70,6 +70,7 @@ KeepsHeap (Alias to from) h h' = h' ≡ h
 KeepsHeap (Addr cell) h h' = h' ≡ h
 KeepsHeap (Peek addr) h h' = h' ≡ h
 KeepsHeap (Poke addr byte) h h' = Unit {0}
+KeepsHeap (Copy to to_off from from_off len) h h' = Unit {0}
 
 -- what an answered command does to heap and cells: what the definition says, held back by nothing; and where it is refused, nothing
 pub record IsAnswered (h h' : Heap) (cells cells' : Cells) (command : Command) (reply : Reply) : Type 0 where

@@ -6,7 +6,7 @@ use mathlib.Core.Logic.{inl, inr}
 use Rattle.mesh_model.specs.Plain.{Entry}
 use Rattle.mesh_model.specs.Refusals.{number_of}
 use Rattle.mesh_model.specs.declared.commands.Command.{Command}
-use Rattle.mesh_model.specs.declared.commands.Command.TheVariants.{New, Put, Get, Free, Alias, Addr, Peek, Poke}
+use Rattle.mesh_model.specs.declared.commands.Command.TheVariants.{New, Put, Get, Free, Alias, Addr, Peek, Poke, Copy}
 use Rattle.mesh_model.specs.declared.commands.Reply.{Reply}
 use Rattle.mesh_model.specs.declared.commands.Reply.TheVariants.{Object, Done, Bytes, At, Byte, Refused}
 use Rattle.mesh_model.specs.declared.refusals.Refusal.{Refusal}
@@ -52,7 +52,7 @@ refusal_code = code_by ℕ coded_ℕ number_of refusal_at refusal_again
 
 -- the parts of a command, by its kind
 abbrev CommandParts : Type 0
-CommandParts = (ℕ × (ℕ × ℕ)) ⊎ ((ℕ × (ℕ × List ℕ)) ⊎ ((ℕ × (ℕ × ℕ)) ⊎ (ℕ ⊎ ((ℕ × ℕ) ⊎ (ℕ ⊎ (ℕ ⊎ (ℕ × ℕ)))))))
+CommandParts = (ℕ × (ℕ × ℕ)) ⊎ ((ℕ × (ℕ × List ℕ)) ⊎ ((ℕ × (ℕ × ℕ)) ⊎ (ℕ ⊎ ((ℕ × ℕ) ⊎ (ℕ ⊎ (ℕ ⊎ ((ℕ × ℕ) ⊎ (ℕ × (ℕ × (ℕ × (ℕ × ℕ)))))))))))
 
 abbrev command_parts : Command → CommandParts
 command_parts (New cell len word) = inl (cell, (len, word))
@@ -62,7 +62,8 @@ command_parts (Free cell) = inr (inr (inr (inl cell)))
 command_parts (Alias to from) = inr (inr (inr (inr (inl (to, from)))))
 command_parts (Addr cell) = inr (inr (inr (inr (inr (inl cell)))))
 command_parts (Peek addr) = inr (inr (inr (inr (inr (inr (inl addr))))))
-command_parts (Poke addr byte) = inr (inr (inr (inr (inr (inr (inr (addr, byte)))))))
+command_parts (Poke addr byte) = inr (inr (inr (inr (inr (inr (inr (inl (addr, byte))))))))
+command_parts (Copy to to_off from from_off len) = inr (inr (inr (inr (inr (inr (inr (inr (to, (to_off, (from, (from_off, len)))))))))))
 
 abbrev command_of_parts : CommandParts → Command
 command_of_parts (inl p) = New p.0 p.1.0 p.1.1
@@ -72,7 +73,8 @@ command_of_parts (inr (inr (inr (inl cell)))) = Free cell
 command_of_parts (inr (inr (inr (inr (inl p))))) = Alias p.0 p.1
 command_of_parts (inr (inr (inr (inr (inr (inl cell)))))) = Addr cell
 command_of_parts (inr (inr (inr (inr (inr (inr (inl addr))))))) = Peek addr
-command_of_parts (inr (inr (inr (inr (inr (inr (inr p))))))) = Poke p.0 p.1
+command_of_parts (inr (inr (inr (inr (inr (inr (inr (inl p)))))))) = Poke p.0 p.1
+command_of_parts (inr (inr (inr (inr (inr (inr (inr (inr p)))))))) = Copy p.0 p.1.0 p.1.1.0 p.1.1.1.0 p.1.1.1.1
 
 pub command_again : (c : Command) → command_of_parts (command_parts c) ≡ c
 command_again (New cell len word) = refl
@@ -83,13 +85,15 @@ command_again (Alias to from) = refl
 command_again (Addr cell) = refl
 command_again (Peek addr) = refl
 command_again (Poke addr byte) = refl
+command_again (Copy to to_off from from_off len) = refl
 
 -- a command is stored as its parts
 abbrev pub command_code : Coded Command
 command_code = code_by CommandParts
     (coded⊎ (coded× coded_ℕ (coded× coded_ℕ coded_ℕ)) (coded⊎ (coded× coded_ℕ (coded× coded_ℕ (coded_list coded_ℕ)))
     (coded⊎ (coded× coded_ℕ (coded× coded_ℕ coded_ℕ)) (coded⊎ coded_ℕ (coded⊎ (coded× coded_ℕ coded_ℕ)
-    (coded⊎ coded_ℕ (coded⊎ coded_ℕ (coded× coded_ℕ coded_ℕ))))))))
+    (coded⊎ coded_ℕ (coded⊎ coded_ℕ (coded⊎ (coded× coded_ℕ coded_ℕ)
+    (coded× coded_ℕ (coded× coded_ℕ (coded× coded_ℕ (coded× coded_ℕ coded_ℕ))))))))))))
     command_parts command_of_parts command_again
 
 -- the parts of a reply, by its kind

@@ -41,6 +41,9 @@ pub fn perform(heap: &mut Heap, roots: &mut Roots, command: &Command) -> Attempt
         Command::Addr(cell) => Attempt::Done(address(heap, roots, *cell)),
         Command::Peek(addr) => Attempt::Done(peek(heap, roots, *addr)),
         Command::Poke(addr, byte) => poke(heap, roots, *addr, *byte),
+        Command::Copy(to, to_off, from, from_off, len) => {
+            copy(heap, roots, *to, *to_off, *from, *from_off, *len)
+        }
     }
 }
 
@@ -77,6 +80,32 @@ fn put(heap: &mut Heap, roots: &Roots, cell: u8, off: u32, bytes: &[u8]) -> Atte
         Some(object) => stored(heap.write(object, off, bytes)),
         None => Attempt::Done(Reply::Refused(Refusal::Empty)),
     }
+}
+
+// Copies bytes from the object that one cell names to that of another.
+fn copy(
+    heap: &mut Heap,
+    roots: &Roots,
+    to: u8,
+    to_off: u32,
+    from: u8,
+    from_off: u32,
+    len: u32,
+) -> Attempt
+    requires some { 1 ≤ len }
+    requires few { len ≤ 32 }
+    requires rooted { AreRooted heap.old roots.now }
+    ensures performed { IsPerformed heap.old heap.new roots.now roots.now (Command.Copy to to_off from from_off len) result }
+    ensures rooted { AreRooted heap.new roots.now }
+    ensures serial { heap.new.next_serial ≡ heap.old.next_serial }
+{
+    let Some(target) = roots.get(to) else {
+        return Attempt::Done(Reply::Refused(Refusal::Empty));
+    };
+    let Some(source) = roots.get(from) else {
+        return Attempt::Done(Reply::Refused(Refusal::Empty));
+    };
+    stored(heap.copy(target, to_off, source, from_off, len))
 }
 
 // Stores a byte at an address.

@@ -53,6 +53,9 @@ fn command_again(command: &Command) -> Command
         Command::Addr(cell) => Command::Addr(*cell),
         Command::Peek(addr) => Command::Peek(*addr),
         Command::Poke(addr, byte) => Command::Poke(*addr, *byte),
+        Command::Copy(to, to_off, from, from_off, len) => {
+            Command::Copy(*to, *to_off, *from, *from_off, *len)
+        }
     }
 }
 

@@ -89,8 +89,8 @@ impl Book {
 
     /// One attempt of a worker at a command.
     ///
-    /// HistoryFull comes before all else, where the journal is at its reserved length; then come refusals, then Blocked of a `Put` or a
-    /// `Poke` that touches a read-only page, then OutOfMemory of a `New` that needs a new span. Only a Done attempt is recorded.
+    /// HistoryFull comes before all else, where the journal is at its reserved length; then come refusals, then Blocked of a `Put`, a `Poke`
+    /// or a `Copy` that writes to a read-only page, then OutOfMemory of a `New` that needs a new span. Only a Done attempt is recorded.
     pub fn act(&mut self, worker: u32, command: &Command) -> Attempt
         requires { IsInRange command.now }
         ensures attempt { IsAttempt self.old self.new worker command.now result }
