@@ -28,7 +28,7 @@ abbrev pub alias_of_one_cell_answer : Result (List ℕ) TextFault
 alias_of_one_cell_answer = Err (record { line = 7; kind = Word })
 
 abbrev pub another_version_file : List ℕ
-another_version_file = codes "mesh 2\n"
+another_version_file = codes "mesh 3\n"
 
 abbrev pub another_version_answer : Result (List ℕ) TextFault
 another_version_answer = Err (record { line = 1; kind = Number })
@@ -69,6 +69,18 @@ byte_of_three_digits_file = codes "mesh 1\npages 4\nhistory 8\nworkers 1\nworker
 abbrev pub byte_of_three_digits_answer : Result (List ℕ) TextFault
 byte_of_three_digits_answer = Err (record { line = 7; kind = Hex })
 
+abbrev pub cancel_of_no_class_file : List ℕ
+cancel_of_no_class_file = codes "mesh 2\npages 1\nhistory 1\nworkers 1\nworker 0\nplan\ncancel 48\nend\n"
+
+abbrev pub cancel_of_no_class_answer : Result (List ℕ) TextFault
+cancel_of_no_class_answer = Err (record { line = 7; kind = Number })
+
+abbrev pub cancel_without_class_file : List ℕ
+cancel_without_class_file = codes "mesh 2\npages 1\nhistory 1\nworkers 1\nworker 0\nplan\ncancel\nend\n"
+
+abbrev pub cancel_without_class_answer : Result (List ℕ) TextFault
+cancel_without_class_answer = Err (record { line = 7; kind = Word })
+
 abbrev pub carriage_return_file : List ℕ
 carriage_return_file = codes "mesh 1" ++ 13 ∷ codes "\n"
 
@@ -81,11 +93,41 @@ cell_256_file = codes "mesh 1\npages 4\nhistory 8\nworkers 1\nworker 0\nnew 0 64
 abbrev pub cell_256_answer : Result (List ℕ) TextFault
 cell_256_answer = Err (record { line = 7; kind = Number })
 
+abbrev pub copy_from_cell_256_file : List ℕ
+copy_from_cell_256_file = codes "mesh 2\npages 1\nhistory 1\nworkers 1\nworker 0\ncopy 0 0 256 0 1\nplan\nend\n"
+
+abbrev pub copy_from_cell_256_answer : Result (List ℕ) TextFault
+copy_from_cell_256_answer = Err (record { line = 6; kind = Number })
+
 abbrev pub copy_is_no_command_file : List ℕ
 copy_is_no_command_file = codes "mesh 1\npages 4\nhistory 8\nworkers 1\nworker 0\nnew 0 64 0\ncopy 0 0 0 0 0\n"
 
 abbrev pub copy_is_no_command_answer : Result (List ℕ) TextFault
 copy_is_no_command_answer = Err (record { line = 7; kind = Word })
+
+abbrev pub copy_of_33_bytes_file : List ℕ
+copy_of_33_bytes_file = codes "mesh 2\npages 1\nhistory 1\nworkers 1\nworker 0\ncopy 0 0 1 0 33\nplan\nend\n"
+
+abbrev pub copy_of_33_bytes_answer : Result (List ℕ) TextFault
+copy_of_33_bytes_answer = Err (record { line = 6; kind = Number })
+
+abbrev pub copy_of_four_fields_file : List ℕ
+copy_of_four_fields_file = codes "mesh 2\npages 1\nhistory 1\nworkers 1\nworker 0\ncopy 0 0 1 0\nplan\nend\n"
+
+abbrev pub copy_of_four_fields_answer : Result (List ℕ) TextFault
+copy_of_four_fields_answer = Err (record { line = 6; kind = Word })
+
+abbrev pub copy_of_no_byte_file : List ℕ
+copy_of_no_byte_file = codes "mesh 2\npages 1\nhistory 1\nworkers 1\nworker 0\ncopy 0 0 1 0 0\nplan\nend\n"
+
+abbrev pub copy_of_no_byte_answer : Result (List ℕ) TextFault
+copy_of_no_byte_answer = Err (record { line = 6; kind = Number })
+
+abbrev pub copy_to_offset_65536_file : List ℕ
+copy_to_offset_65536_file = codes "mesh 2\npages 1\nhistory 1\nworkers 1\nworker 0\ncopy 0 65536 1 0 1\nplan\nend\n"
+
+abbrev pub copy_to_offset_65536_answer : Result (List ℕ) TextFault
+copy_to_offset_65536_answer = Err (record { line = 6; kind = Number })
 
 abbrev pub cut_line_file : List ℕ
 cut_line_file = codes "mesh 1\npages 4\nhistory 8\nworkers 1\nworker 0\nnew 0 64 0\nput 0 0 68"
@@ -308,6 +350,18 @@ step_of_a_class_file = codes "mesh 1\npages 4\nhistory 8\nworkers 1\nworker 0\nn
 
 abbrev pub step_of_a_class_answer : Result (List ℕ) TextFault
 step_of_a_class_answer = Err (record { line = 9; kind = Word })
+
+abbrev pub step_of_two_classes_file : List ℕ
+step_of_two_classes_file = codes "mesh 2\npages 1\nhistory 1\nworkers 1\nworker 0\nplan\nstep 16 32\nend\n"
+
+abbrev pub step_of_two_classes_answer : Result (List ℕ) TextFault
+step_of_two_classes_answer = Err (record { line = 7; kind = Word })
+
+abbrev pub step_without_class_file : List ℕ
+step_without_class_file = codes "mesh 2\npages 1\nhistory 1\nworkers 1\nworker 0\nplan\nstep\nend\n"
+
+abbrev pub step_without_class_answer : Result (List ℕ) TextFault
+step_without_class_answer = Err (record { line = 7; kind = Word })
 
 abbrev pub sweep_of_group_65536_file : List ℕ
 sweep_of_group_65536_file = codes "mesh 1\npages 4\nhistory 8\nworkers 1\nworker 0\nnew 0 64 0\nplan\nrun 0\nsweep 65536\n"

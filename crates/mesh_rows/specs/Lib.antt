@@ -2,7 +2,9 @@ pub use Rattle.mesh_model.specs.Files
 pub mod Abandoned
 pub mod Cancels
 pub mod Faults
+pub mod Interleavings
 pub mod Mutators
 pub mod Searches
 pub mod SmallSteps
+pub mod Version2
 pub mod WholeMeshes

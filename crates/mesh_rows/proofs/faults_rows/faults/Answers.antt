@@ -47,6 +47,14 @@ pub returns-clause-byte_of_three_digits : goal.returns-clause-byte_of_three_digi
 unfolding pages_of slots_of digits
 returns-clause-byte_of_three_digits c = refl
 
+pub returns-clause-cancel_of_no_class : goal.returns-clause-cancel_of_no_class
+unfolding pages_of slots_of digits
+returns-clause-cancel_of_no_class c = refl
+
+pub returns-clause-cancel_without_class : goal.returns-clause-cancel_without_class
+unfolding pages_of slots_of digits
+returns-clause-cancel_without_class c = refl
+
 pub returns-clause-carriage_return : goal.returns-clause-carriage_return
 unfolding pages_of slots_of digits
 returns-clause-carriage_return c = refl
@@ -55,9 +63,29 @@ pub returns-clause-cell_256 : goal.returns-clause-cell_256
 unfolding pages_of slots_of digits
 returns-clause-cell_256 c = refl
 
+pub returns-clause-copy_from_cell_256 : goal.returns-clause-copy_from_cell_256
+unfolding pages_of slots_of digits
+returns-clause-copy_from_cell_256 c = refl
+
 pub returns-clause-copy_is_no_command : goal.returns-clause-copy_is_no_command
 unfolding pages_of slots_of digits
 returns-clause-copy_is_no_command c = refl
+
+pub returns-clause-copy_of_33_bytes : goal.returns-clause-copy_of_33_bytes
+unfolding pages_of slots_of digits
+returns-clause-copy_of_33_bytes c = refl
+
+pub returns-clause-copy_of_four_fields : goal.returns-clause-copy_of_four_fields
+unfolding pages_of slots_of digits
+returns-clause-copy_of_four_fields c = refl
+
+pub returns-clause-copy_of_no_byte : goal.returns-clause-copy_of_no_byte
+unfolding pages_of slots_of digits
+returns-clause-copy_of_no_byte c = refl
+
+pub returns-clause-copy_to_offset_65536 : goal.returns-clause-copy_to_offset_65536
+unfolding pages_of slots_of digits
+returns-clause-copy_to_offset_65536 c = refl
 
 pub returns-clause-cut_line : goal.returns-clause-cut_line
 unfolding pages_of slots_of digits
@@ -206,6 +234,14 @@ returns-clause-space_at_the_end c = refl
 pub returns-clause-step_of_a_class : goal.returns-clause-step_of_a_class
 unfolding pages_of slots_of digits
 returns-clause-step_of_a_class c = refl
+
+pub returns-clause-step_of_two_classes : goal.returns-clause-step_of_two_classes
+unfolding pages_of slots_of digits
+returns-clause-step_of_two_classes c = refl
+
+pub returns-clause-step_without_class : goal.returns-clause-step_without_class
+unfolding pages_of slots_of digits
+returns-clause-step_without_class c = refl
 
 pub returns-clause-sweep_of_group_65536 : goal.returns-clause-sweep_of_group_65536
 unfolding pages_of slots_of digits
