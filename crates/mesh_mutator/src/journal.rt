@@ -5,7 +5,7 @@ ghost use Rattle.mesh_model.specs.Memory.{empty_memory};
 ghost use Rattle.mesh_model.specs.Plain.{IsLegal};
 ghost use Rattle.mesh_model.specs.Table.{empty_table};
 ghost use Rattle.mesh_mutator.specs.Attempts.{IsLook};
-ghost use Rattle.mesh_mutator.specs.Book.{IsAttempt, IsLooked, memory_of_book, table_of_book};
+ghost use Rattle.mesh_mutator.specs.Book.{IsAttempt, IsLooked, memory_in, memory_of_book, table_of_book};
 ghost use Rattle.mesh_mutator.specs.declared.attempts.Attempt.{Attempt};
 ghost use Rattle.mesh_steps.specs.Always.{HasHeldPagesTaken, HasObjectsApart, HasPlacesApart, HasReadOnlyOfMeshes, LiesAsMeshesHaveIt};
 
@@ -73,6 +73,17 @@ impl Book {
         ensures legal { IsLegal result.now (memory_of_book self.now) }
     {
         self.journal.as_slice()
+    }
+
+    /// Heap, root cells and journal, for whoever hands the book out.
+    pub fn into_parts(self) -> (Heap, Roots, Vec<Entry>)
+        ensures heap { result.0 ≡ self.heap }
+        ensures roots { result.1 ≡ self.cells }
+        ensures entries { result.2.items ≡ self.entries }
+        ensures legal { IsLegal result.2.items (memory_in result.0 result.1) }
+        ensures short { length result.2.items ≤ 65536 }
+    {
+        (self.heap, self.roots, self.journal)
     }
 
     /// What always holds of its heap: two different bytes of live objects never share a place, no free page holds a live object, the

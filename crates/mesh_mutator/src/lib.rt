@@ -12,3 +12,4 @@ pub use attempts::Attempt;
 pub use entry::Entry;
 pub use journal::Book;
 pub use mesh_model::{Command, Refusal, Reply};
+pub use roots::Roots;

@@ -10,7 +10,7 @@ const CELLS: usize = 256;
 
 /// The 256 root cells, shared by all workers. A cell is empty or holds a reference.
 #[derive(Drop)]
-pub(crate) struct Roots {
+pub struct Roots {
     cells: [Option<Ref>; CELLS],
 }
 
@@ -24,7 +24,7 @@ impl Model for Roots {
 
 impl Roots {
     /// All cells empty.
-    pub fn new() -> Roots
+    pub(crate) fn new() -> Roots
         ensures { result ≡ replicate 256 None }
     {
         Roots {
@@ -40,7 +40,7 @@ impl Roots {
     }
 
     /// Lets a cell hold a reference.
-    pub fn set(&mut self, cell: u8, object: Ref)
+    pub(crate) fn set(&mut self, cell: u8, object: Ref)
         ensures value { self.new ≡ slice_set self.old cell (Some object) }
         ensures length { length self.new ≡ length self.old }
     {
