@@ -224,7 +224,7 @@ module _ (arena arena' : Pages) (m m' : Entries) (index : Index) (next : ℕ) (m
       go None none same_arena =
           let l : Layout = layout_of index in
           done (subst (λ (a : Pages). IsLaidOut l (stage_of l (with_progress ms this (Made (page_total l this.source + k + 1)))) m a × Keeps l arena a m m) (sym same_arena)
-          (skip_step l ms this m arena orderly paged.laid_out own k below (at ∙ ap Made same) none, record { each = λ n j o x slot live. refl }))
+          (skip_step l ms this m arena orderly paged.laid_out own k below (at ∙ ap Made same) none, record { each = λ n j o x slot live. refl; same_length = refl }))
           (ap free_count same_arena)
       go (Some slot) filled copies =
           done (copy_step (layout_of index) ms this m arena orderly paged.laid_out own arena' k slot two below (at ∙ ap Made same) filled copies.0) copies.1

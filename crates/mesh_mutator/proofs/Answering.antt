@@ -158,6 +158,7 @@ answered_refused h h' cells command refusal outcome same = record {
   refused = λ _. (same, refl);
   other_cells = λ cell apart. refl;
   kept = subst (λ (x : Heap). KeepsHeap command h x) (sym same) (keeps_same command h);
+  pages = ap (λ (x : Heap). length (arena_of x)) same;
 }
 
 -- a store as an attempt at a command that goes on as the store does, and touches the pages that the store does
@@ -177,6 +178,7 @@ store_performed h h' cells command after addr len StoreDone is alike touches kep
       refused = no_refusal;
       other_cells = λ cell apart. refl;
       kept = kept;
+      pages = store.pages;
     }
 store_performed h h' cells command after addr len StoreBlocked is alike touches kept whole = (held after refl, (whole.blocked refl).same, refl)
   where
@@ -379,6 +381,7 @@ free_performed h h' cells cell object rooted at free =
       refused = no_refusal;
       other_cells = λ other apart. refl;
       kept = (free.arena, free.map);
+      pages = rw free.arena refl;
     }
   where
     named_serial : (r : Result Named Refusal) → referred (plain_of h) object ≡ r → freed_at (plain_of h) object ≡ Ok (plain_of h')
@@ -532,6 +535,7 @@ alias_done h cells to from object is =
       refused = no_refusal;
       other_cells = λ other apart. other_cell cells to other object apart;
       kept = refl;
+      pages = refl;
     }
 
 pub alias_refused : (h : Heap) (cells : Cells) (to from : ℕ) (refusal : Refusal) → named_by (memory_in h cells) from ≡ Err refusal
@@ -605,6 +609,7 @@ made_performed h h' cells cell len word object is =
       refused = no_refusal;
       other_cells = λ other apart. other_cell cells cell other object apart;
       kept = tt;
+      pages = is.pages;
     }
 
 -- a `new` that the table refuses
@@ -678,6 +683,7 @@ looked_performed h cells command reply is none looked = record {
   refused = λ _. (refl, refl);
   other_cells = λ cell apart. refl;
   kept = keeps_same command h;
+  pages = refl;
 }
   where
     go : (r : Result (Reply × Memory) Refusal) → Follows r (memory_in h cells) reply (memory_in h cells)

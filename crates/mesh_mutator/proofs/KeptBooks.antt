@@ -4,19 +4,20 @@ use Rattle.mesh_model.specs.Memory.{Memory, object_of}
 use Rattle.mesh_model.specs.Plain.{Entry, IsLegal}
 use Rattle.mesh_model.specs.declared.refusals.Refusal.{Refusal}
 use Rattle.mesh_mutator.specs.Book.{Cells, IsBook, serials_of}
-use Rattle.mesh_steps.specs.Heap.{Heap}
+use Rattle.mesh_steps.specs.Heap.{HasAsManyPages, Heap}
 use Rattle.mesh_steps.specs.HeapMeshes.{MeansTheSame}
 
--- the heap means what it meant, and no object was made
+-- the heap means what it meant, no object was made, and there are as many physical pages
 pub record IsKept (old new : Heap) : Type 0 where
   pub memory : MeansTheSame old new
   pub serial : new.next_serial ≡ old.next_serial
+  pub pages : HasAsManyPages old new
 
 -- it does so after a refusal too
 pub kept_heap : {X : Type 0} (old new : Heap) (r : Result X Refusal) (P : X → Type 0) (Q : Refusal → Type 0) → IfOk r P → IfErr r (λ e. Q e × (new ≡ old))
     → ((x : X) → P x → IsKept old new) → IsKept old new
 kept_heap old new (Ok x) P Q ok err keeps = keeps x ok
-kept_heap old new (Err e) P Q ok err keeps = subst (λ (h : Heap). IsKept old h) (sym err.1) (record { memory = λ roots. refl; serial = refl })
+kept_heap old new (Err e) P Q ok err keeps = subst (λ (h : Heap). IsKept old h) (sym err.1) (record { memory = λ roots. refl; serial = refl; pages = refl })
 
 -- so a book stays one
 pub kept_book : (old new : Heap) (cells : Cells) (entries : List Entry) (room : ℕ) → IsKept old new

@@ -15,7 +15,7 @@ use Rattle.mesh_steps.specs.declared.answers.Stored.{Stored}
 use Rattle.mesh_steps.specs.declared.answers.Stored.TheVariants.{Blocked as StoreBlocked, Done as StoreDone, Refused as StoreRefused}
 use Rattle.mesh_mutator.specs.declared.attempts.Attempt.{Attempt}
 use Rattle.mesh_mutator.specs.declared.attempts.Attempt.TheVariants.{Blocked, Done, HistoryFull, OutOfMemory}
-use Rattle.mesh_steps.specs.Heap.{Heap, NeedsSpan, arena_of, heap_code, map_of, memory_of, plain_of, table_of}
+use Rattle.mesh_steps.specs.Heap.{HasAsManyPages, Heap, NeedsSpan, arena_of, heap_code, map_of, memory_of, plain_of, table_of}
 use Rattle.mesh_steps.specs.declared.answers.Ref.{Ref}
 
 -- the references in the root cells
@@ -79,6 +79,7 @@ pub record IsAnswered (h h' : Heap) (cells cells' : Cells) (command : Command) (
   pub refused : is_refusal reply ≡ true → (h' ≡ h) × (cells' ≡ cells)
   pub other_cells : (cell : ℕ) → stored_cell command ≢ Some cell → cell_at cells' cell ≡ cell_at cells cell
   pub kept : KeepsHeap command h h'
+  pub pages : HasAsManyPages h h'
 
 -- what an attempt at a command does to heap and cells
 abbrev pub IsPerformed : Heap → Heap → Cells → Cells → Command → Attempt → Type 0

@@ -8,6 +8,7 @@ ghost use Rattle.mesh_mutator.specs.Attempts.{IsLook};
 ghost use Rattle.mesh_mutator.specs.Book.{IsAttempt, IsLooked, memory_in, memory_of_book, table_of_book};
 ghost use Rattle.mesh_mutator.specs.declared.attempts.Attempt.{Attempt};
 ghost use Rattle.mesh_steps.specs.Always.{HasHeldPagesTaken, HasObjectsApart, HasPlacesApart, HasReadOnlyOfMeshes, LiesAsMeshesHaveIt};
+ghost use Rattle.mesh_steps.specs.Heap.{arena_of};
 
 mod mesher;
 
@@ -55,6 +56,7 @@ impl Book {
         ensures table { IfOk result (λ book. table_of_book book ≡ empty_table pages) }
         ensures entries { IfOk result (λ book. book.entries ≡ []) }
         ensures room { IfOk result (λ book. book.room ≡ history) }
+        ensures pages { IfOk result (λ book. length (arena_of book.heap) ≡ pages) }
     {
         let reserved = history as usize;
         let journal = Vec::with_capacity(alloc, reserved)?;

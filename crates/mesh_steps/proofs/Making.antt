@@ -272,6 +272,7 @@ module _ (old : Heap) (mid new : PageHeap) (class len word span slot addr : ℕ)
     table = new_table;
     memory = new_memory;
     next = refl;
+    pages = put.saves.same_length ∙ at.place.kept.bytes.same_length;
   }
 
 -- where no slot was found, it is a heap still

@@ -1,5 +1,5 @@
 -- What a heap means once its page heap was meshed.
-use Rattle.std.proofs.Common.{◌≡◌, ℕ, suc, ◌+◌, ◌-◌, ◌<◌, ◌≤◌, false, nat_eq, find, slice_index, List, Some, Result, Ok, Err, IfOk, IfErr, IsOk, ap, refl, sym, subst, ◌∙◌, arith}
+use Rattle.std.proofs.Common.{length, ◌≡◌, ℕ, suc, ◌+◌, ◌-◌, ◌<◌, ◌≤◌, false, nat_eq, find, slice_index, List, Some, Result, Ok, Err, IfOk, IfErr, IsOk, ap, refl, sym, subst, ◌∙◌, arith}
 use Rattle.std.specs.Option.{option_map}
 use Rattle.mesh_class.specs.Classes.{pages_of}
 use Rattle.mesh_layout.proofs.Groups.{IsEntry, table_entry}
@@ -22,7 +22,7 @@ use Rattle.mesh_pagemap.specs.Entries.{Entries, is_mapped}
 use Rattle.mesh_spans.specs.Index.{IsIndex}
 use Rattle.mesh_arena.specs.Pages.{Pages}
 use Rattle.mesh_steps.proofs.Beginning.{busy_tells}
-use Rattle.mesh_steps.specs.Heap.{Heap, IsHeap, plain_of, table_of}
+use Rattle.mesh_steps.specs.Heap.{HasAsManyPages, Heap, IsHeap, plain_of, table_of}
 use Rattle.mesh_steps.specs.HeapMeshes.{IsMeshBegun, IsMeshCancelled, IsMeshed, IsOnItsWay, IsStepMade, IsSwept, MeansTheSame}
 use Rattle.mesh_steps.specs.Meshes.{IsBegun, IsCancelled, IsStepped, busy_by}
 use Rattle.mesh_steps.specs.PageHeap.{PageHeap, table_in}
@@ -47,7 +47,7 @@ module _ (pages new : PageHeap) (next : ℕ) (heap : IsHeap (record { pages = pa
 same_kept : (pages new : PageHeap) → new.arena ≡ pages.arena → new.map ≡ pages.map → Keeps (layout_of pages.index) pages.arena new.arena pages.map new.map
 same_kept pages new arena map =
     subst (λ (a : Pages). Keeps (layout_of pages.index) pages.arena a pages.map new.map) (sym arena)
-    (subst (λ (m : Entries). Keeps (layout_of pages.index) pages.arena pages.arena pages.map m) (sym map) (record { each = λ n k o x slot live. refl }))
+    (subst (λ (m : Entries). Keeps (layout_of pages.index) pages.arena pages.arena pages.map m) (sym map) (record { each = λ n k o x slot live. refl; same_length = refl }))
 
 -- what holds of an answer holds of what it is made of
 pub told_of : {X E : Type 0} (r : Result X E) (P Q : X → Type 0) → IfOk r P → ((x : X) → P x → Q x) → IfOk r Q
@@ -90,6 +90,7 @@ module _ (pages new : PageHeap) (next : ℕ) (heap : IsHeap (record { pages = pa
           mesh = is.mesh;
           running = is.running;
           effect = is.effect;
+          pages = is.kept.same_length;
         },
       )
 
@@ -118,6 +119,7 @@ gone_on old now new class steps made (Ok done) whole below way ok err = record {
       ∙ sym (ap (λ (n : ℕ). steps_of_class class n (table_of now)) next) ∙ way.table;
   memory = λ roots. ok.memory roots ∙ way.memory roots;
   serial = ok.serial ∙ way.serial;
+  pages = ok.pages ∙ way.pages;
 }
 gone_on old now new class steps made (Err refusal) whole below way ok err = absurd (
     let next : steps - made ≡ suc (steps - (made + 1)) = omega (arith, below) in
@@ -138,6 +140,7 @@ set_out h class steps = record {
   table = (let all : steps - 0 ≡ steps = omega arith in ap (λ (n : ℕ). steps_of_class class n (table_of h)) all);
   memory = λ roots. refl;
   serial = refl;
+  pages = refl;
 }
 
 -- all made
@@ -164,8 +167,8 @@ module _ (busy : Busy) (old new : Heap) (source destination left class : ℕ) (h
 
   -- once all its steps are made
   pub meshed : (end : Heap) (pages : ℕ) → steps_of_class class left (table_of new) ≡ Ok (table_of end) → MeansTheSame new end → end.next_serial ≡ new.next_serial
-      → pages ≡ pages_of class → IsMeshed (busy_by busy) old end source destination pages
-  meshed end pages steps memory serial count =
+      → HasAsManyPages new end → pages ≡ pages_of class → IsMeshed (busy_by busy) old end source destination pages
+  meshed end pages steps memory serial as_many count =
       let same : Ok all.ended ≡ Ok (table_of end) = sym all.steps ∙ ap (λ (c : ℕ). steps_of_class c left (table_of new)) (sym same_class) ∙ steps in
       let ended : all.ended ≡ table_of end = cc same in
       let counted : pages_of all.source.class ≡ pages = ap pages_of (sym same_class) ∙ sym count in
@@ -173,6 +176,7 @@ module _ (busy : Busy) (old new : Heap) (source destination left class : ℕ) (h
         table = all.whole ∙ both (pages_of all.source.class) pages all.ended (table_of end) counted ended;
         memory = λ roots. memory roots ∙ begun.memory roots;
         serial = serial ∙ begun.serial;
+        pages = as_many ∙ ap (λ (a : Pages). length a) begun.arena;
       }
     where
       both : (n n' : ℕ) (t t' : Table) → n ≡ n' → t ≡ t'
@@ -200,5 +204,6 @@ module _ (pages new : PageHeap) (next : ℕ) (index : IsIndex pages.index.spans 
               subst (λ (v : ℕ). is_mapped new.map v ≡ false)
               (sym (ap (λ (x : Group). slice_index (virtual_pages x) i) e.same ∙ page_is pages.index n i e.entry e.there within))
               (is.unmapped i (virtual_page (layout_of pages.index) n i) (record { within = within; at = refl }));
+          pages = is.kept.same_length;
         },
       )

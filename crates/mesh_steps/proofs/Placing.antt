@@ -51,7 +51,7 @@ open_quiet t class group found = ((open_tests t class group).0 (found_open t cla
 
 -- objects and their bytes stay where nothing changes
 KeepsObjects_same : (g : PageHeap) → KeepsObjects g g
-KeepsObjects_same g = record { stay = λ n k o x slot live. live; bytes = record { each = λ n k o x slot live. refl } }
+KeepsObjects_same g = record { stay = λ n k o x slot live. live; bytes = record { each = λ n k o x slot live. refl; same_length = refl } }
 
 placed_open : (g : PageHeap) (class word span k : ℕ) (o : Option Group) → IsPageHeap g.arena g.map g.index g.next_page g.meshes
     → IsIndex g.index.spans g.index.groups → open_group (table_in g) class ≡ o → IsSomeAnd o (λ group. IsPicked g.index group word span k) → IsVacant g.index class span k

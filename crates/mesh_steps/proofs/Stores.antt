@@ -159,6 +159,7 @@ stored_whole h g serial address off bytes heap index paged live whole may saves 
         may = open_is (arena_of h) (map_of h) (index_of h) (table_of h).next_page (table_of h).meshes index paged (address + off) (length bytes) may;
         table = store_table h g.arena saves.same_free;
         serial = refl;
+        pages = saves.same_length;
       }),
     )
 

@@ -95,12 +95,17 @@ byte_at_address m addr = holding m addr >>= λ named. Ok (slice_index named.obje
 abbrev pub stored_at_address : Memory → ℕ → ℕ → Result Memory Refusal
 stored_at_address m addr byte = holding m addr >>= λ named. Ok (stored m named (addr - named.object.address) (byte ∷ []))
 
+-- there are as many physical pages
+abbrev pub HasAsManyPages : Heap → Heap → Type 0
+HasAsManyPages old new = length (arena_of new) ≡ length (arena_of old)
+
 -- a store that was done: as the plain memory does it, where no touched page is read-only
 pub record IsStored (old new : Heap) (after : Result Memory Refusal) (touches : Bool) : Type 0 where
   pub memory : after ≡ Ok (plain_of new)
   pub may : touches ≡ false
   pub table : table_of new ≡ table_of old
   pub serial : new.next_serial ≡ old.next_serial
+  pub pages : HasAsManyPages old new
 
 -- a store that was blocked: nothing refuses it, a touched page is read-only, and nothing changed
 pub record IsHeldBack (old new : Heap) (after : Result Memory Refusal) (touches : Bool) : Type 0 where
@@ -136,6 +141,7 @@ pub record IsMade (old new : Heap) (len word : ℕ) (object : Ref) : Type 0 wher
   pub table : table_of new ≡ placed.table
   pub memory : plain_of new ≡ with_new (plain_of old) len placed.address
   pub next : new.next_serial ≡ old.next_serial + 1
+  pub pages : HasAsManyPages old new
 
 -- a new object needs a new span, for which there is room: no group of its class, which its length tells, is open
 pub record NeedsSpan (old : Heap) (len word : ℕ) : Type 0 where

@@ -5,7 +5,7 @@ use Rattle.mesh_model.specs.Mesh.{begin, cancel, mesh_in, mesh_whole, page_count
 use Rattle.mesh_model.specs.MeshLaws.{steps_of_class}
 use Rattle.mesh_model.specs.Table.{Group, Mesh, Table, group_of, sweep}
 use Rattle.mesh_pagemap.specs.Entries.{is_mapped}
-use Rattle.mesh_steps.specs.Heap.{Heap, arena_of, index_of, map_of, memory_of, table_of}
+use Rattle.mesh_steps.specs.Heap.{HasAsManyPages, Heap, arena_of, index_of, map_of, memory_of, table_of}
 use Rattle.mesh_steps.specs.declared.answers.StepDone.{StepDone}
 
 -- the heap stands for the same memory, whatever the roots
@@ -28,6 +28,7 @@ pub record IsStepMade (old new : Heap) (class : ℕ) (done : StepDone) : Type 0 
   pub mesh : Mesh
   pub running : mesh_in (table_of old) class ≡ Some mesh
   pub effect : HasEffect (index_of old) mesh (arena_of old) (arena_of new) (map_of old) (map_of new)
+  pub pages : HasAsManyPages old new
 
 -- the mesh of a class was cancelled: so many unprotects are to come, and nothing else has changed
 pub record IsMeshCancelled (old new : Heap) (class left : ℕ) : Type 0 where
@@ -38,18 +39,20 @@ pub record IsMeshCancelled (old new : Heap) (class left : ℕ) : Type 0 where
   pub map : map_of new ≡ map_of old
 
 -- two groups were meshed: so many pages came free
-pub record IsMeshed (busy : Table → ℕ → Bool) (old new : Heap) (source destination pages : ℕ) : Type 0 where
-  pub table : mesh_whole busy (table_of old) source destination ≡ Ok (record { count = pages; table = table_of new })
+pub record IsMeshed (busy : Table → ℕ → Bool) (old new : Heap) (source destination count : ℕ) : Type 0 where
+  pub table : mesh_whole busy (table_of old) source destination ≡ Ok (record { count = count; table = table_of new })
   pub memory : MeansTheSame old new
   pub serial : new.next_serial ≡ old.next_serial
+  pub pages : HasAsManyPages old new
 
 -- an empty group's pages were given back: so many came free, and none of its virtual pages is mapped
-pub record IsSwept (old new : Heap) (group pages : ℕ) : Type 0 where
-  pub table : sweep (table_of old) group ≡ Ok (record { count = pages; table = table_of new })
+pub record IsSwept (old new : Heap) (group count : ℕ) : Type 0 where
+  pub table : sweep (table_of old) group ≡ Ok (record { count = count; table = table_of new })
   pub memory : MeansTheSame old new
   pub serial : new.next_serial ≡ old.next_serial
   pub unmapped : (g : Group) (i : ℕ) → group_of (table_of old) group ≡ Some g → i < page_count g
       → is_mapped (map_of new) (slice_index (virtual_pages g) i) ≡ false
+  pub pages : HasAsManyPages old new
 
 -- of so many steps of the mesh of a class so many were made
 pub record IsOnItsWay (old now : Heap) (class steps made : ℕ) : Type 0 where
@@ -57,3 +60,4 @@ pub record IsOnItsWay (old now : Heap) (class steps made : ℕ) : Type 0 where
   pub table : steps_of_class class (steps - made) (table_of now) ≡ steps_of_class class steps (table_of old)
   pub memory : MeansTheSame old now
   pub serial : now.next_serial ≡ old.next_serial
+  pub pages : HasAsManyPages old now

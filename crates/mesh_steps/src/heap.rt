@@ -49,6 +49,7 @@ impl Heap {
         ensures table { IfOk result (λ heap. table_of heap ≡ empty_table pages) }
         ensures memory { IfOk result (λ heap. (roots : List (Option ℕ)) → memory_of heap roots ≡ record { objects = []; roots = roots }) }
         ensures serial { IfOk result (λ heap. heap.next_serial ≡ 0) }
+        ensures pages { IfOk result (λ heap. length (arena_of heap) ≡ pages) }
     {
         let pages = PageHeap::open(alloc, pages)?;
         Ok(Heap {

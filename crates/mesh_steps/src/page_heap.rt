@@ -65,6 +65,7 @@ impl PageHeap {
         requires some { 1 ≤ pages }
         requires most { pages ≤ 4096 }
         ensures table { IfOk result (λ g. table_in g ≡ empty_table pages) }
+        ensures pages { IfOk result (λ g. length g.arena ≡ pages) }
     {
         let store = Store::open(alloc, pages)?;
         let spans = Spans::new(alloc)?;

@@ -4,7 +4,7 @@ ghost use Rattle.std.specs.Option.{option_map};
 ghost use Rattle.mesh_model.specs.Mesh.{any_mesh, begin, cancel, first_mesh, mesh_in, mesh_of_class, mesh_whole, step};
 ghost use Rattle.mesh_model.specs.MeshLaws.{steps_of_class};
 ghost use Rattle.mesh_model.specs.Table.{sweep};
-ghost use Rattle.mesh_steps.specs.Heap.{table_of};
+ghost use Rattle.mesh_steps.specs.Heap.{HasAsManyPages, table_of};
 ghost use Rattle.mesh_steps.specs.HeapMeshes.{IsMeshBegun, IsMeshCancelled, IsMeshed, IsStepMade, IsSwept, MeansTheSame};
 ghost use Rattle.mesh_steps.specs.Meshes.{busy_by};
 
@@ -137,6 +137,7 @@ impl Heap {
         ensures table { steps_of_class class steps (table_of self.old) ≡ Ok (table_of self.new) }
         ensures memory { MeansTheSame self.old self.new }
         ensures serial { self.new.next_serial ≡ self.old.next_serial }
+        ensures pages { HasAsManyPages self.old self.new }
     {
         'steps: for _made in 0..steps {
             let _done = self.step(class);

@@ -12,7 +12,7 @@ kept : (c : After-begin) → IsKept c.self.inside.heap c.begin.new.self
 kept c =
     kept_heap c.self.inside.heap c.begin.new.self c.begin.result (IsMeshBegun mesh_of_class c.self.inside.heap c.begin.new.self c.args.source c.args.destination)
     (λ refusal. begin mesh_of_class (table_of c.self.inside.heap) c.args.source c.args.destination ≡ Err refusal) c.begin.ensures.begun c.begin.ensures.refused
-    (λ x is. record { memory = is.memory; serial = is.serial })
+    (λ x is. record { memory = is.memory; serial = is.serial; pages = rw is.arena refl })
 
 pub invariant_of-self : goal.invariant_of-self
 invariant_of-self c = (
@@ -21,4 +21,4 @@ invariant_of-self c = (
 )
 
 pub returns-clause-kept : goal.returns-clause-kept
-returns-clause-kept c = rw (← c.self.view_is) (record { others = refl; memory = (kept c).memory (serials_of c.self.inside.roots) })
+returns-clause-kept c = rw (← c.self.view_is) (record { others = refl; memory = (kept c).memory (serials_of c.self.inside.roots); pages = (kept c).pages })

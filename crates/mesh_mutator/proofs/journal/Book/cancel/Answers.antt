@@ -12,7 +12,7 @@ kept : (c : After-cancel) → IsKept c.self.inside.heap c.cancel.new.self
 kept c =
     kept_heap c.self.inside.heap c.cancel.new.self c.cancel.result (IsMeshCancelled c.self.inside.heap c.cancel.new.self c.args.class)
     (λ refusal. cancel (table_of c.self.inside.heap) (mesh_in (table_of c.self.inside.heap) c.args.class) ≡ Err refusal) c.cancel.ensures.cancelled c.cancel.ensures.refused
-    (λ x is. record { memory = is.memory; serial = is.serial })
+    (λ x is. record { memory = is.memory; serial = is.serial; pages = rw is.arena refl })
 
 pub invariant_of-self : goal.invariant_of-self
 invariant_of-self c = (
@@ -21,4 +21,4 @@ invariant_of-self c = (
 )
 
 pub returns-clause-kept : goal.returns-clause-kept
-returns-clause-kept c = rw (← c.self.view_is) (record { others = refl; memory = (kept c).memory (serials_of c.self.inside.roots) })
+returns-clause-kept c = rw (← c.self.view_is) (record { others = refl; memory = (kept c).memory (serials_of c.self.inside.roots); pages = (kept c).pages })

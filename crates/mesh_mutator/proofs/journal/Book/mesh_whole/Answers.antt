@@ -12,7 +12,7 @@ kept : (c : After-mesh_whole) → IsKept c.self.inside.heap c.mesh_whole.new.sel
 kept c =
     kept_heap c.self.inside.heap c.mesh_whole.new.self c.mesh_whole.result (IsMeshed mesh_of_class c.self.inside.heap c.mesh_whole.new.self c.args.source c.args.destination)
     (λ refusal. mesh_whole mesh_of_class (table_of c.self.inside.heap) c.args.source c.args.destination ≡ Err refusal) c.mesh_whole.ensures.meshed c.mesh_whole.ensures.refused
-    (λ x is. record { memory = is.memory; serial = is.serial })
+    (λ x is. record { memory = is.memory; serial = is.serial; pages = is.pages })
 
 pub invariant_of-self : goal.invariant_of-self
 invariant_of-self c = (
@@ -21,4 +21,4 @@ invariant_of-self c = (
 )
 
 pub returns-clause-kept : goal.returns-clause-kept
-returns-clause-kept c = rw (← c.self.view_is) (record { others = refl; memory = (kept c).memory (serials_of c.self.inside.roots) })
+returns-clause-kept c = rw (← c.self.view_is) (record { others = refl; memory = (kept c).memory (serials_of c.self.inside.roots); pages = (kept c).pages })

@@ -12,7 +12,7 @@ kept : (c : After-step) → IsKept c.self.inside.heap c.step.new.self
 kept c =
     kept_heap c.self.inside.heap c.step.new.self c.step.result (IsStepMade c.self.inside.heap c.step.new.self c.args.class)
     (λ refusal. step (table_of c.self.inside.heap) (mesh_in (table_of c.self.inside.heap) c.args.class) ≡ Err refusal) c.step.ensures.made c.step.ensures.refused
-    (λ x is. record { memory = is.memory; serial = is.serial })
+    (λ x is. record { memory = is.memory; serial = is.serial; pages = is.pages })
 
 pub invariant_of-self : goal.invariant_of-self
 invariant_of-self c = (
@@ -21,4 +21,4 @@ invariant_of-self c = (
 )
 
 pub returns-clause-kept : goal.returns-clause-kept
-returns-clause-kept c = rw (← c.self.view_is) (record { others = refl; memory = (kept c).memory (serials_of c.self.inside.roots) })
+returns-clause-kept c = rw (← c.self.view_is) (record { others = refl; memory = (kept c).memory (serials_of c.self.inside.roots); pages = (kept c).pages })

@@ -12,7 +12,7 @@ kept : (c : After-whole_alone) → IsKept c.self.inside.heap c.whole_alone.new.s
 kept c =
     kept_heap c.self.inside.heap c.whole_alone.new.self c.whole_alone.result (IsMeshed any_mesh c.self.inside.heap c.whole_alone.new.self c.args.source c.args.destination)
     (λ refusal. mesh_whole any_mesh (table_of c.self.inside.heap) c.args.source c.args.destination ≡ Err refusal) c.whole_alone.ensures.meshed c.whole_alone.ensures.refused
-    (λ x is. record { memory = is.memory; serial = is.serial })
+    (λ x is. record { memory = is.memory; serial = is.serial; pages = is.pages })
 
 pub invariant_of-self : goal.invariant_of-self
 invariant_of-self c = (
@@ -21,4 +21,4 @@ invariant_of-self c = (
 )
 
 pub returns-clause-kept : goal.returns-clause-kept
-returns-clause-kept c = rw (← c.self.view_is) (record { others = refl; memory = (kept c).memory (serials_of c.self.inside.roots) })
+returns-clause-kept c = rw (← c.self.view_is) (record { others = refl; memory = (kept c).memory (serials_of c.self.inside.roots); pages = (kept c).pages })

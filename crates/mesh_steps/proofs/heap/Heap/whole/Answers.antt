@@ -17,4 +17,4 @@ returns-clause-meshed c =
     meshed c.args.busy c.args.self.now c.start.new.self c.args.source c.args.destination c.in_ok-left.left c.unwrap-class.result c.sound.ensures
     c.in_ok-left.ensures.begun
     (sym c.unwrap-class.ensures ∙ c.class_of.ensures
-    ∙ ap (λ (h : Heap). option_map (λ (g : Group). g.class) (group_of (table_of h) c.args.source)) c.self.view_is) c.finish.new.self c.pages.result c.finish.ensures.table c.finish.ensures.memory c.finish.ensures.serial c.pages.ensures.value
+    ∙ ap (λ (h : Heap). option_map (λ (g : Group). g.class) (group_of (table_of h) c.args.source)) c.self.view_is) c.finish.new.self c.pages.result c.finish.ensures.table c.finish.ensures.memory c.finish.ensures.serial c.finish.ensures.pages c.pages.ensures.value

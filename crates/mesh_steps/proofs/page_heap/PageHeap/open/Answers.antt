@@ -8,4 +8,7 @@ invariant_of-result c = rw c.new-2.ensures (page_heap_open _ _ c.in_ok-spans.spa
 
 pub returns : goal.returns
 unfolding groups_of
-returns c = record { table = rw (c.new-2.ensures, c.in_ok-spans.ensures.spans, c.in_ok-spans.ensures.groups, c.in_ok-store.ensures.free) refl }
+returns c = record {
+  table = rw (c.new-2.ensures, c.in_ok-spans.ensures.spans, c.in_ok-spans.ensures.groups, c.in_ok-store.ensures.free) refl;
+  pages = c.in_ok-store.ensures.pages;
+}
