@@ -1,5 +1,5 @@
 pub mod Gathering
-pub mod HexText
+pub mod PartTexts
 pub mod Parts
 pub mod PlanLines
 pub mod Turning

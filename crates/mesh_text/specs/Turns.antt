@@ -7,14 +7,12 @@ use Rattle.mesh_model.specs.Texts.{answer_text, ended}
 use Rattle.mesh_mutator.specs.Book.{Book, memory_of_book, table_of_book}
 use Rattle.mesh_text.specs.Answers.{answer_of}
 use Rattle.mesh_text.specs.declared.answers.Answer.{Answer}
-use Rattle.mesh_text.specs.declared.answers.Answer.TheVariants.{Replied, Blocked, HistoryFull, Over}
+use Rattle.mesh_text.specs.declared.answers.Answer.TheVariants.{Replied}
 
 -- the places of the workers' next commands after a worker was answered: a reply alone passes a command
 abbrev pub places_after : Answer → List ℕ → ℕ → List ℕ
 places_after (Replied reply) places worker = slice_set places worker (slice_index places worker + 1)
-places_after Blocked places worker = places
-places_after HistoryFull places worker = places
-places_after Over places worker = places
+places_after answer places worker = places
 
 -- a job stands where this book and these places of its workers' next commands are
 pub record IsAt (job : Job) (state : State) (book : Book) (places : List ℕ) : Type 0 where

@@ -3,8 +3,13 @@ ghost use Rattle.std.specs.Prelude.{◌≡◌, ◌<◌, ◌++◌, decimal, OnOk}
 ghost use Rattle.mesh_model.specs.Texts.{address_text, answer_text, byte_text, bytes_text, ended, hex_digit, refusal_text, reply_text};
 ghost use Rattle.mesh_text.specs.Answers.{answer_of};
 
+mod mesher;
+
 use itoa::Buffer;
 use mesh_model::{Refusal, Reply};
+use mesh_search::Found;
+use mesh_steps::{Report, StepDone};
+use mesher::{add_count, add_found, add_report, add_step};
 use std::alloc::AllocError;
 
 /// The answer to one line of a plan.
@@ -18,6 +23,20 @@ pub(crate) enum Answer {
     HistoryFull,
     /// The worker's script is passed.
     Over,
+    /// A mesh began or was cancelled, and so many steps are to come.
+    Left(u32),
+    /// A step of a mesh was made.
+    Stepped(StepDone),
+    /// Two groups were meshed, and so many pages were given back.
+    Meshed(u32),
+    /// A group was swept, and so many pages were given back.
+    Swept(u32),
+    /// A class was searched for pairs.
+    Found(Found),
+    /// The heap was counted.
+    Reported(Report),
+    /// A call of the mesher was refused.
+    Refused(Refusal),
 }
 
 impl Answer {
@@ -30,6 +49,13 @@ impl Answer {
             Answer::Blocked => text.extend_from_slice(b"blocked")?,
             Answer::HistoryFull => text.extend_from_slice(b"history full")?,
             Answer::Over => text.extend_from_slice(b"over")?,
+            Answer::Left(steps) => add_count(text, b"left ", *steps)?,
+            Answer::Stepped(step) => add_step(text, *step)?,
+            Answer::Meshed(pages) => add_count(text, b"meshed ", *pages)?,
+            Answer::Swept(pages) => add_count(text, b"swept ", *pages)?,
+            Answer::Found(found) => add_found(text, found)?,
+            Answer::Reported(report) => add_report(text, *report)?,
+            Answer::Refused(refusal) => add_refusal(text, *refusal)?,
         }
         text.push(b'\n')?;
         Ok(())

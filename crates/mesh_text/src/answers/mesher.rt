@@ -1,0 +1,80 @@
+//! The answer lines of a mesher's calls.
+ghost use Rattle.std.specs.Prelude.{◌≡◌, ◌++◌, decimal, OnOk};
+ghost use Rattle.std.specs.List.{flat_map};
+ghost use Rattle.mesh_model.specs.Texts.{field, found_text, kind_text, left_text, pair_text, report_text};
+ghost use Rattle.mesh_steps.specs.PageHeap.{counts_told};
+
+use super::add_decimal;
+use mesh_model::StepKind;
+use mesh_search::{Found, Pair};
+use mesh_steps::{Report, StepDone};
+use std::alloc::AllocError;
+
+/// Adds words and a number behind them.
+pub(crate) fn add_count(text: &mut Vec<u8>, words: &[u8], count: u32) -> Result<(), AllocError>
+    ensures { OnOk result (text.new.items ≡ text.old.items ++ (words.now ++ decimal count)) }
+{
+    text.extend_from_slice(words)?;
+    add_decimal(text, u64::from(count))
+}
+
+/// Adds `KIND left N`.
+pub(crate) fn add_step(text: &mut Vec<u8>, step: StepDone) -> Result<(), AllocError>
+    ensures { OnOk result (text.new.items ≡ text.old.items ++ (kind_text step.kind ++ field (left_text step.left))) }
+{
+    text.extend_from_slice(kind_word(step.kind).as_bytes())?;
+    add_count(text, b" left ", step.left)
+}
+
+/// The word of a kind of step.
+fn kind_word(kind: StepKind) -> &'static str
+    ensures { result.now ≡ kind_text kind }
+{
+    match kind {
+        StepKind::Protect => "protect",
+        StepKind::Copy => "copy",
+        StepKind::Remap => "remap",
+        StepKind::Unprotect => "unprotect",
+        StepKind::Release => "release",
+    }
+}
+
+/// Adds `found K probes Q`, and each pair behind it.
+pub(crate) fn add_found(text: &mut Vec<u8>, found: &Found) -> Result<(), AllocError>
+    ensures { OnOk result (text.new.items ≡ text.old.items ++ found_text found.now) }
+{
+    text.extend_from_slice(b"found ")?;
+    add_decimal(text, found.pairs.len() as u64)?;
+    text.extend_from_slice(b" probes ")?;
+    add_decimal(text, found.probes)?;
+    add_pairs(text, found.pairs.as_slice())
+}
+
+/// Adds pairs, a space before each.
+fn add_pairs(text: &mut Vec<u8>, pairs: &[Pair]) -> Result<(), AllocError>
+    ensures { OnOk result (text.new.items ≡ text.old.items ++ flat_map pair_text pairs.now) }
+{
+    for pair in pairs {
+        add_pair(text, *pair)?;
+    }
+    Ok(())
+}
+
+/// Adds a space and `SRC:DST`.
+fn add_pair(text: &mut Vec<u8>, pair: Pair) -> Result<(), AllocError>
+    ensures { OnOk result (text.new.items ≡ text.old.items ++ pair_text pair) }
+{
+    add_count(text, b" ", pair.source)?;
+    add_count(text, b":", pair.destination)
+}
+
+/// Adds `report objects A bytes B mapped C taken D saved E`.
+pub(crate) fn add_report(text: &mut Vec<u8>, report: Report) -> Result<(), AllocError>
+    ensures { OnOk result (text.new.items ≡ text.old.items ++ report_text (counts_told report)) }
+{
+    add_count(text, b"report objects ", report.objects)?;
+    add_count(text, b" bytes ", report.bytes)?;
+    add_count(text, b" mapped ", report.mapped)?;
+    add_count(text, b" taken ", report.taken)?;
+    add_count(text, b" saved ", report.saved)
+}
