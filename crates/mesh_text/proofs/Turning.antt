@@ -157,6 +157,7 @@ turn_taken job state book book' places script worker command attempt at is here 
             entries = done.entries ∙ ap (λ (xs : List Entry). xs ++ record { worker = worker; command = command; reply = reply } ∷ []) at.entries
                 ∙ ap (λ (r : Reply). state.entries ++ record { worker = worker; command = command; reply = r } ∷ []) reply_is;
             room = done.room ∙ at.room;
+            pages = done.answered.pages ∙ at.pages;
             workers = length-set state.scripts worker (later_commands (slice_index_or state.scripts worker [])) ∙ at.workers;
             scripts = replied_scripts job state book places script worker command (later_commands (slice_index_or state.scripts worker [])) at is here long below refl;
           };

@@ -1,6 +1,9 @@
 -- The answers of the code as the definitions have them.
+use Rattle.std.specs.Prelude.{ℕ, Result, Ok, Err}
 use Rattle.mesh_model.specs.Jobs.{Answer as PlainAnswer, Replied as PlainReplied, StoreBlocked, JournalFull, ScriptOver, StepsLeft, StepMade, PagesMeshed, PagesSwept, PairsFound, Reported as PlainReported, MesherRefused}
+use Rattle.mesh_model.specs.declared.refusals.Refusal.{Refusal}
 use Rattle.mesh_steps.specs.PageHeap.{counts_told}
+use Rattle.mesh_steps.specs.declared.answers.StepDone.{StepDone}
 use Rattle.mesh_text.specs.declared.answers.Answer.{Answer}
 use Rattle.mesh_text.specs.declared.answers.Answer.TheVariants.{Replied, Blocked, HistoryFull, Over, Left, Stepped, Meshed, Swept, Found, Reported, Refused}
 
@@ -17,3 +20,13 @@ answer_of (Swept pages) = PagesSwept pages
 answer_of (Found found) = PairsFound found
 answer_of (Reported report) = PlainReported (counts_told report)
 answer_of (Refused refusal) = MesherRefused refusal
+
+-- the answer to a call of the mesher that counts
+abbrev pub count_answer : (ℕ → Answer) → Result ℕ Refusal → Answer
+count_answer of (Ok count) = of count
+count_answer of (Err refusal) = Refused refusal
+
+-- the answer to a step
+abbrev pub step_answer : Result StepDone Refusal → Answer
+step_answer (Ok step) = Stepped step
+step_answer (Err refusal) = Refused refusal

@@ -1,10 +1,9 @@
 -- What a replay has read and written when it ends, and when it stops.
-use Rattle.std.specs.Prelude.{◌≡◌, ◌⊎◌, ℕ, List, Option, Ok, length}
+use Rattle.std.specs.Prelude.{◌≡◌, ◌⊎◌, ℕ, List, Option, Ok, Err, length}
 use Rattle.std.specs.Io.KnownBytes.{Appends, Consumes, IsAtEnd, Keeps}
 use Rattle.mesh_model.specs.Files.{read_text, replayed}
 use Rattle.mesh_model.specs.Jobs.{Job}
 use Rattle.mesh_model.specs.declared.faults.TextFault.{TextFault}
-use Rattle.mesh_job.specs.Reading.{IsFaultOf}
 use Rattle.mesh_text.specs.Transfer.{AppendsBeginning}
 use Rattle.mesh_text.specs.Turns.{AppendsLines}
 use Rattle.mesh_text.specs.declared.faults.ReplayError.{ReplayError}
@@ -44,7 +43,7 @@ pub record HasAnswered (left left' written written' : Option (List ℕ)) : Type 
 pub record HasFound (left left' : Option (List ℕ)) (fault : TextFault) : Type 0 where
   pub text : List ℕ
   pub read : HasRead left left' text
-  pub is_fault : IsFaultOf text fault
+  pub is_fault : read_text text ≡ Err fault
 
 -- what was read and written, by the error that a replay stopped for
 abbrev pub HasStopped : Option (List ℕ) → Option (List ℕ) → Option (List ℕ) → Option (List ℕ) → ReplayError → Type 0

@@ -2,9 +2,11 @@
 use Rattle.std.specs.Prelude.{◌≡◌, ℕ, ◌+◌, List, [], ◌++◌, Option, drop, length, slice_index, slice_index_or, slice_set, take}
 use Rattle.std.specs.Io.KnownBytes.{Appends}
 use Rattle.std.specs.List.{flat_map}
-use Rattle.mesh_model.specs.Jobs.{Answer as PlainAnswer, Job, Next, State, answers_from, opening, state_after}
+use Rattle.mesh_model.specs.Jobs.{Answer as PlainAnswer, Job, Next, State, answers_from, opening, state_after, Reported as PlainReported, told}
 use Rattle.mesh_model.specs.Texts.{answer_text, ended}
+use Rattle.mesh_model.specs.Table.{report_of}
 use Rattle.mesh_mutator.specs.Book.{Book, memory_of_book, table_of_book}
+use Rattle.mesh_steps.specs.Heap.{arena_of}
 use Rattle.mesh_text.specs.Answers.{answer_of}
 use Rattle.mesh_text.specs.declared.answers.Answer.{Answer}
 use Rattle.mesh_text.specs.declared.answers.Answer.TheVariants.{Replied}
@@ -20,6 +22,7 @@ pub record IsAt (job : Job) (state : State) (book : Book) (places : List ℕ) : 
   pub table : table_of_book book ≡ state.table
   pub entries : book.entries ≡ state.entries
   pub room : book.room ≡ job.history
+  pub pages : length (arena_of book.heap) ≡ job.pages
   pub workers : length state.scripts ≡ length job.scripts
   pub scripts : (worker : ℕ) → slice_index_or state.scripts worker [] ≡ drop (slice_index places worker) (slice_index_or job.scripts worker [])
 
@@ -27,6 +30,15 @@ pub record IsAt (job : Job) (state : State) (book : Book) (places : List ℕ) : 
 pub record IsNextAt (job : Job) (next : Next) (book : Book) (places : List ℕ) (given : Answer) : Type 0 where
   pub answer_is : answer_of given ≡ next.answer
   pub at : IsAt job next.state book places
+
+-- wherever a job stands, this call of the mesher is answered so, and leaves the book where the job stands then
+abbrev pub IsCall : (State → Next) → Book → Book → Answer → Type 0
+IsCall call old new given = (job : Job) (state : State) (places : List ℕ) → IsAt job state old places → IsNextAt job (call state) new places given
+
+-- wherever a job stands, this is the answer to a report
+abbrev pub IsReport : Book → Answer → Type 0
+IsReport book given = (job : Job) (state : State) (places : List ℕ) → IsAt job state book places
+    → IsNextAt job (told state (PlainReported (report_of job.pages state.table))) book places given
 
 -- the lines of answers, each with its end
 abbrev pub lines_of : List PlainAnswer → List ℕ

@@ -1,18 +1,19 @@
 //! The replay of a job.
 ghost use Rattle.std.specs.Prelude.{◌≡◌, ◌<◌, ◌≤◌, ◌⊎◌, ◌↔◌, [], slice_index, slice_index_or, false, true, length, vec_len, is_err, IfOk, IfErr, OnOk, OnErr};
 ghost use Rattle.std.specs.Io.KnownBytes.{Appends, Keeps};
+ghost use Rattle.mesh_model.specs.Files.{IsValidLine};
 ghost use Rattle.mesh_model.specs.Jobs.{Job as PlainJob, RunWorker, State, answer, opening};
 ghost use Rattle.mesh_model.specs.Texts.{output as output_of};
-ghost use Rattle.mesh_job.specs.Job.{line_of};
+ghost use Rattle.mesh_job.specs.Plan.{line_of};
 ghost use Rattle.mesh_text.specs.Replay.{HasReplayed, HasStopped};
 ghost use Rattle.mesh_text.specs.Transfer.{AppendsBeginning};
 ghost use Rattle.mesh_text.specs.Turns.{AppendsLines, IsAt, IsNextAt, places_after};
 
 use crate::answers::Answer;
+use crate::mesher::{begin, cancel, cancel_first, pair, report, step, step_first, sweep, whole};
 use crate::transfer::{read_all, write_all};
 use crate::{ReplayError, Sink, Source};
-use mesh_job::{Job, Script, read_file};
-use mesh_model::PlanLine;
+use mesh_job::{Job, PlanLine, Script, read_file};
 use mesh_mutator::{Attempt, Book};
 use std::alloc::{AllocError, Global};
 
@@ -22,7 +23,8 @@ const CHUNK_BYTES: usize = 8192;
 /// Replays the job file that the input gives, and writes the answer lines of its plan.
 ///
 /// The input is read to its end, or to 1,048,577 bytes, which is one more than a job file may have. Each line of the plan gives one
-/// line of text, and whole lines are written together.
+/// line of text, and whole lines are written together. In a file of version 1 a mesh of any class keeps others from beginning, and
+/// `step` and `cancel` are of the one that runs; in version 2 each class may have a mesh, and both name the class.
 ///
 /// Read comes where the input failed, and Text where what was read is no job file; nothing was written then. Memory comes where
 /// memory was refused, and Write where the output failed.
@@ -58,8 +60,7 @@ fn play<O: Sink>(alloc: Global, job: &Job, output: &mut O) -> Result<(), ReplayE
     let mut turns = Turns::open(alloc, job)?;
     let mut text = Vec::new(alloc);
     for line in job.plan.lines() {
-        let worker = worker_of(*line);
-        let answer = turns.run(worker, job.scripts.of(worker))?;
+        let answer = turns.answer(alloc, job, line)?;
         answer.add_to(&mut text)?;
         if text.len() >= CHUNK_BYTES {
             write_answers(output, text.as_slice())?;
@@ -67,15 +68,6 @@ fn play<O: Sink>(alloc: Global, job: &Job, output: &mut O) -> Result<(), ReplayE
         }
     }
     write_answers(output, text.as_slice())
-}
-
-/// The worker that a line of the plan runs.
-fn worker_of(line: PlanLine) -> u32
-    ensures { line_of line ≡ RunWorker result }
-{
-    match line {
-        PlanLine::Run(worker) => worker,
-    }
 }
 
 /// Writes lines of answers. Where the output fails, a beginning of them was written.
@@ -89,7 +81,7 @@ fn write_answers<O: Sink>(output: &mut O, lines: &[u8]) -> Result<(), ReplayErro
     write_all(output, lines).map_err(|_| ReplayError::Write)
 }
 
-/// The heap that a job's workers use in turn, and how far each of them has come.
+/// The heap that a job's workers and its mesher use in turn, and how far each worker has come.
 #[derive(Drop)]
 struct Turns {
     book: Book,
@@ -107,6 +99,38 @@ impl Turns {
             book: Book::open(alloc, job.pages, job.history)?,
             next: vec![in alloc; 0; job.scripts.count()]?,
         })
+    }
+
+    /// Answers a line of the plan. An error is want of memory, which only a `new` or a search meets.
+    fn answer(&mut self, alloc: Global, job: &Job, line: &PlanLine) -> Result<Answer, AllocError>
+        requires fits { IsValidLine job.now.version (length job.now.scripts) (line_of line.now) }
+        requires workers { vec_len self.old.next ≡ length job.now.scripts }
+        ensures workers { vec_len self.new.next ≡ vec_len self.old.next }
+        ensures answered { IfOk result (λ given. (state : State) → IsAt job.now state self.old.book self.old.next.items
+            → IsNextAt job.now (answer job.now state (line_of line.now)) self.new.book self.new.next.items given) }
+    {
+        match line {
+            PlanLine::Run(worker) => self.run(*worker, job.scripts.of(*worker)),
+            PlanLine::Pair {
+                class,
+                rounds,
+                words,
+            } => pair(alloc, &self.book, *class, *rounds, words.as_slice()),
+            PlanLine::Begin {
+                source,
+                destination,
+            } => Ok(begin(&mut self.book, job.version, *source, *destination)),
+            PlanLine::Step => Ok(step_first(&mut self.book)),
+            PlanLine::Cancel => Ok(cancel_first(&mut self.book)),
+            PlanLine::StepClass(class) => Ok(step(&mut self.book, *class)),
+            PlanLine::CancelClass(class) => Ok(cancel(&mut self.book, *class)),
+            PlanLine::Whole {
+                source,
+                destination,
+            } => Ok(whole(&mut self.book, job.version, *source, *destination)),
+            PlanLine::Sweep(group) => Ok(sweep(&mut self.book, *group)),
+            PlanLine::Report => Ok(report(&self.book)),
+        }
     }
 
     /// Attempts the worker's next command. It stays the next one unless there is a reply.

@@ -1,43 +1,41 @@
-use Rattle.std.proofs.Common.{◌≡◌, ◌∙◌, ◌+◌, ◌<◌, length, take, ap, subst, arith}
+use Rattle.std.proofs.Common.{◌≡◌, ◌∙◌, ◌+◌, length, take, ap, subst}
 use Rattle.std.proofs.lemmas.Result.{on_ok_weaker}
 use Rattle.std.specs.Result.{OnErr}
 use Rattle.std.specs.Io.KnownBytes.{Appends}
-use Rattle.mesh_model.specs.Jobs.{Job, RunWorker}
-use Rattle.mesh_model.specs.declared.faults.PlanLine.TheVariants.{Run}
+use Rattle.mesh_model.specs.Files.{IsValidLine}
+use Rattle.mesh_model.specs.Jobs.{Job}
+use Rattle.mesh_job.specs.declared.plan.PlanLine.{PlanLine}
+use Rattle.mesh_job.specs.Plan.{line_of}
 use Rattle.mesh_text.specs.Transfer.{AppendsBeginning}
 use Rattle.mesh_text.specs.Turns.{HasGathered, state_up_to}
 use Rattle.mesh_text.proofs.Gathering.{all_written, gathered_more, next_at, output_written, part_written}
-use Rattle.mesh_text.proofs.PlanLines.{all_lines, turn_of_line, worker_fits}
+use Rattle.mesh_text.proofs.PlanLines.{all_lines, line_fits, one_more}
 use Rattle.mesh_text.proofs.PlayEnds.{gathered_none, is_memory, is_write, last_fails, last_kind, last_not_memory, last_ok, never_ok, not_memory, not_write, nothing_written}
 use Rattle.mesh_text.proofs.run.play.Goals as goal
 use Rattle.mesh_text.proofs.run.play.Goals.{then-len-ge-CHUNK_BYTES+in_ok-write_answers, else-len-ge-CHUNK_BYTES}
 
-pub of-requires : goal.of-requires
-of-requires g c =
-    worker_fits (length c.job.inside.scripts) c.lines-line-items.result.now c.job.inside.plan c.loop-line.line-index c.worker_of-worker.result (Run 0)
-    c.lines-line-items.ensures c.job.invariant.plan_fits c.loop-line-test.true c.worker_of-worker.ensures
+pub answer-requires-clause-fits : goal.answer-requires-clause-fits
+answer-requires-clause-fits g c =
+    let line : PlanLine = c.line-item.result in
+    subst (λ (j : Job). IsValidLine j.version (length j.scripts) (line_of line)) c.job.view_is
+    (line_fits c.job.inside.version (length c.job.inside.scripts) c.lines-line-items.result.now c.job.inside.plan c.loop-line.line-index line line c.lines-line-items.ensures
+    c.job.invariant.plan_fits c.loop-line-test.true c.line-item.is)
 
-pub run-requires : goal.run-requires
-run-requires g c =
-    let fit : c.worker_of-worker.result < length c.job.inside.scripts
-    = worker_fits (length c.job.inside.scripts) c.lines-line-items.result.now c.job.inside.plan c.loop-line.line-index c.worker_of-worker.result (Run 0)
-    c.lines-line-items.ensures c.job.invariant.plan_fits c.loop-line-test.true c.worker_of-worker.ensures in
-    omega (arith, fit, c.loop-line.invariant.workers, ap (λ (j : Job). length j.scripts) c.job.view_is)
+pub answer-requires-clause-workers : goal.answer-requires-clause-workers
+answer-requires-clause-workers g c = c.loop-line.invariant.workers
 
 pub loop-line-preserved : goal.loop-line-preserved
 loop-line-preserved g c =
     let job : Job = c.args.job.now in
     let i = c.loop-line.line-index in
-    let worker = c.worker_of-worker.result in
-    let turn = turn_of_line job c.job.inside.plan c.job.inside.scripts c.lines-line-items.result.now i worker (Run 0) c.of.result.now
-    (ap (λ (j : Job). j.plan) c.job.view_is) (ap (λ (j : Job). j.scripts) c.job.view_is) c.lines-line-items.ensures c.job.invariant.plan_fits c.loop-line-test.true
-    c.worker_of-worker.ensures c.of.ensures in
-    let next = c.in_ok-answer.ensures.answered job (state_up_to job i) c.loop-line.invariant.at c.loop-line.invariant.workers turn.script_is in
+    let line : PlanLine = c.line-item.result in
+    let more = one_more c.lines-line-items.result.now job.plan i line line (c.lines-line-items.ensures ∙ ap (λ (j : Job). j.plan) c.job.view_is) c.loop-line-test.true c.line-item.is in
+    let next = c.in_ok-answer.ensures.answered (state_up_to job i) c.loop-line.invariant.at in
     let gathered : HasGathered job (i + 1) (g.O.Sink.written c.args.output.now) (g.O.Sink.written c.loop-line.output) c.add_to.new.text.items
-    = gathered_more job i (RunWorker worker) c.run.new.self.book c.run.new.self.next.items c.in_ok-answer.answer (g.O.Sink.written c.args.output.now)
-    (g.O.Sink.written c.loop-line.output) c.loop-line.text.items c.add_to.new.text.items turn.more next c.loop-line.invariant.gathered c.in_ok-add_to.ensures in
+    = gathered_more job i (line_of line) c.answer.new.self.book c.answer.new.self.next.items c.in_ok-answer.answer (g.O.Sink.written c.args.output.now)
+    (g.O.Sink.written c.loop-line.output) c.loop-line.text.items c.add_to.new.text.items more next c.loop-line.invariant.gathered c.in_ok-add_to.ensures in
     let workers = c.in_ok-answer.ensures.workers ∙ c.loop-line.invariant.workers in
-    let at = next_at job i (RunWorker worker) c.run.new.self.book c.run.new.self.next.items c.in_ok-answer.answer turn.more next in
+    let at = next_at job i (line_of line) c.answer.new.self.book c.answer.new.self.next.items c.in_ok-answer.answer more next in
     elim c.if-len-ge-CHUNK_BYTES.branch [
       | then-len-ge-CHUNK_BYTES+in_ok-write_answers w ↦
           let wrote : Appends (g.O.Sink.written c.loop-line.output) (g.O.Sink.written w.write_answers.new.output) c.add_to.new.text.items
@@ -60,14 +58,12 @@ pub returns-in_err-write_answers-clause-beginning : goal.returns-in_err-write_an
 returns-in_err-write_answers-clause-beginning g c is =
     let job : Job = c.args.job.now in
     let i = c.loop-line.line-index in
-    let worker = c.worker_of-worker.result in
-    let turn = turn_of_line job c.job.inside.plan c.job.inside.scripts c.lines-line-items.result.now i worker (Run 0) c.of.result.now
-    (ap (λ (j : Job). j.plan) c.job.view_is) (ap (λ (j : Job). j.scripts) c.job.view_is) c.lines-line-items.ensures c.job.invariant.plan_fits c.loop-line-test.true
-    c.worker_of-worker.ensures c.of.ensures in
-    let next = c.in_ok-answer.ensures.answered job (state_up_to job i) c.loop-line.invariant.at c.loop-line.invariant.workers turn.script_is in
+    let line : PlanLine = c.line-item.result in
+    let more = one_more c.lines-line-items.result.now job.plan i line line (c.lines-line-items.ensures ∙ ap (λ (j : Job). j.plan) c.job.view_is) c.loop-line-test.true c.line-item.is in
+    let next = c.in_ok-answer.ensures.answered (state_up_to job i) c.loop-line.invariant.at in
     let gathered : HasGathered job (i + 1) (g.O.Sink.written c.args.output.now) (g.O.Sink.written c.loop-line.output) c.add_to.new.text.items
-    = gathered_more job i (RunWorker worker) c.run.new.self.book c.run.new.self.next.items c.in_ok-answer.answer (g.O.Sink.written c.args.output.now)
-    (g.O.Sink.written c.loop-line.output) c.loop-line.text.items c.add_to.new.text.items turn.more next c.loop-line.invariant.gathered c.in_ok-add_to.ensures in
+    = gathered_more job i (line_of line) c.answer.new.self.book c.answer.new.self.next.items c.in_ok-answer.answer (g.O.Sink.written c.args.output.now)
+    (g.O.Sink.written c.loop-line.output) c.loop-line.text.items c.add_to.new.text.items more next c.loop-line.invariant.gathered c.in_ok-add_to.ensures in
     part_written job (i + 1) _ _ _ c.add_to.new.text.items gathered
     (subst (λ bytes. AppendsBeginning (g.O.Sink.written c.loop-line.output) (g.O.Sink.written c.write_answers.new.output) bytes) c.as_slice.ensures.value c.in_err-write_answers.ensures.err)
 

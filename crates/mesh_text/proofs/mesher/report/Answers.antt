@@ -1,0 +1,5 @@
+use Rattle.mesh_text.proofs.Meshing.{report_call}
+use Rattle.mesh_text.proofs.mesher.report.Goals as goal
+
+pub returns : goal.returns
+returns c = report_call c.args.book.now c.report.result c.report.ensures
