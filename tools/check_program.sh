@@ -70,6 +70,7 @@ hello=jobs/hello.job
 answers=jobs/rows/mutators/first_bytes.out
 
 check "a job file" 0 "$answers" "$room/nothing" replay "$hello"
+check "a job file with a mesh" 0 jobs/mesh.out "$room/nothing" replay jobs/mesh.job
 check "a file with a fault" 2 "$room/nothing" "$(line 'line 7: HEX')" replay jobs/rows/faults/half_byte.job
 check "an endless file" 2 "$room/nothing" "$(line 'line 0: TOO_LONG')" replay /dev/zero
 check "a missing file" 1 "$room/nothing" "$(line 'read fault')" replay "$room/missing.job"
@@ -93,12 +94,12 @@ status=$?
 : >"$room/errors"
 ended "a full device as standard error" $status 2 "$room/nothing" "$room/nothing"
 
-# the worked rows, but for those that ask for a call of the mesher
+# the worked rows
 for job in jobs/rows/*/*.job; do
     row=${job%.job}
     if [ -f "$row.err" ]; then
         check "$row" 2 "$room/nothing" "$row.err" replay "$job"
-    elif ! grep -qE '^(pair|begin|step|cancel|whole|sweep|report)' "$job"; then
+    else
         check "$row" 0 "$row.out" "$room/nothing" replay "$job"
     fi
 done

@@ -3,7 +3,7 @@
 
 Each folder there is a subject, and each NAME.job in it a row: NAME.out has the lines that the job is answered, or NAME.err the fault of a file
 that is no job. In mesh_rows a subject becomes a spec file, a function whose clauses are its rows, and that function's proof; in mesh_run's tests
-the rows that the program can read become a table. Run it from the top of the repository after a row was added or changed; what it writes is
+the rows become tables, one a subject. Run it from the top of the repository after a row was added or changed; what it writes is
 committed.
 """
 import pathlib
@@ -14,7 +14,17 @@ import subprocess
 ROWS = pathlib.Path("jobs/rows")
 CRATE = pathlib.Path("crates/mesh_rows")
 PROGRAM = pathlib.Path("crates/mesh_run")
-FIRST = ROWS / "mutators" / "first_bytes.job"
+# The definitions are computed on files below this length; the longer one is there for the program alone.
+MOST_BYTES = 100_000
+
+# Subjects whose rows are too long for the tests' tables: the built program runs them, as it does all (tools/check_program.sh).
+UNTABLED = {"interleavings"}
+
+# Rows whose file and answers the tests name by themselves.
+NAMED = {
+    ROWS / "mutators" / "first_bytes.job": "FIRST",
+    ROWS / "small_steps" / "addresses_after_meshing.job": "MESH",
+}
 KINDS = {
     "TOO_LONG": "TooLong", "TRAILING": "Trailing", "LONG_LINE": "LongLine", "CUT": "Cut",
     "BYTE": "Byte", "WORD": "Word", "NUMBER": "Number", "HEX": "Hex",
@@ -60,7 +70,7 @@ def camel(name):
 
 
 def write_subject(folder):
-    name, rows = folder.name, sorted(folder.glob("*.job"))
+    name, rows = folder.name, [row for row in sorted(folder.glob("*.job")) if row.stat().st_size < MOST_BYTES]
     faults = any(row.with_suffix(".err").exists() for row in rows)
     words = ["ℕ", "List", "Result", "Err"] if faults else ["ℕ", "List", "Result", "Ok"]
     words += ["codes"]
@@ -103,30 +113,27 @@ def literal(content):
     return '"' + re.sub("[^ -~]", lambda byte: f"\\x{ord(byte[0]):02x}", escaped) + '"'
 
 
-def is_tested(row):
-    """Whether the tests have the row: it is short and no job, or its plan only runs workers, since no call of the mesher exists yet."""
-    if row.with_suffix(".err").exists():
-        return len(file_text(row)) < 1000
-    plan = file_text(row).split("\nplan\n", 1)[1].splitlines()[:-1]
-    return all(line.startswith("run ") for line in plan)
-
-
-def table(name, doc, suffix):
-    """The rows that have a file with this suffix, as a table of Rust: name, file, and what is expected."""
-    rows = [row for row in sorted(ROWS.glob("*/*.job")) if row.with_suffix(suffix).exists() and is_tested(row)]
+def table(name, doc, rows, suffix):
+    """These rows as a table of Rust: name, file, and what is expected."""
     lines = [f"/// {doc}", f"pub(crate) static {name}: [(&str, &str, &str); {len(rows)}] = ["]
     for row in rows:
-        texts = "FIRST_FILE, FIRST_ANSWERS" if row == FIRST else f"{literal(file_text(row))}, {literal(row.with_suffix(suffix).read_text())}"
+        named = NAMED.get(row)
+        texts = f"{named}_FILE, {named}_ANSWERS" if named else f"{literal(file_text(row))}, {literal(row.with_suffix(suffix).read_text())}"
         lines.append(f'    ("{row.parent.name}/{row.stem}", {texts}),')
     return lines + ["];", ""]
 
 
 def write_tables():
-    lines = ["//! The worked rows that the program can read. Written by `tools/write_rows.py`.", "",
-             "/// The file of the row `mutators/first_bytes`.", f"pub(crate) const FIRST_FILE: &str = {literal(file_text(FIRST))};", "",
-             "/// Its answers.", f"pub(crate) const FIRST_ANSWERS: &str = {literal(FIRST.with_suffix('.out').read_text())};", ""]
-    lines += table("JOBS", "For each job its name, its file and its answers.", ".out")
-    lines += table("FAULTS", "For each short file that is no job its name, its bytes and the line of its fault.", ".err")
+    lines = ["//! The worked rows. Written by `tools/write_rows.py`.", ""]
+    for row, name in NAMED.items():
+        lines += [f"/// The file of the row `{row.parent.name}/{row.stem}`.", f"pub(crate) const {name}_FILE: &str = {literal(file_text(row))};", "",
+                  "/// Its answers.", f"pub(crate) const {name}_ANSWERS: &str = {literal(row.with_suffix('.out').read_text())};", ""]
+    for folder in sorted(folder for folder in ROWS.iterdir() if folder.is_dir() and folder.name not in UNTABLED):
+        rows = sorted(row for row in folder.glob("*.job") if row.with_suffix(".out").exists())
+        if rows:
+            lines += table(folder.name.upper(), f"Rows of {folder.name.replace('_', ' ')}: for each its name, its file and its answers.", rows, ".out")
+    faults = [row for row in sorted(ROWS.glob("*/*.job")) if row.with_suffix(".err").exists() and len(file_text(row)) < 1000]
+    lines += table("FAULTS", "For each short file that is no job its name, its bytes and the line of its fault.", faults, ".err")
     (PROGRAM / "src" / "tests" / "files.rt").write_text("\n".join(lines))
     subprocess.run(["rt", "fmt"], cwd=PROGRAM, check=True)
 

@@ -1,7 +1,7 @@
-//! Devices that give or take one byte a call, and fail at some call.
+//! Devices that give or take one byte a call, and fail at some call, on a file with a mesh.
 ghost use Rattle.std.specs.Prelude.{◌≡◌, None, false};
 
-use crate::tests::files::{FIRST_ANSWERS, FIRST_FILE};
+use crate::tests::files::{MESH_ANSWERS, MESH_FILE};
 use crate::{DeviceFault, Input, Output, Sink, Source, replay_run};
 use std::alloc::Global;
 
@@ -46,21 +46,24 @@ enum End {
     TakesNothing,
 }
 
-/// A sink that takes one byte a call, until its calls are used up.
+/// A sink that takes few bytes a call, until its calls are used up.
 #[derive(Drop)]
 struct SlowSink {
     taken: Vec<u8>,
+    /// The most bytes that it takes in one call, and one where this is 0.
+    most: usize,
     calls: usize,
     end: End,
     failed: bool,
 }
 
 impl SlowSink {
-    fn new(alloc: Global, calls: usize, end: End) -> SlowSink
+    fn new(alloc: Global, most: usize, calls: usize, end: End) -> SlowSink
         ensures { result.failed ≡ false }
     {
         SlowSink {
             taken: Vec::new(alloc),
+            most,
             calls,
             end,
             failed: false,
@@ -85,8 +88,9 @@ impl Sink for SlowSink {
             };
         }
         self.calls -= 1;
-        match self.taken.push(bytes[0]) {
-            Ok(()) => Ok(1),
+        let count = bytes.len().min(self.most).max(1);
+        match self.taken.extend_from_slice(&bytes[..count]) {
+            Ok(()) => Ok(count),
             Err(_) => {
                 self.failed = true;
                 Err(DeviceFault)
@@ -98,7 +102,7 @@ impl Sink for SlowSink {
 /// Replays the file from a slow source.
 fn read_slowly(alloc: Global, calls: usize) -> (u8, Vec<u8>, Vec<u8>) {
     let mut input = SlowSource {
-        bytes: FIRST_FILE.as_bytes(),
+        bytes: MESH_FILE.as_bytes(),
         calls,
         failed: false,
     };
@@ -109,9 +113,9 @@ fn read_slowly(alloc: Global, calls: usize) -> (u8, Vec<u8>, Vec<u8>) {
 }
 
 /// Replays the file to a slow sink.
-fn write_slowly(alloc: Global, calls: usize, end: End) -> (u8, Vec<u8>, Vec<u8>) {
-    let mut input = Input::new(FIRST_FILE.as_bytes());
-    let mut output = SlowSink::new(alloc, calls, end);
+fn write_slowly(alloc: Global, most: usize, calls: usize, end: End) -> (u8, Vec<u8>, Vec<u8>) {
+    let mut input = Input::new(MESH_FILE.as_bytes());
+    let mut output = SlowSink::new(alloc, most, calls, end);
     let mut errors = Output::new(Vec::new(alloc));
     let status = replay_run(alloc, &mut input, &mut output, &mut errors);
     let SlowSink { taken, .. } = output;
@@ -121,18 +125,18 @@ fn write_slowly(alloc: Global, calls: usize, end: End) -> (u8, Vec<u8>, Vec<u8>)
 #[test]
 fn works_byte_by_byte(rt: HostRuntime) {
     let (status, output, errors) = read_slowly(rt.alloc(), ENOUGH);
-    assert_eq!(rt; output.as_slice(), FIRST_ANSWERS.as_bytes());
+    assert_eq!(rt; output.as_slice(), MESH_ANSWERS.as_bytes());
     assert_eq!(rt; errors.as_slice(), b"".as_slice());
     assert_eq!(rt; status, 0);
-    let (status, output, errors) = write_slowly(rt.alloc(), ENOUGH, End::Fails);
-    assert_eq!(rt; output.as_slice(), FIRST_ANSWERS.as_bytes());
+    let (status, output, errors) = write_slowly(rt.alloc(), 1, ENOUGH, End::Fails);
+    assert_eq!(rt; output.as_slice(), MESH_ANSWERS.as_bytes());
     assert_eq!(rt; errors.as_slice(), b"".as_slice());
     assert_eq!(rt; status, 0);
 }
 
 #[test]
 fn fails_at_each_read(rt: HostRuntime) {
-    for calls in 0..FIRST_FILE.len() + 1 {
+    for calls in 0..MESH_FILE.len() + 1 {
         let (status, output, errors) = read_slowly(rt.alloc(), calls);
         assert_eq!(rt; output.as_slice(), b"".as_slice(), "after {calls}");
         assert_eq!(rt;
@@ -144,14 +148,17 @@ fn fails_at_each_read(rt: HostRuntime) {
     }
 }
 
+/// How many bytes a sink takes a call that fails at one of its calls.
+const PIECE: usize = 16;
+
 #[test]
 fn fails_at_each_write(rt: HostRuntime) {
-    for calls in 0..FIRST_ANSWERS.len() {
+    for calls in 0..MESH_ANSWERS.len().div_ceil(PIECE) {
         for end in [End::Fails, End::TakesNothing] {
-            let (status, output, errors) = write_slowly(rt.alloc(), calls, end);
+            let (status, output, errors) = write_slowly(rt.alloc(), PIECE, calls, end);
             assert_eq!(rt;
                 output.as_slice(),
-                &FIRST_ANSWERS.as_bytes()[..calls],
+                &MESH_ANSWERS.as_bytes()[..calls * PIECE],
                 "after {calls}"
             );
             assert_eq!(rt;

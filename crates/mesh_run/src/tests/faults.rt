@@ -16,30 +16,6 @@ fn check_faults(rt: &(impl Abort + AllocGlobal), faults: &[(&str, &str, &str)]) 
     }
 }
 
-/// What stands before a line of the plan.
-const SIX_LINES: &str = "mesh 1\npages 4\nhistory 8\nworkers 1\nworker 0\nplan\n";
-
-/// The calls of the mesher.
-static CALLS: [&str; 7] = [
-    "pair 16 64 18446744073709551615\n",
-    "begin 1 0\n",
-    "step\n",
-    "cancel\n",
-    "whole 65535 0\n",
-    "sweep 65535\n",
-    "report\n",
-];
-
-#[test]
-fn knows_no_call_of_the_mesher(rt: HostRuntime) -> Result<(), Fail> {
-    for call in CALLS.iter() {
-        let mut file = String::from_str(rt.alloc(), SIX_LINES)?;
-        file.push_str(call)?;
-        check_fault(&rt, file.as_bytes(), "line 7: WORD\n", call);
-    }
-    Ok(())
-}
-
 /// For each number of bytes `a`, with a line end or none, what is said of them.
 static LENGTHS: [(usize, bool, &str); 5] = [
     (1024, false, "line 1: CUT\n"),

@@ -1,17 +1,58 @@
 //! The worked rows.
-use crate::tests::files::JOBS;
+use crate::tests::files::{
+    ABANDONED, CANCELS, MUTATORS, SEARCHES, SMALL_STEPS, VERSION_2, WHOLE_MESHES,
+};
 use crate::tests::replayed;
-use std::alloc::AllocError;
+use std::alloc::{AllocError, Global};
 use std::test::Fail;
 
-#[test]
-fn answers_each_row(rt: HostRuntime) {
-    for (name, file, answers) in JOBS.iter() {
-        let run = replayed(rt.alloc(), file.as_bytes());
-        assert_eq!(rt; run.output.as_slice(), answers.as_bytes(), "of {name}");
-        assert_eq!(rt; run.errors.as_slice(), b"".as_slice(), "of {name}");
-        assert_eq!(rt; run.status, 0, "of {name}");
+/// The first row that is not answered as it should be: of each its name, its file and its answers.
+fn wrong_row(alloc: Global, rows: &'static [(&str, &str, &str)]) -> Option<&'static str> {
+    for (name, file, answers) in rows {
+        let run = replayed(alloc, file.as_bytes());
+        if run.status != 0
+            || run.output.as_slice() != answers.as_bytes()
+            || !run.errors.is_empty()
+        {
+            return Some(*name);
+        }
     }
+    None
+}
+
+#[test]
+fn answers_rows_of_abandoned(rt: HostRuntime) {
+    assert_eq!(rt; wrong_row(rt.alloc(), ABANDONED.as_slice()), None);
+}
+
+#[test]
+fn answers_rows_of_cancels(rt: HostRuntime) {
+    assert_eq!(rt; wrong_row(rt.alloc(), CANCELS.as_slice()), None);
+}
+
+#[test]
+fn answers_rows_of_mutators(rt: HostRuntime) {
+    assert_eq!(rt; wrong_row(rt.alloc(), MUTATORS.as_slice()), None);
+}
+
+#[test]
+fn answers_rows_of_searches(rt: HostRuntime) {
+    assert_eq!(rt; wrong_row(rt.alloc(), SEARCHES.as_slice()), None);
+}
+
+#[test]
+fn answers_rows_of_small_steps(rt: HostRuntime) {
+    assert_eq!(rt; wrong_row(rt.alloc(), SMALL_STEPS.as_slice()), None);
+}
+
+#[test]
+fn answers_rows_of_version_2(rt: HostRuntime) {
+    assert_eq!(rt; wrong_row(rt.alloc(), VERSION_2.as_slice()), None);
+}
+
+#[test]
+fn answers_rows_of_whole_meshes(rt: HostRuntime) {
+    assert_eq!(rt; wrong_row(rt.alloc(), WHOLE_MESHES.as_slice()), None);
 }
 
 /// How many lines the long plan has: their answers are more than what is written at once.
@@ -29,6 +70,39 @@ fn answers_a_long_plan(rt: HostRuntime) -> Result<(), Fail> {
     push_line(&mut file, "end")?;
     let run = replayed(rt.alloc(), file.as_bytes());
     assert!(rt; run.output.as_slice() == answers.as_bytes());
+    assert_eq!(rt; run.status, 0);
+    Ok(())
+}
+
+/// How many spans of three pages use up the addresses but for three pages.
+const SPANS: u32 = 21_844;
+
+/// The bytes of a page, and the pages of each of these spans.
+const PAGE_BYTES: u32 = 4096;
+
+const SPAN_PAGES: u32 = 3;
+
+#[test]
+fn uses_up_all_addresses(rt: HostRuntime) -> Result<(), Fail> {
+    let mut file = String::from_str(
+        rt.alloc(),
+        "mesh 1\npages 4\nhistory 65536\nworkers 1\nworker 0\n",
+    )?;
+    let mut answers = String::new(rt.alloc());
+    for group in 0..SPANS {
+        file.push_str("new 0 384 0\nfree 0\n")?;
+        let address = (group * SPAN_PAGES + 1) * PAGE_BYTES;
+        write!(answers, "object {group} at {address:x}\ndone\nswept 3\n")?;
+    }
+    file.push_str("new 0 384 31\npeek fffffff\nnew 1 16 0\nplan\n")?;
+    for group in 0..SPANS {
+        write!(file, "run 0\nrun 0\nsweep {group}\n")?;
+    }
+    file.push_str("run 0\nrun 0\nrun 0\nend\n")?;
+    answers.push_str("object 21844 at ffffe80\nbyte 00\nrefused 4 NO_ADDRESSES\n")?;
+    let run = replayed(rt.alloc(), file.as_bytes());
+    assert!(rt; run.output.as_slice() == answers.as_bytes());
+    assert_eq!(rt; run.errors.as_slice(), b"".as_slice());
     assert_eq!(rt; run.status, 0);
     Ok(())
 }
