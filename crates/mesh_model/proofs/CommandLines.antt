@@ -142,9 +142,16 @@ command_room version (Alias to from) valid = short_room (fields_of (Alias to fro
 command_room version (Addr cell) valid = short_room (fields_of (Addr cell)) (decimal_field cell (omega (arith, valid)), tt) (omega arith)
 command_room version (Peek address) valid = short_room (fields_of (Peek address)) (address_field address, tt) (omega arith)
 command_room version (Poke address byte) valid = short_room (fields_of (Poke address byte)) (address_field address, (byte_field byte valid.1, tt)) (omega arith)
-command_room version (CopyBytes to to_off from from_off len) valid = short_room (fields_of (CopyBytes to to_off from from_off len))
-    (decimal_field to (omega (arith, valid.1)), (decimal_field to_off (omega (arith, valid.2)), (decimal_field from (omega (arith, valid.3)),
-    (decimal_field from_off (omega (arith, valid.4)), (decimal_field len (omega (arith, valid.6)), tt))))) (omega arith)
+command_room version (CopyBytes to to_off from from_off len) valid = short_room (fields_of (CopyBytes to to_off from from_off len)) (
+  decimal_field to (omega (arith, valid.1)),
+  (
+    decimal_field to_off (omega (arith, valid.2)),
+    (
+      decimal_field from (omega (arith, valid.3)),
+      (decimal_field from_off (omega (arith, valid.4)), (decimal_field len (omega (arith, valid.6)), tt)),
+    ),
+  ),
+) (omega arith)
 
 -- the word of a command, which begins no other section
 command_word : (command : Command)

@@ -292,7 +292,7 @@ from_workers_told version number pages history lines job some_page most_pages mo
 
 -- lines that were read from the journal's room on
 from_history_told : (version : Version) (number pages : ℕ) (lines : List (List ℕ)) (job : Job) → 1 ≤ pages → pages ≤ 4096
-    → lines_in number (headed version AtHistory pages 0 0) lines ≡ Ok job 
+    → lines_in number (headed version AtHistory pages 0 0) lines ≡ Ok job
     → IsValidJob job × (job.version ≡ version) × (lines ≡ history_lines job) × (job.pages ≡ pages)
 from_history_told version number pages lines job some_page most_pages h =
     let first = some_taken number (headed version AtHistory pages 0 0) lines job refl h in
