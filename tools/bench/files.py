@@ -1,0 +1,119 @@
+#!/usr/bin/env python3
+"""Writes three job files near 1 MiB into a folder: stores.job, whole_meshes.job and stepped_meshes.job. They are the same every time."""
+import pathlib
+import random
+import sys
+
+MOST_BYTES = 1_048_576
+CELLS = 256
+HEAD = "mesh {version}\npages 4096\nhistory 65536\nworkers 1\nworker 0\n"
+TAIL = "end\n"
+
+
+class File:
+    """A job of one worker: its commands, and its plan, in which each command has its `run 0`."""
+
+    def __init__(self, version):
+        self.commands, self.plan = [], []
+        self.head = HEAD.format(version=version)
+        self.bytes = len(self.head) + len("plan\n") + len(TAIL)
+
+    def command(self, line):
+        self.commands.append(line)
+        self.call("run 0", len(line) + 1)
+
+    def call(self, line, more=0):
+        self.plan.append(line)
+        self.bytes += len(line) + 1 + more
+
+    def has_room(self, bytes):
+        return self.bytes + bytes < MOST_BYTES and len(self.commands) < 65_000
+
+    def text(self):
+        return self.head + "".join(line + "\n" for line in self.commands + ["plan"] + self.plan) + TAIL
+
+
+def stores():
+    """Objects of all classes under 256 cells, stored to and loaded from again and again."""
+    pick = random.Random(1)
+    file = File(1)
+    lengths = {}
+    while file.has_room(100):
+        cell = pick.randrange(CELLS)
+        if cell not in lengths or pick.random() < 0.05:
+            if cell in lengths:
+                file.command(f"free {cell}")
+            lengths[cell] = pick.choice([16, 30, 64, 100, 256, 384, 500, 1024, 1500, 2048])
+            file.command(f"new {cell} {lengths[cell]} {pick.randrange(1000)}")
+        else:
+            count = pick.randrange(1, 17)
+            place = pick.randrange(lengths[cell] - count + 1)
+            if pick.random() < 0.5:
+                file.command(f"put {cell} {place} {pick.randbytes(count).hex()}")
+            else:
+                file.command(f"get {cell} {place} {count}")
+    return file
+
+
+def half_empty(file, first):
+    """128 groups of class 2048 from this number on, every two of which have no common slot; gives the cells that are live."""
+    for cell in range(CELLS):
+        file.command(f"new {cell} 2048 0")
+    for cell in range(CELLS):
+        if cell % 4 in (0, 3):
+            file.command(f"free {cell}")
+    return [cell for cell in range(CELLS) if cell % 4 in (1, 2)]
+
+
+def whole_meshes():
+    """Groups filled, half emptied, searched, meshed whole, emptied and swept."""
+    file = File(1)
+    first = 0
+    while file.has_room(13_000):
+        live = half_empty(file, first)
+        file.call("pair 2048 2 7 1 13 2 99")
+        for group in range(first, first + 128, 2):
+            file.call(f"whole {group + 1} {group}")
+        file.call("report")
+        for cell in live:
+            file.command(f"free {cell}")
+        for group in range(first, first + 128, 2):
+            file.call(f"sweep {group}")
+        first += 128
+    return file
+
+
+def stepped_meshes():
+    """Groups meshed step by step with stores and loads between, every fourth mesh cancelled first."""
+    file = File(2)
+    first = 0
+    while file.has_room(26_000):
+        live = half_empty(file, first)
+        for place, group in enumerate(range(first, first + 128, 2)):
+            source = live[2 * place + 1]
+            file.call(f"begin {group + 1} {group}")
+            if place % 4 == 0:
+                file.call("step 2048")
+                file.call("cancel 2048")
+                file.call("step 2048")
+                file.call(f"begin {group + 1} {group}")
+            for step in range(6):
+                file.call("step 2048")
+                file.command(f"get {source} {step} 8")
+            file.command(f"put {source} 0 {place:02x}")
+        for cell in live:
+            file.command(f"free {cell}")
+        for group in range(first, first + 128, 2):
+            file.call(f"sweep {group}")
+        first += 128
+    return file
+
+
+def main():
+    folder = pathlib.Path(sys.argv[1])
+    for make in (stores, whole_meshes, stepped_meshes):
+        (folder / f"{make.__name__}.job").write_text(make().text())
+
+
+if __name__ == "__main__":
+    main()
