@@ -55,8 +55,12 @@ def stores():
     return file
 
 
-def half_empty(file, first):
-    """128 groups of class 2048 from this number on, every two of which have no common slot; gives the cells that are live."""
+# How many groups of class 2048 the cells fill, two objects each.
+GROUPS = CELLS // 2
+
+
+def half_empty(file):
+    """Fills groups of class 2048 under all cells, and frees so that every two of them have no common slot; gives the cells that are live."""
     for cell in range(CELLS):
         file.command(f"new {cell} 2048 0")
     for cell in range(CELLS):
@@ -65,31 +69,40 @@ def half_empty(file, first):
     return [cell for cell in range(CELLS) if cell % 4 in (1, 2)]
 
 
-def whole_meshes():
-    """Groups filled, half emptied, searched, meshed whole, emptied and swept."""
-    file = File(1)
+def sweep(file, live, groups):
+    """Frees what is live, and gives the pages of these groups back."""
+    for cell in live:
+        file.command(f"free {cell}")
+    for group in groups:
+        file.call(f"sweep {group}")
+
+
+def rounds(file, room, mesh):
+    """While there is room for so many bytes: groups half emptied, meshed two and two, and swept. `mesh` is told the live cells and the destinations."""
     first = 0
-    while file.has_room(13_000):
-        live = half_empty(file, first)
+    while file.has_room(room):
+        live = half_empty(file)
+        destinations = range(first, first + GROUPS, 2)
+        mesh(file, live, destinations)
+        sweep(file, live, destinations)
+        first += GROUPS
+    return file
+
+
+def whole_meshes():
+    """Groups searched and meshed whole."""
+    def mesh(file, live, destinations):
         file.call("pair 2048 2 7 1 13 2 99")
-        for group in range(first, first + 128, 2):
+        for group in destinations:
             file.call(f"whole {group + 1} {group}")
         file.call("report")
-        for cell in live:
-            file.command(f"free {cell}")
-        for group in range(first, first + 128, 2):
-            file.call(f"sweep {group}")
-        first += 128
-    return file
+    return rounds(File(1), 13_000, mesh)
 
 
 def stepped_meshes():
     """Groups meshed step by step with stores and loads between, every fourth mesh cancelled first."""
-    file = File(2)
-    first = 0
-    while file.has_room(26_000):
-        live = half_empty(file, first)
-        for place, group in enumerate(range(first, first + 128, 2)):
+    def mesh(file, live, destinations):
+        for place, group in enumerate(destinations):
             source = live[2 * place + 1]
             file.call(f"begin {group + 1} {group}")
             if place % 4 == 0:
@@ -101,12 +114,7 @@ def stepped_meshes():
                 file.call("step 2048")
                 file.command(f"get {source} {step} 8")
             file.command(f"put {source} 0 {place:02x}")
-        for cell in live:
-            file.command(f"free {cell}")
-        for group in range(first, first + 128, 2):
-            file.call(f"sweep {group}")
-        first += 128
-    return file
+    return rounds(File(2), 26_000, mesh)
 
 
 def main():
