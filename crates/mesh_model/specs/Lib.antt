@@ -16,6 +16,7 @@ pub mod PageLaws
 pub mod Places
 pub mod Plain
 pub mod ReaderLaws
+pub mod Reads
 pub mod RecordLaws
 pub mod Refusals
 pub mod Search
