@@ -8,6 +8,7 @@ mod CopiedRanges
 mod CountedPages
 mod FieldReadings
 mod Fields
+pub mod FittingCalls
 pub mod FreedObjects
 pub mod GroupLists
 pub mod GroupPages
@@ -35,6 +36,7 @@ mod Readings
 pub mod Records
 mod Refused
 mod Replies
+pub mod RightReads
 pub mod SameRecords
 pub mod Searches
 mod Seating
@@ -47,4 +49,6 @@ mod TextReadings
 pub mod TiedMemories
 pub mod TiedNewObjects
 pub mod TiedTables
+mod ToldReads
 pub mod WholeMeshes
+pub mod WovenCalls

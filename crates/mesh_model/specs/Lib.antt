@@ -15,6 +15,7 @@ pub mod PageCounts
 pub mod PageLaws
 pub mod Places
 pub mod Plain
+pub mod ReadLaws
 pub mod ReaderLaws
 pub mod Reads
 pub mod RecordLaws

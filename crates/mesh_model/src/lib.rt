@@ -2,7 +2,7 @@
 //!
 //! This is the base crate: the plain enums that every layer speaks, the definitions that contracts cite (`specs/`), and what is
 //! proved of the definitions alone, a file a thought: `laws`, `step_laws`, `seat_laws`, `table_laws`, `mesh_laws`, `page_laws`,
-//! `effect_laws`, `copy_laws`, `history_laws`, `meaning_laws`, `record_laws`, `text_laws` and `reader_laws`. It has no other code.
+//! `effect_laws`, `copy_laws`, `history_laws`, `meaning_laws`, `read_laws`, `record_laws`, `text_laws` and `reader_laws`. It has no other code.
 #![tactic(auto)]
 
 mod commands;
@@ -14,6 +14,7 @@ pub mod laws;
 pub mod meaning_laws;
 pub mod mesh_laws;
 pub mod page_laws;
+pub mod read_laws;
 pub mod reader_laws;
 pub mod record_laws;
 mod refusals;
