@@ -28,8 +28,8 @@ impl Model for Entry {
 }
 
 impl Entry {
-    /// The entry of a worker's command and its reply.
-    pub(crate) fn of(worker: u32, command: &Command, reply: &Reply) -> Entry
+    /// The entry of a worker's command and its reply. It takes no memory.
+    pub fn of(worker: u32, command: &Command, reply: &Reply) -> Entry
         ensures { result ≡ record { worker = worker; command = command.now; reply = reply.now } }
     {
         Entry {
@@ -40,8 +40,8 @@ impl Entry {
     }
 }
 
-// The same command. It takes no memory.
-fn command_again(command: &Command) -> Command
+/// The same command. It takes no memory.
+pub fn command_again(command: &Command) -> Command
     ensures { result ≡ command.now }
 {
     match command {
@@ -59,8 +59,8 @@ fn command_again(command: &Command) -> Command
     }
 }
 
-// The same reply. It takes no memory.
-fn reply_again(reply: &Reply) -> Reply
+/// The same reply. It takes no memory.
+pub fn reply_again(reply: &Reply) -> Reply
     ensures { result ≡ reply.now }
 {
     match reply {

@@ -9,7 +9,7 @@ mod journal;
 mod roots;
 
 pub use attempts::Attempt;
-pub use entry::Entry;
+pub use entry::{Entry, command_again, reply_again};
 pub use journal::Book;
 pub use mesh_model::{Command, Refusal, Reply};
 pub use roots::Roots;
