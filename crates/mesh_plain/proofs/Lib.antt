@@ -1,0 +1,3 @@
+mod Ties
+mod Holders
+mod Stores

@@ -1,0 +1,70 @@
+-- The plain memory as two finite maps: from serial to object, and from cell to serial.
+use Rattle.std.specs.Prelude.{◌≡◌, ◌≢◌, ℕ, zero, suc, ◌+◌, ◌<◌, ◌≤◌, ◌⊎◌, Bool, true, false, List, [], ◌∷◌, Option, Some, None, Result, Ok, Err, refl, length, slice_range}
+use Rattle.std.specs.Coded.{Coded, code_by, coded×, coded_list, coded_option, coded_ℕ}
+use Rattle.mesh_model.specs.Memory.{Memory, Object, has_address, overwritten}
+use Rattle.mesh_plain.specs.declared.faults.PlainFault.{PlainFault}
+use Rattle.mesh_plain.specs.declared.faults.PlainFault.TheVariants.{Freed, Outside}
+
+-- what a function gives for the numbers from `k` on, `n` of them
+abbrev pub values_from : {X : Type 0} → (ℕ → X) → ℕ → ℕ → List X
+values_from f k zero = []
+values_from f k (suc n) = f k ∷ values_from f (suc k) n
+
+-- the memory of two functions
+abbrev pub memory_of_maps : (ℕ → Option Object) → ℕ → (ℕ → Option ℕ) → Memory
+memory_of_maps object next root = record { objects = values_from object 0 next; roots = values_from root 0 256 }
+
+-- an object is stored as its address and bytes
+abbrev pub object_code : Coded Object
+object_code = code_by (ℕ × List ℕ) (coded× coded_ℕ (coded_list coded_ℕ)) (λ o. (o.address, o.bytes)) (λ p. record { address = p.0; bytes = p.1 }) (λ _. refl)
+
+-- a memory is stored as its objects and roots
+abbrev pub memory_code : Coded Memory
+memory_code = code_by (List (Option Object) × List (Option ℕ)) (coded× (coded_list (coded_option object_code)) (coded_list (coded_option coded_ℕ)))
+    (λ m. (m.objects, m.roots)) (λ p. record { objects = p.0; roots = p.1 }) (λ _. refl)
+
+-- what the function gives is given below the number
+abbrev pub AreBelow : (ℕ → Option Object) → ℕ → Type 0
+AreBelow object next = (k : ℕ) (x : Object) → object k ≡ Some x → k < next
+
+-- both give the same
+abbrev pub IsSameAt : {X : Type 0} → (ℕ → Option X) → (ℕ → Option X) → Type 0
+IsSameAt f g = (k : ℕ) → g k ≡ f k
+
+-- `g` gives this at `k`, and at each other number what `f` gives
+abbrev pub IsSetAt : {X : Type 0} → (ℕ → Option X) → (ℕ → Option X) → ℕ → Option X → Type 0
+IsSetAt f g k v = (g k ≡ v) × ((q : ℕ) → q ≢ k → g q ≡ f q)
+
+-- there is an object, and it has so many bytes from the offset on
+abbrev pub HasRange : Option Object → ℕ → ℕ → Type 0
+HasRange None off len = ⊥
+HasRange (Some x) off len = off + len ≤ length x.bytes
+
+-- there is an object, and it has the address
+abbrev pub holds_address : Option Object → ℕ → Bool
+holds_address None address = false
+holds_address (Some x) address = has_address x address
+
+-- the first serial below `next` whose object has the address, or there is none
+abbrev pub IsHolder : (ℕ → Option Object) → ℕ → ℕ → Option ℕ → Type 0
+IsHolder object next address None = (k : ℕ) → k < next → holds_address (object k) address ≡ false
+IsHolder object next address (Some serial) =
+    (serial < next) × (holds_address (object serial) address ≡ true) × ((k : ℕ) → k < serial → holds_address (object k) address ≡ false)
+
+-- bytes are stored in the object of a serial, or it is told why not
+abbrev pub IsOverwritten : (ℕ → Option Object) → (ℕ → Option Object) → ℕ → ℕ → List ℕ → Result (Unit {0}) PlainFault → Type 0
+IsOverwritten old new serial off bytes (Ok _) = (x : Object) × (old serial ≡ Some x) × (off + length bytes ≤ length x.bytes)
+    × IsSetAt old new serial (Some (record x { bytes = overwritten x.bytes off bytes }))
+IsOverwritten old new serial off bytes (Err Outside) = (x : Object) × (old serial ≡ Some x) × (length x.bytes < off + length bytes) × IsSameAt old new
+IsOverwritten old new serial off bytes (Err Freed) = (old serial ≡ None) × IsSameAt old new
+IsOverwritten old new serial off bytes (Err _) = ⊥
+
+-- a range of one object's bytes is stored in another or the same, or it is told why not
+abbrev pub IsCopied : (ℕ → Option Object) → (ℕ → Option Object) → ℕ → ℕ → ℕ → ℕ → ℕ → Result (Unit {0}) PlainFault → Type 0
+IsCopied old new to to_off from from_off len (Ok _) = (x y : Object) × (old to ≡ Some x) × (old from ≡ Some y)
+    × (to_off + len ≤ length x.bytes) × (from_off + len ≤ length y.bytes)
+    × IsSetAt old new to (Some (record x { bytes = overwritten x.bytes to_off (slice_range y.bytes from_off (from_off + len)) }))
+IsCopied old new to to_off from from_off len (Err Outside) = (x y : Object) × (old to ≡ Some x) × (old from ≡ Some y)
+    × ((length x.bytes < to_off + len) ⊎ (length y.bytes < from_off + len)) × IsSameAt old new
+IsCopied old new to to_off from from_off len (Err Freed) = ((old to ≡ None) ⊎ (old from ≡ None)) × IsSameAt old new
+IsCopied old new to to_off from from_off len (Err _) = ⊥

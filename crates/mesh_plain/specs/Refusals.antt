@@ -1,0 +1,19 @@
+-- How a fault answers for the plain step.
+use Rattle.std.specs.Prelude.{◌≡◌, Result, Err, IsOk}
+use Rattle.mesh_model.specs.declared.refusals.Refusal.{Refusal}
+use Rattle.mesh_model.specs.declared.refusals.Refusal.TheVariants.{Empty as IsEmpty, Freed as IsFreed, Outside as IsOutside, Stray as IsStray}
+use Rattle.mesh_plain.specs.declared.faults.PlainFault.{PlainFault}
+use Rattle.mesh_plain.specs.declared.faults.PlainFault.TheVariants.{Empty, Freed, Outside, Stray, Memory as OfMemory}
+
+-- the step is refused, and the fault has the refusal's name; want of memory is no refusal
+abbrev pub IsRefusedAs : {X : Type 0} → PlainFault → Result X Refusal → Type 0
+IsRefusedAs Empty step = step ≡ Err IsEmpty
+IsRefusedAs Freed step = step ≡ Err IsFreed
+IsRefusedAs Outside step = step ≡ Err IsOutside
+IsRefusedAs Stray step = step ≡ Err IsStray
+IsRefusedAs OfMemory step = ⊥
+
+-- the same, or the step isn't refused, and memory was wanting
+abbrev pub IsRefusedOrUnmade : {X : Type 0} → PlainFault → Result X Refusal → Type 0
+IsRefusedOrUnmade OfMemory step = IsOk step
+IsRefusedOrUnmade fault step = IsRefusedAs fault step

@@ -1,0 +1,86 @@
+//! What the commands of a journal do to the plain memory, and what it answers to a read.
+ghost use Rattle.std.specs.Prelude.{◌≡◌, ◌^◌, ◌-◌, ◌<◌, true, Result, Err, IfErr, IsErr, OnOk, OnErr};
+ghost use Rattle.mesh_model.specs.Commands.{IsInRange};
+ghost use Rattle.mesh_model.specs.Memory.{Memory, next_serial};
+ghost use Rattle.mesh_model.specs.Reads.{is_read, left_by, read_reply, reply_in};
+ghost use Rattle.mesh_plain.specs.Refusals.{IsRefusedAs};
+
+use crate::faults::PlainFault;
+use crate::plain::Plain;
+use mesh_model::{Command, Refusal, Reply};
+use std::alloc::AllocError;
+
+impl Plain {
+    /// What it answers to a read: a refusal where it refuses. It takes no memory.
+    pub fn look(&self, command: &Command) -> Reply
+        requires range { IsInRange command.now }
+        requires read { is_read command.now ≡ true }
+        ensures { result ≡ read_reply self.now command.now }
+    {
+        match command {
+            Command::Get(cell, off, len) => match self.get(*cell, *off, *len) {
+                Ok(bytes) => Reply::Bytes(bytes),
+                Err(fault) => refused(fault),
+            },
+            Command::Addr(cell) => match self.addr(*cell) {
+                Ok(address) => Reply::At(address),
+                Err(fault) => refused(fault),
+            },
+            Command::Peek(address) => match self.peek(*address) {
+                Ok(byte) => Reply::Byte(byte),
+                Err(fault) => refused(fault),
+            },
+            _ => Reply::Done,
+        }
+    }
+
+    /// Does what an answered command did. For a `New` its reply tells the address; a reply that names no object changes nothing, nor does a command
+    /// that is refused. The error is want of memory.
+    pub fn apply(&mut self, command: &Command, reply: &Reply) -> Result<(), AllocError>
+        requires few { next_serial self.old < 2 ^ 32 - 1 }
+        ensures done { OnOk result (self.new ≡ left_by self.old command.now reply.now) }
+        ensures unchanged { OnErr result (self.new ≡ self.old) }
+    {
+        match command {
+            Command::New(cell, len, _) => match reply {
+                Reply::Object(_, address) => match self.make(*cell, *len, *address) {
+                    Ok(_) => Ok(()),
+                    Err(_) => Err(AllocError),
+                },
+                _ => Ok(()),
+            },
+            Command::Put(cell, off, bytes) => only_memory(self.put(*cell, *off, bytes.as_slice())),
+            Command::Free(cell) => only_memory(self.free(*cell)),
+            Command::Alias(to, from) => only_memory(self.alias(*to, *from)),
+            Command::Poke(address, byte) => only_memory(self.poke(*address, *byte)),
+            Command::Copy(to, to_off, from, from_off, len) => {
+                only_memory(self.copy(*to, *to_off, *from, *from_off, *len))
+            }
+            Command::Get(_, _, _) | Command::Addr(_) | Command::Peek(_) => Ok(()),
+        }
+    }
+}
+
+// The reply to a command that is refused.
+fn refused(fault: PlainFault) -> Reply
+    ensures { (step : Result (Reply × Memory) Refusal) → IsRefusedAs fault step → result ≡ reply_in step }
+{
+    Reply::Refused(match fault {
+        PlainFault::Empty => Refusal::Empty,
+        PlainFault::Freed => Refusal::Freed,
+        PlainFault::Outside => Refusal::Outside,
+        PlainFault::Stray => Refusal::Stray,
+        PlainFault::Memory => Refusal::NoPages,
+    })
+}
+
+// Want of memory, where a call comes to it; a refusal is none.
+fn only_memory(answer: Result<(), PlainFault>) -> Result<(), AllocError>
+    ensures only { OnErr result (answer ≡ Err PlainFault.Memory) }
+    ensures told { IfErr answer (λ fault. fault ≡ PlainFault.Memory → IsErr result) }
+{
+    match answer {
+        Err(PlainFault::Memory) => Err(AllocError),
+        _ => Ok(()),
+    }
+}

@@ -1,0 +1,177 @@
+//! What the calls do to the two maps: objects by serial, and serials by root cell.
+ghost use Rattle.std.specs.Prelude.{◌≡◌, ◌≢◌, ◌+◌, Some, None, [], OnOk, OnErr, slice_range};
+ghost use Rattle.std.specs.Ordering.{nat_cmp};
+ghost use Rattle.std.specs.BTreeMap.{Updates, get};
+ghost use Rattle.mesh_model.specs.Memory.{Object, overwritten};
+ghost use Rattle.mesh_plain.specs.Maps.{HasRange, IsCopied, IsHolder, IsOverwritten, IsSameAt, IsSetAt, holds_address};
+
+use crate::bytes::{copy_within, store_at};
+use crate::faults::PlainFault;
+use crate::stored::Stored;
+use std::alloc::{AllocError, Global};
+use std::collections::BTreeMap;
+use std::mem;
+
+// Adds an object and lets a cell hold its serial.
+pub fn add(
+    objects: &mut BTreeMap<u32, Stored>,
+    roots: &mut BTreeMap<u8, u32>,
+    cell: u8,
+    serial: u32,
+    object: Stored,
+) -> Result<(), AllocError>
+    requires new { get nat_cmp objects.old serial ≡ None }
+    ensures objects { OnOk result (Updates nat_cmp objects.old objects.new serial (Some object)) }
+    ensures roots { OnOk result (Updates nat_cmp roots.old roots.new cell (Some serial)) }
+    ensures same_objects { OnErr result (IsSameAt (get nat_cmp objects.old) (get nat_cmp objects.new)) }
+    ensures same_roots { OnErr result (IsSameAt (get nat_cmp roots.old) (get nat_cmp roots.new)) }
+{
+    if objects.insert(serial, object).is_err() {
+        return Err(AllocError);
+    }
+    if roots.insert(cell, serial).is_err() {
+        objects.remove(&serial);
+        return Err(AllocError);
+    }
+    Ok(())
+}
+
+// Lets a cell hold a serial.
+pub fn point(roots: &mut BTreeMap<u8, u32>, cell: u8, serial: u32) -> Result<(), AllocError>
+    ensures done { OnOk result (Updates nat_cmp roots.old roots.new cell (Some serial)) }
+    ensures same { OnErr result (IsSameAt (get nat_cmp roots.old) (get nat_cmp roots.new)) }
+{
+    match roots.insert(cell, serial) {
+        Ok(_) => Ok(()),
+        Err(_) => Err(AllocError),
+    }
+}
+
+// The first serial below `next` whose object has the address.
+pub fn holder(objects: &BTreeMap<u32, Stored>, next: u32, address: u32) -> Option<u32>
+    ensures { IsHolder (get nat_cmp objects.now) next address result }
+{
+    for serial in 0..next {
+        if has_address(objects, serial, address) {
+            return Some(serial);
+        }
+    }
+    None
+}
+
+// Whether there is an object of the serial, and it has the address.
+fn has_address(objects: &BTreeMap<u32, Stored>, serial: u32, address: u32) -> bool
+    ensures { result ≡ holds_address (get nat_cmp objects.now serial) address }
+{
+    match objects.get(&serial) {
+        Some(object) => object.address <= address
+            && ((address - object.address) as usize) < object.bytes.len(),
+        None => false,
+    }
+}
+
+// Stores bytes in a live object.
+pub fn overwrite(
+    objects: &mut BTreeMap<u32, Stored>,
+    serial: u32,
+    off: u32,
+    bytes: &[u8],
+) -> Result<(), PlainFault>
+    ensures { IsOverwritten (get nat_cmp objects.old) (get nat_cmp objects.new) serial off bytes.now result }
+{
+    let Some(object) = objects.get_mut(&serial) else {
+        return Err(PlainFault::Freed);
+    };
+    let start = off as usize;
+    if object.bytes.len() < start + bytes.len() {
+        return Err(PlainFault::Outside);
+    }
+    store_at(&mut object.bytes, start, bytes);
+    Ok(())
+}
+
+// Copies a range of one live object's bytes into another's, or within one.
+pub fn copy(
+    alloc: Global,
+    objects: &mut BTreeMap<u32, Stored>,
+    to: u32,
+    to_off: u32,
+    from: u32,
+    from_off: u32,
+    len: u32,
+) -> Result<(), PlainFault>
+    ensures { IsCopied (get nat_cmp objects.old) (get nat_cmp objects.new) to to_off from from_off len result }
+{
+    let (Some(target), Some(source)) = (objects.get(&to), objects.get(&from)) else {
+        return Err(PlainFault::Freed);
+    };
+    let (to_start, from_start, count) = (to_off as usize, from_off as usize, len as usize);
+    if target.bytes.len() < to_start + count || source.bytes.len() < from_start + count {
+        return Err(PlainFault::Outside);
+    }
+    if to == from {
+        copy_in_one(objects, to, to_start, from_start, count);
+    } else {
+        copy_between(alloc, objects, to, to_start, from, from_start, count);
+    }
+    Ok(())
+}
+
+// Copies a range of an object's bytes within it.
+fn copy_in_one(objects: &mut BTreeMap<u32, Stored>, serial: u32, to: usize, from: usize, len: usize)
+    requires { HasRange (get nat_cmp objects.old serial) to len × HasRange (get nat_cmp objects.old serial) from len }
+    ensures { (x : Object) → get nat_cmp objects.old serial ≡ Some x
+        → IsSetAt (get nat_cmp objects.old) (get nat_cmp objects.new) serial (Some (record x { bytes = overwritten x.bytes to (slice_range x.bytes from (from + len)) })) }
+{
+    if let Some(object) = objects.get_mut(&serial) {
+        copy_within(&mut object.bytes, to, from, len);
+    }
+}
+
+// Takes the bytes of an object out of it.
+fn take_bytes(alloc: Global, objects: &mut BTreeMap<u32, Stored>, serial: u32) -> Vec<u8>
+    ensures { (x : Object) → get nat_cmp objects.old serial ≡ Some x
+        → (result.items ≡ x.bytes) × IsSetAt (get nat_cmp objects.old) (get nat_cmp objects.new) serial (Some (record x { bytes = [] })) }
+{
+    match objects.get_mut(&serial) {
+        Some(object) => mem::replace(&mut object.bytes, Vec::new(alloc)),
+        None => Vec::new(alloc),
+    }
+}
+
+// Gives an object its bytes.
+fn give_bytes(objects: &mut BTreeMap<u32, Stored>, serial: u32, bytes: Vec<u8>)
+    ensures { (x : Object) → get nat_cmp objects.old serial ≡ Some x
+        → IsSetAt (get nat_cmp objects.old) (get nat_cmp objects.new) serial (Some (record x { bytes = bytes.items })) }
+{
+    if let Some(object) = objects.get_mut(&serial) {
+        object.bytes = bytes;
+    }
+}
+
+// Copies a range of an object's bytes into another object.
+fn copy_between(
+    alloc: Global,
+    objects: &mut BTreeMap<u32, Stored>,
+    to: u32,
+    to_start: usize,
+    from: u32,
+    from_start: usize,
+    len: usize,
+)
+    requires other { to ≢ from }
+    requires target { HasRange (get nat_cmp objects.old to) to_start len }
+    requires source { HasRange (get nat_cmp objects.old from) from_start len }
+    ensures { (x y : Object) → get nat_cmp objects.old to ≡ Some x → get nat_cmp objects.old from ≡ Some y
+        → IsSetAt (get nat_cmp objects.old) (get nat_cmp objects.new) to (Some (record x { bytes = overwritten x.bytes to_start (slice_range y.bytes from_start (from_start + len)) })) }
+{
+    let mut bytes = take_bytes(alloc, objects, to);
+    if let Some(source) = objects.get(&from) {
+        store_at(
+            &mut bytes,
+            to_start,
+            &source.bytes[from_start..from_start + len],
+        );
+    }
+    give_bytes(objects, to, bytes);
+}
