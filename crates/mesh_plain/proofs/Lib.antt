@@ -1,3 +1,4 @@
 mod Ties
 mod Holders
 mod Stores
+mod Serials

@@ -1,5 +1,5 @@
 //! What the commands of a journal do to the plain memory, and what it answers to a read.
-ghost use Rattle.std.specs.Prelude.{◌≡◌, ◌^◌, ◌-◌, ◌<◌, true, Result, Err, IfErr, IsErr, OnOk, OnErr};
+ghost use Rattle.std.specs.Prelude.{◌≡◌, ◌^◌, ◌+◌, ◌-◌, ◌≤◌, ◌<◌, true, Result, Err, IfErr, IsErr, OnOk, OnErr};
 ghost use Rattle.mesh_model.specs.Commands.{IsInRange};
 ghost use Rattle.mesh_model.specs.Memory.{Memory, next_serial};
 ghost use Rattle.mesh_model.specs.Reads.{is_read, left_by, read_reply, reply_in};
@@ -40,6 +40,7 @@ impl Plain {
         requires few { next_serial self.old < 2 ^ 32 - 1 }
         ensures done { OnOk result (self.new ≡ left_by self.old command.now reply.now) }
         ensures unchanged { OnErr result (self.new ≡ self.old) }
+        ensures serials { next_serial self.new ≤ next_serial self.old + 1 }
     {
         match command {
             Command::New(cell, len, _) => match reply {

@@ -13,3 +13,6 @@ mod stored;
 
 pub use faults::PlainFault;
 pub use plain::Plain;
+
+#[cfg(test)]
+mod tests;
