@@ -29,7 +29,7 @@ get_take (x ∷ xs) zero = refl
 get_take (x ∷ xs) (suc i) = get_take xs i
 
 -- the element after a list
-get_seam : {X : Type 0} (xs ys : List X) (x : X) → slice_get (xs ++ x ∷ ys) (length xs) ≡ Some x
+pub get_seam : {X : Type 0} (xs ys : List X) (x : X) → slice_get (xs ++ x ∷ ys) (length xs) ≡ Some x
 get_seam [] ys x = refl
 get_seam (y ∷ xs) ys x = get_seam xs ys x
 
