@@ -1,0 +1,9 @@
+mod Comparing
+mod Looking
+mod Righting
+mod Rounds
+mod Seating
+mod Settled
+mod Standing
+mod Taking
+mod Walking

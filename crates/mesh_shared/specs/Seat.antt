@@ -1,0 +1,89 @@
+-- A seat: what one mutator thread was answered.
+use Rattle.std.specs.Prelude.{◌≡◌, ℕ, suc, ◌<◌, ◌≤◌, List, [], ◌∷◌, ◌++◌, Option, is_some, length, map, refl}
+use Rattle.std.specs.Coded.{Coded, code_by, coded×, coded_list, coded_option, coded_ℕ}
+use Rattle.std.specs.List.{All}
+use Rattle.mesh_model.specs.Commands.{IsInRange}
+use Rattle.mesh_model.specs.declared.commands.Command.{Command}
+use Rattle.mesh_model.specs.declared.commands.Command.TheVariants.{New, Put, Get, Free, Alias, Addr, Peek, Poke, Copy}
+use Rattle.mesh_model.specs.declared.commands.Reply.{Reply}
+use Rattle.mesh_mutator.specs.Codes.{command_code, reply_code}
+use Rattle.mesh_mutator.specs.declared.attempts.Attempt.{Attempt}
+use Rattle.mesh_mutator.specs.declared.attempts.Attempt.TheVariants.{Blocked, Done, HistoryFull, OutOfMemory}
+use Rattle.mesh_model.specs.Reads.{Kept, is_read}
+
+-- a seat: its number, its calls, and how many there is room for
+pub record Seat : Type 0 where
+  pub number : ℕ
+  pub calls : List Kept
+  pub room : ℕ
+
+-- a kept call is stored as its parts
+abbrev pub kept_code : Coded Kept
+kept_code = code_by (Command × (Reply × Option ℕ)) (coded× command_code (coded× reply_code (coded_option coded_ℕ)))
+    (λ k. (k.command, (k.reply, k.seen))) (λ p. record { command = p.0; reply = p.1.0; seen = p.1.1 }) (λ _. refl)
+
+-- a seat is stored as its parts
+abbrev pub seat_code : Coded Seat
+seat_code = code_by (ℕ × (List Kept × ℕ)) (coded× coded_ℕ (coded× (coded_list kept_code) coded_ℕ))
+    (λ s. (s.number, (s.calls, s.room))) (λ p. record { number = p.0; calls = p.1.0; room = p.1.1 }) (λ _. refl)
+
+-- a kept call has seen a length exactly where it is a read, and is in range
+abbrev pub IsKept : Kept → Type 0
+IsKept kept = (is_some kept.seen ≡ is_read kept.command) × IsInRange kept.command
+
+-- what a seat keeps
+pub record IsSeat (s : Seat) : Type 0 where
+  pub short : length s.calls ≤ s.room
+  pub kept : All IsKept s.calls
+
+-- the call is kept, and nothing else of the seat changes
+abbrev pub Keeps : Seat → Seat → Command → Reply → Type 0
+Keeps old new command reply = (seen : Option ℕ) × (new ≡ record old { calls = old.calls ++ record { command = command; reply = reply; seen = seen } ∷ [] })
+    × (is_some seen ≡ is_read command)
+
+-- the command stores bytes, and may be held back by a read-only page
+abbrev pub IsStore : Command → Type 0
+IsStore (New cell len word) = ⊥
+IsStore (Put cell off bytes) = Unit {0}
+IsStore (Get cell off len) = ⊥
+IsStore (Free cell) = ⊥
+IsStore (Alias to from) = ⊥
+IsStore (Addr cell) = ⊥
+IsStore (Peek addr) = ⊥
+IsStore (Poke addr byte) = Unit {0}
+IsStore (Copy to to_off from from_off len) = Unit {0}
+
+-- the command makes an object, and may want memory
+abbrev pub IsNew : Command → Type 0
+IsNew (New cell len word) = Unit {0}
+IsNew (Put cell off bytes) = ⊥
+IsNew (Get cell off len) = ⊥
+IsNew (Free cell) = ⊥
+IsNew (Alias to from) = ⊥
+IsNew (Addr cell) = ⊥
+IsNew (Peek addr) = ⊥
+IsNew (Poke addr byte) = ⊥
+IsNew (Copy to to_off from from_off len) = ⊥
+
+-- what an attempt leaves of the seat
+abbrev pub IsTaken : Seat → Seat → Command → Attempt → Type 0
+IsTaken old new command (Done reply) = (length old.calls < old.room) × Keeps old new command reply
+IsTaken old new command Blocked = (new ≡ old) × IsStore command
+IsTaken old new command HistoryFull = new ≡ old
+IsTaken old new command OutOfMemory = (new ≡ old) × IsNew command
+
+-- empty seats with these numbers from `k` on, and room for as many calls as is counted
+abbrev pub empty_seats : ℕ → List ℕ → List Seat
+empty_seats k [] = []
+empty_seats k (count ∷ counts) = record { number = k; calls = []; room = count } ∷ empty_seats (suc k) counts
+
+abbrev pub IsEmptySeats : ℕ → List ℕ → List Seat → Type 0
+IsEmptySeats k counts seats = seats ≡ empty_seats k counts
+
+-- the calls of each seat
+abbrev pub calls_of_seats : List Seat → List (List Kept)
+calls_of_seats seats = map (λ seat. seat.calls) seats
+
+-- the number of each seat
+abbrev pub numbers_of : List Seat → List ℕ
+numbers_of seats = map (λ seat. seat.number) seats

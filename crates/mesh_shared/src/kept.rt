@@ -1,0 +1,49 @@
+//! `Kept`, one call of a seat.
+ghost use Rattle.std.specs.Prelude.{◌≡◌};
+ghost use Rattle.mesh_model.specs.Reads.{is_read};
+
+use mesh_mutator::{Command, Reply, command_again, reply_again};
+use std::marker::Model;
+
+/// One call of a seat: the command, its answer, and of a read how many entries the journal had that it saw.
+#[derive(Drop)]
+pub struct Kept {
+    /// The command.
+    pub command: Command,
+    /// Its reply.
+    pub reply: Reply,
+    /// Of a read, the journal's length.
+    pub seen: Option<u32>,
+}
+
+impl Model for Kept {
+    ghost use Rattle.mesh_model.specs.Reads.{Kept as PlainKept};
+
+    ghost Value = { PlainKept };
+
+    ghost view = { λ e. record { command = e.command; reply = e.reply; seen = e.seen } };
+
+    ghost inverse = { λ e. record { command = e.command; reply = e.reply; seen = e.seen } };
+}
+
+impl Kept {
+    pub(crate) fn of(command: &Command, reply: &Reply, seen: Option<u32>) -> Kept
+        ensures { result ≡ record { command = command.now; reply = reply.now; seen = seen } }
+    {
+        Kept {
+            command: command_again(command),
+            reply: reply_again(reply),
+            seen,
+        }
+    }
+}
+
+/// Whether the command reads and changes nothing.
+pub fn is_read(command: &Command) -> bool
+    ensures { result ≡ is_read command.now }
+{
+    match command {
+        Command::Get(_, _, _) | Command::Addr(_) | Command::Peek(_) => true,
+        _ => false,
+    }
+}

@@ -1,0 +1,151 @@
+//! `Shared`: a book under a lock, and what mutators and their threads do with it.
+ghost use Rattle.std.specs.Prelude.{◌≡◌, ℕ, ◌↔◌, ◌<◌, ◌≤◌, List, [], length, IsTrue, IfOk, IfErr, true};
+ghost use Rattle.mesh_model.specs.Commands.{IsInRange};
+ghost use Rattle.mesh_model.specs.Reads.{is_read};
+ghost use Rattle.mesh_mutator.specs.declared.attempts.Attempt.{Attempt};
+ghost use Rattle.mesh_model.specs.Plain.{Entry};
+ghost use Rattle.mesh_mutator.specs.Book.{memory_in};
+ghost use Rattle.mesh_shared.specs.Seat.{IsEmptySeats, IsNew, IsStore, IsTaken};
+ghost use Rattle.mesh_shared.specs.Settle.{IsEnd, IsFault};
+
+use crate::ending::{Ended, settle};
+use crate::faults::{FinishError, OpenError};
+use crate::kept::is_read;
+use crate::seat::Seat;
+use mesh_mutator::{Attempt, Book, Command, Reply};
+use std::alloc::{AllocError, Global};
+use std::sync::{RwLock, Wait};
+
+/// A book that several mutators share.
+#[derive(Drop)]
+pub struct Shared {
+    /// The only book. A mesher takes this lock too, and makes one call of the book for each taking.
+    pub book: RwLock<Book>,
+    // How many seats it was opened with.
+    seats: u32,
+}
+
+impl Shared {
+    /// A book with an empty journal under its lock, and for each of 1 to 64 counts an empty seat: they are numbered 0, 1, .. in their order,
+    /// and each has room for as many calls as its count, which may be 0. Memory comes where room for the seats was refused.
+    pub fn open(
+        alloc: Global,
+        book: Book,
+        counts: &[usize],
+    ) -> Result<(Shared, Vec<Seat>), OpenError>
+        requires empty { book.entries ≡ [] }
+        requires some { 1 ≤ length counts.now }
+        requires few { length counts.now ≤ 64 }
+        ensures seats { IfOk result (λ opened. IsEmptySeats 0 counts.now opened.1.items) }
+        ensures count { IfOk result (λ opened. opened.0.seats ≡ length counts.now) }
+    {
+        let seats = seats_of(alloc, counts)?;
+        Ok((
+            Shared {
+                book: RwLock::new(book),
+                seats: counts.len() as u32,
+            },
+            seats,
+        ))
+    }
+
+    /// How many seats it was opened with.
+    pub fn seats(&self) -> u32
+        ensures { result ≡ self.now.seats }
+    {
+        self.seats
+    }
+
+    /// One attempt of a seat's mutator at a command, as one step that nothing comes between.
+    ///
+    /// HistoryFull comes before all else, where the seat is full; a read is answered under the shared lock, beside other reads, and never
+    /// comes into the journal; any other command is an attempt at the book under the exclusive lock. Only where it is Done the seat keeps the
+    /// command and its reply. No memory is taken but by a `New` that needs a new span.
+    pub fn call<R: Wait>(&self, rt: &R, seat: &mut Seat, command: &Command) -> Attempt
+        requires { IsInRange command.now }
+        ensures taken { IsTaken seat.old seat.new command.now result }
+        ensures full { seat.old.room ≤ length seat.old.calls → result ≡ Attempt.HistoryFull }
+        ensures read { is_read command.now ≡ true → (result ≡ Attempt.HistoryFull) ↔ (seat.old.room ≤ length seat.old.calls) }
+    {
+        if seat.is_full() {
+            return Attempt::HistoryFull;
+        }
+        if is_read(command) {
+            let (reply, seen) = self.read(rt, command);
+            seat.keep(command, &reply, Some(seen));
+            return Attempt::Done(reply);
+        }
+        let attempt = self.act(rt, seat.number(), command);
+        if let Attempt::Done(reply) = &attempt {
+            seat.keep(command, reply, None);
+        }
+        attempt
+    }
+
+    /// The same, again while it is Blocked: it may wait for as long as a page stays read-only.
+    pub fn retry_call<R: Wait>(&self, rt: &R, seat: &mut Seat, command: &Command) -> Attempt
+        requires { IsInRange command.now }
+        ensures taken { IsTaken seat.old seat.new command.now result }
+        ensures full { seat.old.room ≤ length seat.old.calls → result ≡ Attempt.HistoryFull }
+        ensures read { is_read command.now ≡ true → (result ≡ Attempt.HistoryFull) ↔ (seat.old.room ≤ length seat.old.calls) }
+        ensures not_blocked { result ≡ Attempt.Blocked → ⊥ }
+    {
+        for _ in rt.forever() {
+            let attempt = self.call(rt, seat, command);
+            if !is_blocked(&attempt) {
+                return attempt;
+            }
+        }
+        unreachable!()
+    }
+
+    /// Takes the lock away, and settles its book with the seats.
+    ///
+    /// The book that the lock held isn't known, so the clauses speak of some journal; what comes of a known book `settle` says.
+    pub fn finish(self, alloc: Global, seats: Vec<Seat>) -> Result<Ended, FinishError>
+        ensures ended { IfOk result (λ ended. (entries : List Entry) × IsEnd self.seats seats.items entries ended.history.items (memory_in ended.heap ended.roots)) }
+        ensures fault { IfErr result (λ error. (entries : List Entry) × IsFault self.seats seats.items entries error) }
+    {
+        settle(alloc, self.book.into_inner(), self.seats, seats)
+    }
+
+    // A read under the shared lock, and the journal's length there.
+    fn read<R: Wait>(&self, rt: &R, command: &Command) -> (Reply, u32)
+        requires range { IsInRange command.now }
+        requires read { is_read command.now ≡ true }
+    {
+        let book = self.book.read(rt);
+        let reply = book.look(command);
+        let seen = book.journal().len() as u32;
+        (reply, seen)
+    }
+
+    // An attempt that is recorded, under the exclusive lock.
+    fn act<R: Wait>(&self, rt: &R, worker: u32, command: &Command) -> Attempt
+        requires { IsInRange command.now }
+        ensures blocked { result ≡ Attempt.Blocked → IsStore command.now }
+        ensures memory { result ≡ Attempt.OutOfMemory → IsNew command.now }
+    {
+        self.book.write(rt).act(worker, command)
+    }
+}
+
+// An empty seat for each count, numbered from 0 on.
+fn seats_of(alloc: Global, counts: &[usize]) -> Result<Vec<Seat>, AllocError>
+    requires few { length counts.now ≤ 64 }
+    ensures { IfOk result (λ seats. IsEmptySeats 0 counts.now seats.items) }
+{
+    let mut seats = Vec::with_capacity(alloc, counts.len())?;
+    for k in 0..counts.len() {
+        let seat = Seat::open(alloc, k as u32, counts[k])?;
+        seats.push_reserved(seat);
+    }
+    Ok(seats)
+}
+
+// Whether an attempt was held back.
+fn is_blocked(attempt: &Attempt) -> bool
+    ensures { IsTrue result ↔ (attempt.now ≡ Attempt.Blocked) }
+{
+    matches!(attempt, Attempt::Blocked)
+}

@@ -1,0 +1,282 @@
+//! Seats, settled histories and threads that share a book.
+ghost use Rattle.std.specs.Prelude.{◌≡◌, ◌≤◌, length};
+ghost use Rattle.mesh_model.specs.Commands.{IsInRange};
+
+use crate::{Ended, FinishError, Seat, Shared};
+use arrayvec::ArrayVec;
+use mesh_class::class_of;
+use mesh_model::StepKind;
+use mesh_mutator::{Attempt, Book, Command, Reply};
+use mesh_steps::{Report, StepDone};
+use std::alloc::{AllocError, Global};
+use std::rt::Clock;
+use std::sync::Wait;
+use std::sync::atomic::AtomicBool;
+use std::sync::atomic::Ordering::SeqCst;
+use std::thread;
+use std::thread::join;
+use std::time::Duration;
+
+// A book of 16 pages behind a lock, with two seats of four calls each.
+fn opened(alloc: Global, counts: &[usize]) -> Result<(Shared, Vec<Seat>), AllocError>
+    requires some { 1 ≤ length counts.now }
+    requires few { length counts.now ≤ 64 }
+{
+    let book = Book::open(alloc, 16, 64)?;
+    match Shared::open(alloc, book, counts) {
+        Ok(opened) => Ok(opened),
+        Err(_) => Err(AllocError),
+    }
+}
+
+// The two seats of a book, taken apart.
+fn two(mut seats: Vec<Seat>) -> Result<(Seat, Seat), AllocError> {
+    let second = seats.pop();
+    let first = seats.pop();
+    match (first, second) {
+        (Some(first), Some(second)) => Ok((first, second)),
+        _ => Err(AllocError),
+    }
+}
+
+// A `New` of a cell.
+fn new_object(cell: u8) -> Command
+    ensures { IsInRange result }
+{
+    Command::New(cell, 2048, 0)
+}
+
+// A `Get` of the first two bytes of a cell's object.
+fn get_bytes(cell: u8) -> Command
+    ensures { IsInRange result }
+{
+    Command::Get(cell, 0, 2)
+}
+
+// Which error it is, with its two numbers; 0 where there is none.
+fn told(ended: &Result<Ended, FinishError>) -> (u32, u32, usize) {
+    match ended {
+        Ok(_) => (0, 0, 0),
+        Err(FinishError::SeatMissing(seat)) => (1, *seat, 0),
+        Err(FinishError::SeatDiffers { seat, call }) => (2, *seat, *call),
+        Err(FinishError::ReadDiffers { seat, call }) => (3, *seat, *call),
+        Err(FinishError::Memory) => (4, 0, 0),
+    }
+}
+
+// A thread's work: an object, its bytes, and whether they are read back.
+fn works<R: Wait>(rt: &R, shared: &Shared, seat: &mut Seat, cell: u8) -> bool {
+    let mut bytes = ArrayVec::new();
+    bytes.push(0x68);
+    bytes.push(0x69);
+    shared.retry_call(rt, seat, &new_object(cell));
+    shared.retry_call(rt, seat, &Command::Put(cell, 0, bytes));
+    match shared.retry_call(rt, seat, &get_bytes(cell)) {
+        Attempt::Done(Reply::Bytes(found)) => found.as_slice() == [0x68, 0x69].as_slice(),
+        _ => false,
+    }
+}
+
+#[test]
+fn two_threads_share_a_book(rt: HostRuntime) -> Result<(), AllocError> {
+    let alloc = rt.alloc();
+    let (shared, seats) = opened(alloc, &[4, 4])?;
+    let (mut first, mut second) = two(seats)?;
+    let (a, b) = join(
+        &rt,
+        || works(&rt, &shared, &mut first, 0),
+        || works(&rt, &shared, &mut second, 1),
+    );
+    assert!(&rt; a && b, "each reads its bytes");
+    let ended = shared.finish(alloc, vec![in alloc; first, second]?);
+    let entries = match &ended {
+        Ok(ended) => ended.history.len(),
+        Err(_) => 0,
+    };
+    assert!(&rt; entries == 6, "{entries} entries");
+    Ok(())
+}
+
+#[test]
+fn seats_of_two_books_are_told(rt: HostRuntime) -> Result<(), AllocError> {
+    let alloc = rt.alloc();
+    let (a, seats_a) = opened(alloc, &[4, 4])?;
+    let (_b, seats_b) = opened(alloc, &[4, 4])?;
+    let (_b1, mut b0) = two(seats_b).map(|pair| (pair.1, pair.0))?;
+    let made = a.call(&rt, &mut b0, &new_object(0));
+    assert!(&rt;
+        matches!(made, Attempt::Done(Reply::Object(0, 0x1000))),
+        "an object for a strange seat"
+    );
+    let ended = a.finish(alloc, seats_a);
+    assert!(&rt;
+        told(&ended) == (2, 0, 0),
+        "the entry is of no call of seat 0"
+    );
+    Ok(())
+}
+
+#[test]
+fn missing_seats_are_told(rt: HostRuntime) -> Result<(), AllocError> {
+    let alloc = rt.alloc();
+    let (a, seats) = opened(alloc, &[4, 4])?;
+    let (a0, a1) = two(seats)?;
+    let turned = a.finish(alloc, vec![in alloc; a1, a0]?);
+    assert!(&rt; told(&turned) == (1, 0, 0), "in the other order");
+
+    let (a, seats) = opened(alloc, &[4, 4])?;
+    let (a0, _a1) = two(seats)?;
+    let one = a.finish(alloc, vec![in alloc; a0]?);
+    assert!(&rt; told(&one) == (1, 1, 0), "one of two");
+
+    let (a, seats) = opened(alloc, &[4, 4])?;
+    let (a0, a1) = two(seats)?;
+    let (_b, seats) = opened(alloc, &[4, 4])?;
+    let (b0, _b1) = two(seats)?;
+    let three = a.finish(alloc, vec![in alloc; a0, a1, b0]?);
+    assert!(&rt; told(&three) == (1, 2, 0), "one more");
+
+    let (a, seats) = opened(alloc, &[4, 4])?;
+    let (_c, mut others) = opened(alloc, &[4, 4, 4])?;
+    let Some(mut c2) = others.pop() else {
+        return Err(AllocError);
+    };
+    a.call(&rt, &mut c2, &new_object(0));
+    let stranger = a.finish(alloc, seats);
+    assert!(&rt;
+        told(&stranger) == (1, 2, 0),
+        "an entry of a worker without a seat"
+    );
+    Ok(())
+}
+
+#[test]
+fn reads_of_two_books_are_told(rt: HostRuntime) -> Result<(), AllocError> {
+    let alloc = rt.alloc();
+    let (a, _seats) = opened(alloc, &[4, 4])?;
+    let (b, seats) = opened(alloc, &[4, 4])?;
+    let (mut b0, b1) = two(seats)?;
+    a.call(&rt, &mut b0, &new_object(0));
+    a.call(&rt, &mut b0, &get_bytes(0));
+    let recorded = b.finish(alloc, vec![in alloc; b0, b1]?);
+    assert!(&rt;
+        told(&recorded) == (2, 0, 0),
+        "the call stands in another journal"
+    );
+
+    let (a, seats) = opened(alloc, &[4, 4])?;
+    let (_a0, mut a1) = two(seats)?;
+    let (b, seats) = opened(alloc, &[4, 4])?;
+    let (mut b0, b1) = two(seats)?;
+    a.call(&rt, &mut a1, &new_object(0));
+    a.call(&rt, &mut b0, &get_bytes(0));
+    let read = b.finish(alloc, vec![in alloc; b0, b1]?);
+    assert!(&rt; told(&read) == (3, 0, 0), "the read saw another journal");
+
+    let (a, seats) = opened(alloc, &[4, 4])?;
+    let (mut a0, a1) = two(seats)?;
+    a.call(&rt, &mut a0, &new_object(0));
+    let alias = a.call(&rt, &mut a0, &Command::Alias(1, 0));
+    let bytes = a.call(&rt, &mut a0, &get_bytes(1));
+    assert!(&rt;
+        matches!(alias, Attempt::Done(Reply::Done))
+            && matches!(bytes, Attempt::Done(Reply::Bytes(_))),
+        "all are done"
+    );
+    let ended = a.finish(alloc, vec![in alloc; a0, a1]?);
+    let entries = match &ended {
+        Ok(ended) => ended.history.len(),
+        Err(_) => 0,
+    };
+    assert!(&rt; entries == 3, "{entries} entries");
+    Ok(())
+}
+
+#[test]
+fn a_mesher_takes_the_lock(rt: HostRuntime) -> Result<(), AllocError> {
+    let alloc = rt.alloc();
+    let (shared, mut seats) = opened(alloc, &[16])?;
+    let Some(mut seat) = seats.pop() else {
+        return Err(AllocError);
+    };
+    let Ok(class) = class_of(2048) else {
+        return Err(AllocError);
+    };
+    for cell in 0..4u8 {
+        shared.call(&rt, &mut seat, &new_object(cell));
+    }
+    shared.call(&rt, &mut seat, &Command::Free(0));
+    shared.call(&rt, &mut seat, &Command::Free(3));
+    let begun = shared.book.write(&rt).begin(1, 0);
+    assert!(&rt; begun == Ok(6), "six steps are to come");
+    let protected = shared.book.write(&rt).step(class);
+    assert!(&rt;
+        protected
+            == Ok(StepDone {
+                kind: StepKind::Protect,
+                left: 5
+            }),
+        "a page is protected"
+    );
+    let cancelled = shared.book.write(&rt).cancel(class);
+    assert!(&rt; cancelled == Ok(1), "one page is to be unprotected");
+    let unprotected = shared.book.write(&rt).step(class);
+    assert!(&rt;
+        unprotected
+            == Ok(StepDone {
+                kind: StepKind::Unprotect,
+                left: 0
+            }),
+        "it is"
+    );
+    shared.call(&rt, &mut seat, &Command::Free(1));
+    let swept = shared.book.write(&rt).sweep(0);
+    assert!(&rt; swept == Ok(1), "a page comes free");
+    let view = shared.book.read(&rt).view(alloc, class)?;
+    let alone = view.len() == 1 && view.number(0) == 1;
+    assert!(&rt; alone, "group 1 is the only one");
+    let Ok(ended) = shared.finish(alloc, vec![in alloc; seat]?) else {
+        return Err(AllocError);
+    };
+    let report = Report {
+        objects: 1,
+        bytes: 2048,
+        mapped: 1,
+        taken: 1,
+        saved: 0,
+    };
+    assert!(&rt; ended.heap.report() == report, "one object is left");
+    Ok(())
+}
+
+// How often a reader looks for the other one, and for how many microseconds it sleeps after each look.
+const TURNS: u32 = 1_000_000;
+
+const TURN: u64 = 10;
+
+// Takes the shared lock and holds it until the other reader has it too: whether it came.
+fn meets<R: Clock + Wait>(rt: &R, shared: &Shared, own: &AtomicBool, other: &AtomicBool) -> bool {
+    let book = shared.book.read(rt);
+    own.store(true, SeqCst);
+    for _ in 0..TURNS {
+        if other.load(SeqCst) {
+            return book.journal().is_empty();
+        }
+        thread::sleep(rt, Duration::from_micros(TURN));
+    }
+    false
+}
+
+#[test]
+fn two_reads_run_at_once(rt: HostRuntime) -> Result<(), AllocError> {
+    let (shared, _seats) = opened(rt.alloc(), &[1])?;
+    let first = AtomicBool::new(false);
+    let second = AtomicBool::new(false);
+    let (a, b) = join(
+        &rt,
+        || meets(&rt, &shared, &first, &second),
+        || meets(&rt, &shared, &second, &first),
+    );
+    assert!(&rt; a && b, "both hold the lock");
+    Ok(())
+}
