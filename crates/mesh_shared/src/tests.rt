@@ -4,7 +4,7 @@ ghost use Rattle.mesh_model.specs.Commands.{IsInRange};
 
 use crate::{Ended, FinishError, Seat, Shared};
 use arrayvec::ArrayVec;
-use mesh_class::class_of;
+use mesh_class::{Class, class_of};
 use mesh_model::StepKind;
 use mesh_mutator::{Attempt, Book, Command, Reply};
 use mesh_steps::{Report, StepDone};
@@ -64,6 +64,14 @@ fn told(ended: &Result<Ended, FinishError>) -> (u32, u32, usize) {
     }
 }
 
+// How many entries the history has; 0 where there is none.
+fn entries_of(ended: Result<Ended, FinishError>) -> usize {
+    match ended {
+        Ok(ended) => ended.history.len(),
+        Err(_) => 0,
+    }
+}
+
 // A thread's work: an object, its bytes, and whether they are read back.
 fn works<R: Wait>(rt: &R, shared: &Shared, seat: &mut Seat, cell: u8) -> bool {
     let mut bytes = ArrayVec::new();
@@ -88,11 +96,7 @@ fn two_threads_share_a_book(rt: HostRuntime) -> Result<(), AllocError> {
         || works(&rt, &shared, &mut second, 1),
     );
     assert!(&rt; a && b, "each reads its bytes");
-    let ended = shared.finish(alloc, vec![in alloc; first, second]?);
-    let entries = match &ended {
-        Ok(ended) => ended.history.len(),
-        Err(_) => 0,
-    };
+    let entries = entries_of(shared.finish(alloc, vec![in alloc; first, second]?));
     assert!(&rt; entries == 6, "{entries} entries");
     Ok(())
 }
@@ -117,124 +121,168 @@ fn seats_of_two_books_are_told(rt: HostRuntime) -> Result<(), AllocError> {
 }
 
 #[test]
-fn missing_seats_are_told(rt: HostRuntime) -> Result<(), AllocError> {
+fn seats_in_the_other_order_are_told(rt: HostRuntime) -> Result<(), AllocError> {
     let alloc = rt.alloc();
     let (a, seats) = opened(alloc, &[4, 4])?;
     let (a0, a1) = two(seats)?;
-    let turned = a.finish(alloc, vec![in alloc; a1, a0]?);
-    assert!(&rt; told(&turned) == (1, 0, 0), "in the other order");
+    let ended = a.finish(alloc, vec![in alloc; a1, a0]?);
+    assert!(&rt; told(&ended) == (1, 0, 0), "in the other order");
+    Ok(())
+}
 
+#[test]
+fn too_few_seats_are_told(rt: HostRuntime) -> Result<(), AllocError> {
+    let alloc = rt.alloc();
     let (a, seats) = opened(alloc, &[4, 4])?;
     let (a0, _a1) = two(seats)?;
-    let one = a.finish(alloc, vec![in alloc; a0]?);
-    assert!(&rt; told(&one) == (1, 1, 0), "one of two");
+    let ended = a.finish(alloc, vec![in alloc; a0]?);
+    assert!(&rt; told(&ended) == (1, 1, 0), "one of two");
+    Ok(())
+}
 
+#[test]
+fn too_many_seats_are_told(rt: HostRuntime) -> Result<(), AllocError> {
+    let alloc = rt.alloc();
     let (a, seats) = opened(alloc, &[4, 4])?;
     let (a0, a1) = two(seats)?;
     let (_b, seats) = opened(alloc, &[4, 4])?;
     let (b0, _b1) = two(seats)?;
-    let three = a.finish(alloc, vec![in alloc; a0, a1, b0]?);
-    assert!(&rt; told(&three) == (1, 2, 0), "one more");
+    let ended = a.finish(alloc, vec![in alloc; a0, a1, b0]?);
+    assert!(&rt; told(&ended) == (1, 2, 0), "one more");
+    Ok(())
+}
 
+#[test]
+fn strangers_are_told(rt: HostRuntime) -> Result<(), AllocError> {
+    let alloc = rt.alloc();
     let (a, seats) = opened(alloc, &[4, 4])?;
     let (_c, mut others) = opened(alloc, &[4, 4, 4])?;
     let Some(mut c2) = others.pop() else {
         return Err(AllocError);
     };
     a.call(&rt, &mut c2, &new_object(0));
-    let stranger = a.finish(alloc, seats);
+    let ended = a.finish(alloc, seats);
     assert!(&rt;
-        told(&stranger) == (1, 2, 0),
+        told(&ended) == (1, 2, 0),
         "an entry of a worker without a seat"
     );
     Ok(())
 }
 
 #[test]
-fn reads_of_two_books_are_told(rt: HostRuntime) -> Result<(), AllocError> {
+fn calls_in_another_journal_are_told(rt: HostRuntime) -> Result<(), AllocError> {
     let alloc = rt.alloc();
     let (a, _seats) = opened(alloc, &[4, 4])?;
     let (b, seats) = opened(alloc, &[4, 4])?;
     let (mut b0, b1) = two(seats)?;
     a.call(&rt, &mut b0, &new_object(0));
     a.call(&rt, &mut b0, &get_bytes(0));
-    let recorded = b.finish(alloc, vec![in alloc; b0, b1]?);
+    let ended = b.finish(alloc, vec![in alloc; b0, b1]?);
     assert!(&rt;
-        told(&recorded) == (2, 0, 0),
+        told(&ended) == (2, 0, 0),
         "the call stands in another journal"
     );
+    Ok(())
+}
 
+#[test]
+fn reads_of_another_book_are_told(rt: HostRuntime) -> Result<(), AllocError> {
+    let alloc = rt.alloc();
     let (a, seats) = opened(alloc, &[4, 4])?;
     let (_a0, mut a1) = two(seats)?;
     let (b, seats) = opened(alloc, &[4, 4])?;
     let (mut b0, b1) = two(seats)?;
     a.call(&rt, &mut a1, &new_object(0));
     a.call(&rt, &mut b0, &get_bytes(0));
-    let read = b.finish(alloc, vec![in alloc; b0, b1]?);
-    assert!(&rt; told(&read) == (3, 0, 0), "the read saw another journal");
+    let ended = b.finish(alloc, vec![in alloc; b0, b1]?);
+    assert!(&rt; told(&ended) == (3, 0, 0), "the read saw another journal");
+    Ok(())
+}
 
+#[test]
+fn reads_come_into_the_history(rt: HostRuntime) -> Result<(), AllocError> {
+    let alloc = rt.alloc();
     let (a, seats) = opened(alloc, &[4, 4])?;
     let (mut a0, a1) = two(seats)?;
     a.call(&rt, &mut a0, &new_object(0));
     let alias = a.call(&rt, &mut a0, &Command::Alias(1, 0));
     let bytes = a.call(&rt, &mut a0, &get_bytes(1));
     assert!(&rt;
-        matches!(alias, Attempt::Done(Reply::Done))
-            && matches!(bytes, Attempt::Done(Reply::Bytes(_))),
-        "all are done"
+        matches!(alias, Attempt::Done(Reply::Done)),
+        "the alias is done"
     );
-    let ended = a.finish(alloc, vec![in alloc; a0, a1]?);
-    let entries = match &ended {
-        Ok(ended) => ended.history.len(),
-        Err(_) => 0,
-    };
+    assert!(&rt;
+        matches!(bytes, Attempt::Done(Reply::Bytes(_))),
+        "the bytes are read"
+    );
+    let entries = entries_of(a.finish(alloc, vec![in alloc; a0, a1]?));
     assert!(&rt; entries == 3, "{entries} entries");
     Ok(())
+}
+
+// The commands before a mesher comes: two groups of class 2,048, each with one object.
+fn set_up<R: Wait>(rt: &R, shared: &Shared, seat: &mut Seat) {
+    for cell in 0..4u8 {
+        shared.call(rt, seat, &new_object(cell));
+    }
+    shared.call(rt, seat, &Command::Free(0));
+    shared.call(rt, seat, &Command::Free(3));
+}
+
+// Begins a mesh, makes a step, cancels it and unwinds it, each under the lock: whether each answers as it should.
+fn begins_and_cancels<R: Wait>(rt: &R, shared: &Shared, class: Class) -> bool {
+    let begun = shared.book.write(rt).begin(1, 0);
+    let protected = shared.book.write(rt).step(class);
+    let cancelled = shared.book.write(rt).cancel(class);
+    let unprotected = shared.book.write(rt).step(class);
+    matches!(begun, Ok(6))
+        && matches!(
+            protected,
+            Ok(StepDone {
+                kind: StepKind::Protect,
+                left: 5
+            })
+        )
+        && matches!(cancelled, Ok(1))
+        && matches!(
+            unprotected,
+            Ok(StepDone {
+                kind: StepKind::Unprotect,
+                left: 0
+            })
+        )
+}
+
+// Whether group 1 alone may be paired.
+fn has_one_group<R: Wait>(
+    rt: &R,
+    alloc: Global,
+    shared: &Shared,
+    class: Class,
+) -> Result<bool, AllocError> {
+    let view = shared.book.read(rt).view(alloc, class)?;
+    Ok(view.len() == 1 && view.number(0) == 1)
 }
 
 #[test]
 fn a_mesher_takes_the_lock(rt: HostRuntime) -> Result<(), AllocError> {
     let alloc = rt.alloc();
     let (shared, mut seats) = opened(alloc, &[16])?;
-    let Some(mut seat) = seats.pop() else {
+    let (Some(mut seat), Ok(class)) = (seats.pop(), class_of(2048)) else {
         return Err(AllocError);
     };
-    let Ok(class) = class_of(2048) else {
-        return Err(AllocError);
-    };
-    for cell in 0..4u8 {
-        shared.call(&rt, &mut seat, &new_object(cell));
-    }
-    shared.call(&rt, &mut seat, &Command::Free(0));
-    shared.call(&rt, &mut seat, &Command::Free(3));
-    let begun = shared.book.write(&rt).begin(1, 0);
-    assert!(&rt; begun == Ok(6), "six steps are to come");
-    let protected = shared.book.write(&rt).step(class);
+    set_up(&rt, &shared, &mut seat);
     assert!(&rt;
-        protected
-            == Ok(StepDone {
-                kind: StepKind::Protect,
-                left: 5
-            }),
-        "a page is protected"
-    );
-    let cancelled = shared.book.write(&rt).cancel(class);
-    assert!(&rt; cancelled == Ok(1), "one page is to be unprotected");
-    let unprotected = shared.book.write(&rt).step(class);
-    assert!(&rt;
-        unprotected
-            == Ok(StepDone {
-                kind: StepKind::Unprotect,
-                left: 0
-            }),
-        "it is"
+        begins_and_cancels(&rt, &shared, class),
+        "a mesh is begun and cancelled"
     );
     shared.call(&rt, &mut seat, &Command::Free(1));
     let swept = shared.book.write(&rt).sweep(0);
-    assert!(&rt; swept == Ok(1), "a page comes free");
-    let view = shared.book.read(&rt).view(alloc, class)?;
-    let alone = view.len() == 1 && view.number(0) == 1;
-    assert!(&rt; alone, "group 1 is the only one");
+    assert!(&rt; matches!(swept, Ok(1)), "a page comes free");
+    assert!(&rt;
+        has_one_group(&rt, alloc, &shared, class)?,
+        "group 1 is the only one"
+    );
     let Ok(ended) = shared.finish(alloc, vec![in alloc; seat]?) else {
         return Err(AllocError);
     };
