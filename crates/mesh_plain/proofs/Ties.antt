@@ -48,8 +48,12 @@ values_snoc f g v k (suc n) j is at other =
     let rest = values_snoc f g v (suc k) n j (omega (arith, is)) at other in rw here (ap (λ (xs : List _). f k ∷ xs) rest)
 
 -- a key that isn't the query's
-other_key : (k q : ℕ) → (q ≡ k → ⊥) → is_at (nat_cmp k) q ≡ false
+pub other_key : (k q : ℕ) → (q ≡ k → ⊥) → is_at (nat_cmp k) q ≡ false
 other_key k q h = grind (arith, common_steps)
+
+-- the key that is the query's
+pub same_key : (k : ℕ) → is_at (nat_cmp k) k ≡ true
+same_key k = grind (arith, common_steps)
 
 -- what an update changes, by numbers
 pub updated : {X : Type 0} (m n : BTreeMap ℕ X) (k : ℕ) (v : Option X) → Updates nat_cmp m n k v

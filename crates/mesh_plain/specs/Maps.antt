@@ -1,5 +1,5 @@
 -- The plain memory as two finite maps: from serial to object, and from cell to serial.
-use Rattle.std.specs.Prelude.{◌≡◌, ◌≢◌, ℕ, zero, suc, ◌+◌, ◌<◌, ◌≤◌, ◌⊎◌, Bool, true, false, List, [], ◌∷◌, Option, Some, None, Result, Ok, Err, refl, length, slice_range}
+use Rattle.std.specs.Prelude.{◌≡◌, ◌≢◌, ℕ, zero, suc, ◌+◌, ◌<◌, ◌≤◌, ◌⊎◌, Bool, true, false, if◌then◌else◌, List, [], ◌∷◌, Option, Some, None, Result, Ok, Err, refl, length, slice_range}
 use Rattle.std.specs.Coded.{Coded, code_by, coded×, coded_list, coded_option, coded_ℕ}
 use Rattle.mesh_model.specs.Memory.{Memory, Object, has_address, overwritten}
 use Rattle.mesh_plain.specs.declared.faults.PlainFault.{PlainFault}
@@ -45,11 +45,15 @@ abbrev pub holds_address : Option Object → ℕ → Bool
 holds_address None address = false
 holds_address (Some x) address = has_address x address
 
--- the first serial below `next` whose object has the address, or there is none
-abbrev pub IsHolder : (ℕ → Option Object) → ℕ → ℕ → Option ℕ → Type 0
-IsHolder object next address None = (k : ℕ) → k < next → holds_address (object k) address ≡ false
-IsHolder object next address (Some serial) =
-    (serial < next) × (holds_address (object serial) address ≡ true) × ((k : ℕ) → k < serial → holds_address (object k) address ≡ false)
+-- the first serial of the entries whose object has the address
+abbrev pub first_holder : List (ℕ × Object) → ℕ → Option ℕ
+first_holder [] address = None
+first_holder (entry ∷ entries) address = if has_address entry.1 address then Some entry.0 else first_holder entries address
+
+-- the least serial whose object has the address, or there is none
+abbrev pub IsHolder : (ℕ → Option Object) → ℕ → Option ℕ → Type 0
+IsHolder object address None = (k : ℕ) → holds_address (object k) address ≡ false
+IsHolder object address (Some serial) = (holds_address (object serial) address ≡ true) × ((k : ℕ) → k < serial → holds_address (object k) address ≡ false)
 
 -- bytes are stored in the object of a serial, or it is told why not
 abbrev pub IsOverwritten : (ℕ → Option Object) → (ℕ → Option Object) → ℕ → ℕ → List ℕ → Result (Unit {0}) PlainFault → Type 0

@@ -1,9 +1,9 @@
 //! What the calls do to the two maps: objects by serial, and serials by root cell.
 ghost use Rattle.std.specs.Prelude.{◌≡◌, ◌≢◌, ◌+◌, Some, None, [], OnOk, OnErr, slice_range};
 ghost use Rattle.std.specs.Ordering.{nat_cmp};
-ghost use Rattle.std.specs.BTreeMap.{Updates, get};
-ghost use Rattle.mesh_model.specs.Memory.{Object, overwritten};
-ghost use Rattle.mesh_plain.specs.Maps.{HasRange, IsCopied, IsHolder, IsOverwritten, IsSameAt, IsSetAt, holds_address};
+ghost use Rattle.std.specs.BTreeMap.{IsOrdered, Updates, get};
+ghost use Rattle.mesh_model.specs.Memory.{Object, has_address, overwritten};
+ghost use Rattle.mesh_plain.specs.Maps.{HasRange, IsCopied, IsHolder, IsOverwritten, IsSameAt, IsSetAt, first_holder};
 
 use crate::bytes::{copy_within, store_at};
 use crate::faults::PlainFault;
@@ -47,27 +47,31 @@ pub fn point(roots: &mut BTreeMap<u8, u32>, cell: u8, serial: u32) -> Result<(),
     }
 }
 
-// The first serial below `next` whose object has the address.
-pub fn holder(objects: &BTreeMap<u32, Stored>, next: u32, address: u32) -> Option<u32>
-    ensures { IsHolder (get nat_cmp objects.now) next address result }
+// The least serial whose object has the address.
+pub fn holder(objects: &BTreeMap<u32, Stored>, address: u32) -> Option<u32>
+    ensures { IsHolder (get nat_cmp objects.now) address result }
 {
-    for serial in 0..next {
-        if has_address(objects, serial, address) {
-            return Some(serial);
+    first_reaching(objects, address)
+}
+
+// The first serial in the map's order whose object has the address.
+fn first_reaching(objects: &BTreeMap<u32, Stored>, address: u32) -> Option<u32>
+    ensures first { result ≡ first_holder objects.now.entries address }
+    ensures ordered { IsOrdered nat_cmp objects.now }
+{
+    for (serial, object) in objects.iter() {
+        if reaches(object, address) {
+            return Some(*serial);
         }
     }
     None
 }
 
-// Whether there is an object of the serial, and it has the address.
-fn has_address(objects: &BTreeMap<u32, Stored>, serial: u32, address: u32) -> bool
-    ensures { result ≡ holds_address (get nat_cmp objects.now serial) address }
+// Whether the object has the address.
+fn reaches(object: &Stored, address: u32) -> bool
+    ensures { result ≡ has_address object.now address }
 {
-    match objects.get(&serial) {
-        Some(object) => object.address <= address
-            && ((address - object.address) as usize) < object.bytes.len(),
-        None => false,
-    }
+    object.address <= address && ((address - object.address) as usize) < object.bytes.len()
 }
 
 // Stores bytes in a live object.
