@@ -14,6 +14,6 @@ IsRefusedAs Stray step = step ≡ Err IsStray
 IsRefusedAs OfMemory step = ⊥
 
 -- the same, or the step isn't refused, and memory was wanting
-abbrev pub IsRefusedOrUnmade : {X : Type 0} → PlainFault → Result X Refusal → Type 0
-IsRefusedOrUnmade OfMemory step = IsOk step
-IsRefusedOrUnmade fault step = IsRefusedAs fault step
+abbrev pub IsRefusedOrMemory : {X : Type 0} → PlainFault → Result X Refusal → Type 0
+IsRefusedOrMemory OfMemory step = IsOk step
+IsRefusedOrMemory fault step = IsRefusedAs fault step
