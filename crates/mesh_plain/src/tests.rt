@@ -1,4 +1,5 @@
 //! Each call, with an answer that was worked out by hand from the definition.
+ghost use Rattle.std.specs.Prelude.{◌≤◌, length};
 
 use crate::{Plain, PlainFault};
 use arrayvec::ArrayVec;
@@ -16,12 +17,12 @@ fn two_objects<R: AllocGlobal + Abort>(rt: &R) -> Plain {
 }
 
 // The bytes of an object are these.
-fn holds<R: Abort>(rt: &R, plain: &Plain, cell: u8, bytes: &[u8]) {
-    if bytes.len() <= 32 {
-        match plain.get(cell, 0, bytes.len() as u32) {
-            Ok(loaded) => assert_eq!(rt; loaded.as_slice(), bytes),
-            Err(fault) => assert!(rt; false, "{fault}"),
-        }
+fn holds<R: Abort>(rt: &R, plain: &Plain, cell: u8, bytes: &[u8])
+    requires { length bytes.now ≤ 32 }
+{
+    match plain.get(cell, 0, bytes.len() as u32) {
+        Ok(loaded) => assert_eq!(rt; loaded.as_slice(), bytes),
+        Err(fault) => assert!(rt; false, "{fault}"),
     }
 }
 
