@@ -1,4 +1,5 @@
 pub mod Decimals
+pub mod FewFields
 pub mod FileEnds
 pub mod HexFields
 pub mod ManyFields

@@ -8,7 +8,7 @@ use Rattle.mesh_model.specs.Words.{◌>>=◌}
 use Rattle.mesh_model.specs.declared.faults.FaultKind.{FaultKind}
 use Rattle.mesh_model.specs.declared.faults.FaultKind.TheVariants.{Byte}
 use Rattle.mesh_model.specs.declared.faults.TextFault.{TextFault}
-use Rattle.mesh_job.specs.Reading.{IsFaultOfLine, IsFaultOfStep, IsFaultyLine, IsReadOn, line_fields, text_lines}
+use Rattle.mesh_job.specs.Reading.{IsFaultOfLine, IsFaultOfStep, IsFaultyLine, IsReadOn, IsSplit, line_fields, text_lines}
 use Rattle.mesh_job.specs.declared.faults.LineFault.{LineFault}
 use Rattle.mesh_job.specs.declared.faults.LineFault.TheVariants.{Kind as LineKind, Memory as LineMemory}
 use Rattle.mesh_job.proofs.Splits.{Parts, some_part}
@@ -46,6 +46,10 @@ pub record IsLine (text line rest : List ℕ) : Type 0 where
   pub lines : text_lines text ≡ line ∷ text_lines rest
   pub short : length line ≤ 1024
   pub printable : list_all is_printable line ≡ true
+
+-- a line that is split has no fault of its bytes
+pub split_is_line : (text rest : List ℕ) (fields : List (List ℕ)) (split : IsSplit text fields rest) → IsLine text split.line rest
+split_is_line text rest fields split = record { lines = split.lines; short = split.short; printable = split.printable }
 
 -- the text is read on from the rest, where the line's fields are taken
 pub line_taken : (text line rest : List ℕ) (draft draft' : Draft) → IsLine text line rest → has_ended draft.section ≡ false

@@ -7,7 +7,7 @@ use Rattle.mesh_job.specs.declared.plan.PlanLine.TheVariants.{Run, Pair, Begin, 
 -- a line of a plan as the definitions have it
 abbrev pub line_of : PlanLine → Line
 line_of (Run worker) = RunWorker worker
-line_of (Pair class rounds words) = PairClass class rounds words.items
+line_of (Pair asked) = PairClass asked.value.class asked.value.rounds asked.value.words.items
 line_of (Begin source destination) = BeginMesh source destination
 line_of Step = StepMesh
 line_of Cancel = CancelMesh

@@ -1,7 +1,7 @@
 -- The lines and fields of a text, and what the reader tells of a text that it can't read.
-use Rattle.std.specs.Prelude.{◌≡◌, ℕ, ◌+◌, Bool, false, nat_eq, List, Result, Err, is_some, map}
-use Rattle.std.specs.List.{slice_split}
-use Rattle.mesh_model.specs.Files.{Draft, fault_at, has_ended, hex_value, is_between, lines_in}
+use Rattle.std.specs.Prelude.{◌≡◌, ℕ, ◌+◌, ◌≤◌, Bool, true, false, nat_eq, List, ◌∷◌, Result, Err, is_some, length, map}
+use Rattle.std.specs.List.{list_all, slice_split}
+use Rattle.mesh_model.specs.Files.{Draft, fault_at, has_ended, hex_value, is_between, is_printable, lines_in}
 use Rattle.mesh_model.specs.declared.faults.FaultKind.{FaultKind}
 use Rattle.mesh_job.specs.declared.faults.LineFault.{LineFault}
 use Rattle.mesh_job.specs.declared.faults.LineFault.TheVariants.{Kind as LineKind, Memory as LineMemory}
@@ -26,6 +26,18 @@ text_lines text = slice_split (λ b. nat_eq b 10) text
 -- the fields of a line, its word first
 abbrev pub line_fields : List ℕ → List (List ℕ)
 line_fields line = slice_split (λ b. nat_eq b 32) line
+
+-- the byte may stand in a field
+abbrev pub is_field_byte : ℕ → Bool
+is_field_byte byte = is_between 33 126 byte
+
+-- the next line of a text has these fields, and no fault of its bytes; this is the rest behind it
+pub record IsSplit (text : List ℕ) (fields : List (List ℕ)) (rest : List ℕ) : Type 0 where
+  pub line : List ℕ
+  pub lines : text_lines text ≡ line ∷ text_lines rest
+  pub short : length line ≤ 1024
+  pub printable : list_all is_printable line ≡ true
+  pub has_fields : fields ≡ line_fields line
 
 -- whatever was read before it, the next line of this text has this fault
 abbrev pub IsFaultyLine : List ℕ → FaultKind → Type 0

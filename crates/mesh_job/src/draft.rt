@@ -7,7 +7,9 @@ ghost use Rattle.mesh_job.specs.Reading.{IsFaultOfLine, IsFaultOfStep, IsReadOn,
 
 use crate::commands::command_of;
 use crate::faults::LineFault;
-use crate::lines::{fields_of, header, is_word, next_line, no_field, one_field};
+use crate::lines::{
+    FewFields, few_fields, fields_of, header, is_word, next_line, no_field, one_field,
+};
 use crate::numbers::number32;
 use crate::plan_lines::plan_line;
 use crate::{Job, Plan, PlanLine, Script, Scripts};
@@ -91,6 +93,25 @@ impl Draft {
 
     /// Takes the next line of the text, and gives the bytes behind it.
     pub(crate) fn take_line<'a>(&mut self, text: &'a [u8]) -> Result<&'a [u8], LineFault>
+        requires draft { IsDraft self.old }
+        requires going { has_ended (draft_of self.old).section ≡ false }
+        ensures draft { OnOk result (IsDraft self.new) }
+        ensures shorter { IfOk result (λ rest. length rest.now < length text.now) }
+        ensures ok { IfOk result (λ rest. IsReadOn (draft_of self.old) text.now (draft_of self.new) rest.now) }
+        ensures err { IfErr result (λ fault. IsFaultOfLine (draft_of self.old) text.now fault) }
+    {
+        let mut few = FewFields::new();
+        if let Some(rest) = few_fields(text, &mut few) {
+            self.take(few.as_slice())?;
+            return Ok(rest);
+        }
+        self.take_long_line(text)
+    }
+
+    /// The same, for a line that has a fault or many fields.
+    #[cold]
+    #[inline(never)]
+    fn take_long_line<'a>(&mut self, text: &'a [u8]) -> Result<&'a [u8], LineFault>
         requires draft { IsDraft self.old }
         requires going { has_ended (draft_of self.old).section ≡ false }
         ensures draft { OnOk result (IsDraft self.new) }

@@ -21,6 +21,6 @@ mod script;
 pub use faults::ReadFault;
 pub use job::{Job, Scripts};
 pub use mesh_model::{Command, FaultKind, TextFault, Version};
-pub use plan::{Plan, PlanLine};
+pub use plan::{Plan, PlanLine, Search};
 pub use reader::{MOST_FILE_BYTES, read_file};
 pub use script::Script;

@@ -1,8 +1,8 @@
 //! A text cut into lines, and a line cut into its fields.
-ghost use Rattle.std.specs.Prelude.{◌≡◌, ◌<◌, ◌≤◌, ◌⊎◌, ◌∷◌, [], Ok, Err, true, false, ◌++◌, length, take, nat_eq, IfSome, IfOk, IfErr, IsNone, OnOk, OnErr};
+ghost use Rattle.std.specs.Prelude.{◌≡◌, ◌-◌, ◌<◌, ◌≤◌, ◌⊎◌, ◌∷◌, [], Ok, Err, true, false, ◌++◌, length, take, drop, nat_eq, IfSome, IfOk, IfErr, IsNone, OnOk, OnErr};
 ghost use Rattle.std.specs.List.{list_all, list_any, slice_split};
 ghost use Rattle.mesh_model.specs.Files.{are_same, five_fields, header_in, is_empty, is_printable, no_field, one_field, three_fields, two_fields};
-ghost use Rattle.mesh_job.specs.Reading.{IsFaultyLine, line_fields, text_lines, texts};
+ghost use Rattle.mesh_job.specs.Reading.{IsFaultyLine, IsSplit, is_field_byte, line_fields, text_lines, texts};
 
 use crate::numbers::number32;
 use arrayvec::ArrayVec;
@@ -16,6 +16,12 @@ const MOST_FIELDS: usize = 35;
 
 /// The fields of one line, its word first.
 pub(crate) type Fields<'a> = ArrayVec<&'a [u8], MOST_FIELDS>;
+
+/// The most fields of a line that asks for no search.
+const FEW_FIELDS: usize = 6;
+
+/// The fields of a line that asks for no search, its word first.
+pub(crate) type FewFields<'a> = ArrayVec<&'a [u8], FEW_FIELDS>;
 
 /// The bytes before the first `at` and the bytes behind it.
 fn cut(bytes: &[u8], at: u8) -> Option<(&[u8], &[u8])>
@@ -45,34 +51,6 @@ pub(crate) fn next_line(text: &[u8]) -> Result<(&[u8], &[u8]), FaultKind>
     ensures shorter { IfOk result (λ pieces. length pieces.1.now < length text.now) }
     ensures err { IfErr result (λ kind. IsFaultyLine text.now kind) }
 {
-    let place = printable_front(text);
-    if place <= MOST_LINE_BYTES && place < text.len() && text[place] == b'\n' {
-        return Ok((&text[..place], &text[place + 1..]));
-    }
-    tested_line(text)
-}
-
-/// How many bytes at the front of the text may stand in a line, counted up to 1,025.
-fn printable_front(text: &[u8]) -> usize
-    ensures within { result ≤ length text.now }
-    ensures printable { list_all is_printable (take result text.now) ≡ true }
-{
-    let most = text.len().min(MOST_LINE_BYTES + 1);
-    let mut place = 0;
-    while place < most && is_printable(text[place]) {
-        place += 1;
-    }
-    place
-}
-
-/// The same as `next_line`, which needs it where the line has a fault.
-fn tested_line(text: &[u8]) -> Result<(&[u8], &[u8]), FaultKind>
-    ensures lines { IfOk result (λ pieces. text_lines text.now ≡ pieces.0.now ∷ text_lines pieces.1.now) }
-    ensures short { IfOk result (λ pieces. length pieces.0.now ≤ 1024) }
-    ensures printable { IfOk result (λ pieces. list_all is_printable pieces.0.now ≡ true) }
-    ensures shorter { IfOk result (λ pieces. length pieces.1.now < length text.now) }
-    ensures err { IfErr result (λ kind. IsFaultyLine text.now kind) }
-{
     let Some((line, rest)) = cut(text, b'\n') else {
         return Err(if text.len() > MOST_LINE_BYTES {
             FaultKind::LongLine
@@ -87,6 +65,58 @@ fn tested_line(text: &[u8]) -> Result<(&[u8], &[u8]), FaultKind>
         return Err(FaultKind::Byte);
     }
     Ok((line, rest))
+}
+
+/// Splits the next line of a text into its fields, its word first, and gives the bytes behind it: one scan for the lines that most
+/// texts have. None where the line has a fault, an empty field or more than `FEW_FIELDS` fields.
+pub(crate) fn few_fields<'a>(text: &'a [u8], fields: &mut FewFields<'a>) -> Option<&'a [u8]>
+    requires { fields.old.items ≡ [] }
+    ensures split { IfSome result (λ rest. IsSplit text.now (texts fields.new.items) rest.now) }
+    ensures filled { IfSome result (λ rest. list_any is_empty (texts fields.new.items) ≡ false) }
+    ensures shorter { IfSome result (λ rest. length rest.now < length text.now) }
+{
+    let most = text.len().min(MOST_LINE_BYTES + 1);
+    let mut start = 0;
+    while start < most {
+        let end = field_end(text, start, most);
+        if end == most {
+            return None;
+        }
+        let Ok(()) = add_field(fields, &text[start..end]) else {
+            return None;
+        };
+        if text[end] == b'\n' {
+            return Some(&text[end + 1..]);
+        }
+        if text[end] != b' ' {
+            return None;
+        }
+        start = end + 1;
+    }
+    None
+}
+
+/// The first place from `start` on whose byte may stand in no field, or else `most`.
+#[inline(never)]
+fn field_end(text: &[u8], start: usize, most: usize) -> usize
+    requires start { start ≤ most }
+    requires most { most ≤ length text.now }
+    ensures least { start ≤ result }
+    ensures most { result ≤ most }
+    ensures bytes { list_all is_field_byte (take (result - start) (drop start text.now)) ≡ true }
+{
+    let mut place = start;
+    while place < most && is_field_byte(text[place]) {
+        place += 1;
+    }
+    place
+}
+
+/// Whether the byte may stand in a field.
+fn is_field_byte(byte: u8) -> bool
+    ensures { result ≡ is_field_byte byte }
+{
+    (b'!'..=b'~').contains(&byte)
 }
 
 /// The fields between the single spaces of a line. WORD where one of them is empty, or where they are too many for any line.
@@ -107,11 +137,14 @@ pub(crate) fn fields_of(line: &[u8]) -> Result<Fields<'_>, FaultKind>
 }
 
 /// Adds a field that isn't empty, where there is room. WORD where it is empty or there is no room.
-fn add_field<'a>(fields: &mut Fields<'a>, field: &'a [u8]) -> Result<(), FaultKind>
+fn add_field<'a, const MOST: usize>(
+    fields: &mut ArrayVec<&'a [u8], MOST>,
+    field: &'a [u8],
+) -> Result<(), FaultKind>
     ensures ok { OnOk result (texts fields.new.items ≡ texts fields.old.items ++ field.now ∷ []) }
     ensures filled { OnOk result (is_empty field.now ≡ false) }
     ensures kind { IfErr result (λ kind. kind ≡ FaultKind.Word) }
-    ensures err { OnErr result ((is_empty field.now ≡ true) ⊎ (length (texts fields.old.items) ≡ 35)) }
+    ensures err { OnErr result ((is_empty field.now ≡ true) ⊎ (length (texts fields.old.items) ≡ MOST)) }
 {
     if field.is_empty() {
         return Err(FaultKind::Word);

@@ -5,20 +5,24 @@ ghost use Rattle.mesh_job.specs.Plan.{line_of};
 use mesh_class::Class;
 use std::marker::Model;
 
+/// What is searched for pairs of groups that can be meshed, and how.
+#[derive(Debug, Drop)]
+pub struct Search {
+    /// The class whose groups are paired.
+    pub class: Class,
+    /// The most rounds.
+    pub rounds: u32,
+    /// The words that shuffle the groups, at most 32.
+    pub words: Vec<u64>,
+}
+
 /// One line of a job's plan: an attempt of a worker, or a call of the mesher.
 #[derive(Debug, Drop)]
 pub enum PlanLine {
     /// `Run(w)`: worker `w` attempts its next command.
     Run(u32),
-    /// A search for pairs of groups of a class that can be meshed, by so many rounds and these words. Nothing changes.
-    Pair {
-        /// The class whose groups are paired.
-        class: Class,
-        /// The most rounds.
-        rounds: u32,
-        /// The words that shuffle the groups, at most 32.
-        words: Vec<u64>,
-    },
+    /// A search for pairs of groups that can be meshed. Nothing changes.
+    Pair(Box<Search>),
     /// A mesh of the group `source` into the group `destination` begins.
     Begin {
         /// The number of the source.

@@ -6,10 +6,10 @@ ghost use Rattle.mesh_model.specs.Jobs.{Line, CancelMesh, CancelClass, StepMesh,
 ghost use Rattle.mesh_job.specs.Plan.{line_of, read_line};
 ghost use Rattle.mesh_job.specs.Reading.{IsFaultOfStep, texts};
 
-use crate::PlanLine;
 use crate::faults::LineFault;
 use crate::lines::{is_word, no_field, one_field, two_fields};
 use crate::numbers::{number, number32};
+use crate::{PlanLine, Search};
 use mesh_class::{Class, class_of};
 use mesh_model::{FaultKind, Version};
 use std::alloc::Global;
@@ -174,11 +174,15 @@ fn pair_of(alloc: Global, fields: &[&[u8]]) -> Result<PlanLine, LineFault>
     let class = class(*size)?;
     let rounds = number32(*rounds, 0, MOST_ROUNDS)?;
     let words = search_words(alloc, words)?;
-    Ok(PlanLine::Pair {
-        class,
-        rounds,
-        words,
-    })
+    let asked = Box::new(
+        alloc,
+        Search {
+            class,
+            rounds,
+            words,
+        },
+    )?;
+    Ok(PlanLine::Pair(asked))
 }
 
 /// The class of a field that is its size. NUMBER where there is no class of this size.

@@ -1,10 +1,17 @@
-use Rattle.std.proofs.Common.{◌+◌, ◌∷◌, sym, ap, ◌∙◌, take}
-use Rattle.std.proofs.lemmas.List.{take_rest}
-use Rattle.mesh_job.specs.Reading.{text_lines}
-use Rattle.mesh_job.proofs.Splits.{line_at}
+use Rattle.std.proofs.Common.{◌≡◌, sym, ◌∙◌, rules, tests}
+use Rattle.std.specs.List.{list_all}
+use Rattle.std.proofs.lemmas.Iterator.{YieldsList-from_slice}
+use Rattle.std.proofs.lemmas.Iterator.Search.{all_from_yields_List}
+use Rattle.mesh_model.specs.Files.{is_printable}
+use Rattle.mesh_job.proofs.Reading.{byte_fault}
 use Rattle.mesh_job.proofs.lines.next_line.Goals as goal
 
-pub returns-then-text-place-eq10-clause-lines : goal.returns-then-text-place-eq10-clause-lines
-returns-then-text-place-eq10-clause-lines c =
-    line_at c.args.text.now c.printable_front-place.result _ c.if-place-text.true c.if-text-place-eq10.true c.printable_front-place.ensures.printable
-    ∙ ap (λ rest. take c.printable_front-place.result c.args.text.now ∷ text_lines rest) (sym (take_rest c.args.text.now (c.printable_front-place.result + 1)))
+pub returns-then-not-all-clause-err : goal.returns-then-not-all-clause-err
+returns-then-not-all-clause-err c =
+    let tested : c.all.result ≡ list_all is_printable c.in-Some.line.now =
+    all_from_yields_List is_printable _ _ c.all.result c.all.ensures.ran (YieldsList-from_slice c.in-Some.line.now cc) (λ x b q k. search (rules, tests)) in
+    byte_fault c.args.text.now c.in-Some.line.now c.in-Some.rest.now c.in-Some.ensures.some c.if-line-gt-MOST_LINE_BYTES.false (sym tested ∙ c.if-not-all.true)
+
+pub returns-clause-printable : goal.returns-clause-printable
+returns-clause-printable c =
+    sym (all_from_yields_List is_printable _ _ _ c.all.ensures.ran (YieldsList-from_slice c.in-Some.line.now cc) (λ x b q k. search (rules, tests))) ∙ c.if-not-all.false

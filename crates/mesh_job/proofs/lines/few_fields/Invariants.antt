@@ -1,0 +1,16 @@
+use Rattle.std.proofs.Common.{◌≡◌, ◌-◌, ◌≤◌, false, take}
+use Rattle.std.specs.List.{list_any}
+use Rattle.mesh_model.specs.Files.{is_empty}
+use Rattle.mesh_job.specs.Reading.{texts}
+use Rattle.mesh_job.proofs.FewFields.{IsBegun}
+use Rattle.mesh_job.proofs.lines.few_fields.Given as goal
+
+abbrev pub invariant-loop-start : goal.invariant-loop-start
+invariant-loop-start l = record {
+  within : l.start ≤ l.most;
+  begun : IsBegun (take l.start l.text) (texts l.fields.items);
+  filled : list_any is_empty (texts l.fields.items) ≡ false;
+}
+
+abbrev pub decreases-loop-start : goal.decreases-loop-start
+decreases-loop-start l = l.most - l.start
