@@ -1,5 +1,5 @@
 //! The answer lines.
-ghost use Rattle.std.specs.Prelude.{◌≡◌, ◌<◌, ◌++◌, decimal, OnOk};
+ghost use Rattle.std.specs.Prelude.{◌≡◌, ◌+◌, ◌<◌, ◌≤◌, ◌++◌, decimal, length, vec_capacity, vec_len, OnOk};
 ghost use Rattle.mesh_model.specs.Texts.{address_text, answer_text, byte_text, bytes_text, ended, hex_digit, refusal_text, reply_text};
 ghost use Rattle.mesh_text.specs.Answers.{answer_of};
 
@@ -79,7 +79,7 @@ fn add_reply(text: &mut Vec<u8>, reply: &Reply) -> Result<(), AllocError>
         }
         Reply::Byte(byte) => {
             text.extend_from_slice(b"byte ")?;
-            add_byte(text, *byte)
+            add_bytes(text, &[*byte])
         }
         Reply::Refused(refusal) => add_refusal(text, *refusal),
     }
@@ -124,23 +124,27 @@ fn add_address(text: &mut Vec<u8>, address: u32) -> Result<(), AllocError>
     Ok(())
 }
 
-/// Adds bytes, two hexadecimal digits each.
+/// Adds up to 32 bytes, two hexadecimal digits each.
 fn add_bytes(text: &mut Vec<u8>, bytes: &[u8]) -> Result<(), AllocError>
+    requires { length bytes.now ≤ 32 }
     ensures { OnOk result (text.new.items ≡ text.old.items ++ bytes_text bytes.now) }
 {
+    text.reserve(2 * bytes.len())?;
     for byte in bytes {
-        add_byte(text, *byte)?;
+        push_byte(text, *byte);
     }
     Ok(())
 }
 
-/// Adds a byte in two hexadecimal digits.
-fn add_byte(text: &mut Vec<u8>, byte: u8) -> Result<(), AllocError>
-    ensures { OnOk result (text.new.items ≡ text.old.items ++ byte_text byte) }
+/// Adds a byte in two hexadecimal digits, for which there is room.
+fn push_byte(text: &mut Vec<u8>, byte: u8)
+    requires { vec_len text.old + 2 ≤ vec_capacity text.old }
+    ensures digits { text.new.items ≡ text.old.items ++ byte_text byte }
+    ensures len { vec_len text.new ≡ vec_len text.old + 2 }
+    ensures room { vec_capacity text.new ≡ vec_capacity text.old }
 {
-    text.push(digit(byte / 16))?;
-    text.push(digit(byte % 16))?;
-    Ok(())
+    text.push_reserved(digit(byte / 16));
+    text.push_reserved(digit(byte % 16));
 }
 
 /// The hexadecimal digit of a value below 16, in lower case.

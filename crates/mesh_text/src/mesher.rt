@@ -9,6 +9,7 @@ ghost use Rattle.mesh_text.specs.Turns.{IsCall, IsReport};
 
 use crate::answers::Answer;
 use mesh_class::Class;
+use mesh_job::Search;
 use mesh_model::{Refusal, Version};
 use mesh_mutator::Book;
 use mesh_search::search_one;
@@ -16,17 +17,11 @@ use mesh_steps::StepDone;
 use std::alloc::{AllocError, Global};
 
 /// Searches a class for pairs. Nothing changes; an error is want of memory.
-pub(crate) fn pair(
-    alloc: Global,
-    book: &Book,
-    class: Class,
-    rounds: u32,
-    words: &[u64],
-) -> Result<Answer, AllocError>
-    ensures { IfOk result (IsCall (λ state. told state (PairsFound (search (view_of state.table class) words.now rounds))) book.now book.now) }
+pub(crate) fn pair(alloc: Global, book: &Book, asked: &Search) -> Result<Answer, AllocError>
+    ensures { IfOk result (IsCall (λ state. told state (PairsFound (search (view_of state.table asked.now.class) asked.now.words.items asked.now.rounds))) book.now book.now) }
 {
-    let view = book.view(alloc, class)?;
-    let found = search_one(alloc, &view, words, rounds)?;
+    let view = book.view(alloc, asked.class)?;
+    let found = search_one(alloc, &view, asked.words.as_slice(), asked.rounds)?;
     Ok(Answer::Found(found))
 }
 

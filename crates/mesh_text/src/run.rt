@@ -111,11 +111,7 @@ impl Turns {
     {
         match line {
             PlanLine::Run(worker) => self.run(*worker, job.scripts.of(*worker)),
-            PlanLine::Pair {
-                class,
-                rounds,
-                words,
-            } => pair(alloc, &self.book, *class, *rounds, words.as_slice()),
+            PlanLine::Pair(asked) => pair(alloc, &self.book, asked),
             PlanLine::Begin {
                 source,
                 destination,

@@ -8,7 +8,7 @@ use Rattle.mesh_text.proofs.run.Turns.answer.Goals as goal
 
 pub returns-in-Pair-clause-answered : goal.returns-in-Pair-clause-answered
 returns-in-Pair-clause-answered c =
-    rw (c.in-Pair.is, ← c.as_slice.ensures.value)
+    rw (c.in-Pair.is, ← c.deref.ensures)
     (IfOk-weaker c.pair.result _ _ (λ given call state at. call c.args.job.now state c.args.self.now.next.items at) c.pair.ensures)
 
 pub returns-in-Begin-clause-answered : goal.returns-in-Begin-clause-answered
