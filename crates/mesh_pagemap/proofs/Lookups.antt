@@ -1,9 +1,9 @@
 -- What a table's map has at each virtual page.
-use Rattle.std.proofs.Common.{◌≡◌, ◌≢◌, ℕ, zero, suc, ◌+◌, ◌<◌, ◌≤◌, lit<, length-set, true, false, cond, List, [], ◌∷◌, Option, Some, None, length, set, get_or, refl, sym, ap, ◌∙◌, arith, ⊎_elim, get_or-set_same, get_or-set_other, replicate}
+use Rattle.std.proofs.Common.{◌≡◌, ◌≢◌, ℕ, zero, suc, ◌+◌, ◌<◌, ◌≤◌, length-set, true, false, cond, List, [], ◌∷◌, ◌++◌, Option, Some, None, length, set, get_or, refl, sym, ap, ◌∙◌, arith, ⊎_elim, get_or-set_same, get_or-set_other}
 use Rattle.std.specs.Ordering.{nat_cmp, eq_by_cmp}
 use Rattle.std.specs.Cmp.{unsigned_tied, nat_cmp_total}
-use Rattle.std.specs.FinMap.{find, get, insert, remove, empty, same_map, get-from_entries, get-insert, get-remove, from_entries, nat_cmp-IsAntisymmetric}
-use Rattle.std.proofs.lemmas.List.{get_or_read, get_or_past, get_or-replicate, length-replicate}
+use Rattle.std.specs.FinMap.{find, get, insert, remove, empty, same_map, get-from_entries, get-insert, get-remove, nat_cmp-IsAntisymmetric}
+use Rattle.std.proofs.lemmas.List.{get_or_read, get_or_past}
 use Rattle.std.proofs.lemmas.Bool.{cases_eq, cases_lt, both_ways}
 use Rattle.std.proofs.lemmas.Bool.Decides.{nat_tests}
 use Rattle.mesh_pagemap.specs.declared.prot.Prot.{Prot}
@@ -62,14 +62,10 @@ mapping-set_none places v h =
 pub get_read : (places : List (Option (ℕ × Prot))) (v : ℕ) (x : Option (ℕ × Prot)) → v < length places → x ≡ get_or places v x → x ≡ get (mapping places) v
 get_read places v x h e = get_or_read places v x h e None ∙ sym (get-mapping places v)
 
-entries_from-replicate : (n first : ℕ) → entries_from first (replicate n None) ≡ []
-entries_from-replicate zero first = refl
-entries_from-replicate (suc n) first = entries_from-replicate n (first + 1)
-
--- an empty table is the empty map
-pub mapping-replicate : (n : ℕ) → mapping (replicate n None) ≡ empty
+-- a table of no places is the empty map
+pub mapping-none : mapping [] ≡ empty
 unfolding mapping
-mapping-replicate n = ap from_entries (entries_from-replicate n 0)
+mapping-none = refl
 
 -- a mapped virtual page's place is filled
 pub place_filled : (places : List (Option (ℕ × Prot))) (v : ℕ) (x : Option (ℕ × Prot)) → IsMapped (mapping places) v → v < length places → x ≡ get_or places v x → x ≡ None → ⊥
@@ -95,7 +91,7 @@ mapping-range places table v mapped = (
   ⊎_elim (λ (l : 0 < v). l) (λ (none : v ≤ 0). absurd (absent places v (rw (zero_from v none) table.first_empty) mapped)) (cases_lt 0 v),
   ⊎_elim
       (λ (l : v < 65536). omega arith)
-      (λ (past : 65536 ≤ v). absurd (absent places v (get_or_past places v None (omega (arith, table.sized))) mapped))
+      (λ (past : 65536 ≤ v). absurd (absent places v (get_or_past places v None (omega (arith, table.short))) mapped))
       (cases_lt v 65536),
 )
   where
@@ -105,13 +101,31 @@ mapping-range places table v mapped = (
 -- a table stays one where a place but that of virtual page 0 is written
 pub IsTable-set : (places : List (Option (ℕ × Prot))) (v : ℕ) (x : Option (ℕ × Prot)) → IsTable places → 1 ≤ v → IsTable (set places v x)
 IsTable-set places v x table first = record {
-  sized = length-set places v x ∙ table.sized;
+  short = omega (arith, length-set places v x, table.short);
   first_empty = get_or-set_other places v 0 x None (omega arith) ∙ table.first_empty;
 }
 
--- an empty table of 65,536 places
-pub IsTable-replicate : (places : List (Option (ℕ × Prot))) → places ≡ replicate 65536 None → IsTable places
-IsTable-replicate places e = record {
-  sized = ap length e ∙ length-replicate {A = Option (ℕ × Prot)} 65536 None;
-  first_empty = ap (λ (s : List (Option (ℕ × Prot))). get_or s 0 None) e ∙ get_or-replicate 65536 0 None None (lit< tt);
-}
+-- a table of no places
+pub IsTable-none : IsTable []
+IsTable-none = record { short = omega arith; first_empty = refl }
+
+-- a table stays one where empty places are added
+pub IsTable-same : (old new : List (Option (ℕ × Prot))) → IsTable old → length new ≤ 65536 → ((v : ℕ) → get_or new v None ≡ get_or old v None) → IsTable new
+IsTable-same old new table short same = record { short = short; first_empty = same 0 ∙ table.first_empty }
+
+-- tables with the same entries stand for the same map
+pub mapping-same : (old new : List (Option (ℕ × Prot))) → ((v : ℕ) → get_or new v None ≡ get_or old v None) → mapping new ≡ mapping old
+mapping-same old new same =
+    same_map nat_cmp_total nat_cmp-IsAntisymmetric _ _ (λ q. get-mapping new q ∙ same q ∙ sym (get-mapping old q))
+
+-- one more empty place
+pub empty_more : (places : List (Option (ℕ × Prot))) (v : ℕ) → get_or (places ++ None ∷ []) v None ≡ get_or places v None
+empty_more [] zero = refl
+empty_more [] (suc v) = refl
+empty_more (x ∷ places) zero = refl
+empty_more (x ∷ places) (suc v) = empty_more places v
+
+-- a mapped virtual page has a place
+pub mapped_within : (places : List (Option (ℕ × Prot))) (v : ℕ) → IsMapped (mapping places) v → v < length places
+mapped_within places v mapped =
+    ⊎_elim (λ (l : v < length places). l) (λ (past : length places ≤ v). absurd (absent places v (get_or_past places v None past) mapped)) (cases_lt v (length places))

@@ -1,5 +1,5 @@
 -- How a table with a place for each virtual page is read as a map.
-use Rattle.std.specs.Prelude.{◌≡◌, ℕ, ◌+◌, List, [], ◌∷◌, Option, Some, None, length, slice_index_or}
+use Rattle.std.specs.Prelude.{◌≡◌, ℕ, ◌+◌, ◌≤◌, List, [], ◌∷◌, Option, Some, None, length, slice_index_or}
 use Rattle.std.specs.FinMap as map
 use Rattle.mesh_pagemap.specs.Entries.{Entries}
 use Rattle.mesh_pagemap.specs.declared.prot.Prot.{Prot}
@@ -14,7 +14,7 @@ entries_from v (Some entry ∷ places) = (v, entry) ∷ entries_from (v + 1) pla
 unfoldable pub mapping : List (Option (ℕ × Prot)) → Entries
 mapping places = map.from_entries (entries_from 0 places)
 
--- a table has a place for each virtual page, and the one of virtual page 0 is empty
+-- a table has no place but for virtual pages, and the one of virtual page 0 is empty
 pub record IsTable (places : List (Option (ℕ × Prot))) : Type 0 where
-  pub sized : length places ≡ 65536
+  pub short : length places ≤ 65536
   pub first_empty : slice_index_or places 0 None ≡ None

@@ -1,5 +1,5 @@
 //! The page map: a table with an entry for each virtual page.
-ghost use Rattle.std.specs.Prelude.{◌≡◌, ℕ, ◌≤◌, false, IfOk, IfSome, is_some};
+ghost use Rattle.std.specs.Prelude.{◌≡◌, ℕ, ◌<◌, ◌≤◌, None, false, IfOk, IfSome, is_some, length, slice_index_or, vec_capacity, vec_len};
 ghost use Rattle.std.specs.FinMap as map;
 ghost use Rattle.mesh_pagemap.specs.Entries.{is_mapped, IsMapped, AreInRange, page_of, is_read_only, reads_only, page_in, prot_in, Maps, Unmaps, Remaps, Protects};
 
@@ -13,18 +13,19 @@ use std::marker::Model;
 /// Both are this project's own choice.
 pub const LAST_VIRTUAL_PAGE: u32 = 65535;
 
-/// How many places the table has; the one of virtual page 0 is never used.
+/// How many places the table has room for; the one of virtual page 0 is never used.
 const TABLE_PLACES: usize = 65536;
 
 /// Which physical page each virtual page leads to, and with which protection.
 #[derive(Drop)]
 pub struct PageMap {
-    /// The entry of each virtual page, at the place of its number. Place 0 stays empty.
+    /// The entry of each virtual page, at the place of its number. Place 0 stays empty. A place comes to be when it or a later one is
+    /// first mapped, so that no more memory is touched than that.
     table: Vec<Option<(Page, Prot)>>,
 }
 
 impl Model for PageMap {
-    ghost use Rattle.std.specs.Prelude.{ℕ};
+    ghost use Rattle.std.specs.Prelude.{ℕ, ◌≤◌, vec_capacity};
     ghost use Rattle.std.specs.Ordering.{nat_cmp};
     ghost use Rattle.std.specs.FinMap as map;
     ghost use Rattle.std.specs.Coded.{coded_ℕ};
@@ -39,7 +40,7 @@ impl Model for PageMap {
 
     ghost view = { λ a. mapping a.table.items };
 
-    ghost invariant = { λ a. IsTable a.table.items };
+    ghost invariant = { λ a. IsTable a.table.items × (65536 ≤ vec_capacity a.table) };
 }
 
 impl PageMap {
@@ -48,7 +49,7 @@ impl PageMap {
         ensures empty { IfOk result (λ m. m ≡ map.empty) }
         ensures unmapped { IfOk result (λ m. (v : ℕ) → is_mapped m v ≡ false) }
     {
-        let table = vec![in alloc; None; TABLE_PLACES]?;
+        let table = Vec::with_capacity(alloc, TABLE_PLACES)?;
         Ok(PageMap { table })
     }
 
@@ -60,6 +61,7 @@ impl PageMap {
         ensures entry { self.new ≡ map.insert self.old vpage (page, prot) }
         ensures maps { Maps self.old self.new vpage page prot }
     {
+        reach(&mut self.table, vpage as usize);
         self.table[vpage as usize] = Some((page, prot));
     }
 
@@ -115,7 +117,28 @@ impl PageMap {
             reads_only entry.1 ≡ is_read_only self.now vpage) }
         ensures range { AreInRange self.now }
     {
-        let place = vpage as usize;
-        self.table[place]
+        entry_at(self.table.as_slice(), vpage as usize)
     }
+}
+
+/// Lets a table reach a place: those up to it come to be, and are empty.
+fn reach(table: &mut Vec<Option<(Page, Prot)>>, place: usize)
+    requires within { place < 65536 }
+    requires short { vec_len table.old ≤ 65536 }
+    requires room { 65536 ≤ vec_capacity table.old }
+    ensures reached { place < length table.new.items }
+    ensures short { vec_len table.new ≤ 65536 }
+    ensures room { vec_capacity table.new ≡ vec_capacity table.old }
+    ensures same { (v : ℕ) → slice_index_or table.new.items v None ≡ slice_index_or table.old.items v None }
+{
+    while table.len() <= place {
+        table.push_reserved(None);
+    }
+}
+
+/// The entry at a place of a table, `None` where it is empty or has not come to be.
+fn entry_at(table: &[Option<(Page, Prot)>], place: usize) -> Option<(Page, Prot)>
+    ensures { result ≡ slice_index_or table.now place None }
+{
+    table.get(place).copied().flatten()
 }

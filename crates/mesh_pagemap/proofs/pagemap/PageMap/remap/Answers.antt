@@ -3,7 +3,7 @@ use Rattle.std.specs.FinMap.{get, insert}
 use Rattle.mesh_pagemap.specs.declared.prot.Prot.{Prot}
 use Rattle.mesh_pagemap.specs.Entries.{prot_in}
 use Rattle.mesh_pagemap.specs.Table.{mapping}
-use Rattle.mesh_pagemap.proofs.Lookups.{IsTable-set, mapping-set_some, get_filled, place_filled}
+use Rattle.mesh_pagemap.proofs.Lookups.{IsTable-set, mapped_within, mapping-set_some, get_filled, place_filled}
 use Rattle.mesh_pagemap.proofs.Changes.{remaps}
 use Rattle.mesh_pagemap.proofs.pagemap.PageMap.remap.Goals as goal
 use Rattle.mesh_pagemap.proofs.pagemap.PageMap.remap.Goals.{in-Some, in_default}
@@ -16,8 +16,8 @@ remapped places v page x entry h e is =
 changed : (c : goal.Joined-place) → mapping c.match-place.self-inside.table.items ≡ insert (mapping c.self.inside.table.items) c.args.vpage (c.args.page, prot_in (get (mapping c.self.inside.table.items) c.args.vpage))
 changed c =
     elim c.match-place.branch [
-      | in-Some w ↦ rw w.self-inside-is (remapped c.self.inside.table.items c.args.vpage c.args.page c.index_mut-place.result.now _ (omega (arith, c.self.invariant.sized)) c.index_mut-place.ensures.value w.in-Some.is)
-      | in_default w ↦ absurd (place_filled c.self.inside.table.items c.args.vpage c.index_mut-place.result.now (rw (← c.self.view_is) at c.requires.mapped) (omega (arith, c.self.invariant.sized)) c.index_mut-place.ensures.value w.in_default.is)
+      | in-Some w ↦ rw w.self-inside-is (remapped c.self.inside.table.items c.args.vpage c.args.page c.index_mut-place.result.now _ (mapped_within c.self.inside.table.items c.args.vpage (rw (← c.self.view_is) at c.requires.mapped)) c.index_mut-place.ensures.value w.in-Some.is)
+      | in_default w ↦ absurd (place_filled c.self.inside.table.items c.args.vpage c.index_mut-place.result.now (rw (← c.self.view_is) at c.requires.mapped) (mapped_within c.self.inside.table.items c.args.vpage (rw (← c.self.view_is) at c.requires.mapped)) c.index_mut-place.ensures.value w.in_default.is)
     ]
 
 pub returns-clause-entry : goal.returns-clause-entry
@@ -30,6 +30,9 @@ returns-clause-remaps c =
 pub invariant_of-self : goal.invariant_of-self
 invariant_of-self c =
     elim c.match-place.branch [
-      | in-Some w ↦ rw w.self-inside-is (IsTable-set c.self.inside.table.items c.args.vpage _ c.self.invariant c.requires.first)
-      | in_default w ↦ absurd (place_filled c.self.inside.table.items c.args.vpage c.index_mut-place.result.now (rw (← c.self.view_is) at c.requires.mapped) (omega (arith, c.self.invariant.sized)) c.index_mut-place.ensures.value w.in_default.is)
+      | in-Some w ↦ rw w.self-inside-is (IsTable-set c.self.inside.table.items c.args.vpage _ c.self.invariant.0 c.requires.first, c.self.invariant.1)
+      | in_default w ↦ absurd (place_filled c.self.inside.table.items c.args.vpage c.index_mut-place.result.now (rw (← c.self.view_is) at c.requires.mapped) (mapped_within c.self.inside.table.items c.args.vpage (rw (← c.self.view_is) at c.requires.mapped)) c.index_mut-place.ensures.value w.in_default.is)
     ]
+
+pub index_mut-place-requires : goal.index_mut-place-requires
+index_mut-place-requires c = omega (arith, mapped_within c.self.inside.table.items c.args.vpage (rw (← c.self.view_is) at c.requires.mapped))
