@@ -49,7 +49,6 @@ IsIndex_replaced spans groups new n is sound = record {
 pub IsOwned_replaced : (spans : List SpanEntry) (groups new : List (Option GroupEntry)) (owners : List (Option ℕ)) (n : ℕ) → Replaces groups new n
     → IsOwned spans groups owners → IsOwned spans new owners
 IsOwned_replaced spans groups new owners n is own = record {
-  sized = own.sized;
   owned = λ m place j now at below page. let was = like groups new n m now is at in
       subst (λ (xs : List ℕ). slice_index_or owners ((span_at spans (slice_index xs place)).first + j) None ≡ Some (slice_index xs place)) (sym was.members)
       (own.owned m place j was.group was.there (subst (λ (xs : List ℕ). place < length xs) was.members below) (subst (λ (c : ℕ). j < pages_of c) was.class page));

@@ -29,8 +29,8 @@ IsIndex_empty = record {
 }
 
 -- no page of an index with no span has an owner
-pub IsOwned_empty : (owners : List (Option ℕ)) → length owners ≡ 65536 → IsOwned [] [] owners
-IsOwned_empty owners long = record { sized = long; owned = λ n place j group e. absurd (none_at n group e) }
+pub IsOwned_empty : (owners : List (Option ℕ)) → IsOwned [] [] owners
+IsOwned_empty owners = record { owned = λ n place j group e. absurd (none_at n group e) }
 
 -- what the group of a number was before an entry changed
 pub record Was (groups : List (Option GroupEntry)) (n k : ℕ) (entry : Option Slot) (m : ℕ) (now : GroupEntry) : Type 0 where
@@ -129,7 +129,6 @@ owned_was spans groups owners n k entry m place j now own was below page =
 pub IsOwned_put : (spans : List SpanEntry) (groups : List (Option GroupEntry)) (owners : List (Option ℕ)) (n k : ℕ) (entry : Option Slot)
     → IsOwned spans groups owners → IsOwned spans (with_entry groups n k entry) owners
 IsOwned_put spans groups owners n k entry own = record {
-  sized = own.sized;
   owned = λ m place j now at below page. owned_was spans groups owners n k entry m place j now own (entry_was groups n k entry m now at) below page;
 }
 
@@ -243,12 +242,11 @@ IsIndex_add spans groups first class pages new paged unused sound = record {
 
 -- the owners with one span more
 pub IsOwned_add : (spans : List SpanEntry) (groups : List (Option GroupEntry)) (owners owners' : List (Option ℕ)) (first class : ℕ) (pages : List ℕ)
-    → AreUnused (record { spans = spans; groups = groups }) first → IsIndex spans groups → length owners' ≡ 65536
+    → AreUnused (record { spans = spans; groups = groups }) first → IsIndex spans groups
     → ((v : ℕ) → first ≤ v → v < first + pages_of class → slice_index_or owners' v None ≡ Some (length spans))
     → ((v : ℕ) → v < first → slice_index_or owners' v None ≡ slice_index_or owners v None) → IsOwned spans groups owners
     → IsOwned (spans ++ new_span first class (length spans) ∷ []) (groups ++ Some (new_group class (length spans) pages) ∷ []) owners'
-IsOwned_add spans groups owners owners' first class pages unused sound long here below own = record {
-  sized = long;
+IsOwned_add spans groups owners owners' first class pages unused sound here below own = record {
   owned = λ n place j group at within page. elim (added_was groups new_one n group at) [
     | inl old ↦ old_owned n place j group old within page
     | inr last ↦ subst (λ (g : GroupEntry). slice_index_or owners' ((span_at (spans ++ added ∷ []) (slice_index g.members place)).first + j) None

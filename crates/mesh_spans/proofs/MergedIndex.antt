@@ -195,7 +195,6 @@ module _ (spans spans' : List SpanEntry) (groups : List (Option GroupEntry)) (s 
   -- the table of virtual pages stays right
   pub IsOwned_merged : (owners : List (Option ℕ)) → IsOwned spans groups owners → IsOwned spans' (merged_groups groups s d a b) owners
   IsOwned_merged owners own = record {
-    sized = own.sized;
     owned = λ n place j group at below page. elim (now_is n group at) [
       | inl merged_ ↦ subst (λ (g : GroupEntry). slice_index_or owners ((span_at spans' (slice_index g.members place)).first + j) None ≡ Some (slice_index g.members place)) merged_.1
           (owned_merged place j (subst (λ (g : GroupEntry). place < length g.members) (sym merged_.1) below)

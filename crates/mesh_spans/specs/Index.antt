@@ -157,7 +157,6 @@ pub record IsIndex (spans : List SpanEntry) (groups : List (Option GroupEntry)) 
 
 -- the table of virtual pages has the span of each page of each member
 pub record IsOwned (spans : List SpanEntry) (groups : List (Option GroupEntry)) (owners : List (Option ℕ)) : Type 0 where
-  pub sized : length owners ≡ 65536
   pub owned : (n place j : ℕ) (group : GroupEntry) → group_at groups n ≡ Some group → place < length group.members → j < pages_of group.class
       → slice_index_or owners ((span_at spans (slice_index group.members place)).first + j) None ≡ Some (slice_index group.members place)
 
@@ -194,6 +193,5 @@ pub record IsFoundAt (index : Index) (n span k o : ℕ) (found : Option (ℕ × 
 
 -- the span owns the virtual pages from the first one up to another, and those below are as they were
 pub record OwnsUpTo (old new : List (Option ℕ)) (first end span : ℕ) : Type 0 where
-  pub long : length new ≡ 65536
   pub own : (v : ℕ) → first ≤ v → v < end → slice_index_or new v None ≡ Some span
   pub below : (v : ℕ) → v < first → slice_index_or new v None ≡ slice_index_or old v None

@@ -5,25 +5,23 @@ ghost use Rattle.mesh_class.specs.Classes.{pages_of, slots_of};
 ghost use Rattle.mesh_model.specs.Table.{changed_at, fresh_group, object_count, slot_address, with_object_in, emptied_at, takes_objects};
 ghost use Rattle.mesh_spans.specs.Counts.{IsPart, IsWithin, byte_count};
 ghost use Rattle.mesh_spans.specs.Groups.{IsPicked, groups_of, is_closed, table_group};
-ghost use Rattle.mesh_spans.specs.Index.{AreUnused, GroupEntry, IsFoundAt, IsIndex, IsObject, IsRecorded, IsSpan, IsVacant, OwnsUpTo, address_in, group_at, has_room, is_open, new_group, new_span, record_at, span_at, with_entry};
+ghost use Rattle.mesh_spans.specs.Index.{AreUnused, GroupEntry, IsFoundAt, IsIndex, IsObject, IsRecorded, IsSpan, IsVacant, address_in, group_at, has_room, is_open, new_group, new_span, record_at, span_at, with_entry};
 ghost use Rattle.mesh_model.specs.Mesh.{do_overlap, merged, page_count};
 ghost use Rattle.mesh_model.specs.Table.{Group as TableGroup, has_number};
 ghost use Rattle.mesh_bins.specs.Words.{IsLeast};
 ghost use Rattle.mesh_spans.specs.Filing.{candidate_from, candidates_from, is_partial};
 ghost use Rattle.mesh_spans.specs.Changes.{IsMergeable, Merges, Regroups, merged_entry, merged_groups, with_flag};
 
-use crate::extent::{Extent, PAGE_BYTES};
+use crate::extent::Extent;
 use crate::filing::{Filed, Files, file_at, lowest_open, lowest_partial, new_bins};
 use crate::groups::Group;
 use crate::occupant::Occupant;
+use crate::owners::Owners;
 use crate::{Slot, Span, Totals};
 use mesh_arena::Page;
 use mesh_class::Class;
 use std::alloc::{AllocError, Global};
 use std::marker::Model;
-
-// How many numbers of virtual pages there are, the unused 0 among them.
-const VIRTUAL_PAGES: usize = 65_536;
 
 /// The index of all spans and groups.
 ///
@@ -36,7 +34,7 @@ pub struct Spans {
     // By number; None where the number is no group any more.
     groups: Vec<Option<Group>>,
     // By virtual page the span that has it.
-    owners: Vec<Option<Span>>,
+    owners: Owners,
     // In which bin each group is, and what all of them count.
     files: Files,
 }
@@ -51,7 +49,7 @@ impl Model for Spans {
     ghost use Rattle.mesh_spans.specs.Counts.{IsCounted};
     ghost use Rattle.mesh_spans.specs.Filing.{IsFiled};
 
-    ghost invariant = { λ s. (IsIndex s.spans.items s.groups.items × IsOwned s.spans.items s.groups.items s.owners.items)
+    ghost invariant = { λ s. (IsIndex s.spans.items s.groups.items × IsOwned s.spans.items s.groups.items s.owners)
         × IsFiled s.groups.items s.files.bins.items × IsCounted s.groups.items s.files.totals };
 }
 
@@ -61,7 +59,7 @@ impl Spans {
         ensures spans { IfOk result (λ s. s.spans ≡ []) }
         ensures groups { IfOk result (λ s. s.groups ≡ []) }
     {
-        let owners = vec![in alloc; None; VIRTUAL_PAGES]?;
+        let owners = Owners::new(alloc)?;
         let bins = new_bins(alloc)?;
         Ok(Spans {
             alloc,
@@ -103,7 +101,7 @@ impl Spans {
         self.groups.reserve(1)?;
         self.spans.push_reserved(Extent::new(first, class, number));
         self.groups.push_reserved(Some(group));
-        own(&mut self.owners, first, class.pages(), span);
+        self.owners.own(first, class.pages(), span);
         self.files
             .refile(self.groups.as_slice(), number, Filed::none());
         Ok(span)
@@ -266,7 +264,7 @@ impl Spans {
             → slot_address (span_at self.now.spans (slice_index group.members place)).first group.class k + o ≡ addr
             → IsFoundAt self.now n (slice_index group.members place) k o result }
     {
-        let span = owner_of(self.owners.as_slice(), addr)?;
+        let span = self.owners.of(addr)?;
         let extent = self.spans.get(span.index())?;
         self.group(extent.group())?;
         let (slot, offset) = extent.find(addr)?;
@@ -351,24 +349,5 @@ fn regroup(spans: &mut Vec<Extent>, members: &[Span], group: u32)
 {
     for member in members {
         spans[member.index()].join(group);
-    }
-}
-
-// The span that has the virtual page of an address.
-fn owner_of(owners: &[Option<Span>], addr: u32) -> Option<Span>
-    ensures { result ≡ slice_index_or owners.now (addr / 4096) None }
-{
-    let page = (addr / PAGE_BYTES) as usize;
-    owners.get(page).copied().flatten()
-}
-
-// Notes for each page of a span that the span has it.
-fn own(owners: &mut Vec<Option<Span>>, first: u32, pages: u32, span: Span)
-    requires long { length owners.old.items ≡ 65536 }
-    requires last { first + pages ≤ 65536 }
-    ensures { OwnsUpTo owners.old.items owners.new.items first (first + pages) span }
-{
-    for page in first..first + pages {
-        owners[page as usize] = Some(span);
     }
 }

@@ -11,6 +11,7 @@ mod groups;
 mod index;
 mod names;
 mod occupant;
+mod owners;
 mod totals;
 
 pub use groups::{Group, MAX_MEMBERS, MAX_SPAN_PAGES};

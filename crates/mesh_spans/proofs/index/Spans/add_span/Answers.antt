@@ -25,8 +25,8 @@ invariant_of-self-2 c =
       (
         IsIndex_add c.self.inside.spans.items c.self.inside.groups.items c.args.first c.args.class c.args.pages.now
             (record { class = c.pages.ensures.class; first = c.requires.first; last = c.requires.last }) c.requires.pages unused c.self.invariant.0.0,
-        IsOwned_add c.self.inside.spans.items c.self.inside.groups.items c.self.inside.owners.items c.own.new.owners.items c.args.first c.args.class
-            c.args.pages.now unused c.self.invariant.0.0 c.own.ensures.long
+        IsOwned_add c.self.inside.spans.items c.self.inside.groups.items c.self.inside.owners c.own.new.self c.args.first c.args.class
+            c.args.pages.now unused c.self.invariant.0.0
             (λ v low high. c.own.ensures.own v low (rw c.pages.ensures.value high) ∙ ap (λ (n : ℕ). Some n) (c.numbered-span.ensures ∙ c.len-number.ensures ∙ c.self.inside.spans.ok.0)) c.own.ensures.below c.self.invariant.0.1,
       ),
       refiled_is c.self.inside.groups.items (c.self.inside.groups.items ++ Some (new_group c.args.class (length c.self.inside.spans.items) c.args.pages.now) ∷ [])
@@ -153,11 +153,8 @@ push_reserved-requires c = room_for_one _ _ c.in_ok-reserve.ensures.ok
 pub push_reserved-requires-2 : goal.push_reserved-requires-2
 push_reserved-requires-2 c = room_for_one _ _ c.in_ok-reserve-2.ensures.ok
 
-pub own-requires-clause-long : goal.own-requires-clause-long
-own-requires-clause-long c = c.self.invariant.0.1.sized
-
-pub own-requires-clause-last : goal.own-requires-clause-last
-own-requires-clause-last c = rw c.pages.ensures.value c.requires.last
+pub own-requires : goal.own-requires
+own-requires c = rw c.pages.ensures.value c.requires.last
 
 pub refile-requires-clause-there : goal.refile-requires-clause-there
 refile-requires-clause-there c =

@@ -35,7 +35,7 @@ invariant_of-self c =
     let is = replaced_flag c.self.inside.groups.items c.args.n true (some_below c.self.inside.groups.items c.args.n some) in (
       rw c.flag.ensures (
         IsIndex_replaced c.self.inside.spans.items c.self.inside.groups.items (with_flag c.self.inside.groups.items c.args.n true) c.args.n is c.self.invariant.0.0,
-        IsOwned_replaced c.self.inside.spans.items c.self.inside.groups.items (with_flag c.self.inside.groups.items c.args.n true) c.self.inside.owners.items c.args.n is
+        IsOwned_replaced c.self.inside.spans.items c.self.inside.groups.items (with_flag c.self.inside.groups.items c.args.n true) c.self.inside.owners c.args.n is
             c.self.invariant.0.1,
       ),
       refiled_is c.self.inside.groups.items c.flag.new.groups.items c.as_slice.result.now c.as_slice-2.result.now c.self.inside.files.bins.items c.refile.new.self.bins.items c.args.n c.file_at-before.result.bin c.self.invariant.1

@@ -1,4 +1,4 @@
-use Rattle.std.proofs.Common.{◌≡◌, ◌+◌, ◌<◌, ◌/◌, ℕ, List, Option, Some, None, slice_get, slice_index, slice_index_or, refl, subst, sym, ap, ◌∙◌, arith}
+use Rattle.std.proofs.Common.{◌≡◌, ◌+◌, ◌<◌, ◌/◌, ℕ, Option, Some, None, slice_get, slice_index, slice_index_or, refl, subst, sym, ap, ◌∙◌, arith}
 use Rattle.std.proofs.lemmas.Grind.{common_steps}
 use Rattle.mesh_model.specs.Table.{slot_address}
 use Rattle.mesh_spans.specs.Index.{IsSpan, SpanEntry, address_in, group_at, no_span, span_at}
@@ -17,9 +17,9 @@ returns-in_err-span-clause-found c = λ n place k o group at within below small 
     let class = member_class c.args.self.now c.self.inside.spans.items c.self.inside.groups.items n place group c.self.view_is c.self.invariant.0.0 at within in
     let is : address_in (span_at c.args.self.now.spans (slice_index group.members place)) k + o ≡ c.args.addr
     = ap (λ (size : ℕ). slot_address (span_at c.args.self.now.spans (slice_index group.members place)).first size k + o) class ∙ is0 in
-    let own = owner_found c.args.self.now c.self.inside.spans.items c.self.inside.groups.items c.self.inside.owners.items n place k o c.args.addr group
+    let own = owner_found c.args.self.now c.self.inside.spans.items c.self.inside.groups.items c.self.inside.owners n place k o c.args.addr group
     c.self.view_is c.self.invariant.0 at within below small is in
-    let none : slice_index_or c.self.inside.owners.items (c.args.addr / 4096) None ≡ None = grind (arith, common_steps) in
+    let none : slice_index_or c.self.inside.owners (c.args.addr / 4096) None ≡ None = grind (arith, common_steps) in
     let two : Some (slice_index group.members place) ≡ None = sym own ∙ none in
     absurd (cc two)
 
@@ -28,10 +28,10 @@ returns-in_err-extent-clause-found c = λ n place k o group at within below smal
     let class = member_class c.args.self.now c.self.inside.spans.items c.self.inside.groups.items n place group c.self.view_is c.self.invariant.0.0 at within in
     let is : address_in (span_at c.args.self.now.spans (slice_index group.members place)) k + o ≡ c.args.addr
     = ap (λ (size : ℕ). slot_address (span_at c.args.self.now.spans (slice_index group.members place)).first size k + o) class ∙ is0 in
-    let own = owner_found c.args.self.now c.self.inside.spans.items c.self.inside.groups.items c.self.inside.owners.items n place k o c.args.addr group
+    let own = owner_found c.args.self.now c.self.inside.spans.items c.self.inside.groups.items c.self.inside.owners n place k o c.args.addr group
     c.self.view_is c.self.invariant.0 at within below small is in
     let got = member_got c.args.self.now c.self.inside.spans.items c.self.inside.groups.items n place group c.self.view_is c.self.invariant.0.0 at within in
-    let owner : Some c.in_ok-span.span ≡ Some (slice_index group.members place) = c.in_ok-span.ensures ∙ ap (λ (xs : List (Option ℕ)). slice_index_or xs (c.args.addr / 4096) None) c.as_slice.ensures.value ∙ own in
+    let owner : Some c.in_ok-span.span ≡ Some (slice_index group.members place) = c.in_ok-span.ensures ∙ own in
     let span : c.in_ok-span.span ≡ slice_index group.members place = cc owner in
     let none : slice_get c.self.inside.spans.items (slice_index group.members place) ≡ None = grind (arith, common_steps) in
     let two : Some (span_at c.args.self.now.spans (slice_index group.members place)) ≡ None = sym got ∙ none in
@@ -42,11 +42,11 @@ returns-in_err-group-clause-found c = λ n place k o group at within below small
     let class = member_class c.args.self.now c.self.inside.spans.items c.self.inside.groups.items n place group c.self.view_is c.self.invariant.0.0 at within in
     let is : address_in (span_at c.args.self.now.spans (slice_index group.members place)) k + o ≡ c.args.addr
     = ap (λ (size : ℕ). slot_address (span_at c.args.self.now.spans (slice_index group.members place)).first size k + o) class ∙ is0 in
-    let own = owner_found c.args.self.now c.self.inside.spans.items c.self.inside.groups.items c.self.inside.owners.items n place k o c.args.addr group
+    let own = owner_found c.args.self.now c.self.inside.spans.items c.self.inside.groups.items c.self.inside.owners n place k o c.args.addr group
     c.self.view_is c.self.invariant.0 at within below small is in
     let got = member_got c.args.self.now c.self.inside.spans.items c.self.inside.groups.items n place group c.self.view_is c.self.invariant.0.0 at within in
     let there = member_there c.args.self.now c.self.inside.spans.items c.self.inside.groups.items n place group c.self.view_is c.self.invariant.0.0 at within in
-    let owner : Some c.in_ok-span.span ≡ Some (slice_index group.members place) = c.in_ok-span.ensures ∙ ap (λ (xs : List (Option ℕ)). slice_index_or xs (c.args.addr / 4096) None) c.as_slice.ensures.value ∙ own in
+    let owner : Some c.in_ok-span.span ≡ Some (slice_index group.members place) = c.in_ok-span.ensures ∙ own in
     let span : c.in_ok-span.span ≡ slice_index group.members place = cc owner in
     let entry : c.in_ok-extent.extent.now ≡ span_at c.args.self.now.spans (slice_index group.members place)
     = looked_up c.args.self.now c.self.inside.spans.items c.deref.result.now c.self.inside.groups.items c.in_ok-span.span c.index.result c.in_ok-extent.extent.now
@@ -61,10 +61,10 @@ returns-in_err-slot-clause-found c = λ n place k o group at within below small 
     let class = member_class c.args.self.now c.self.inside.spans.items c.self.inside.groups.items n place group c.self.view_is c.self.invariant.0.0 at within in
     let is : address_in (span_at c.args.self.now.spans (slice_index group.members place)) k + o ≡ c.args.addr
     = ap (λ (size : ℕ). slot_address (span_at c.args.self.now.spans (slice_index group.members place)).first size k + o) class ∙ is0 in
-    let own = owner_found c.args.self.now c.self.inside.spans.items c.self.inside.groups.items c.self.inside.owners.items n place k o c.args.addr group
+    let own = owner_found c.args.self.now c.self.inside.spans.items c.self.inside.groups.items c.self.inside.owners n place k o c.args.addr group
     c.self.view_is c.self.invariant.0 at within below small is in
     let got = member_got c.args.self.now c.self.inside.spans.items c.self.inside.groups.items n place group c.self.view_is c.self.invariant.0.0 at within in
-    let owner : Some c.in_ok-span.span ≡ Some (slice_index group.members place) = c.in_ok-span.ensures ∙ ap (λ (xs : List (Option ℕ)). slice_index_or xs (c.args.addr / 4096) None) c.as_slice.ensures.value ∙ own in
+    let owner : Some c.in_ok-span.span ≡ Some (slice_index group.members place) = c.in_ok-span.ensures ∙ own in
     let span : c.in_ok-span.span ≡ slice_index group.members place = cc owner in
     let entry : c.in_ok-extent.extent.now ≡ span_at c.args.self.now.spans (slice_index group.members place)
     = looked_up c.args.self.now c.self.inside.spans.items c.deref.result.now c.self.inside.groups.items c.in_ok-span.span c.index.result c.in_ok-extent.extent.now
@@ -78,10 +78,10 @@ returns-clause-found c = λ n place k o group at within below small is0.
     let class = member_class c.args.self.now c.self.inside.spans.items c.self.inside.groups.items n place group c.self.view_is c.self.invariant.0.0 at within in
     let is : address_in (span_at c.args.self.now.spans (slice_index group.members place)) k + o ≡ c.args.addr
     = ap (λ (size : ℕ). slot_address (span_at c.args.self.now.spans (slice_index group.members place)).first size k + o) class ∙ is0 in
-    let own = owner_found c.args.self.now c.self.inside.spans.items c.self.inside.groups.items c.self.inside.owners.items n place k o c.args.addr group
+    let own = owner_found c.args.self.now c.self.inside.spans.items c.self.inside.groups.items c.self.inside.owners n place k o c.args.addr group
     c.self.view_is c.self.invariant.0 at within below small is in
     let got = member_got c.args.self.now c.self.inside.spans.items c.self.inside.groups.items n place group c.self.view_is c.self.invariant.0.0 at within in
-    let owner : Some c.in_ok-span.span ≡ Some (slice_index group.members place) = c.in_ok-span.ensures ∙ ap (λ (xs : List (Option ℕ)). slice_index_or xs (c.args.addr / 4096) None) c.as_slice.ensures.value ∙ own in
+    let owner : Some c.in_ok-span.span ≡ Some (slice_index group.members place) = c.in_ok-span.ensures ∙ own in
     let span : c.in_ok-span.span ≡ slice_index group.members place = cc owner in
     let entry : c.in_ok-extent.extent.now ≡ span_at c.args.self.now.spans (slice_index group.members place)
     = looked_up c.args.self.now c.self.inside.spans.items c.deref.result.now c.self.inside.groups.items c.in_ok-span.span c.index.result c.in_ok-extent.extent.now

@@ -79,7 +79,7 @@ invariant_of-self c =
     let below' : c.args.dst < length c.remove.new.groups.items
     = rw (c.remove.ensures.groups, length-set c.self.inside.groups.items c.args.src None) (group_below c.self.inside.groups.items c.args.dst pair.b pair.destination) in (
       merge_keeps c.self.inside.spans.items c.regroup.new.spans.items c.self.inside.groups.items c.absorb.new.groups.items c.args.src c.args.dst c.in-Some.source
-          pair at is moved c.self.inside.owners.items c.self.invariant.0,
+          pair at is moved c.self.inside.owners c.self.invariant.0,
       merged_filed c.self.inside.groups.items c.remove.new.groups.items c.absorb.new.groups.items c.as_slice.result.now c.as_slice-in-Some.result.now c.as_slice-in-Some-2.result.now c.as_slice-in-Some-3.result.now
           c.self.inside.files.bins.items c.refile.new.self.bins.items c.refile-in-Some.new.self.bins.items c.args.src c.args.dst None _ c.file_at-from.result.bin c.file_at-before.result.bin c.self.invariant.1
           c.remove.ensures.groups c.absorb.ensures c.as_slice.ensures.value c.as_slice-in-Some.ensures.value c.as_slice-in-Some-2.ensures.value c.as_slice-in-Some-3.ensures.value

@@ -81,7 +81,7 @@ invariant_of-self c =
     c.args.serial c.args.len c.index-extent.result.now c.self.view_is
     (read_is c.args.self.now c.self.inside.spans.items c.self.inside.groups.items c.args.span c.index.result c.index-extent.result.now c.self.view_is c.index.ensures
     c.index-extent.ensures c.requires.vacant.below) c.first.ensures.value read.is c.put.ensures in (
-      put_keeps c.args.self.now c.self.inside.spans.items c.self.inside.groups.items c.put.new.groups.items c.self.inside.owners.items
+      put_keeps c.args.self.now c.self.inside.spans.items c.self.inside.groups.items c.put.new.groups.items c.self.inside.owners
           (span_at c.args.self.now.spans c.args.span).group c.args.slot (Some entry) c.self.view_is
           (vacant_fits c.args.self.now c.args.span c.args.slot entry c.requires.vacant (c.requires.some, c.requires.fits)) is c.self.invariant.0,
       refiled_is c.self.inside.groups.items c.put.new.groups.items c.as_slice.result.now c.as_slice-2.result.now c.self.inside.files.bins.items c.refile.new.self.bins.items c.group-group.result c.file_at-before.result.bin c.self.invariant.1

@@ -34,7 +34,7 @@ invariant_of-self c =
     let is = replaced_none c.self.inside.groups.items c.args.n (some_below c.self.inside.groups.items c.args.n some) in (
       rw c.remove.ensures.groups (
         IsIndex_replaced c.self.inside.spans.items c.self.inside.groups.items (slice_set c.self.inside.groups.items c.args.n None) c.args.n is c.self.invariant.0.0,
-        IsOwned_replaced c.self.inside.spans.items c.self.inside.groups.items (slice_set c.self.inside.groups.items c.args.n None) c.self.inside.owners.items c.args.n is
+        IsOwned_replaced c.self.inside.spans.items c.self.inside.groups.items (slice_set c.self.inside.groups.items c.args.n None) c.self.inside.owners c.args.n is
             c.self.invariant.0.1,
       ),
       refiled_is c.self.inside.groups.items c.remove.new.groups.items c.as_slice.result.now c.as_slice-2.result.now c.self.inside.files.bins.items c.refile.new.self.bins.items c.args.n c.file_at-before.result.bin c.self.invariant.1

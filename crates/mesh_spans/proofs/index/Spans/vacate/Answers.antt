@@ -80,7 +80,7 @@ invariant_of-self c =
     there.group c.self.view_is c.index.ensures c.index-2.ensures there.below c.group-group.ensures there.there in
     let is = entry_put c.args.self.now c.self.inside.spans.items c.self.inside.groups.items c.put.new.groups.items c.group-group.result (span_at c.args.self.now.spans c.args.span).group
     c.args.slot None c.self.view_is read.is c.put.ensures in (
-      put_keeps c.args.self.now c.self.inside.spans.items c.self.inside.groups.items c.put.new.groups.items c.self.inside.owners.items
+      put_keeps c.args.self.now c.self.inside.spans.items c.self.inside.groups.items c.put.new.groups.items c.self.inside.owners
           (span_at c.args.self.now.spans c.args.span).group c.args.slot None c.self.view_is
           (nothing_fits c.args.self.now c.self.inside.spans.items c.self.inside.groups.items c.args.span c.args.slot c.self.view_is c.self.invariant.0.0 c.requires) is
           c.self.invariant.0,
