@@ -13,6 +13,3 @@ mod stored;
 
 pub use faults::PlainFault;
 pub use plain::Plain;
-
-#[cfg(test)]
-mod tests;

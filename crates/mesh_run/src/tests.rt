@@ -14,9 +14,11 @@ mod indexes;
 mod memory;
 mod meshes;
 mod numbers;
+mod plain;
 mod rows;
 mod search;
 mod searchers;
+mod shared;
 
 /// What one run of the program wrote, and its exit status.
 #[derive(Drop)]

@@ -21,6 +21,3 @@ pub use faults::{FinishError, OpenError};
 pub use kept::{Kept, is_read};
 pub use seat::Seat;
 pub use shared::Shared;
-
-#[cfg(test)]
-mod tests;

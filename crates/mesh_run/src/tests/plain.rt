@@ -1,9 +1,9 @@
 //! Each call, with an answer that was worked out by hand from the definition.
 ghost use Rattle.std.specs.Prelude.{◌≤◌, length};
 
-use crate::{Plain, PlainFault};
 use arrayvec::ArrayVec;
 use mesh_model::{Command, Refusal, Reply};
+use mesh_plain::{Plain, PlainFault};
 use std::process::Abort;
 
 // Cell 0 names 8 bytes at 0x1000, and cell 1 names 4 bytes at 0x1010. They are 1 to 8, and 9 to 12.

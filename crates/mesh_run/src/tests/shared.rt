@@ -2,11 +2,11 @@
 ghost use Rattle.std.specs.Prelude.{◌≡◌, ◌≤◌, length};
 ghost use Rattle.mesh_model.specs.Commands.{IsInRange};
 
-use crate::{Ended, FinishError, Seat, Shared};
 use arrayvec::ArrayVec;
 use mesh_class::{Class, class_of};
 use mesh_model::StepKind;
 use mesh_mutator::{Attempt, Book, Command, Reply};
+use mesh_shared::{Ended, FinishError, Seat, Shared};
 use mesh_steps::{Report, StepDone};
 use std::alloc::{AllocError, Global};
 use std::rt::Clock;
