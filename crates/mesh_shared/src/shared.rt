@@ -21,8 +21,8 @@ use std::sync::{RwLock, Wait};
 pub struct Shared {
     /// The only book. A mesher takes this lock too, and makes one call of the book for each taking.
     pub book: RwLock<Book>,
-    // How many seats it was opened with.
-    seats: u32,
+    /// How many seats it was opened with, which is how many `finish` wants.
+    pub seats: u32,
 }
 
 impl Shared {

@@ -17,7 +17,7 @@ use std::thread;
 use std::thread::join;
 use std::time::Duration;
 
-// A book of 16 pages behind a lock, with two seats of four calls each.
+// A book of 16 pages behind a lock, with a seat for each count.
 fn opened(alloc: Global, counts: &[usize]) -> Result<(Shared, Vec<Seat>), AllocError>
     requires some { 1 ≤ length counts.now }
     requires few { length counts.now ≤ 64 }
