@@ -2,8 +2,10 @@ mod Comparing
 mod Looking
 mod Righting
 mod Rounds
+mod Running
 mod Seating
 mod Settled
 mod Standing
+mod Stopping
 mod Taking
 mod Walking

@@ -2,6 +2,8 @@ pub use Rattle.mesh_model.specs.Plain
 pub use Rattle.mesh_model.specs.Reads
 pub use Rattle.mesh_model.specs.Seats
 pub mod Differing
+pub mod Runs
 pub mod Seat
 pub mod Settle
+pub mod Stops
 pub mod Walk

@@ -5,14 +5,14 @@ ghost use Rattle.mesh_model.specs.Reads.{is_read};
 ghost use Rattle.mesh_mutator.specs.declared.attempts.Attempt.{Attempt};
 ghost use Rattle.mesh_model.specs.Plain.{Entry};
 ghost use Rattle.mesh_mutator.specs.Book.{memory_in};
-ghost use Rattle.mesh_shared.specs.Seat.{IsEmptySeats, IsNew, IsStore, IsTaken};
+ghost use Rattle.mesh_shared.specs.Seat.{IsEmptySeats, IsTaken};
 ghost use Rattle.mesh_shared.specs.Settle.{IsEnd, IsFault};
 
 use crate::ending::{Ended, settle};
 use crate::faults::{FinishError, OpenError};
-use crate::kept::is_read;
 use crate::seat::Seat;
-use mesh_mutator::{Attempt, Book, Command, Reply};
+use mesh_mutator::{Attempt, Book, Command};
+use mesh_search::NoGate;
 use std::alloc::{AllocError, Global};
 use std::sync::{RwLock, Wait};
 
@@ -67,19 +67,7 @@ impl Shared {
         ensures full { seat.old.room ≤ length seat.old.calls → result ≡ Attempt.HistoryFull }
         ensures read { is_read command.now ≡ true → (result ≡ Attempt.HistoryFull) ↔ (seat.old.room ≤ length seat.old.calls) }
     {
-        if seat.is_full() {
-            return Attempt::HistoryFull;
-        }
-        if is_read(command) {
-            let (reply, seen) = self.read(rt, command);
-            seat.keep(command, &reply, Some(seen));
-            return Attempt::Done(reply);
-        }
-        let attempt = self.act(rt, seat.number(), command);
-        if let Attempt::Done(reply) = &attempt {
-            seat.keep(command, reply, None);
-        }
-        attempt
+        self.attempt(rt, &NoGate, seat, command)
     }
 
     /// The same, again while it is Blocked: it may wait for as long as a page stays read-only.
@@ -90,13 +78,7 @@ impl Shared {
         ensures read { is_read command.now ≡ true → (result ≡ Attempt.HistoryFull) ↔ (seat.old.room ≤ length seat.old.calls) }
         ensures not_blocked { result ≡ Attempt.Blocked → ⊥ }
     {
-        for _ in rt.forever() {
-            let attempt = self.call(rt, seat, command);
-            if !is_blocked(&attempt) {
-                return attempt;
-            }
-        }
-        unreachable!()
+        self.retry(rt, &NoGate, seat, command)
     }
 
     /// Takes the lock away, and settles its book with the seats.
@@ -107,26 +89,6 @@ impl Shared {
         ensures fault { IfErr result (λ error. (entries : List Entry) × IsFault self.seats seats.items entries error) }
     {
         settle(alloc, self.book.into_inner(), self.seats, seats)
-    }
-
-    // A read under the shared lock, and the journal's length there.
-    fn read<R: Wait>(&self, rt: &R, command: &Command) -> (Reply, u32)
-        requires range { IsInRange command.now }
-        requires read { is_read command.now ≡ true }
-    {
-        let book = self.book.read(rt);
-        let reply = book.look(command);
-        let seen = book.journal().len() as u32;
-        (reply, seen)
-    }
-
-    // An attempt that is recorded, under the exclusive lock.
-    fn act<R: Wait>(&self, rt: &R, worker: u32, command: &Command) -> Attempt
-        requires { IsInRange command.now }
-        ensures blocked { result ≡ Attempt.Blocked → IsStore command.now }
-        ensures memory { result ≡ Attempt.OutOfMemory → IsNew command.now }
-    {
-        self.book.write(rt).act(worker, command)
     }
 }
 
@@ -141,11 +103,4 @@ fn seats_of(alloc: Global, counts: &[usize]) -> Result<Vec<Seat>, AllocError>
         seats.push_reserved(seat);
     }
     Ok(seats)
-}
-
-// Whether an attempt was held back.
-fn is_blocked(attempt: &Attempt) -> bool
-    ensures { IsTrue result ↔ (attempt.now ≡ Attempt.Blocked) }
-{
-    matches!(attempt, Attempt::Blocked)
 }

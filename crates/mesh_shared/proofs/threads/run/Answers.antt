@@ -1,0 +1,35 @@
+use Rattle.std.proofs.Common.{◌≡◌, [], ℕ, length, map, vec_len, List, Bor, ap, subst, sym, ◌∙◌}
+use Rattle.std.proofs.lemmas.List.{length-map}
+use Rattle.std.specs.List.{All}
+use Rattle.mesh_model.specs.declared.commands.Command.{Command}
+use Rattle.mesh_mutator.specs.Book.{memory_in}
+use Rattle.mesh_shared.specs.Seat.{Seat}
+use Rattle.mesh_shared.proofs.Running.{opened_empty, opened_many, run_begun, run_whole}
+use Rattle.mesh_shared.proofs.threads.run.Goals as goal
+
+pub serve_all-requires-clause-many : goal.serve_all-requires-clause-many
+serve_all-requires-clause-many g c κs within =
+    let counted : length c.as_slice.result.now ≡ vec_len c.in_ok-counts.counts = ap (λ (l : List ℕ). length l) c.as_slice.ensures.value ∙ sym c.in_ok-counts.counts.ok.0 in
+    c.in_ok-shared.seats.ok.0 ∙ ap (λ (l : List Seat). length l) c.in_ok-shared.ensures.seats ∙ opened_many 0 c.as_slice.result.now ∙ counted ∙ c.in_ok-counts.ensures
+
+pub serve_all-requires-clause-empty : goal.serve_all-requires-clause-empty
+serve_all-requires-clause-empty g c κs within =
+    subst (λ (l : List Seat). All (λ seat. seat.calls ≡ []) l) (sym c.in_ok-shared.ensures.seats) (opened_empty 0 c.as_slice.result.now)
+
+pub returns-clause-begun : goal.returns-clause-begun
+returns-clause-begun g c =
+    let counted : length c.as_slice.result.now ≡ vec_len c.in_ok-counts.counts = ap (λ (l : List ℕ). length l) c.as_slice.ensures.value ∙ sym c.in_ok-counts.counts.ok.0 in
+    let many : c.in_ok-shared.shared.seats ≡ length (map (λ (script : Bor (List Command)). script.now) c.args.scripts.now)
+    = c.in_ok-shared.ensures.count ∙ counted ∙ c.in_ok-counts.ensures ∙ sym (length-map c.args.scripts.now (λ (script : Bor (List Command)). script.now)) in
+    let ended = c.in_ok-finish.ensures.ended in
+    run_begun c.args.patience.tries (map (λ (script : Bor (List Command)). script.now) c.args.scripts.now) c.in_ok-seats.seats.items c.in_ok-shared.shared.seats ended.0
+    c.in_ok-finish.field-0.history.items (memory_in c.in_ok-finish.field-0.heap c.in_ok-finish.field-0.roots) c.in_ok-seats.ensures many ended.1
+
+pub returns-clause-whole : goal.returns-clause-whole
+returns-clause-whole g c no_end =
+    let counted : length c.as_slice.result.now ≡ vec_len c.in_ok-counts.counts = ap (λ (l : List ℕ). length l) c.as_slice.ensures.value ∙ sym c.in_ok-counts.counts.ok.0 in
+    let many : c.in_ok-shared.shared.seats ≡ length (map (λ (script : Bor (List Command)). script.now) c.args.scripts.now)
+    = c.in_ok-shared.ensures.count ∙ counted ∙ c.in_ok-counts.ensures ∙ sym (length-map c.args.scripts.now (λ (script : Bor (List Command)). script.now)) in
+    let ended = c.in_ok-finish.ensures.ended in
+    run_whole c.args.patience.tries (map (λ (script : Bor (List Command)). script.now) c.args.scripts.now) c.in_ok-seats.seats.items c.in_ok-shared.shared.seats ended.0
+    c.in_ok-finish.field-0.history.items (memory_in c.in_ok-finish.field-0.heap c.in_ok-finish.field-0.roots) no_end c.in_ok-seats.ensures many ended.1

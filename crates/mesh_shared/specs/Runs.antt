@@ -1,0 +1,49 @@
+-- What a run of scripts in threads leaves.
+use Rattle.std.specs.Prelude.{◌≡◌, ℕ, ◌<◌, List, [], Option, None, length, map, slice_index_or, take}
+use Rattle.std.specs.List.{All}
+use Rattle.mesh_model.specs.Memory.{Memory}
+use Rattle.mesh_model.specs.Plain.{Entry, IsLegal}
+use Rattle.mesh_model.specs.Reads.{Kept, kept_by}
+use Rattle.mesh_model.specs.Seats.{calls_of}
+use Rattle.mesh_model.specs.declared.commands.Command.{Command}
+use Rattle.mesh_shared.specs.Seat.{Seat, calls_of_seats}
+use Rattle.mesh_shared.specs.declared.stops.Stop.{Stop}
+
+-- the commands of a worker's entries, in their order
+abbrev pub commands_by : ℕ → List Entry → List Command
+commands_by worker entries = map (λ call. call.command) (calls_of worker entries)
+
+-- the script of worker `w`
+abbrev pub script_of : List (List Command) → ℕ → List Command
+script_of scripts w = slice_index_or scripts w []
+
+-- the entries of each worker are its whole script, with its answers in their order; the history is legal and ends in this memory
+pub record HasRun (scripts : List (List Command)) (history : List Entry) (end : Memory) : Type 0 where
+  pub legal : IsLegal history end
+  pub whole : (w : ℕ) → w < length scripts → commands_by w history ≡ script_of scripts w
+  pub no_other : All (λ entry. entry.worker < length scripts) history
+
+-- the commands begin the script
+abbrev pub IsBeginning : List Command → List Command → Type 0
+IsBeginning commands script = commands ≡ take (length commands) script
+
+-- the entries of each worker are a beginning of its script, with its answers in their order; the history is legal and ends in this memory
+pub record HasBegun (scripts : List (List Command)) (history : List Entry) (end : Memory) : Type 0 where
+  pub legal : IsLegal history end
+  pub begun : (w : ℕ) → w < length scripts → IsBeginning (commands_by w history) (script_of scripts w)
+  pub no_other : All (λ entry. entry.worker < length scripts) history
+
+-- the commands of a seat's calls
+abbrev pub commands_in : List Kept → List Command
+commands_in calls = map (λ kept. kept.command) calls
+
+-- the calls are a beginning of the script, and all of it where tries had no end and nothing stopped the worker
+pub record HasWorked (tries : Option ℕ) (script : List Command) (calls : List Kept) (stop : Option Stop) : Type 0 where
+  pub begun : IsBeginning (commands_in calls) script
+  pub whole : tries ≡ None → stop ≡ None → commands_in calls ≡ script
+
+-- there is a seat for each script, whose calls are a beginning of it, and all of it where tries had no end
+pub record AreServed (tries : Option ℕ) (scripts : List (List Command)) (seats : List Seat) : Type 0 where
+  pub many : length seats ≡ length scripts
+  pub begun : (w : ℕ) → w < length scripts → IsBeginning (commands_in (kept_by (calls_of_seats seats) w)) (script_of scripts w)
+  pub whole : tries ≡ None → (w : ℕ) → w < length scripts → commands_in (kept_by (calls_of_seats seats) w) ≡ script_of scripts w

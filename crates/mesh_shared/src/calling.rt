@@ -1,0 +1,146 @@
+//! The calls of a seat's mutator, past a gate.
+ghost use Rattle.std.specs.Prelude.{◌≡◌, ◌↔◌, ◌≤◌, length, None, IsTrue, true};
+ghost use Rattle.mesh_model.specs.Commands.{IsInRange};
+ghost use Rattle.mesh_model.specs.Reads.{is_read};
+ghost use Rattle.mesh_mutator.specs.declared.attempts.Attempt.{Attempt};
+ghost use Rattle.mesh_shared.specs.Seat.{IsNew, IsStore, IsTaken};
+
+use crate::kept::is_read;
+use crate::seat::Seat;
+use crate::shared::Shared;
+use mesh_mutator::{Attempt, Command, Reply};
+use mesh_search::{Actor, Gate, Point};
+use std::sync::Wait;
+
+impl Shared {
+    /// One attempt of a seat's mutator at a command, as `call` tells.
+    pub(crate) fn attempt<R: Wait, G: Gate>(
+        &self,
+        rt: &R,
+        gate: &G,
+        seat: &mut Seat,
+        command: &Command,
+    ) -> Attempt
+        requires { IsInRange command.now }
+        ensures taken { IsTaken seat.old seat.new command.now result }
+        ensures full { seat.old.room ≤ length seat.old.calls → result ≡ Attempt.HistoryFull }
+        ensures read { is_read command.now ≡ true → (result ≡ Attempt.HistoryFull) ↔ (seat.old.room ≤ length seat.old.calls) }
+    {
+        if seat.is_full() {
+            return Attempt::HistoryFull;
+        }
+        if is_read(command) {
+            let (reply, seen) = self.read(rt, gate, seat, command);
+            seat.keep(command, &reply, Some(seen));
+            return Attempt::Done(reply);
+        }
+        let attempt = self.act(rt, seat.number(), command);
+        if let Attempt::Done(reply) = &attempt {
+            seat.keep(command, reply, None);
+        }
+        attempt
+    }
+
+    /// Attempts until one isn't Blocked.
+    pub(crate) fn retry<R: Wait, G: Gate>(
+        &self,
+        rt: &R,
+        gate: &G,
+        seat: &mut Seat,
+        command: &Command,
+    ) -> Attempt
+        requires { IsInRange command.now }
+        ensures taken { IsTaken seat.old seat.new command.now result }
+        ensures full { seat.old.room ≤ length seat.old.calls → result ≡ Attempt.HistoryFull }
+        ensures read { is_read command.now ≡ true → (result ≡ Attempt.HistoryFull) ↔ (seat.old.room ≤ length seat.old.calls) }
+        ensures not_blocked { result ≡ Attempt.Blocked → ⊥ }
+    {
+        for _ in rt.forever() {
+            let attempt = self.attempt(rt, gate, seat, command);
+            if !is_blocked(&attempt) {
+                return attempt;
+            }
+        }
+        unreachable!()
+    }
+
+    /// Attempts until one isn't Blocked, or, where there is an end to the tries, until so many were made.
+    pub(crate) fn insist<R: Wait, G: Gate>(
+        &self,
+        rt: &R,
+        gate: &G,
+        seat: &mut Seat,
+        command: &Command,
+        tries: Option<u32>,
+    ) -> Attempt
+        requires { IsInRange command.now }
+        ensures taken { IsTaken seat.old seat.new command.now result }
+        ensures not_blocked { tries ≡ None → result ≡ Attempt.Blocked → ⊥ }
+    {
+        match tries {
+            None => self.retry(rt, gate, seat, command),
+            Some(tries) => self.try_up_to(rt, gate, seat, command, tries),
+        }
+    }
+
+    // At most so many attempts, and one at least.
+    fn try_up_to<R: Wait, G: Gate>(
+        &self,
+        rt: &R,
+        gate: &G,
+        seat: &mut Seat,
+        command: &Command,
+        tries: u32,
+    ) -> Attempt
+        requires { IsInRange command.now }
+        ensures { IsTaken seat.old seat.new command.now result }
+    {
+        for _ in 1..tries {
+            let attempt = self.attempt(rt, gate, seat, command);
+            if !is_blocked(&attempt) {
+                return attempt;
+            }
+        }
+        self.attempt(rt, gate, seat, command)
+    }
+
+    // A read under the shared lock, and the journal's length there.
+    fn read<R: Wait, G: Gate>(
+        &self,
+        rt: &R,
+        gate: &G,
+        seat: &Seat,
+        command: &Command,
+    ) -> (Reply, u32)
+        requires range { IsInRange command.now }
+        requires read { is_read command.now ≡ true }
+    {
+        let book = self.book.read(rt);
+        let call = counted(seat.calls().len());
+        gate.arrive(Actor::Worker(seat.number()), Point::Reading(call));
+        let reply = book.look(command);
+        let seen = book.journal().len() as u32;
+        (reply, seen)
+    }
+
+    // An attempt that is recorded, under the exclusive lock.
+    fn act<R: Wait>(&self, rt: &R, worker: u32, command: &Command) -> Attempt
+        requires { IsInRange command.now }
+        ensures blocked { result ≡ Attempt.Blocked → IsStore command.now }
+        ensures memory { result ≡ Attempt.OutOfMemory → IsNew command.now }
+    {
+        self.book.write(rt).act(worker, command)
+    }
+}
+
+/// Which call it is, counted from 0, as a gate hears it: past the numbers that it can hear it hears the last one.
+pub(crate) fn counted(call: usize) -> u32 {
+    u32::try_from(call).unwrap_or(u32::MAX)
+}
+
+// Whether an attempt was held back.
+fn is_blocked(attempt: &Attempt) -> bool
+    ensures { IsTrue result ↔ (attempt.now ≡ Attempt.Blocked) }
+{
+    matches!(attempt, Attempt::Blocked)
+}

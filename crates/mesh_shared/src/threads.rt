@@ -1,0 +1,250 @@
+//! Scripts on threads, with meshers at work between their commands.
+ghost use Rattle.std.specs.Prelude.{◌≡◌, ◌≤◌, ◌++◌, ◌∷◌, [], None, length, map, vec_len, IfOk};
+ghost use Rattle.std.specs.List.{All};
+ghost use Rattle.mesh_model.specs.Commands.{IsInRange};
+ghost use Rattle.mesh_mutator.specs.Book.{memory_in};
+ghost use Rattle.mesh_shared.specs.Runs.{AreServed, HasBegun, HasRun, HasWorked};
+ghost use Rattle.mesh_shared.specs.Stops.{first_stop};
+
+use crate::ending::Ended;
+use crate::mesher::Mesher;
+use crate::plan::{MeshPlan, Patience};
+use crate::seat::Seat;
+use crate::shared::Shared;
+use crate::stops::{RunError, Stop, either_stop};
+use crate::worker::{Served, Works, serve};
+use mesh_mutator::{Book, Command};
+use mesh_search::Gate;
+use std::alloc::{AllocError, Global};
+use std::sync::Wait;
+use std::thread;
+use std::thread::{Promise, Threads};
+
+/// Runs 1 to 64 scripts, each in a thread of its own, on a book with an empty journal, and meshes meanwhile as the plan says, each mesher in a
+/// thread of its own. Hands out heap, root cells and the one history, in which each worker's entries are its whole script.
+///
+/// A worker attempts its next command again while it is Blocked. Each command, and each call of a mesher, is one step under one taking of the
+/// book's lock; searches run outside it, and reads beside one another. No mesh is left running. A gate hears of each point on the way, for
+/// tests; `NoGate` holds nobody. Threads that were started are joined whatever comes of it.
+///
+/// A worker that meets want of memory or a full journal ends, as a mesher does whose views or search fail, and all others run to their own
+/// ends. Of several errors the first of Memory, Thread, History and Finish is told.
+pub fn run_threads<R: Threads + Wait + Sync, G: Gate + Sync>(
+    rt: &R,
+    alloc: Global,
+    book: Book,
+    scripts: &[&[Command]],
+    plan: &MeshPlan,
+    gate: &G,
+) -> Result<Ended, RunError>
+    requires empty { book.entries ≡ [] }
+    requires some { 1 ≤ length scripts.now }
+    requires few { length scripts.now ≤ 64 }
+    requires range { All (λ script. All IsInRange script.now) scripts.now }
+    requires searchers { (1 ≤ plan.now.workers) × (plan.now.workers ≤ 16) }
+    requires meshers { (1 ≤ plan.now.meshers) × (plan.now.meshers ≤ 10) }
+    ensures { IfOk result (λ ended. HasRun (map (λ script. script.now) scripts.now) ended.history.items (memory_in ended.heap ended.roots)) }
+{
+    let patience = Patience {
+        calls: None,
+        tries: None,
+    };
+    run(rt, alloc, book, scripts, plan, patience, gate)
+}
+
+/// Runs scripts as `run_threads` does, with meshers that are abandoned and workers that give up.
+///
+/// Each mesher ends after `stop_after` calls of `begin` or `step` that were answered, also within a mesh. A worker makes at most `tries`
+/// attempts at a command, at least one, and ends where the last one is Blocked, which is no error. So each worker's entries are a beginning of
+/// its script, and the heap that is handed out may have running meshes, which its owner may step on or cancel.
+pub fn run_abandoned<R: Threads + Wait + Sync, G: Gate + Sync>(
+    rt: &R,
+    alloc: Global,
+    book: Book,
+    scripts: &[&[Command]],
+    plan: &MeshPlan,
+    stop_after: u32,
+    tries: u32,
+    gate: &G,
+) -> Result<Ended, RunError>
+    requires empty { book.entries ≡ [] }
+    requires some { 1 ≤ length scripts.now }
+    requires few { length scripts.now ≤ 64 }
+    requires range { All (λ script. All IsInRange script.now) scripts.now }
+    requires searchers { (1 ≤ plan.now.workers) × (plan.now.workers ≤ 16) }
+    requires meshers { (1 ≤ plan.now.meshers) × (plan.now.meshers ≤ 10) }
+    requires tries { 1 ≤ tries }
+    ensures { IfOk result (λ ended. HasBegun (map (λ script. script.now) scripts.now) ended.history.items (memory_in ended.heap ended.roots)) }
+{
+    let patience = Patience {
+        calls: Some(stop_after),
+        tries: Some(tries),
+    };
+    run(rt, alloc, book, scripts, plan, patience, gate)
+}
+
+// Runs scripts with threads that go on as long as they have patience.
+fn run<R: Threads + Wait + Sync, G: Gate + Sync>(
+    rt: &R,
+    alloc: Global,
+    book: Book,
+    scripts: &[&[Command]],
+    plan: &MeshPlan,
+    patience: Patience,
+    gate: &G,
+) -> Result<Ended, RunError>
+    requires empty { book.entries ≡ [] }
+    requires some { 1 ≤ length scripts.now }
+    requires few { length scripts.now ≤ 64 }
+    requires range { All (λ script. All IsInRange script.now) scripts.now }
+    requires searchers { (1 ≤ plan.now.workers) × (plan.now.workers ≤ 16) }
+    requires meshers { (1 ≤ plan.now.meshers) × (plan.now.meshers ≤ 10) }
+    ensures begun { IfOk result (λ ended. HasBegun (map (λ script. script.now) scripts.now) ended.history.items (memory_in ended.heap ended.roots)) }
+    ensures whole { patience.tries ≡ None
+        → IfOk result (λ ended. HasRun (map (λ script. script.now) scripts.now) ended.history.items (memory_in ended.heap ended.roots)) }
+{
+    let counts = counts_of(alloc, scripts)?;
+    let (shared, seats) = Shared::open(alloc, book, counts.as_slice())?;
+    let seats = serve_all(rt, alloc, &shared, seats, scripts, plan, patience, gate)?;
+    Ok(shared.finish(alloc, seats)?)
+}
+
+// How many commands each script has.
+fn counts_of(alloc: Global, scripts: &[&[Command]]) -> Result<Vec<usize>, AllocError>
+    ensures { IfOk result (λ counts. vec_len counts ≡ length scripts.now) }
+{
+    let mut counts = Vec::with_capacity(alloc, scripts.len())?;
+    for k in 0..scripts.len() {
+        counts.push_reserved(scripts[k].len());
+    }
+    Ok(counts)
+}
+
+// What a mesher's thread promises of its end, which is nothing.
+#[derive(Clone, Copy)]
+struct Meshes;
+
+impl Promise<Option<Stop>> for Meshes {
+    ghost kept_by = { λ p end. Unit {0} };
+}
+
+// Serves each script from its seat, and meshes meanwhile. Gives the seats back once all threads have ended.
+fn serve_all<R: Threads + Wait + Sync, G: Gate + Sync>(
+    rt: &R,
+    alloc: Global,
+    shared: &Shared,
+    seats: Vec<Seat>,
+    scripts: &[&[Command]],
+    plan: &MeshPlan,
+    patience: Patience,
+    gate: &G,
+) -> Result<Vec<Seat>, RunError>
+    requires many { vec_len seats ≡ length scripts.now }
+    requires empty { All (λ seat. seat.calls ≡ []) seats.items }
+    requires range { All (λ script. All IsInRange script.now) scripts.now }
+    requires searchers { (1 ≤ plan.now.workers) × (plan.now.workers ≤ 16) }
+    requires meshers { (1 ≤ plan.now.meshers) × (plan.now.meshers ≤ 10) }
+    ensures { IfOk result (λ seats. AreServed patience.tries (map (λ script. script.now) scripts.now) seats.items) }
+{
+    thread::scope(
+        thread::scope_env(),
+        rt,
+        |scope| -> Result<Vec<Seat>, RunError>
+            requires many { vec_len seats ≡ length scripts.now }
+            requires empty { All (λ seat. seat.calls ≡ []) seats.items }
+            requires range { All (λ script. All IsInRange script.now) scripts.now }
+            requires searchers { (1 ≤ plan.now.workers) × (plan.now.workers ≤ 16) }
+            requires meshers { (1 ≤ plan.now.meshers) × (plan.now.meshers ≤ 10) }
+            ensures { IfOk result (λ seats. AreServed patience.tries (map (λ script. script.now) scripts.entry.now) seats.items) }
+        {
+            let mut workers = Vec::with_capacity(alloc, seats.len())?;
+            let mut meshers = Vec::with_capacity(alloc, plan.meshers as usize)?;
+            let mut refused = None;
+            for seat in seats {
+                let script = scripts[workers.len()];
+                let tries = patience.tries;
+                let job = move || -> Served
+                    requires { (seat.calls ≡ []) × All IsInRange script.now }
+                    ensures { HasWorked tries script.entry.now result.seat.calls result.stop }
+                { serve(rt, gate, shared, seat, script, tries) };
+                match scope.spawn_with(Works { script, tries }, job) {
+                    Ok(handle) => workers.push_reserved(handle),
+                    Err(_) => {
+                        refused = Some(Stop::Thread);
+                        break;
+                    }
+                }
+            }
+            for number in 0..plan.meshers {
+                let job = move || -> Option<Stop>
+                    requires { (1 ≤ plan.now.workers) × (plan.now.workers ≤ 16) × (1 ≤ plan.now.meshers) }
+                { mesh(rt, alloc, gate, shared, plan, number, patience.calls) };
+                match scope.spawn_with(Meshes, job) {
+                    Ok(handle) => meshers.push_reserved(handle),
+                    Err(_) => refused = Some(Stop::Thread),
+                }
+            }
+            let Ok(served) = thread::join_promised(rt, workers) else {
+                return Err(RunError::Memory);
+            };
+            let Ok(ends) = thread::join_promised(rt, meshers) else {
+                return Err(RunError::Memory);
+            };
+            match first_stop_of(refused, ends.as_slice(), served.as_slice()) {
+                Some(stop) => Err(stop.into()),
+                None => Ok(seats_of_served(alloc, served)?),
+            }
+        },
+    )
+}
+
+// The meshing of one mesher.
+fn mesh<R: Threads + Wait + Sync, G: Gate + Sync>(
+    rt: &R,
+    alloc: Global,
+    gate: &G,
+    shared: &Shared,
+    plan: &MeshPlan,
+    number: u32,
+    calls: Option<u32>,
+) -> Option<Stop>
+    requires some { 1 ≤ plan.now.workers }
+    requires most { plan.now.workers ≤ 16 }
+    requires own { 1 ≤ plan.now.meshers }
+{
+    let mesher = Mesher {
+        rt,
+        alloc,
+        gate,
+        shared,
+        plan,
+        number,
+    };
+    mesher.mesh(calls)
+}
+
+// The first of what stopped the threads of a run: where one was refused, then of the meshers and of the workers.
+fn first_stop_of(refused: Option<Stop>, ends: &[Option<Stop>], served: &[Served]) -> Option<Stop>
+    ensures { result ≡ first_stop (refused ∷ ends.now ++ map (λ one. one.stop) served.now) }
+{
+    let mut stop = refused;
+    for q in 0..ends.len() {
+        stop = either_stop(stop, ends[q]);
+    }
+    for w in 0..served.len() {
+        stop = either_stop(stop, served[w].stop);
+    }
+    stop
+}
+
+// The seats that the workers gave back, in their order.
+fn seats_of_served(alloc: Global, served: Vec<Served>) -> Result<Vec<Seat>, AllocError>
+    ensures { IfOk result (λ seats. seats.items ≡ map (λ one. one.seat) served.items) }
+{
+    let mut seats = Vec::with_capacity(alloc, served.len())?;
+    for one in served {
+        let Served { seat, stop: _ } = one;
+        seats.push_reserved(seat);
+    }
+    Ok(seats)
+}

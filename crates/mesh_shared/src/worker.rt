@@ -1,0 +1,78 @@
+//! A worker of a run: it has a script and a seat.
+ghost use Rattle.std.specs.Prelude.{◌≡◌, [], None};
+ghost use Rattle.std.specs.List.{All};
+ghost use Rattle.mesh_model.specs.Commands.{IsInRange};
+ghost use Rattle.mesh_shared.specs.Runs.{HasWorked};
+
+use crate::calling::counted;
+use crate::seat::Seat;
+use crate::shared::Shared;
+use crate::stops::Stop;
+use mesh_mutator::{Attempt, Command};
+use mesh_search::{Actor, Gate, Point};
+use std::sync::Wait;
+use std::thread::Promise;
+
+/// What a worker's thread gives back.
+#[derive(Drop)]
+pub(crate) struct Served {
+    /// The seat, with the calls that were answered.
+    pub seat: Seat,
+    /// Why the worker ended before its script did. A worker that gave up a command which was held back has nothing to tell.
+    pub stop: Option<Stop>,
+}
+
+// That the calls of a worker's seat are a beginning of its script, and all of it where nothing stopped it.
+#[derive(Clone, Copy)]
+pub(crate) struct Works<'a> {
+    pub script: &'a [Command],
+    pub tries: Option<u32>,
+}
+
+impl<'a> Promise<Served> for Works<'a> {
+    ghost kept_by = { λ p served. HasWorked p.tries p.script.now served.seat.calls served.stop };
+}
+
+/// Serves a script from a seat without calls, one command after another, each again while it is Blocked, as long as there are tries.
+pub(crate) fn serve<R: Wait, G: Gate>(
+    rt: &R,
+    gate: &G,
+    shared: &Shared,
+    mut seat: Seat,
+    script: &[Command],
+    tries: Option<u32>,
+) -> Served
+    requires empty { seat.calls ≡ [] }
+    requires range { All IsInRange script.now }
+    ensures { HasWorked tries script.now result.seat.calls result.stop }
+{
+    let stop = work(rt, gate, shared, &mut seat, script, tries);
+    Served { seat, stop }
+}
+
+// Makes the calls of a script, and tells why it stopped before its end.
+fn work<R: Wait, G: Gate>(
+    rt: &R,
+    gate: &G,
+    shared: &Shared,
+    seat: &mut Seat,
+    script: &[Command],
+    tries: Option<u32>,
+) -> Option<Stop>
+    requires empty { seat.old.calls ≡ [] }
+    requires range { All IsInRange script.now }
+    ensures { HasWorked tries script.now seat.new.calls result }
+{
+    for i in 0..script.len() {
+        match shared.insist(rt, gate, seat, &script[i], tries) {
+            Attempt::Done(_) => gate.arrive(
+                Actor::Worker(seat.number()),
+                Point::Called(counted(i)),
+            ),
+            Attempt::Blocked => return None,
+            Attempt::HistoryFull => return Some(Stop::History),
+            Attempt::OutOfMemory => return Some(Stop::Memory),
+        }
+    }
+    None
+}
