@@ -1,5 +1,6 @@
 //! One worker's commands.
 ghost use Rattle.std.specs.Prelude.{◌≡◌, ◌<◌, ◌^◌, [], ◌∷◌, ◌++◌, length, slice_get, OnOk, OnErr, IfSome};
+ghost use Rattle.std.specs.List.{All};
 ghost use Rattle.std.specs.Option.{option_copied};
 ghost use Rattle.mesh_model.specs.Commands.{IsInRange};
 
@@ -56,5 +57,13 @@ impl Script {
         ensures in_range { IfSome result (λ command. IsInRange command.now) }
     {
         self.commands.get(place)
+    }
+
+    /// All commands, in their order.
+    pub fn commands(&self) -> &[Command]
+        ensures value { result.now ≡ self.now }
+        ensures in_range { All IsInRange result.now }
+    {
+        self.commands.as_slice()
     }
 }
