@@ -14,6 +14,13 @@ pub record HasRead (left left' : Option (List ℕ)) (text : List ℕ) : Type 0 w
   pub taken : Consumes left left' text
   pub whole : IsAtEnd left' ⊎ (length text ≡ 1048577)
 
+-- the input was read to its end, and its text is this job's
+pub record HasReadJob (left left' : Option (List ℕ)) (job : Job) : Type 0 where
+  pub text : List ℕ
+  pub taken : Consumes left left' text
+  pub whole : IsAtEnd left'
+  pub is_job : read_text text ≡ Ok job
+
 -- the input was read to its end, and its output was written: the answers that the definitions give for the job of that text
 pub record HasReplayed (left left' written written' : Option (List ℕ)) : Type 0 where
   pub text : List ℕ
@@ -44,6 +51,13 @@ pub record HasFound (left left' : Option (List ℕ)) (fault : TextFault) : Type 
   pub text : List ℕ
   pub read : HasRead left left' text
   pub is_fault : read_text text ≡ Err fault
+
+-- what was read, by the error for which there is no job
+abbrev pub HasReadNoJob : Option (List ℕ) → Option (List ℕ) → ReplayError → Type 0
+HasReadNoJob left left' Read = Unit {0}
+HasReadNoJob left left' Write = ⊥
+HasReadNoJob left left' (Text fault) = HasFound left left' fault
+HasReadNoJob left left' Memory = Unit {0}
 
 -- what was read and written, by the error that a replay stopped for
 abbrev pub HasStopped : Option (List ℕ) → Option (List ℕ) → Option (List ℕ) → Option (List ℕ) → ReplayError → Type 0

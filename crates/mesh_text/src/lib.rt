@@ -10,6 +10,7 @@ mod answers;
 mod devices;
 mod faults;
 mod mesher;
+mod reading;
 mod run;
 mod transfer;
 
@@ -17,5 +18,6 @@ pub use devices::{DeviceFault, Input, Output, Sink, Source};
 pub use faults::ReplayError;
 pub use mesh_job::{Job, Plan, PlanLine, ReadFault, Script, Scripts, read_file};
 pub use mesh_model::{Command, FaultKind, MAX_BYTES, Reply, TextFault, Version};
+pub use reading::read_job;
 pub use run::replay;
 pub use transfer::write_all;

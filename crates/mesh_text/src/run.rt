@@ -11,9 +11,10 @@ ghost use Rattle.mesh_text.specs.Turns.{AppendsLines, IsAt, IsNextAt, places_aft
 
 use crate::answers::Answer;
 use crate::mesher::{begin, cancel, cancel_first, pair, report, step, step_first, sweep, whole};
-use crate::transfer::{read_all, write_all};
+use crate::reading::read_job;
+use crate::transfer::write_all;
 use crate::{ReplayError, Sink, Source};
-use mesh_job::{Job, PlanLine, Script, read_file};
+use mesh_job::{Job, PlanLine, Script};
 use mesh_mutator::{Attempt, Book};
 use std::alloc::{AllocError, Global};
 
@@ -41,9 +42,7 @@ pub fn replay<I: Source, O: Sink>(
     ensures read { result ≡ Err ReplayError.Read → I.has_failed input.new ≡ true }
     ensures write { result ≡ Err ReplayError.Write → O.has_failed output.new ≡ true }
 {
-    let bytes = read_all(alloc, input)?;
-    let job = read_file(alloc, bytes.as_slice())?;
-    drop(bytes);
+    let job = read_job(alloc, input)?;
     play(alloc, &job, output)
 }
 
