@@ -1,4 +1,5 @@
 pub mod Gathering
+pub mod HistoryParts
 pub mod Meshing
 pub mod PartTexts
 pub mod Parts

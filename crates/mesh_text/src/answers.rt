@@ -63,7 +63,7 @@ impl Answer {
 }
 
 /// Adds what a reply's line says.
-fn add_reply(text: &mut Vec<u8>, reply: &Reply) -> Result<(), AllocError>
+pub(crate) fn add_reply(text: &mut Vec<u8>, reply: &Reply) -> Result<(), AllocError>
     ensures { OnOk result (text.new.items ≡ text.old.items ++ reply_text reply.now) }
 {
     match reply {
@@ -106,7 +106,7 @@ fn add_refusal(text: &mut Vec<u8>, refusal: Refusal) -> Result<(), AllocError>
 }
 
 /// Adds a number in decimal digits without a leading zero.
-fn add_decimal(text: &mut Vec<u8>, number: u64) -> Result<(), AllocError>
+pub(crate) fn add_decimal(text: &mut Vec<u8>, number: u64) -> Result<(), AllocError>
     ensures { OnOk result (text.new.items ≡ text.old.items ++ decimal number) }
 {
     let mut digits = Buffer::new();
