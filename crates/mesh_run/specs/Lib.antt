@@ -1,3 +1,4 @@
 pub mod CommandLine
 pub mod Runs
 pub mod Status
+pub mod ThreadsArgs

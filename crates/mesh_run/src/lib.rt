@@ -8,10 +8,12 @@ mod command_line;
 mod fault_line;
 mod runs;
 mod status;
+mod threads_args;
 
 pub use command_line::{Args, Stop, arguments, unread_words};
 pub use mesh_text::{DeviceFault, Input, Output, Sink, Source};
 pub use runs::{replay_run, stop_run, unopened_run};
+pub use threads_args::ThreadsArgs;
 
 #[cfg(test)]
 mod tests;

@@ -1,0 +1,30 @@
+//! What `threads` is asked for.
+
+use std::marker::Model;
+
+/// What `threads` is asked for beside its file. Its type keeps the ranges.
+#[derive(Clone, Copy, Debug, PartialEq, Eq)]
+pub struct ThreadsArgs {
+    /// How many rounds of tries a search makes at most, 0 to 64.
+    pub probe: u32,
+    /// How many times each mesher searches and meshes, 0 to 1,000.
+    pub rounds: u32,
+    /// How many threads make a search, 1 to 16.
+    pub workers: u32,
+    /// What the words of the shuffles are made from.
+    pub seed: u64,
+    /// How many threads mesh, 1 to 10.
+    pub meshers: u32,
+}
+
+impl Model for ThreadsArgs {
+    ghost use Rattle.mesh_run.specs.ThreadsArgs.{IsInRange, PlainArgs};
+
+    ghost Value = { PlainArgs };
+
+    ghost view = { λ a. record { probe = a.probe; rounds = a.rounds; workers = a.workers; seed = a.seed; meshers = a.meshers } };
+
+    ghost invariant = { λ a. IsInRange (record { probe = a.probe; rounds = a.rounds; workers = a.workers; seed = a.seed; meshers = a.meshers }) };
+
+    ghost inverse = { λ a. record { probe = a.probe; rounds = a.rounds; workers = a.workers; seed = a.seed; meshers = a.meshers } };
+}
