@@ -1,3 +1,4 @@
 pub mod CommandLines
+pub mod FirstWords
 pub mod Telling
 mod WorkedView

@@ -2,3 +2,4 @@ pub mod CommandLine
 pub mod Runs
 pub mod Status
 pub mod ThreadsArgs
+pub mod Words

@@ -7,12 +7,14 @@
 mod command_line;
 mod fault_line;
 mod runs;
+mod shuffle_words;
 mod status;
 mod threads_args;
 
 pub use command_line::{Args, Stop, arguments, unread_words};
 pub use mesh_text::{DeviceFault, Input, Output, Sink, Source};
 pub use runs::{replay_run, stop_run, unopened_run};
+pub use shuffle_words::words;
 pub use threads_args::ThreadsArgs;
 
 #[cfg(test)]

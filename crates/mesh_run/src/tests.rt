@@ -19,6 +19,7 @@ mod rows;
 mod search;
 mod searchers;
 mod shared;
+mod words;
 
 /// What one run of the program wrote, and its exit status.
 #[derive(Drop)]
