@@ -1,8 +1,10 @@
-//! The line that tells why a replay stopped.
+//! The line that tells why a replay or a run in threads stopped.
 ghost use Rattle.std.specs.Prelude.{◌≡◌, ◌+◌, ◌≤◌, [], ◌++◌, length};
 ghost use Rattle.mesh_model.specs.Texts.{ended};
 ghost use Rattle.mesh_run.specs.Runs.{error_text, fault_text};
+ghost use Rattle.mesh_run.specs.Threads.{threads_text};
 
+use crate::ThreadsError;
 use arrayvec::ArrayVec;
 use itoa::Buffer;
 use mesh_text::{ReplayError, TextFault};
@@ -21,6 +23,29 @@ pub(crate) fn line_of(error: ReplayError) -> Line
         ReplayError::Memory => add(&mut line, b"out of memory"),
         ReplayError::Text(fault) => add_fault(&mut line, fault),
     }
+    add(&mut line, b"\n");
+    line
+}
+
+/// The line of an error of a run in threads, with its end.
+pub(crate) fn threads_line_of(error: ThreadsError) -> Line
+    ensures { result.items ≡ ended (threads_text error) }
+{
+    match error {
+        ThreadsError::Replay(error) => line_of(error),
+        ThreadsError::TooShort => line_with(b"history too short"),
+        ThreadsError::Thread => line_with(b"thread fault"),
+        ThreadsError::Run => line_with(b"run fault"),
+    }
+}
+
+/// A line of these bytes and its end.
+fn line_with(bytes: &[u8]) -> Line
+    requires { length bytes.now ≤ 31 }
+    ensures { result.items ≡ ended bytes.now }
+{
+    let mut line = Line::new();
+    add(&mut line, bytes);
     add(&mut line, b"\n");
     line
 }

@@ -9,13 +9,17 @@ mod fault_line;
 mod runs;
 mod shuffle_words;
 mod status;
+mod threads;
 mod threads_args;
+mod threads_error;
 
 pub use command_line::{Args, Stop, arguments, unread_words};
 pub use mesh_text::{DeviceFault, Input, Output, Sink, Source};
 pub use runs::{replay_run, stop_run, unopened_run};
 pub use shuffle_words::words;
+pub use threads::threads_run;
 pub use threads_args::ThreadsArgs;
+pub use threads_error::ThreadsError;
 
 #[cfg(test)]
 mod tests;

@@ -80,14 +80,14 @@ fn tell_error<E: Sink>(errors: &mut E, error: ReplayError)
 }
 
 /// Writes a text for a person. Where it can't be written there is nobody left to tell.
-fn tell<S: Sink>(sink: &mut S, text: &[u8])
+pub(crate) fn tell<S: Sink>(sink: &mut S, text: &[u8])
     ensures { HasTold (S.has_failed sink.new) (S.written sink.old) (S.written sink.new) text.now }
 {
     let _ = write_all(sink, text);
 }
 
 /// The exit status of a replay that stopped.
-fn status_of(error: ReplayError) -> u8
+pub(crate) fn status_of(error: ReplayError) -> u8
     ensures { result ≡ status_of_error error }
 {
     match error {

@@ -10,6 +10,7 @@ mod calls;
 mod devices;
 mod faults;
 mod files;
+mod histories;
 mod indexes;
 mod memory;
 mod meshes;
@@ -19,6 +20,7 @@ mod rows;
 mod search;
 mod searchers;
 mod shared;
+mod threads;
 mod words;
 
 /// What one run of the program wrote, and its exit status.

@@ -10,10 +10,23 @@ const ENOUGH: usize = 1000;
 
 /// A source that gives one byte a call, and fails once its calls are used up.
 #[derive(Drop)]
-struct SlowSource<'a> {
+pub(crate) struct SlowSource<'a> {
     bytes: &'a [u8],
     calls: usize,
     failed: bool,
+}
+
+impl<'a> SlowSource<'a> {
+    /// The source of these bytes, which has so many calls.
+    pub(crate) fn new(bytes: &'a [u8], calls: usize) -> SlowSource<'a>
+        ensures { result.failed ≡ false }
+    {
+        SlowSource {
+            bytes,
+            calls,
+            failed: false,
+        }
+    }
 }
 
 impl Source for SlowSource<'_> {
@@ -101,11 +114,7 @@ impl Sink for SlowSink {
 
 /// Replays the file from a slow source.
 fn read_slowly(alloc: Global, calls: usize) -> (u8, Vec<u8>, Vec<u8>) {
-    let mut input = SlowSource {
-        bytes: MESH_FILE.as_bytes(),
-        calls,
-        failed: false,
-    };
+    let mut input = SlowSource::new(MESH_FILE.as_bytes(), calls);
     let mut output = Output::new(Vec::new(alloc));
     let mut errors = Output::new(Vec::new(alloc));
     let status = replay_run(alloc, &mut input, &mut output, &mut errors);

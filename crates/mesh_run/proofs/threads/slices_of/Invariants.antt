@@ -1,0 +1,11 @@
+use Rattle.std.proofs.Common.{◌≡◌, List, Bor, map, take}
+use Rattle.std.specs.List.{All}
+use Rattle.mesh_model.specs.Commands.{IsInRange}
+use Rattle.mesh_model.specs.declared.commands.Command.{Command}
+use Rattle.mesh_run.proofs.threads.slices_of.Given as goal
+
+abbrev pub invariant-loop-worker : goal.invariant-loop-worker
+invariant-loop-worker l = record {
+  value : map (λ (script : Bor (List Command)). script.now) l.slices.items ≡ take l.worker l.scripts;
+  range : All (λ (script : Bor (List Command)). All IsInRange script.now) l.slices.items;
+}

@@ -1,0 +1,124 @@
+-- What a run of scripts in threads has read and written when it ends, and when it stops, and what it tells then.
+use Rattle.std.specs.Prelude.{◌≡◌, ℕ, ◌<◌, ◌≤◌, Bool, false, List, Option, codes, length}
+use Rattle.std.specs.Io.KnownBytes.{Appends, Keeps}
+use Rattle.std.specs.List.{sum_by}
+use Rattle.mesh_model.specs.Jobs.{Job}
+use Rattle.mesh_model.specs.Memory.{Memory}
+use Rattle.mesh_model.specs.Plain.{Entry}
+use Rattle.mesh_model.specs.declared.commands.Command.{Command}
+use Rattle.mesh_run.specs.Runs.{HasFailed, error_text}
+use Rattle.mesh_run.specs.Status.{status_of_error}
+use Rattle.mesh_run.specs.ThreadsArgs.{PlainArgs}
+use Rattle.mesh_run.specs.Words.{words_of}
+use Rattle.mesh_run.specs.declared.threads_error.ThreadsError.{ThreadsError}
+use Rattle.mesh_run.specs.declared.threads_error.ThreadsError.TheVariants.{Replay, TooShort, Thread, Run}
+use Rattle.mesh_shared.specs.Runs.{HasRun}
+use Rattle.mesh_shared.specs.declared.faults.FinishError.TheVariants.{Memory as FinishMemory, ReadDiffers, SeatDiffers, SeatMissing}
+use Rattle.mesh_shared.specs.declared.plan.MeshPlan.{MeshPlan}
+use Rattle.mesh_shared.specs.declared.stops.RunError.{RunError}
+use Rattle.mesh_shared.specs.declared.stops.RunError.TheVariants.{Memory as RunMemory, Thread as RunThread, History, Finish}
+use Rattle.mesh_text.specs.Histories.{history_text}
+use Rattle.mesh_text.specs.Replay.{HasFound, HasReadJob}
+use Rattle.mesh_text.specs.Transfer.{AppendsBeginning}
+use Rattle.mesh_text.specs.declared.faults.ReplayError.TheVariants.{Read, Write, Text, Memory as NoMemory}
+
+-- how many commands scripts have together
+abbrev pub command_count : List (List Command) → ℕ
+command_count scripts = sum_by length scripts
+
+-- a job's history has room for all commands of its scripts
+abbrev pub HasRoom : Job → Type 0
+HasRoom job = command_count job.scripts ≤ job.history
+
+-- a job's history has fewer entries than its scripts have commands
+abbrev pub IsTooShort : Job → Type 0
+IsTooShort job = job.history < command_count job.scripts
+
+-- the scripts were run, each to its end, and left a legal history that has this text
+pub record IsTextOfRun (scripts : List (List Command)) (text : List ℕ) : Type 0 where
+  pub history : List Entry
+  pub end : Memory
+  pub run : HasRun scripts history end
+  pub is_text : text ≡ history_text (length scripts) history
+
+-- a job was read whose history has room for its commands, and this is the text of a run of its scripts
+pub record HasRunJob (left left' : Option (List ℕ)) (text : List ℕ) : Type 0 where
+  pub job : Job
+  pub read : HasReadJob left left' job
+  pub room : HasRoom job
+  pub run : IsTextOfRun job.scripts text
+
+-- a job was read, its scripts were run, and the text of their history was written
+abbrev pub HasWrittenRun : Option (List ℕ) → Option (List ℕ) → Option (List ℕ) → Option (List ℕ) → Type 0
+HasWrittenRun left left' written written' = (text : List ℕ) × HasRunJob left left' text × Appends written written' text
+
+-- a job was read, its scripts were run, and a beginning of the text of their history was written
+abbrev pub HasBegunToWrite : Option (List ℕ) → Option (List ℕ) → Option (List ℕ) → Option (List ℕ) → Type 0
+HasBegunToWrite left left' written written' = (text : List ℕ) × HasRunJob left left' text × AppendsBeginning written written' text
+
+-- a job was read whose history has room for all its commands
+abbrev pub HasReadRoomy : Option (List ℕ) → Option (List ℕ) → Type 0
+HasReadRoomy left left' = (job : Job) × HasReadJob left left' job × HasRoom job
+
+-- a job was read whose history is too short
+abbrev pub HasReadTooShort : Option (List ℕ) → Option (List ℕ) → Type 0
+HasReadTooShort left left' = (job : Job) × HasReadJob left left' job × IsTooShort job
+
+-- what was read and written, by the error that a run stopped for
+abbrev pub HasStoppedRun : Option (List ℕ) → Option (List ℕ) → Option (List ℕ) → Option (List ℕ) → ThreadsError → Type 0
+HasStoppedRun left left' written written' (Replay Read) = Keeps written written'
+HasStoppedRun left left' written written' (Replay Write) = HasBegunToWrite left left' written written'
+HasStoppedRun left left' written written' (Replay (Text fault)) = HasFound left left' fault × Keeps written written'
+HasStoppedRun left left' written written' (Replay NoMemory) = Keeps written written'
+HasStoppedRun left left' written written' TooShort = HasReadTooShort left left' × Keeps written written'
+HasStoppedRun left left' written written' Thread = HasReadRoomy left left' × Keeps written written'
+HasStoppedRun left left' written written' Run = HasReadRoomy left left' × Keeps written written'
+
+-- which device has failed: the one that the error tells of, and none where a job was read and nothing was to be written
+abbrev pub HasFailedRun : Bool → Bool → ThreadsError → Type 0
+HasFailedRun input output (Replay error) = HasFailed input output error
+HasFailedRun input output TooShort = (input ≡ false) × (output ≡ false)
+HasFailedRun input output Thread = (input ≡ false) × (output ≡ false)
+HasFailedRun input output Run = (input ≡ false) × (output ≡ false)
+
+-- what meshers do is what was asked for, with the words of its seed
+pub record IsPlanOf (args : PlainArgs) (plan : MeshPlan) : Type 0 where
+  pub tries : plan.t ≡ args.probe
+  pub rounds : plan.rounds ≡ args.rounds
+  pub searchers : plan.workers ≡ args.workers
+  pub words : plan.words.items ≡ words_of args.seed args.rounds
+  pub meshers : plan.meshers ≡ args.meshers
+
+-- why a job gave no text of a run
+abbrev pub IsNoRun : Job → ThreadsError → Type 0
+IsNoRun job (Replay Read) = ⊥
+IsNoRun job (Replay Write) = ⊥
+IsNoRun job (Replay (Text fault)) = ⊥
+IsNoRun job (Replay NoMemory) = Unit {0}
+IsNoRun job TooShort = IsTooShort job
+IsNoRun job Thread = HasRoom job
+IsNoRun job Run = HasRoom job
+
+-- an error's line, without its end
+abbrev pub threads_text : ThreadsError → List ℕ
+threads_text (Replay error) = error_text error
+threads_text TooShort = codes "history too short"
+threads_text Thread = codes "thread fault"
+threads_text Run = codes "run fault"
+
+-- an error's status: 2 where the file is at fault, else 1
+abbrev pub threads_status : ThreadsError → ℕ
+threads_status (Replay error) = status_of_error error
+threads_status TooShort = 2
+threads_status Thread = 1
+threads_status Run = 1
+
+-- what stops threads stops the run: want of memory as such, a thread that failed as such, and what else leaves no history as a run that failed
+abbrev pub stop_of : RunError → ThreadsError
+stop_of RunMemory = Replay NoMemory
+stop_of RunThread = Thread
+stop_of History = Run
+stop_of (Finish FinishMemory) = Replay NoMemory
+stop_of (Finish (SeatMissing w)) = Run
+stop_of (Finish (SeatDiffers w i)) = Run
+stop_of (Finish (ReadDiffers w i)) = Run

@@ -1,0 +1,185 @@
+//! The program's run of scripts in threads.
+ghost use Rattle.std.specs.Prelude.{◌≡◌, ◌↔◌, ◌<◌, ◌≤◌, false, IsTrue, is_err, length, map, IfErr, IfOk, OnErr, OnOk};
+ghost use Rattle.std.specs.Io.KnownBytes.{Appends, Keeps};
+ghost use Rattle.std.specs.List.{All};
+ghost use Rattle.mesh_model.specs.Commands.{IsInRange};
+ghost use Rattle.mesh_model.specs.Texts.{ended};
+ghost use Rattle.mesh_mutator.specs.Book.{memory_in};
+ghost use Rattle.mesh_run.specs.Runs.{HasTold};
+ghost use Rattle.mesh_run.specs.Threads.{HasFailedRun, HasRoom, HasStoppedRun, HasWrittenRun, IsNoRun, IsPlanOf, IsTextOfRun, command_count, threads_status, threads_text};
+ghost use Rattle.mesh_run.specs.declared.threads_error.ThreadsError.{ThreadsError};
+ghost use Rattle.mesh_shared.specs.Runs.{HasRun};
+ghost use Rattle.mesh_text.specs.Transfer.{AppendsBeginning};
+ghost use Rattle.mesh_text.specs.declared.faults.ReplayError.{ReplayError};
+
+use crate::fault_line::threads_line_of;
+use crate::runs::{status_of, tell};
+use crate::shuffle_words::words;
+use crate::status::{DONE, FAILED, FAULTY};
+use crate::{ThreadsArgs, ThreadsError};
+use mesh_mutator::Book;
+use mesh_shared::{Ended, MeshPlan, NoGate, run_threads};
+use mesh_text::{
+    Command, Job, ReplayError, Scripts, Sink, Source, history_lines, read_job, write_all,
+};
+use std::alloc::{AllocError, Global};
+use std::sync::Wait;
+use std::thread::Threads;
+
+/// Runs the scripts of the job that the input gives, each on a thread of its own while meshers search and mesh, writes the answers of each
+/// worker and the number of all entries to the output, or a fault to `errors`, and gives the exit status. The file's plan isn't used.
+///
+/// The status is 0 where everything was written, and nothing is written before all threads have ended. It is 2 with the line `line N: KIND`
+/// where the job's text has a fault, and with the line `history too short` where the file's history has fewer entries than its scripts have
+/// commands; then nothing is run. It is 1 with the line `read fault`, `write fault` or `out of memory`, with `thread fault` where a thread
+/// couldn't be started or a searcher's answer isn't the one that was asked for, and with `run fault` where the threads left no history that
+/// stands. Of several faults the first in this order is told: reading, the text, a history too short, the run, writing. Where the line can't be
+/// written the status stays.
+pub fn threads_run<R: Threads + Wait + Sync, I: Source, O: Sink, E: Sink>(
+    rt: &R,
+    alloc: Global,
+    input: &mut I,
+    output: &mut O,
+    errors: &mut E,
+    args: &ThreadsArgs,
+) -> u8
+    requires input { I.has_failed input.old ≡ false }
+    requires output { O.has_failed output.old ≡ false }
+    ensures done { result ≡ 0 → HasWrittenRun (I.remaining input.old) (I.remaining input.new) (O.written output.old) (O.written output.new) }
+    ensures sound { result ≡ 0 → (I.has_failed input.new ≡ false) × (O.has_failed output.new ≡ false) }
+    ensures untold { result ≡ 0 → Keeps (E.written errors.old) (E.written errors.new) }
+    ensures stopped { 0 < result → (error : ThreadsError) × (result ≡ threads_status error)
+        × HasStoppedRun (I.remaining input.old) (I.remaining input.new) (O.written output.old) (O.written output.new) error
+        × HasFailedRun (I.has_failed input.new) (O.has_failed output.new) error
+        × HasTold (E.has_failed errors.new) (E.written errors.old) (E.written errors.new) (ended (threads_text error)) }
+    ensures small { result ≤ 2 }
+{
+    match run_file(rt, alloc, input, output, args) {
+        Ok(()) => DONE,
+        Err(error) => {
+            tell(errors, threads_line_of(error).as_slice());
+            threads_status_of(error)
+        }
+    }
+}
+
+/// Runs the scripts of the job that the input gives, and writes the text of their history.
+fn run_file<R: Threads + Wait + Sync, I: Source, O: Sink>(
+    rt: &R,
+    alloc: Global,
+    input: &mut I,
+    output: &mut O,
+    args: &ThreadsArgs,
+) -> Result<(), ThreadsError>
+    requires input { I.has_failed input.old ≡ false }
+    requires output { O.has_failed output.old ≡ false }
+    ensures ok { OnOk result ((I.has_failed input.new ≡ false) × (O.has_failed output.new ≡ false)) }
+    ensures written { OnOk result (HasWrittenRun (I.remaining input.old) (I.remaining input.new) (O.written output.old) (O.written output.new)) }
+    ensures stopped { IfErr result (HasStoppedRun (I.remaining input.old) (I.remaining input.new) (O.written output.old) (O.written output.new)) }
+    ensures failed { IfErr result (HasFailedRun (I.has_failed input.new) (O.has_failed output.new)) }
+{
+    let job = read_job(alloc, input)?;
+    let text = run_job(rt, alloc, &job, args)?;
+    write_text(output, text.as_slice())
+}
+
+/// The text of the history that a run of a job's scripts leaves.
+fn run_job<R: Threads + Wait + Sync>(
+    rt: &R,
+    alloc: Global,
+    job: &Job,
+    args: &ThreadsArgs,
+) -> Result<Vec<u8>, ThreadsError>
+    ensures text { IfOk result (λ text. IsTextOfRun job.now.scripts text.items) }
+    ensures room { OnOk result (HasRoom job.now) }
+    ensures none { IfErr result (IsNoRun job.now) }
+{
+    if !has_room(&job.scripts, job.history) {
+        return Err(ThreadsError::TooShort);
+    }
+    let ended = run_scripts(rt, alloc, job, args)?;
+    let workers = job.scripts.count() as u32;
+    let text = history_lines(alloc, workers, ended.history.as_slice())?;
+    Ok(text)
+}
+
+/// Runs a job's scripts on a fresh book, while meshers do what is asked for.
+fn run_scripts<R: Threads + Wait + Sync>(
+    rt: &R,
+    alloc: Global,
+    job: &Job,
+    args: &ThreadsArgs,
+) -> Result<Ended, ThreadsError>
+    ensures ended { IfOk result (λ ended. HasRun job.now.scripts ended.history.items (memory_in ended.heap ended.roots)) }
+    ensures none { HasRoom job.now → IfErr result (IsNoRun job.now) }
+{
+    let plan = plan_of(alloc, args)?;
+    let book = Book::open(alloc, job.pages, job.history)?;
+    let scripts = slices_of(alloc, &job.scripts)?;
+    let ended = run_threads(rt, alloc, book, scripts.as_slice(), &plan, &NoGate)?;
+    Ok(ended)
+}
+
+/// What the meshers do.
+fn plan_of(alloc: Global, args: &ThreadsArgs) -> Result<MeshPlan, AllocError>
+    ensures asked { IfOk result (IsPlanOf args.now) }
+    ensures searchers { IfOk result (λ plan. (1 ≤ plan.workers) × (plan.workers ≤ 16)) }
+    ensures meshers { IfOk result (λ plan. (1 ≤ plan.meshers) × (plan.meshers ≤ 10)) }
+{
+    Ok(MeshPlan {
+        t: args.probe,
+        rounds: args.rounds,
+        workers: args.workers,
+        words: words(alloc, args.seed, args.rounds)?,
+        meshers: args.meshers,
+    })
+}
+
+/// The commands of each script.
+fn slices_of<'a>(alloc: Global, scripts: &'a Scripts) -> Result<Vec<&'a [Command]>, AllocError>
+    ensures value { IfOk result (λ slices. map (λ script. script.now) slices.items ≡ scripts.now) }
+    ensures range { IfOk result (λ slices. All (λ script. All IsInRange script.now) slices.items) }
+{
+    let mut slices = Vec::new(alloc);
+    for worker in 0..scripts.count() as u32 {
+        slices.push(scripts.of(worker).commands())?;
+    }
+    Ok(slices)
+}
+
+/// Whether a history of so many entries has room for all commands of the scripts.
+fn has_room(scripts: &Scripts, history: u32) -> bool
+    ensures { IsTrue result ↔ (command_count scripts.now ≤ history) }
+{
+    let mut room = history as usize;
+    for worker in 0..scripts.count() as u32 {
+        let commands = scripts.of(worker).commands().len();
+        if commands > room {
+            return false;
+        }
+        room -= commands;
+    }
+    true
+}
+
+/// Writes a text. Where the output fails, a beginning of it was written.
+fn write_text<O: Sink>(output: &mut O, text: &[u8]) -> Result<(), ThreadsError>
+    requires { O.has_failed output.old ≡ false }
+    ensures ok { OnOk result (Appends (O.written output.old) (O.written output.new) text.now) }
+    ensures err { OnErr result (AppendsBeginning (O.written output.old) (O.written output.new) text.now) }
+    ensures fault { IfErr result (λ error. error ≡ ThreadsError.Replay ReplayError.Write) }
+    ensures fails { O.has_failed output.new ≡ is_err result }
+{
+    write_all(output, text).map_err(|_| ThreadsError::Replay(ReplayError::Write))
+}
+
+/// The exit status of a run in threads that stopped.
+fn threads_status_of(error: ThreadsError) -> u8
+    ensures { result ≡ threads_status error }
+{
+    match error {
+        ThreadsError::Replay(error) => status_of(error),
+        ThreadsError::TooShort => FAULTY,
+        ThreadsError::Thread | ThreadsError::Run => FAILED,
+    }
+}
