@@ -12,6 +12,7 @@ use mesh_shared::{Ended, Gate, MeshPlan, RunError, run_abandoned, run_threads};
 use mesh_steps::{Heap, Report};
 use mesh_text::Script;
 use std::alloc::{AllocError, Global};
+use std::rt::Clock;
 use std::sync::Wait;
 use std::test::Fail;
 use std::thread::Threads;
@@ -142,18 +143,28 @@ fn a_reader_runs_during_a_copy(rt: HostRuntime) -> Result<(), Fail> {
     ];
     let holds = [
         Hold::new(Event::Searching, &[Event::Called(0, 5)]),
-        Hold::new(Event::Called(0, 5), &[Event::Called(1, 0), Event::Stepped(0, StepKind::Copy)]),
-        Hold::new(Event::Called(1, 0), &[Event::Called(0, 5), Event::Stepped(0, StepKind::Copy)]),
+        Hold::new(
+            Event::Called(0, 5),
+            &[Event::Called(1, 0), Event::Stepped(0, StepKind::Copy)],
+        ),
+        Hold::new(
+            Event::Called(1, 0),
+            &[Event::Called(0, 5), Event::Stepped(0, StepKind::Copy)],
+        ),
         Hold {
             at: copied,
             until: &[Event::Called(0, 6)],
             turns: 10_000,
         },
     ];
-    let gate = Holding::new(&rt, &marks, &holds, &[(Event::Called(1, 1), remapped)]);
+    let orders = [(Event::Called(1, 1), remapped)];
+    let gate = Holding::new(&rt, &marks, &holds, &orders);
     let book = Book::open(alloc, 16, 64)?;
     let plan = plan_of(alloc, 2, 1);
-    let mut ended = run_threads(&rt, alloc, book, &both(&reader, &writer), &plan, &gate).expect(&rt, "a history");
+    let mut ended = run_threads(&rt, alloc, book, &both(&reader, &writer), &plan, &gate).expect(
+        &rt,
+        "a history",
+    );
     assert!(rt; gate.went_well());
     assert_eq!(rt; count_of(ended.history.as_slice(), 0), 10);
     assert_eq!(rt; count_of(ended.history.as_slice(), 1), 2);
@@ -181,7 +192,10 @@ fn a_search_runs_beside_a_script(rt: HostRuntime) -> Result<(), Fail> {
         words: Vec::new(alloc),
         meshers: 1,
     };
-    let ended = run_threads(&rt, alloc, book, &alone(&reads), &plan, &gate).expect(&rt, "a history");
+    let ended = run_threads(&rt, alloc, book, &alone(&reads), &plan, &gate).expect(
+        &rt,
+        "a history",
+    );
     assert!(rt; gate.went_well());
     assert_eq!(rt; ended.history.len(), 3);
     Ok(())
@@ -190,8 +204,14 @@ fn a_search_runs_beside_a_script(rt: HostRuntime) -> Result<(), Fail> {
 #[test]
 fn two_scripts_read_at_once(rt: HostRuntime) -> Result<(), Fail> {
     let alloc = rt.alloc();
-    let (first, second) = (script_of(alloc, &[Word::Get(9)])?, script_of(alloc, &[Word::Get(9)])?);
-    let marks = [Mark::of(Event::Reading(0, 0)), Mark::of(Event::Reading(1, 0))];
+    let (first, second) = (
+        script_of(alloc, &[Word::Get(9)])?,
+        script_of(alloc, &[Word::Get(9)])?,
+    );
+    let marks = [
+        Mark::of(Event::Reading(0, 0)),
+        Mark::of(Event::Reading(1, 0)),
+    ];
     let holds = [
         Hold::new(Event::Reading(0, 0), &[Event::Reading(1, 0)]),
         Hold::new(Event::Reading(1, 0), &[Event::Reading(0, 0)]),
@@ -199,7 +219,10 @@ fn two_scripts_read_at_once(rt: HostRuntime) -> Result<(), Fail> {
     let gate = Holding::new(&rt, &marks, &holds, &[]);
     let book = Book::open(alloc, 16, 8)?;
     let plan = plan_of(alloc, 0, 1);
-    let ended = run_threads(&rt, alloc, book, &both(&first, &second), &plan, &gate).expect(&rt, "a history");
+    let ended = run_threads(&rt, alloc, book, &both(&first, &second), &plan, &gate).expect(
+        &rt,
+        "a history",
+    );
     assert!(rt; gate.went_well());
     assert_eq!(rt; ended.history.len(), 2);
     Ok(())
@@ -224,8 +247,15 @@ fn two_classes(alloc: Global) -> Result<Script, AllocError> {
 fn two_meshers_copy_at_once(rt: HostRuntime) -> Result<(), Fail> {
     let alloc = rt.alloc();
     let script = two_classes(alloc)?;
-    let (first, second) = (Event::Stepped(0, StepKind::Copy), Event::Stepped(1, StepKind::Copy));
-    let marks = [Mark::of(Event::Called(0, 35)), Mark::of(first), Mark::of(second)];
+    let (first, second) = (
+        Event::Stepped(0, StepKind::Copy),
+        Event::Stepped(1, StepKind::Copy),
+    );
+    let marks = [
+        Mark::of(Event::Called(0, 35)),
+        Mark::of(first),
+        Mark::of(second),
+    ];
     let holds = [
         Hold::new(Event::Searching, &[Event::Called(0, 35)]),
         Hold::new(first, &[Event::Stepped(1, StepKind::Copy)]),
@@ -234,11 +264,17 @@ fn two_meshers_copy_at_once(rt: HostRuntime) -> Result<(), Fail> {
     let gate = Holding::new(&rt, &marks, &holds, &[]);
     let book = Book::open(alloc, 16, 64)?;
     let plan = plan_of(alloc, 2, 2);
-    let ended = run_threads(&rt, alloc, book, &alone(&script), &plan, &gate).expect(&rt, "a history");
+    let ended = run_threads(&rt, alloc, book, &alone(&script), &plan, &gate).expect(
+        &rt,
+        "a history",
+    );
     assert!(rt; gate.went_well());
     assert_eq!(rt; ended.history.len(), 36);
     let report = ended.heap.report();
-    assert!(rt; report.mapped == 4 && report.taken == 2, "each class is on one page");
+    assert!(rt;
+        report.mapped == 4 && report.taken == 2,
+        "each class is on one page"
+    );
     Ok(())
 }
 
@@ -257,7 +293,10 @@ fn every_pair_is_meshed(rt: HostRuntime) -> Result<(), Fail> {
     let gate = Holding::new(&rt, &marks, &holds, &[]);
     let book = Book::open(alloc, 16, 64)?;
     let plan = plan_of(alloc, 2, 1);
-    let ended = run_threads(&rt, alloc, book, &alone(&script), &plan, &gate).expect(&rt, "a history");
+    let ended = run_threads(&rt, alloc, book, &alone(&script), &plan, &gate).expect(
+        &rt,
+        "a history",
+    );
     assert!(rt; gate.went_well());
     let report = Report {
         objects: 6,
@@ -271,7 +310,11 @@ fn every_pair_is_meshed(rt: HostRuntime) -> Result<(), Fail> {
 }
 
 // A mesher that is abandoned after so many calls, beside a reader: what is handed out.
-fn abandoned<R: Clock + Threads + Wait + Sync>(rt: &R, alloc: Global, calls: u32) -> Result<Option<Ended>, AllocError> {
+fn abandoned<R: Clock + Threads + Wait + Sync>(
+    rt: &R,
+    alloc: Global,
+    calls: u32,
+) -> Result<Option<Ended>, AllocError> {
     let reader = script_of(alloc, &READER)?;
     let marks = [Mark::of(Event::Called(0, 5)), Mark::of(Event::Begun(0))];
     let holds = [
@@ -294,13 +337,22 @@ fn a_mesher_is_abandoned_after_each_call(rt: HostRuntime) -> Result<(), Fail> {
     let alloc = rt.alloc();
     for calls in 0..8 {
         let mut ended = abandoned(&rt, alloc, calls)?.expect(&rt, "a history");
-        assert!(rt; ended.history.len() == 10, "all commands are answered, after {calls} calls");
+        assert!(rt;
+            ended.history.len() == 10,
+            "all commands are answered, after {calls} calls"
+        );
         let kept = are_zeros(&ended.heap, 0x1800, 2048) && are_zeros(&ended.heap, 0x2000, 2048);
         assert!(rt; kept, "both objects keep their bytes, after {calls} calls");
         let left = if calls == 0 { 0 } else { 7 - calls };
-        assert!(rt; steps_left(&mut ended.heap, 2048) == left, "{left} steps are left after {calls} calls");
+        assert!(rt;
+            steps_left(&mut ended.heap, 2048) == left,
+            "{left} steps are left after {calls} calls"
+        );
         let kept = are_zeros(&ended.heap, 0x1800, 2048) && are_zeros(&ended.heap, 0x2000, 2048);
-        assert!(rt; kept, "both objects keep their bytes to the end, after {calls} calls");
+        assert!(rt;
+            kept,
+            "both objects keep their bytes to the end, after {calls} calls"
+        );
     }
     Ok(())
 }
@@ -310,7 +362,11 @@ fn a_store_is_given_up(rt: HostRuntime) -> Result<(), Fail> {
     let alloc = rt.alloc();
     let (reader, writer) = (script_of(alloc, &READER)?, script_of(alloc, &WRITER)?);
     let protected = Event::Stepped(0, StepKind::Protect);
-    let marks = [Mark::of(Event::Called(0, 5)), Mark::of(Event::Begun(0)), Mark::of(protected)];
+    let marks = [
+        Mark::of(Event::Called(0, 5)),
+        Mark::of(Event::Begun(0)),
+        Mark::of(protected),
+    ];
     let holds = [
         Hold::new(Event::Searching, &[Event::Called(0, 5)]),
         Hold::new(Event::Called(0, 5), &[Event::Begun(0)]),
@@ -319,7 +375,17 @@ fn a_store_is_given_up(rt: HostRuntime) -> Result<(), Fail> {
     let gate = Holding::new(&rt, &marks, &holds, &[]);
     let book = Book::open(alloc, 16, 64)?;
     let plan = plan_of(alloc, 2, 1);
-    let ended = run_abandoned(&rt, alloc, book, &both(&reader, &writer), &plan, 2, 10, &gate).expect(&rt, "a history");
+    let ended = run_abandoned(
+        &rt,
+        alloc,
+        book,
+        &both(&reader, &writer),
+        &plan,
+        2,
+        10,
+        &gate,
+    )
+    .expect(&rt, "a history");
     assert!(rt; gate.went_well());
     assert_eq!(rt; count_of(ended.history.as_slice(), 0), 10);
     assert_eq!(rt; count_of(ended.history.as_slice(), 1), 1);
