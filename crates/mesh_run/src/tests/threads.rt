@@ -1,31 +1,38 @@
-//! Runs of scripts in threads that stop before a thread is started.
-ghost use Rattle.std.specs.Prelude.{◌≡◌, false};
+//! Runs of scripts in threads: a worked example, and what stops a run before a thread is started.
+ghost use Rattle.std.specs.Prelude.{◌≡◌, ◌≤◌, false};
 
 use crate::tests::Ran;
 use crate::tests::devices::SlowSource;
 use crate::tests::files::FAULTS;
 use crate::{Input, Output, Source, ThreadsArgs, threads_run};
 use std::sync::Wait;
+use std::test::Fail;
 use std::thread::Threads;
 
 /// Two workers of two commands each: together one more than the history has entries.
 const SHORT_FILE: &str =
     "mesh 1\npages 1\nhistory 3\nworkers 2\nworker 0\nnew 0 16 0\nfree 0\nworker 1\nnew 1 16 0\nfree 1\nplan\nend\n";
 
-/// Runs the scripts of what a source gives, with one mesher and one searcher.
-fn ran<R: Threads + Wait + Sync + AllocGlobal, I: Source>(rt: &R, input: &mut I) -> Ran
+/// One mesher and one searcher.
+const FEWEST: ThreadsArgs = ThreadsArgs {
+    probe: 1,
+    rounds: 1,
+    workers: 1,
+    seed: 0,
+    meshers: 1,
+};
+
+/// Runs the scripts of what a source gives.
+fn ran<R: Threads + Wait + Sync + AllocGlobal, I: Source>(
+    rt: &R,
+    input: &mut I,
+    args: &ThreadsArgs,
+) -> Ran
     requires { I.has_failed input.old ≡ false }
 {
-    let args = ThreadsArgs {
-        probe: 1,
-        rounds: 1,
-        workers: 1,
-        seed: 0,
-        meshers: 1,
-    };
     let mut output = Output::new(Vec::new(rt.alloc()));
     let mut errors = Output::new(Vec::new(rt.alloc()));
-    let status = threads_run(rt, rt.alloc(), input, &mut output, &mut errors, &args);
+    let status = threads_run(rt, rt.alloc(), input, &mut output, &mut errors, args);
     Ran {
         status,
         output: output.into_inner(),
@@ -36,7 +43,7 @@ fn ran<R: Threads + Wait + Sync + AllocGlobal, I: Source>(rt: &R, input: &mut I)
 #[test]
 fn tells_each_fault_of_a_file(rt: HostRuntime) {
     for (name, file, fault) in FAULTS.iter() {
-        let run = ran(&rt, &mut Input::new(file.as_bytes()));
+        let run = ran(&rt, &mut Input::new(file.as_bytes()), &FEWEST);
         assert_eq!(rt; run.output.as_slice(), b"".as_slice(), "of {name}");
         assert_eq!(rt; run.errors.as_slice(), fault.as_bytes(), "of {name}");
         assert_eq!(rt; run.status, 2, "of {name}");
@@ -45,7 +52,7 @@ fn tells_each_fault_of_a_file(rt: HostRuntime) {
 
 #[test]
 fn tells_a_history_that_is_too_short(rt: HostRuntime) {
-    let run = ran(&rt, &mut Input::new(SHORT_FILE.as_bytes()));
+    let run = ran(&rt, &mut Input::new(SHORT_FILE.as_bytes()), &FEWEST);
     assert_eq!(rt; run.output.as_slice(), b"".as_slice());
     assert_eq!(rt; run.errors.as_slice(), b"history too short\n".as_slice());
     assert_eq!(rt; run.status, 2);
@@ -54,7 +61,11 @@ fn tells_a_history_that_is_too_short(rt: HostRuntime) {
 #[test]
 fn tells_a_failing_read_before_all_else(rt: HostRuntime) {
     for calls in 0..SHORT_FILE.len() + 1 {
-        let run = ran(&rt, &mut SlowSource::new(SHORT_FILE.as_bytes(), calls));
+        let run = ran(
+            &rt,
+            &mut SlowSource::new(SHORT_FILE.as_bytes(), calls),
+            &FEWEST,
+        );
         assert_eq!(rt; run.output.as_slice(), b"".as_slice(), "after {calls}");
         assert_eq!(rt;
             run.errors.as_slice(),
@@ -63,4 +74,113 @@ fn tells_a_failing_read_before_all_else(rt: HostRuntime) {
         );
         assert_eq!(rt; run.status, 1, "after {calls}");
     }
+}
+
+/// How many cells each of two workers has, and from which on.
+const CELLS: u32 = 40;
+
+const FIRST_CELL: [u32; 2] = [0, 128];
+
+/// Whether a worker frees the object of a cell.
+fn is_freed(cell: u32) -> bool {
+    matches!(cell % 4, 0 | 3)
+}
+
+/// Adds a worker's script: objects, their bytes, every other pair of them freed, and what is read of them after that.
+fn add_script(file: &mut String, first: u32) -> Result<(), Fail>
+    requires { first ≤ 128 }
+{
+    for cell in first..first + CELLS {
+        write!(file, "new {cell} 2048 0\n")?;
+    }
+    for cell in first..first + CELLS {
+        write!(file, "put {cell} 0 {cell:02x}\n")?;
+    }
+    for cell in first..first + CELLS {
+        if is_freed(cell) {
+            write!(file, "free {cell}\n")?;
+        } else {
+            write!(file, "get {cell} 0 1\n")?;
+        }
+    }
+    for cell in first..first + CELLS {
+        write!(file, "get {cell} 0 1\n")?;
+    }
+    for cell in first..first + CELLS {
+        write!(file, "addr {cell}\n")?;
+    }
+    Ok(())
+}
+
+/// Adds the lines of a worker's answers.
+fn add_answers(lines: &mut String, first: u32) -> Result<(), Fail>
+    requires { first ≤ 128 }
+{
+    for _ in 0..CELLS {
+        lines.push_str("object\n")?;
+    }
+    for _ in 0..CELLS {
+        lines.push_str("done\n")?;
+    }
+    for cell in first..first + CELLS {
+        if is_freed(cell) {
+            lines.push_str("done\n")?;
+        } else {
+            write!(lines, "bytes {cell:02x}\n")?;
+        }
+    }
+    for cell in first..first + CELLS {
+        if is_freed(cell) {
+            lines.push_str("refused 6 FREED\n")?;
+        } else {
+            write!(lines, "bytes {cell:02x}\n")?;
+        }
+    }
+    for cell in first..first + CELLS {
+        lines.push_str(if is_freed(cell) {
+            "refused 6 FREED\n"
+        } else {
+            "at\n"
+        })?;
+    }
+    Ok(())
+}
+
+#[test]
+fn answers_do_not_depend_on_meshers(rt: HostRuntime) -> Result<(), Fail> {
+    let mut file = String::from_str(rt.alloc(), "mesh 1\npages 64\nhistory 400\nworkers 2\n")?;
+    let mut answers = String::new(rt.alloc());
+    for worker in 0..2 {
+        write!(file, "worker {worker}\n")?;
+        write!(answers, "worker {worker}\n")?;
+        add_script(&mut file, FIRST_CELL[worker])?;
+        add_answers(&mut answers, FIRST_CELL[worker])?;
+    }
+    file.push_str("plan\nend\n")?;
+    answers.push_str("history 400\n")?;
+    for workers in [1, 3, 16] {
+        for meshers in [1, 2, 10] {
+            for seed in [0, 1, u64::MAX] {
+                let args = ThreadsArgs {
+                    probe: workers,
+                    rounds: 3,
+                    workers,
+                    seed,
+                    meshers,
+                };
+                let run = ran(&rt, &mut Input::new(file.as_bytes()), &args);
+                assert_eq!(rt;
+                    run.errors.as_slice(),
+                    b"".as_slice(),
+                    "{workers}, {meshers}, {seed}"
+                );
+                assert!(rt;
+                    run.output.as_slice() == answers.as_bytes(),
+                    "{workers}, {meshers}, {seed}"
+                );
+                assert_eq!(rt; run.status, 0);
+            }
+        }
+    }
+    Ok(())
 }
