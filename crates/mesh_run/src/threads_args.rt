@@ -1,6 +1,5 @@
 //! What `threads` is asked for.
-
-use std::marker::Model;
+ghost use Rattle.mesh_run.specs.ThreadsArgs.{AreInRange};
 
 /// What `threads` is asked for beside its file. Its type keeps the ranges.
 #[derive(Clone, Copy, Debug, PartialEq, Eq)]
@@ -15,16 +14,5 @@ pub struct ThreadsArgs {
     pub seed: u64,
     /// How many threads mesh, 1 to 10.
     pub meshers: u32,
-}
-
-impl Model for ThreadsArgs {
-    ghost use Rattle.mesh_run.specs.ThreadsArgs.{IsInRange, PlainArgs};
-
-    ghost Value = { PlainArgs };
-
-    ghost view = { λ a. record { probe = a.probe; rounds = a.rounds; workers = a.workers; seed = a.seed; meshers = a.meshers } };
-
-    ghost invariant = { λ a. IsInRange (record { probe = a.probe; rounds = a.rounds; workers = a.workers; seed = a.seed; meshers = a.meshers }) };
-
-    ghost inverse = { λ a. record { probe = a.probe; rounds = a.rounds; workers = a.workers; seed = a.seed; meshers = a.meshers } };
+    pub ghost ranges: { AreInRange probe rounds workers meshers },
 }
