@@ -1,14 +1,13 @@
 -- What `clap`'s contracts say of the program's command line.
-use Rattle.std.proofs.Common.{◌≡◌, Bool, true, false, List, [], ◌∷◌, Option, None, Some, Result, Ok, Err, IfErr, option_map, ap, refl, subst, ◌∙◌, inl, inr}
+use Rattle.std.proofs.Common.{◌≡◌, true, false, List, [], ◌∷◌, Option, None, Some, Result, Ok, Err, IfErr, option_map, ap, refl, subst, ◌∙◌, inl, inr}
 use Rattle.std.specs.Box.{box_value}
-use Rattle.std.specs.Str.{bytes_eq}
-use Rattle.std.specs.Prelude.{codes, if◌then◌else◌}
+use Rattle.std.specs.Prelude.{codes, option_and_then}
 use Rattle.clap.specs.Words.{App, FailsBy, HasKind, IsAmong, Row, Text, fault_of, first_of, is_simple, is_simple_and_free, kind_of, found_of, rows_of, subcommand_name_of, subcommand_of, subcommand_rows_of, takes}
 use Rattle.clap.specs.declared.error.Error.{Error}
 use Rattle.clap.specs.declared.parser.matches.ArgMatches.{ArgMatches}
 use Rattle.clap.specs.declared.parser.matches.ArgMatches.TheViews.{out-ArgMatches, out-SubCommand}
 use Rattle.clap.proofs.OnLiterals.{clap_on_literals}
-use Rattle.mesh_run.specs.CommandLine.{IsSaidOf, file_asked, file_in, is_taken, kinds_of, meshrun_app}
+use Rattle.mesh_run.specs.CommandLine.{IsSaidOf, asked, asked_in, asked_on, is_taken, kinds_of, meshrun_app, replay_of, threads_of}
 
 -- the command line is one whose matches and faults `clap` tells
 pub is_told : is_simple_and_free meshrun_app ≡ true
@@ -35,11 +34,11 @@ pub taken_of : (words : List Text) (app : App) → app ≡ meshrun_app → is_ta
 unfolding is_taken
 taken_of words app is taken = ap (λ a. takes a words) is ∙ taken
 
--- the file that `clap`'s matches have
-pub file_of_matches : (words : List Text) (app : App) (found : Option (Text × List Row)) → app ≡ meshrun_app → found ≡ subcommand_of app words
-    → file_in found ≡ file_asked words
-unfolding file_asked
-file_of_matches words app found is rows = ap file_in (rows ∙ ap (λ a. subcommand_of a words) is)
+-- what `clap`'s matches ask for
+pub asked_of_matches : (words : List Text) (app : App) (found : Option (Text × List Row)) → app ≡ meshrun_app → found ≡ subcommand_of app words
+    → asked_in found ≡ asked words
+unfolding asked
+asked_of_matches words app found is rows = ap asked_in (rows ∙ ap (λ a. subcommand_of a words) is)
 
 first_parts : {X A B : Type 0} (f : X → A × B) (o : Option X) → option_map (λ x. (f x).0) o ≡ option_map (λ p. p.0) (option_map f o)
 first_parts f None = refl
@@ -49,28 +48,14 @@ first_parts f (Some x) = refl
 pub name_of_rows : (matches : ArgMatches) (name : Text) → Some name ≡ subcommand_name_of matches → Some name ≡ option_map (λ p. p.0) (subcommand_rows_of matches)
 name_of_rows matches name is = is ∙ first_parts (λ b. ((out-SubCommand (box_value b)).name.now, rows_of (found_of (out-SubCommand (box_value b)).matches))) (out-ArgMatches matches).subcommand
 
-file_known : (found : Option (Text × List Row)) (name : Text) (rows : List Row) → Some name ≡ option_map (λ p. p.0) found → Some rows ≡ option_map (λ p. p.1) found
-    → file_in found ≡ (if bytes_eq name (codes "replay") then first_of (codes "FILE") rows else None)
-file_known None name rows named has = absurd (cc named)
-file_known (Some found) name rows named has =
+-- what a subcommand that was met asks for, by its name and its rows
+pub asked_by : (found : Option (Text × List Row)) (name : Text) (rows : List Row) → Some name ≡ option_map (λ p. p.0) found → Some rows ≡ option_map (λ p. p.1) found
+    → asked_in found ≡ option_and_then (asked_on name rows) (first_of (codes "FILE") rows)
+asked_by None name rows named has = absurd (cc named)
+asked_by (Some found) name rows named has =
     let name_is : name ≡ found.0 = cc named in
     let rows_are : rows ≡ found.1 = cc has in
     rw (name_is, rows_are) refl
-
--- the file of a replay is the one that its matches have
-pub file_found : (found : Option (Text × List Row)) (name : Text) (rows : List Row) (file : Option Text) → Some name ≡ option_map (λ p. p.0) found
-    → Some rows ≡ option_map (λ p. p.1) found → name ≡ codes "replay" → first_of (codes "FILE") rows ≡ file → file_in found ≡ file
-file_found found name rows file named has is first =
-    file_known found name rows named has ∙ ap (λ t. if bytes_eq t (codes "replay") then first_of (codes "FILE") rows else None) is ∙ first
-
--- without a file there is none, whatever the subcommand
-pub no_file : (found : Option (Text × List Row)) (name : Text) (rows : List Row) → Some name ≡ option_map (λ p. p.0) found → Some rows ≡ option_map (λ p. p.1) found
-    → first_of (codes "FILE") rows ≡ None → file_in found ≡ None
-no_file found name rows named has none = file_known found name rows named has ∙ either (bytes_eq name (codes "replay"))
-  where
-    either : (b : Bool) → (if b then first_of (codes "FILE") rows else None) ≡ None
-    either true = none
-    either false = refl
 
 -- `meshrun replay hello.job` is a command line of the program, and asks a replay of `hello.job`
 abbrev hello : List Text
@@ -80,6 +65,38 @@ hello_is_taken : is_taken hello ≡ true
 unfolding clap_on_literals is_taken
 hello_is_taken = refl
 
-hello_is_asked : file_asked hello ≡ Some (codes "hello.job")
-unfolding clap_on_literals file_asked
+hello_is_asked : asked hello ≡ Some (replay_of (codes "hello.job"))
+unfolding clap_on_literals asked
 hello_is_asked = refl
+
+-- without `--meshers` one thread meshes
+abbrev small : List Text
+small = codes "meshrun" ∷ codes "threads" ∷ codes "a.job" ∷ codes "--probe" ∷ codes "2" ∷ codes "--rounds" ∷ codes "3" ∷ codes "--workers" ∷ codes "4" ∷ codes "--seed" ∷ codes "5" ∷ []
+
+small_is_taken : is_taken small ≡ true
+unfolding clap_on_literals is_taken
+small_is_taken = refl
+
+small_is_asked : asked small ≡ Some (threads_of (codes "a.job") (record { probe = 2; rounds = 3; workers = 4; seed = 5; meshers = 1 }))
+unfolding clap_on_literals asked
+small_is_asked = refl
+
+-- options stand in any order, and take the most that they may
+abbrev large : List Text
+large = codes "meshrun" ∷ codes "threads" ∷ codes "--meshers=10" ∷ codes "--seed=18446744073709551615" ∷ codes "--workers=16" ∷ codes "a.job" ∷ codes "--rounds=1000" ∷ codes "--probe=64" ∷ []
+
+large_is_taken : is_taken large ≡ true
+unfolding clap_on_literals is_taken
+large_is_taken = refl
+
+large_is_asked : asked large ≡ Some (threads_of (codes "a.job") (record { probe = 64; rounds = 1000; workers = 16; seed = 18446744073709551615; meshers = 10 }))
+unfolding clap_on_literals asked
+large_is_asked = refl
+
+-- 17 threads make no search
+abbrev crowded : List Text
+crowded = codes "meshrun" ∷ codes "threads" ∷ codes "a.job" ∷ codes "--probe=2" ∷ codes "--rounds=3" ∷ codes "--workers=17" ∷ codes "--seed=5" ∷ []
+
+crowded_is_refused : is_taken crowded ≡ false
+unfolding clap_on_literals is_taken
+crowded_is_refused = refl

@@ -1,4 +1,6 @@
 pub mod CommandLines
+pub mod CommandsBuilt
 pub mod FirstWords
+pub mod NumbersRead
 pub mod Telling
 mod WorkedView

@@ -1,40 +1,102 @@
--- The command line as `clap` reads it, and how the program stops where it asks for no replay.
-use Rattle.std.specs.Prelude.{◌≡◌, ◌⊎◌, ℕ, Bool, true, List, Option, Some, None, codes, if◌then◌else◌}
+-- The command line as `clap` reads it, and how the program stops where it asks for no run.
+use Rattle.std.specs.Prelude.{◌≡◌, ◌⊎◌, ℕ, Bool, true, List, [], ◌∷◌, Option, Some, None, codes, if◌then◌else◌, option_and_then, option_map}
 use Rattle.std.specs.Cow.{cow_str_bytes}
 use Rattle.std.specs.Str.{bytes_eq}
-use Rattle.clap.specs.Words.{App, IsAmong, Kinds, Row, Rule, Text, fault_of, first_of, new_app, new_rule, subcommand_of, takes, with_rule, with_subcommand}
+use Rattle.std.specs.Str.Parse.{digits_value, without_leading_plus}
+use Rattle.clap.specs.ValueTests.{is_unsigned_in}
+use Rattle.clap.specs.Words.{App, IsAmong, Kinds, Row, Rule, Text, fault_of, first_of, new_app, new_rule, one_of, subcommand_of, takes, with_rule, with_subcommand}
+use Rattle.clap.specs.declared.builder.value_parser.ValueParser.TheVariants.{Unsigned}
 use Rattle.clap.specs.declared.error.kind.ErrorKind.{ErrorKind}
 use Rattle.clap.specs.declared.error.kind.ErrorKind.TheVariants.{DisplayHelp, DisplayVersion, MissingSubcommand, OutOfMemory}
 use Rattle.mesh_model.specs.Texts.{ended}
 use Rattle.mesh_run.specs.declared.command_line.Args.{Args}
-use Rattle.mesh_run.specs.declared.command_line.Args.TheVariants.{Replay}
+use Rattle.mesh_run.specs.declared.command_line.Args.TheVariants.{Replay, Threads}
 use Rattle.mesh_run.specs.declared.command_line.Stop.{Stop}
+use Rattle.mesh_run.specs.declared.threads_args.ThreadsArgs.{ThreadsArgs}
 
--- the file of a replay
+-- ---- what the program takes
+
+-- the job file
 abbrev pub file_rule : Rule
 file_rule = record (new_rule (codes "FILE")) { required = true }
+
+-- an option of this name with a number from the least to the most, one value as help shows it
+abbrev pub number_rule : Text → ℕ → ℕ → Rule
+number_rule name least most = record (new_rule name) { long = Some name; parser = Some (Unsigned least most); value_names = 1 }
+
+-- one that has to be given
+abbrev pub required_number : Text → ℕ → ℕ → Rule
+required_number name least most = record (number_rule name least most) { required = true }
+
+-- one that is 1 where it isn't given
+abbrev pub number_or_1 : Text → ℕ → ℕ → Rule
+number_or_1 name least most = record (number_rule name least most) { defaults = codes "1" ∷ [] }
 
 -- `replay FILE`
 abbrev pub replay_app : App
 replay_app = with_rule (new_app (codes "replay")) file_rule
+
+-- `threads FILE --probe T --rounds R --workers N --seed S [--meshers M]`
+abbrev pub threads_app : App
+threads_app = with_rule (with_rule (with_rule (with_rule (with_rule (with_rule (new_app (codes "threads")) file_rule)
+    (required_number (codes "probe") 0 64)) (required_number (codes "rounds") 0 1000)) (required_number (codes "workers") 1 16))
+    (required_number (codes "seed") 0 18446744073709551615)) (number_or_1 (codes "meshers") 1 10)
 
 -- the program alone: it has a version, wants a subcommand, and shows its help without a word
 abbrev pub bare_app : App
 bare_app = let app = new_app (codes "meshrun") in
     record app { top = record app.top { has_version = true; subcommand_required = true; arg_required_else_help = true } }
 
--- `meshrun replay FILE`
+-- `meshrun replay FILE` and `meshrun threads FILE ..`
 abbrev pub meshrun_app : App
-meshrun_app = with_subcommand bare_app replay_app.top
+meshrun_app = with_subcommand (with_subcommand bare_app replay_app.top) threads_app.top
 
--- the file that a subcommand's matches give a replay
-abbrev pub file_in : Option (Text × List Row) → Option Text
-file_in None = None
-file_in (Some found) = if bytes_eq found.0 (codes "replay") then first_of (codes "FILE") found.1 else None
+-- ---- what words ask for
 
--- the file of which words ask a replay
-unfoldable pub file_asked : List Text → Option Text
-file_asked words = file_in (subcommand_of meshrun_app words)
+-- the numbers that threads are asked for: how many rounds of tries a search makes at most, how many times each mesher searches and meshes, how many
+-- threads make a search, what the words of the shuffles are made from, and how many threads mesh
+pub record Numbers : Type 0 where
+  pub probe : ℕ
+  pub rounds : ℕ
+  pub workers : ℕ
+  pub seed : ℕ
+  pub meshers : ℕ
+
+-- a replay of the job file at this path, or its scripts run by threads with these numbers
+pub data Asked : Type 0 where
+  replay_of : Text → Asked
+  threads_of : Text → Numbers → Asked
+
+-- the number of this text, where `clap` takes it as one in the range
+abbrev pub number_of : ℕ → ℕ → Text → Option ℕ
+number_of least most text = if is_unsigned_in least most text then Some (digits_value 10 (without_leading_plus text)) else None
+
+-- the number in the range that the matches have for the option of this name
+abbrev pub number_in : Text → ℕ → ℕ → List Row → Option ℕ
+number_in name least most rows = option_and_then (number_of least most) (one_of name rows)
+
+-- the numbers that the matches have for `threads`
+abbrev pub numbers_in : List Row → Option Numbers
+numbers_in rows =
+    option_and_then (λ probe. option_and_then (λ rounds. option_and_then (λ workers. option_and_then (λ seed.
+    option_map (λ meshers. record { probe = probe; rounds = rounds; workers = workers; seed = seed; meshers = meshers })
+    (number_in (codes "meshers") 1 10 rows)) (number_in (codes "seed") 0 18446744073709551615 rows)) (number_in (codes "workers") 1 16 rows))
+    (number_in (codes "rounds") 0 1000 rows)) (number_in (codes "probe") 0 64 rows)
+
+-- what a subcommand of this name with these matches asks for, on the file
+abbrev pub asked_on : Text → List Row → Text → Option Asked
+asked_on name rows file =
+    if bytes_eq name (codes "replay") then Some (replay_of file)
+    else (if bytes_eq name (codes "threads") then option_map (threads_of file) (numbers_in rows) else None)
+
+-- what a subcommand's name and matches ask for
+abbrev pub asked_in : Option (Text × List Row) → Option Asked
+asked_in None = None
+asked_in (Some found) = option_and_then (asked_on found.0 found.1) (first_of (codes "FILE") found.1)
+
+-- what words ask for
+unfoldable pub asked : List Text → Option Asked
+asked words = asked_in (subcommand_of meshrun_app words)
 
 -- the words are a command line of the program
 unfoldable pub is_taken : List Text → Bool
@@ -44,22 +106,29 @@ is_taken words = takes meshrun_app words
 unfoldable pub kinds_of : List Text → Kinds
 kinds_of words = fault_of meshrun_app words
 
--- the file of a replay that is asked for
-abbrev pub path_of : Args → Text
-path_of (Replay path) = path.now
+-- the numbers that were read
+abbrev pub numbers_of : ThreadsArgs → Numbers
+numbers_of args = record { probe = args.probe; rounds = args.rounds; workers = args.workers; seed = args.seed; meshers = args.meshers }
+
+-- what the program was told to do
+abbrev pub asking : Args → Asked
+asking (Replay path) = replay_of path.now
+asking (Threads path args) = threads_of path.now (numbers_of args)
 
 -- the words ask for this
 abbrev pub IsAsked : List Text → Args → Type 0
-IsAsked words args = file_asked words ≡ Some (path_of args)
+IsAsked words args = asked words ≡ Some (asking args)
 
--- what `clap` may say of the words: want of memory, a fault of theirs or a call for help, or that they ask for no file
+-- what `clap` may say of the words: want of memory, a fault of theirs or a call for help, or that they ask for nothing
 abbrev pub IsSaidOf : List Text → ErrorKind → Type 0
 IsSaidOf words kind =
-    (kind ≡ OutOfMemory) ⊎ (IsAmong kind (kinds_of words) ⊎ ((file_asked words ≡ None) × (kind ≡ MissingSubcommand)))
+    (kind ≡ OutOfMemory) ⊎ (IsAmong kind (kinds_of words) ⊎ ((asked words ≡ None) × (kind ≡ MissingSubcommand)))
 
--- of words that are a command line of the program it says only want of memory, or that they ask for no file
+-- of words that are a command line of the program it says only want of memory, or that they ask for nothing
 abbrev pub IsAllowedOf : List Text → ErrorKind → Type 0
-IsAllowedOf words kind = is_taken words ≡ true → (kind ≡ OutOfMemory) ⊎ (file_asked words ≡ None)
+IsAllowedOf words kind = is_taken words ≡ true → (kind ≡ OutOfMemory) ⊎ (asked words ≡ None)
+
+-- ---- how the program stops
 
 -- the exit status for a kind of what `clap` says
 abbrev pub status_of_kind : ErrorKind → ℕ

@@ -1,11 +1,13 @@
 //! The command line.
-ghost use Rattle.std.specs.Prelude.{◌≡◌, ◌≢◌, ◌⊎◌, ◌≤◌, None, true, IfErr, IfOk, map, option_map};
+ghost use Rattle.std.specs.Prelude.{◌≡◌, ◌≢◌, ◌⊎◌, ◌≤◌, None, true, IfErr, IfOk, IfSome, map, option_map};
 ghost use Rattle.std.specs.IoError.{error_kind};
 ghost use Rattle.std.specs.declared.io.ErrorKind.TheVariants.{OutOfMemory as IoOutOfMemory};
-ghost use Rattle.clap.specs.Words.{app_of, kind_of, subcommand_rows_of};
-ghost use Rattle.mesh_run.specs.CommandLine.{IsAllowedOf, IsAsked, IsNoText, IsOutOfMemory, IsSaidOf, IsStopAt, file_asked, file_in, is_taken, meshrun_app, path_of, status_of_kind};
+ghost use Rattle.clap.specs.Words.{app_of, found_of, kind_of, rows_of, rule_of, subcommand_rows_of};
+ghost use Rattle.mesh_run.specs.CommandLine.{IsAllowedOf, IsAsked, IsNoText, IsOutOfMemory, IsSaidOf, IsStopAt, asked, asked_in, asking, file_rule, is_taken, meshrun_app, number_in, number_or_1, number_rule, numbers_in, numbers_of, replay_app, required_number, status_of_kind, threads_app};
 
+use crate::ThreadsArgs;
 use crate::status::{DONE, FAILED, FAULTY};
+use clap::builder::ValueParser;
 use clap::error::ErrorKind;
 use clap::{Arg, ArgMatches, Command, Error};
 use std::alloc::{AllocError, Global};
@@ -13,8 +15,59 @@ use std::borrow::CowStr;
 use std::convert::AsStr;
 use std::io;
 
-/// The file that a replay reads, as the command line and the help call it.
+/// The job file, as the command line and the help call it.
 const FILE: &str = "FILE";
+
+/// An option with a number.
+#[derive(Clone, Copy)]
+struct NumberOption {
+    name: &'static str,
+    // What help calls the number.
+    value: &'static str,
+    least: u64,
+    most: u64,
+    help: &'static str,
+}
+
+const PROBE: NumberOption = NumberOption {
+    name: "probe",
+    value: "T",
+    least: 0,
+    most: 64,
+    help: "How many rounds of tries a search makes at most, 0 to 64",
+};
+
+const ROUNDS: NumberOption = NumberOption {
+    name: "rounds",
+    value: "R",
+    least: 0,
+    most: 1000,
+    help: "How many times each mesher searches and meshes, 0 to 1000",
+};
+
+const WORKERS: NumberOption = NumberOption {
+    name: "workers",
+    value: "N",
+    least: 1,
+    most: 16,
+    help: "How many threads make a search, 1 to 16",
+};
+
+const SEED: NumberOption = NumberOption {
+    name: "seed",
+    value: "S",
+    least: 0,
+    most: u64::MAX,
+    help: "What the words of the shuffles are made from, 0 to 18446744073709551615",
+};
+
+const MESHERS: NumberOption = NumberOption {
+    name: "meshers",
+    value: "M",
+    least: 1,
+    most: 10,
+    help: "How many threads mesh, 1 to 10",
+};
 
 /// The version that `--version` tells.
 const VERSION: &str = "0.1.0";
@@ -24,6 +77,8 @@ const VERSION: &str = "0.1.0";
 pub enum Args<'a> {
     /// `replay FILE`: replay the job file at this path.
     Replay(&'a str),
+    /// `threads FILE ..`: run the scripts of the job file at this path by threads, with these numbers.
+    Threads(&'a str, ThreadsArgs),
 }
 
 /// Why the program ends before it begins, and what it says.
@@ -37,11 +92,12 @@ pub struct Stop {
 
 /// What the words of a command line ask for, the program's name first.
 ///
-/// The words are read by `clap`, which words the texts of help, version and faults. The file is the word as it was given.
+/// The words are read by `clap`, which words the texts of help, version and faults. The file is the word as it was given, and a
+/// number is what `clap` reads as a `u64`: decimal digits, perhaps after a plus.
 pub fn arguments<'a, S: AsStr>(alloc: Global, words: &'a [S]) -> Result<Args<'a>, Stop>
     ensures asked { IfOk result (IsAsked (map S.text words.now)) }
     ensures stop { IfErr result (IsStopAt (map S.text words.now)) }
-    ensures passes { IfErr result (λ stop. is_taken (map S.text words.now) ≡ true → IsOutOfMemory stop ⊎ (file_asked (map S.text words.now) ≡ None)) }
+    ensures passes { IfErr result (λ stop. is_taken (map S.text words.now) ≡ true → IsOutOfMemory stop ⊎ (asked (map S.text words.now) ≡ None)) }
     ensures small { IfErr result (λ stop. stop.status ≤ 2) }
 {
     match read_words(alloc, words) {
@@ -70,41 +126,122 @@ fn matches_of<'a, S: AsStr>(
     words: &'a [S],
 ) -> Result<ArgMatches<'a>, Error>
     requires { app_of command.old ≡ meshrun_app }
-    ensures file { IfOk result (λ matches. file_in (subcommand_rows_of matches) ≡ file_asked (map S.text words.now)) }
+    ensures asked { IfOk result (λ matches. asked_in (subcommand_rows_of matches) ≡ asked (map S.text words.now)) }
     ensures kinds { IfErr result (λ error. IsSaidOf (map S.text words.now) (kind_of error)) }
     ensures passes { IfErr result (λ error. IsAllowedOf (map S.text words.now) (kind_of error)) }
 {
     command.try_get_matches_from_mut(words)
 }
 
-/// The command that the matches name, with its file.
+/// The command that the matches name, with its file and its numbers.
 fn asked_for<'a>(matches: &ArgMatches<'a>) -> Option<Args<'a>>
-    ensures { option_map path_of result ≡ file_in (subcommand_rows_of matches.now) }
+    ensures { option_map asking result ≡ asked_in (subcommand_rows_of matches.now) }
 {
     let (name, matches) = matches.subcommand()?;
     let file = matches.get_str(FILE)?;
     match name {
         "replay" => Some(Args::Replay(file)),
+        "threads" => Some(Args::Threads(file, numbers(matches)?)),
         _ => None,
     }
 }
 
-/// The program's command line: a command and its file, help and version.
+/// The numbers that threads are asked for.
+fn numbers<'a>(matches: &ArgMatches<'a>) -> Option<ThreadsArgs>
+    ensures { option_map numbers_of result ≡ numbers_in (rows_of (found_of matches.now)) }
+{
+    Some(ThreadsArgs {
+        probe: number(matches, PROBE)? as u32,
+        rounds: number(matches, ROUNDS)? as u32,
+        workers: number(matches, WORKERS)? as u32,
+        seed: number(matches, SEED)?,
+        meshers: number(matches, MESHERS)? as u32,
+    })
+}
+
+/// The number that an option was given, where it is one that the option takes.
+fn number<'a>(matches: &ArgMatches<'a>, option: NumberOption) -> Option<u64>
+    ensures value { result ≡ number_in option.name.now option.least option.most (rows_of (found_of matches.now)) }
+    ensures range { IfSome result (λ number. (option.least ≤ number) × (number ≤ option.most)) }
+{
+    let number = matches.get_one::<u64>(option.name)?;
+    if option.least <= number && number <= option.most {
+        Some(number)
+    } else {
+        None
+    }
+}
+
+/// The program's command line: a command with its file, help and version.
 fn meshrun_command<'a>(alloc: Global) -> Result<Command<'a>, AllocError>
     ensures { IfOk result (λ command. app_of command ≡ meshrun_app) }
 {
-    let file = Arg::new(alloc, FILE)
-        .required(true)
-        .help("The job file to replay");
-    let replay = Command::new(alloc, "replay")
-        .about("Run a job file's plan and print one answer a line")
-        .arg(file)?;
+    let replay = replay_command(alloc)?;
+    let threads = threads_command(alloc)?;
     Command::new(alloc, "meshrun")
         .about("A modelled heap that is compacted by meshing")
         .version(VERSION)
         .subcommand_required(true)
         .arg_required_else_help(true)
-        .subcommand(replay)
+        .subcommand(replay)?
+        .subcommand(threads)
+}
+
+/// `replay FILE`.
+fn replay_command<'a>(alloc: Global) -> Result<Command<'a>, AllocError>
+    ensures { IfOk result (λ command. app_of command ≡ replay_app) }
+{
+    Command::new(alloc, "replay")
+        .about("Run a job file's plan and print one answer a line")
+        .arg(file(alloc, "The job file to replay"))
+}
+
+/// `threads FILE --probe T --rounds R --workers N --seed S [--meshers M]`.
+fn threads_command<'a>(alloc: Global) -> Result<Command<'a>, AllocError>
+    ensures { IfOk result (λ command. app_of command ≡ threads_app) }
+{
+    Command::new(alloc, "threads")
+        .about(
+            "Run a job file's scripts, a thread each, while others mesh, and print their answers",
+        )
+        .arg(file(alloc, "The job file; its plan is not used"))?
+        .arg(required_number(alloc, PROBE))?
+        .arg(required_number(alloc, ROUNDS))?
+        .arg(required_number(alloc, WORKERS))?
+        .arg(required_number(alloc, SEED))?
+        .arg(number_or_1(alloc, MESHERS))
+}
+
+/// The job file.
+fn file<'a>(alloc: Global, help: &'static str) -> Arg<'a>
+    ensures { rule_of result ≡ file_rule }
+{
+    Arg::new(alloc, FILE).required(true).help(help)
+}
+
+/// An option with a number that has to be given.
+fn required_number<'a>(alloc: Global, option: NumberOption) -> Arg<'a>
+    ensures { rule_of result ≡ required_number option.name.now option.least option.most }
+{
+    number_option(alloc, option).required(true)
+}
+
+/// An option with a number that is 1 where it isn't given.
+fn number_or_1<'a>(alloc: Global, option: NumberOption) -> Arg<'a>
+    ensures { rule_of result ≡ number_or_1 option.name.now option.least option.most }
+{
+    number_option(alloc, option).default_value("1")
+}
+
+/// An option with a number.
+fn number_option<'a>(alloc: Global, option: NumberOption) -> Arg<'a>
+    ensures { rule_of result ≡ number_rule option.name.now option.least option.most }
+{
+    Arg::new(alloc, option.name)
+        .long(option.name)
+        .value_name(option.value)
+        .value_parser(ValueParser::unsigned(option.least, option.most))
+        .help(option.help)
 }
 
 /// How the program stops where the system doesn't give it the words of its command line: they are no text, or memory was refused.

@@ -1,16 +1,108 @@
 //! Command lines.
 use crate::{Args, Output, arguments, stop_run, unopened_run};
+use std::test::Fail;
 
-/// For each command line that is no replay its words, the exit status, and how the text that it prints begins.
-static STOPS: [(&[&str], u8, &str); 8] = [
+/// For each command line that asks for no run its words, the exit status, and how the text that it prints begins.
+static STOPS: [(&[&str], u8, &str); 9] = [
     (&["meshrun", "--help"], 0, "A modelled heap"),
     (&["meshrun", "--version"], 0, "meshrun 0.1.0\n"),
-    (&["meshrun", "replay", "--help"], 0, "Run a job file"),
+    (&["meshrun", "replay", "--help"], 0, "Run a job file's plan"),
+    (
+        &["meshrun", "threads", "--help"],
+        0,
+        "Run a job file's scripts",
+    ),
     (&["meshrun"], 2, "A modelled heap"),
     (&["meshrun", "replay"], 2, "error: "),
     (&["meshrun", "replay", "a", "b"], 2, "error: "),
     (&["meshrun", "replay", "--version"], 2, "error: "),
     (&["meshrun", "report"], 2, "error: "),
+];
+
+/// Command lines, and the numbers that they ask for on `a.job`: probe, rounds, workers, seed and meshers.
+static NUMBERS: [(&str, &[u64]); 14] = [
+    (
+        "meshrun threads a.job --probe 2 --rounds 3 --workers 4 --seed 5 --meshers 6",
+        &[2, 3, 4, 5, 6],
+    ),
+    (
+        "meshrun threads a.job --probe 2 --rounds 3 --workers 4 --seed 5",
+        &[2, 3, 4, 5, 1],
+    ),
+    (
+        "meshrun threads a.job --probe 0 --rounds 3 --workers 4 --seed 5 --meshers 6",
+        &[0, 3, 4, 5, 6],
+    ),
+    (
+        "meshrun threads a.job --probe 64 --rounds 3 --workers 4 --seed 5 --meshers 6",
+        &[64, 3, 4, 5, 6],
+    ),
+    (
+        "meshrun threads a.job --probe 2 --rounds 0 --workers 4 --seed 5 --meshers 6",
+        &[2, 0, 4, 5, 6],
+    ),
+    (
+        "meshrun threads a.job --probe 2 --rounds 1000 --workers 4 --seed 5 --meshers 6",
+        &[2, 1000, 4, 5, 6],
+    ),
+    (
+        "meshrun threads a.job --probe 2 --rounds 3 --workers 1 --seed 5 --meshers 6",
+        &[2, 3, 1, 5, 6],
+    ),
+    (
+        "meshrun threads a.job --probe 2 --rounds 3 --workers 16 --seed 5 --meshers 6",
+        &[2, 3, 16, 5, 6],
+    ),
+    (
+        "meshrun threads a.job --probe 2 --rounds 3 --workers 4 --seed 0 --meshers 6",
+        &[2, 3, 4, 0, 6],
+    ),
+    (
+        "meshrun threads a.job --probe 2 --rounds 3 --workers 4 --seed 18446744073709551615 --meshers 6",
+        &[2, 3, 4, 18446744073709551615, 6],
+    ),
+    (
+        "meshrun threads a.job --probe 2 --rounds 3 --workers 4 --seed 5 --meshers 1",
+        &[2, 3, 4, 5, 1],
+    ),
+    (
+        "meshrun threads a.job --probe 2 --rounds 3 --workers 4 --seed 5 --meshers 10",
+        &[2, 3, 4, 5, 10],
+    ),
+    (
+        "meshrun threads --meshers=6 --seed=5 a.job --workers=4 --rounds=3 --probe=2",
+        &[2, 3, 4, 5, 6],
+    ),
+    (
+        "meshrun threads a.job --probe +2 --rounds 003 --workers 4 --seed 5 --meshers 6",
+        &[2, 3, 4, 5, 6],
+    ),
+];
+
+/// Command lines of `threads` with a fault, and one of `replay`.
+static FAULTY: [&str; 22] = [
+    "meshrun threads a.job --probe 65 --rounds 3 --workers 4 --seed 5 --meshers 6",
+    "meshrun threads a.job --probe 2 --rounds 1001 --workers 4 --seed 5 --meshers 6",
+    "meshrun threads a.job --probe 2 --rounds 3 --workers 0 --seed 5 --meshers 6",
+    "meshrun threads a.job --probe 2 --rounds 3 --workers 17 --seed 5 --meshers 6",
+    "meshrun threads a.job --probe 2 --rounds 3 --workers 4 --seed 18446744073709551616 --meshers 6",
+    "meshrun threads a.job --probe 2 --rounds 3 --workers 4 --seed 5 --meshers 0",
+    "meshrun threads a.job --probe 2 --rounds 3 --workers 4 --seed 5 --meshers 11",
+    "meshrun threads a.job --rounds 3 --workers 4 --seed 5 --meshers 6",
+    "meshrun threads a.job --probe 2 --workers 4 --seed 5 --meshers 6",
+    "meshrun threads a.job --probe 2 --rounds 3 --seed 5 --meshers 6",
+    "meshrun threads a.job --probe 2 --rounds 3 --workers 4 --meshers 6",
+    "meshrun threads a.job --probe -1 --rounds 3 --workers 4 --seed 5 --meshers 6",
+    "meshrun threads a.job --probe 2 --rounds 3 --workers 4 --seed 0x5 --meshers 6",
+    "meshrun threads a.job --probe 2 --rounds 3.0 --workers 4 --seed 5 --meshers 6",
+    "meshrun threads a.job --probe 2 --rounds 3 --workers 4 --seed 5 --meshers 6 --gate 1",
+    "meshrun threads a.job --probe 2 --rounds 3 --workers 4 --seed 5 --meshers 6 b.job",
+    "meshrun threads a.job --probe 2 --rounds 3 --workers 4 --seed 5 --meshers 6 --seed 5",
+    "meshrun threads a.job --probe 2 --rounds 3 --workers 4 --seed 5 --meshers 6 --version",
+    "meshrun threads --probe 2 --rounds 3 --workers 4 --seed 5 --meshers 6",
+    "meshrun threads a.job",
+    "meshrun threads",
+    "meshrun replay a.job --seed 5",
 ];
 
 #[test]
@@ -44,6 +136,35 @@ fn stops_at_others(rt: HostRuntime) {
         assert!(rt; told.starts_with(text.as_bytes()), "{text}");
         assert!(rt; other.is_empty(), "{text}");
     }
+}
+
+#[test]
+fn reads_numbers(rt: HostRuntime) -> Result<(), Fail> {
+    for (line, numbers) in NUMBERS.iter() {
+        let words: Vec<&str> = line.split(' ').collect(rt.alloc())?;
+        let Ok(Args::Threads(file, args)) = arguments(rt.alloc(), words.as_slice()) else {
+            panic!(rt; "no threads: {line}");
+        };
+        assert_eq!(rt; file, "a.job", "{line}");
+        let counts = [args.probe, args.rounds, args.workers, args.meshers];
+        let [probe, rounds, workers, meshers] = counts.map(u64::from);
+        let read = [probe, rounds, workers, args.seed, meshers];
+        assert!(rt; read.as_slice() == *numbers, "{line}");
+    }
+    Ok(())
+}
+
+#[test]
+fn refuses_faulty_numbers(rt: HostRuntime) -> Result<(), Fail> {
+    for line in FAULTY.iter() {
+        let words: Vec<&str> = line.split(' ').collect(rt.alloc())?;
+        let Err(stop) = arguments(rt.alloc(), words.as_slice()) else {
+            panic!(rt; "no stop: {line}");
+        };
+        assert_eq!(rt; stop.status, 2, "{line}");
+        assert!(rt; stop.text.as_str().starts_with("error: "), "{line}");
+    }
+    Ok(())
 }
 
 #[test]

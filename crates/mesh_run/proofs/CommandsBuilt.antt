@@ -1,0 +1,47 @@
+-- What `clap`'s contracts say of a command that is built.
+use Rattle.std.proofs.Common.{◌≡◌, ◌∙◌, Bool, true, false, Some, ap, ap₂, refl, sym}
+use Rattle.std.proofs.Math.Bool.{and-false}
+use Rattle.std.specs.Borrow.{Bor}
+use Rattle.clap.specs.Simple.{app_of_fields}
+use Rattle.clap.specs.Walk.{is_simple_arg}
+use Rattle.clap.specs.Words.{AddsArg, AddsSubcommand, App, Rule, Text, app_of, rule_of, shape_of, with_rule, with_subcommand}
+use Rattle.clap.specs.declared.builder.arg.Arg.{Arg}
+use Rattle.clap.specs.declared.builder.command.Command.{Command}
+use Rattle.clap.specs.declared.builder.command.Command.TheViews.{out-Command}
+
+-- a simple argument is not global
+local_arg : (a : Arg) → (rule_of a).is_simple ≡ true → a.global ≡ false
+local_arg a simple = go a.global refl
+  where
+    go : (b : Bool) → a.global ≡ b → a.global ≡ false
+    go false is = is
+    go true is =
+        let never : is_simple_arg a ≡ false = rw is (simp and-false) in
+        let bad : true ≡ false = sym simple ∙ never in
+        absurd (cc bad)
+
+-- a plain command has no global argument
+local_command : (c : Command) → (shape_of c).is_plain ≡ true → (out-Command c).has_globals ≡ false
+local_command c plain = go (out-Command c).has_globals refl
+  where
+    go : (b : Bool) → (out-Command c).has_globals ≡ b → (out-Command c).has_globals ≡ false
+    go false is = is
+    go true is =
+        let never : (shape_of c).is_plain ≡ false = rw is (simp and-false) in
+        let bad : true ≡ false = sym plain ∙ never in
+        absurd (cc bad)
+
+-- a command told what it is about
+pub described : (old new : Command) (about : Bor Text) → out-Command new ≡ record (out-Command old) { about = Some about } → app_of new ≡ app_of old
+described old new about is = ap app_of_fields is
+
+-- a command with one more argument
+pub with_argument : (old : Command) (a : Arg) (new : Command) (app : App) (r : Rule) → AddsArg old a new → app_of old ≡ app → rule_of a ≡ r → r.is_simple ≡ true
+    → app_of new ≡ with_rule app r
+with_argument old a new app r adds old_is is simple = adds.shape (local_arg a (ap (λ (x : Rule). x.is_simple) is ∙ simple)) ∙ ap₂ with_rule old_is is
+
+-- a command with one more subcommand
+pub with_command : (old sub new : Command) (app below : App) → AddsSubcommand old sub new → app_of old ≡ app → app_of sub ≡ below → below.top.is_plain ≡ true
+    → app_of new ≡ with_subcommand app below.top
+with_command old sub new app below adds old_is is plain =
+    adds.shape (local_command sub (ap (λ (x : App). x.top.is_plain) is ∙ plain)) ∙ ap₂ with_subcommand old_is (ap (λ (x : App). x.top) is)
