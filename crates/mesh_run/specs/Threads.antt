@@ -8,7 +8,7 @@ use Rattle.mesh_model.specs.Plain.{Entry}
 use Rattle.mesh_model.specs.declared.commands.Command.{Command}
 use Rattle.mesh_run.specs.Runs.{HasFailed, error_text}
 use Rattle.mesh_run.specs.Status.{status_of_error}
-use Rattle.mesh_run.specs.ThreadsArgs.{PlainArgs}
+use Rattle.mesh_run.specs.declared.threads_args.ThreadsArgs.{ThreadsArgs}
 use Rattle.mesh_run.specs.Words.{words_of}
 use Rattle.mesh_run.specs.declared.threads_error.ThreadsError.{ThreadsError}
 use Rattle.mesh_run.specs.declared.threads_error.ThreadsError.TheVariants.{Replay, TooShort, Thread, Run}
@@ -82,7 +82,7 @@ HasFailedRun input output Thread = (input ≡ false) × (output ≡ false)
 HasFailedRun input output Run = (input ≡ false) × (output ≡ false)
 
 -- what meshers do is what was asked for, with the words of its seed
-pub record IsPlanOf (args : PlainArgs) (plan : MeshPlan) : Type 0 where
+pub record IsPlanOf (args : ThreadsArgs) (plan : MeshPlan) : Type 0 where
   pub tries : plan.t ≡ args.probe
   pub rounds : plan.rounds ≡ args.rounds
   pub searchers : plan.workers ≡ args.workers

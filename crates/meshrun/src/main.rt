@@ -1,9 +1,12 @@
 //! The program `meshrun`: a modelled heap that is compacted by meshing.
 //!
-//! `meshrun replay FILE` runs the plan of a job file and prints one answer line for each of its lines.
+//! `meshrun replay FILE` runs the plan of a job file and prints one answer line for each of its lines. `meshrun threads FILE ..` runs its
+//! scripts, each on a thread of its own, while other threads search and mesh, and prints each worker's answers.
 #![tactic(auto)]
 
-use mesh_run::{Args, Input, Output, arguments, replay_run, stop_run, unopened_run, unread_words};
+use mesh_run::{
+    Args, Input, Output, arguments, replay_run, stop_run, threads_run, unopened_run, unread_words,
+};
 use std::fs::File;
 use std::process::ExitCode;
 use std::{env, io};
@@ -13,10 +16,22 @@ fn main(rt: HostRuntime) -> ExitCode {
     let mut errors = Output::new(rt.stderr());
     let status = match words(&rt) {
         Ok(words) => match arguments(rt.alloc(), words.as_slice()) {
-            Ok(Args::Replay(path)) => match File::open(&rt, path) {
+            Ok(args) => match File::open(&rt, path_of(args)) {
                 Ok(file) => {
                     let mut input = Input::new(file);
-                    replay_run(rt.alloc(), &mut input, &mut output, &mut errors)
+                    match args {
+                        Args::Replay(_) => {
+                            replay_run(rt.alloc(), &mut input, &mut output, &mut errors)
+                        }
+                        Args::Threads(_, args) => threads_run(
+                            &rt,
+                            rt.alloc(),
+                            &mut input,
+                            &mut output,
+                            &mut errors,
+                            &args,
+                        ),
+                    }
                 }
                 Err(_) => unopened_run(&mut errors),
             },
@@ -25,6 +40,13 @@ fn main(rt: HostRuntime) -> ExitCode {
         Err(error) => stop_run(&unread_words(&error), &mut output, &mut errors),
     };
     ExitCode::from(status)
+}
+
+/// The path of the job file.
+fn path_of<'a>(args: Args<'a>) -> &'a str {
+    match args {
+        Args::Replay(path) | Args::Threads(path, _) => path,
+    }
 }
 
 /// The words of the command line, the program's name first.
