@@ -80,6 +80,7 @@ check "no file" 2 "$room/nothing" any replay
 check "another command" 2 "$room/nothing" any report "$hello"
 check "help" 0 any "$room/nothing" --help
 check "help on a command" 0 any "$room/nothing" replay --help
+check "help on threads" 0 any "$room/nothing" threads --help
 check "the version" 0 "$(line 'meshrun 0.1.0')" "$room/nothing" --version
 
 cat "$hello" | "$program" replay /dev/stdin >"$room/output" 2>"$room/errors"
@@ -93,6 +94,58 @@ ended "a full device as standard output" $? 1 "$room/nothing" "$(line 'write fau
 status=$?
 : >"$room/errors"
 ended "a full device as standard error" $status 2 "$room/nothing" "$room/nothing"
+
+# scripts run by threads: one output, whatever the numbers
+threads=jobs/threads.job
+small='--probe 2 --rounds 3 --workers 3 --seed 1'
+for seed in 0 1 18446744073709551615; do
+    for workers in 1 3 16; do
+        for meshers in 1 2 10; do
+            check "threads: seed $seed, $workers search workers, $meshers meshers" 0 jobs/threads.out "$room/nothing" \
+                threads "$threads" --probe 2 --rounds 3 --workers $workers --seed $seed --meshers $meshers
+        done
+    done
+done
+for probe in 0 1 64; do
+    for rounds in 0 1 2 3; do
+        check "threads: t $probe, $rounds rounds" 0 jobs/threads.out "$room/nothing" \
+            threads "$threads" --probe $probe --rounds $rounds --workers 3 --seed 1
+    done
+done
+
+sed 's/^history 400$/history 65536/' "$threads" >"$room/long.job"
+sed 's/^history 400$/history 399/' "$threads" >"$room/short.job"
+# shellcheck disable=SC2086
+{
+    check "threads: more history than commands" 0 jobs/threads.out "$room/nothing" threads "$room/long.job" $small
+    check "threads: a history too short" 2 "$room/nothing" "$(line 'history too short')" threads "$room/short.job" $small
+    check "threads: a file with a fault" 2 "$room/nothing" "$(line 'line 7: HEX')" threads jobs/rows/faults/half_byte.job $small
+    check "threads: a missing file" 1 "$room/nothing" "$(line 'read fault')" threads "$room/missing.job" $small
+    check "threads: a directory" 1 "$room/nothing" "$(line 'read fault')" threads jobs $small
+    check "threads: no file" 2 "$room/nothing" any threads $small
+    check "threads: no number" 2 "$room/nothing" any threads "$threads"
+    check "threads: a number given twice" 2 "$room/nothing" any threads "$threads" $small --seed 2
+    check "threads: an unknown option" 2 "$room/nothing" any threads "$threads" $small --gate 1
+    for meshers in 0 11; do
+        check "threads: $meshers meshers" 2 "$room/nothing" any threads "$threads" $small --meshers $meshers
+    done
+}
+for numbers in '65 3 3 1' '2 1001 3 1' '2 3 0 1' '2 3 17 1' '2 3 3 18446744073709551616'; do
+    # shellcheck disable=SC2086
+    set -- $numbers
+    check "threads: t $1, $2 rounds, $3 search workers, seed $4" 2 "$room/nothing" any \
+        threads "$threads" --probe "$1" --rounds "$2" --workers "$3" --seed "$4"
+done
+
+# shellcheck disable=SC2086
+"$program" threads "$threads" $small </dev/null >/dev/full 2>"$room/errors"
+status=$?
+: >"$room/output"
+ended "threads: a full device as standard output" $status 1 "$room/nothing" "$(line 'write fault')"
+
+# shellcheck disable=SC2086
+cat "$threads" | "$program" threads /dev/stdin $small >"$room/output" 2>"$room/errors"
+ended "threads: a pipe as the file" $? 0 jobs/threads.out "$room/nothing"
 
 # the worked rows
 for job in jobs/rows/*/*.job; do

@@ -1,0 +1,20 @@
+#!/bin/sh
+# Makes three job files of the same 32,000 commands, spread over 1, 2 and 4 workers, and prints the times of their scripts run by threads, beside
+# those of their replay: what the lock costs.
+#
+#     tools/lock_times.sh [PROGRAM [RUNS]]
+#
+# PROGRAM is crates/meshrun/out/meshrun where none is given: `rt run` in crates/meshrun leaves it there. Each file is run RUNS times (21 where none is
+# given) in three ways: by `replay`, by `threads` without a round of meshing, and by `threads` with 20 rounds beside the workers. The medians of the
+# processor time and of the wall time are printed, and how much longer a command takes in threads without a round than in a replay. In that are the
+# lock, the threads, and the one history that is made of journal and seats in the end. It judges nothing; run it on an idle machine.
+
+here=$(dirname "$0")
+program=${1:-$here/../crates/meshrun/out/meshrun}
+if [ ! -x "$program" ]; then
+    echo "there is no program at $program: run \`rt run\` in crates/meshrun" >&2
+    exit 2
+fi
+room=$(mktemp -d) || exit 2
+trap 'rm -rf "$room"' EXIT
+python3 "$here/lock_times/files.py" "$room" && python3 "$here/lock_times/table.py" "$program" "${2:-21}" "$room"/*.job

@@ -1,0 +1,63 @@
+#!/usr/bin/env python3
+"""Writes three job files of the same commands into a folder: workers_1.job, workers_2.job and workers_4.job. They are the same every time.
+
+The commands are in four parts, each with root cells of its own. A file's workers share out the parts, and its plan makes all commands in one order,
+which is the same in all three files."""
+import pathlib
+import random
+import sys
+
+PARTS = 4
+COMMANDS = 8_000
+CELLS = 256 // PARTS
+LENGTHS = [16, 30, 64, 100, 256, 384, 500, 1024, 1500, 2048]
+
+
+def part(number):
+    """The commands of a part: objects of all classes made, stored to, loaded from, looked for and freed."""
+    pick = random.Random(number)
+    lengths = {}
+    lines = []
+    while len(lines) < COMMANDS:
+        cell = CELLS * number + pick.randrange(CELLS)
+        if cell not in lengths:
+            lengths[cell] = pick.choice(LENGTHS)
+            lines.append(f"new {cell} {lengths[cell]} {pick.randrange(1000)}")
+            continue
+        kind = pick.random()
+        count = pick.randrange(1, 9)
+        place = pick.randrange(lengths[cell] - count + 1)
+        if kind < 0.1:
+            del lengths[cell]
+            lines.append(f"free {cell}")
+        elif kind < 0.45:
+            lines.append(f"put {cell} {place} {pick.randbytes(count).hex()}")
+        elif kind < 0.8:
+            lines.append(f"get {cell} {place} {count}")
+        else:
+            lines.append(f"addr {cell}")
+    return lines
+
+
+def job(parts, workers):
+    """The job of these parts and so many workers; part p is worker p mod workers'."""
+    lines = ["mesh 1", "pages 4096", "history 65536", f"workers {workers}"]
+    for worker in range(workers):
+        lines.append(f"worker {worker}")
+        for commands in zip(*parts[worker::workers]):
+            lines += commands
+    lines.append("plan")
+    lines += [f"run {number % workers}" for _ in range(COMMANDS) for number in range(PARTS)]
+    lines.append("end")
+    return "".join(line + "\n" for line in lines)
+
+
+def main():
+    folder = pathlib.Path(sys.argv[1])
+    parts = [part(number) for number in range(PARTS)]
+    for workers in (1, 2, 4):
+        (folder / f"workers_{workers}.job").write_text(job(parts, workers))
+
+
+if __name__ == "__main__":
+    main()

@@ -1,0 +1,50 @@
+#!/usr/bin/env python3
+"""Prints the median times of `PROGRAM replay FILE`, of `PROGRAM threads FILE` without a round and of one with rounds, for each file, with what a
+command takes more in threads without a round than in a replay. The outputs go nowhere."""
+import os
+import statistics
+import sys
+import time
+
+NUMBERS = ["--probe", "2", "--workers", "1", "--seed", "1"]
+WAYS = {
+    "replay": lambda file: ["replay", file],
+    "threads": lambda file: ["threads", file, "--rounds", "0", *NUMBERS],
+    "with rounds": lambda file: ["threads", file, "--rounds", "20", *NUMBERS],
+}
+
+
+def run(command, nowhere):
+    """The processor seconds and the wall seconds of one run."""
+    start = time.perf_counter()
+    child = os.posix_spawn(command[0], command, os.environ, file_actions=[(os.POSIX_SPAWN_DUP2, nowhere, 1)])
+    _, status, used = os.wait4(child, 0)
+    if status != 0:
+        sys.exit(f"{' '.join(command)} ended with status {os.waitstatus_to_exitcode(status)}")
+    return used.ru_utime + used.ru_stime, time.perf_counter() - start
+
+
+def commands_of(file):
+    """How many commands a job file has: as many as its plan has lines."""
+    with open(file, encoding="ascii") as lines:
+        return sum(line.startswith("run ") for line in lines)
+
+
+def main():
+    program, runs, files = os.path.abspath(sys.argv[1]), int(sys.argv[2]), sys.argv[3:]
+    nowhere = os.open(os.devnull, os.O_RDWR)
+    print(f"{'file':16}{'commands':>10}{'way':>14}{'processor ms':>14}{'wall ms':>10}{'more a command, ns':>20}")
+    for file in files:
+        commands = commands_of(file)
+        replayed = 0.0
+        for way, words in WAYS.items():
+            used = [run([program, *words(file)], nowhere) for _ in range(runs)]
+            processor, wall = (statistics.median(column) for column in zip(*used))
+            if way == "replay":
+                replayed = wall
+            more = f"{(wall - replayed) / commands * 1e9:20.0f}" if way == "threads" else ""
+            print(f"{os.path.basename(file):16}{commands:10}{way:>14}{processor * 1e3:14.2f}{wall * 1e3:10.2f}{more}")
+
+
+if __name__ == "__main__":
+    main()
