@@ -12,6 +12,7 @@ use mesh_shared::{Ended, Gate, MeshPlan, RunError, run_abandoned, run_threads};
 use mesh_steps::{Heap, Report};
 use mesh_text::Script;
 use std::alloc::{AllocError, Global};
+use std::ops::Range;
 use std::rt::Clock;
 use std::sync::Wait;
 use std::test::Fail;
@@ -100,9 +101,9 @@ fn steps_left(heap: &mut Heap, size: u32) -> u32 {
     1000
 }
 
-// Whether so many bytes from an address on are zeros of an object.
-fn are_zeros(heap: &Heap, first: u32, len: u32) -> bool {
-    for address in first..first + len {
+// Whether an object has a zero at each of the addresses.
+fn are_zeros(heap: &Heap, addresses: Range<u32>) -> bool {
+    for address in addresses {
         if heap.peek(address) != Ok(0) {
             return false;
         }
@@ -321,11 +322,9 @@ fn abandoned<R: Clock + Threads + Wait + Sync>(
         Hold::new(Event::Searching, &[Event::Called(0, 5)]),
         Hold::new(Event::Called(0, 5), &[Event::Begun(0)]),
     ];
-    let gate = if calls == 0 {
-        Holding::new(rt, &marks[..1], &holds[..1], &[])
-    } else {
-        Holding::new(rt, &marks, &holds, &[])
-    };
+    // A mesher that makes no call begins no mesh that one could wait for.
+    let waits = if calls == 0 { 1 } else { 2 };
+    let gate = Holding::new(rt, &marks[..waits], &holds[..waits], &[]);
     let book = Book::open(alloc, 16, 64)?;
     let plan = plan_of(alloc, 2, 1);
     let ended = run_abandoned(rt, alloc, book, &alone(&reader), &plan, calls, 10, &gate);
@@ -341,14 +340,14 @@ fn a_mesher_is_abandoned_after_each_call(rt: HostRuntime) -> Result<(), Fail> {
             ended.history.len() == 10,
             "all commands are answered, after {calls} calls"
         );
-        let kept = are_zeros(&ended.heap, 0x1800, 2048) && are_zeros(&ended.heap, 0x2000, 2048);
+        let kept = are_zeros(&ended.heap, 0x1800..0x2000) && are_zeros(&ended.heap, 0x2000..0x2800);
         assert!(rt; kept, "both objects keep their bytes, after {calls} calls");
         let left = if calls == 0 { 0 } else { 7 - calls };
         assert!(rt;
             steps_left(&mut ended.heap, 2048) == left,
             "{left} steps are left after {calls} calls"
         );
-        let kept = are_zeros(&ended.heap, 0x1800, 2048) && are_zeros(&ended.heap, 0x2000, 2048);
+        let kept = are_zeros(&ended.heap, 0x1800..0x2000) && are_zeros(&ended.heap, 0x2000..0x2800);
         assert!(rt;
             kept,
             "both objects keep their bytes to the end, after {calls} calls"
