@@ -1,0 +1,101 @@
+//! Cases in which each allocation is refused once, and what is left is what the contracts say.
+//!
+//! The program is made to be run with a library that refuses one allocation, which `tools/refuse_memory.sh` does. A word names the case; with
+//! none, all cases run. For each case there is one line that says how it ended: done, with how many calls were refused memory and
+//! made again, out of memory, or a thread fault. A line that begins with `WRONG` tells what isn't as the contracts say; then the status is 1.
+#![tactic(auto)]
+
+mod book;
+mod ends;
+mod heap;
+mod meshing;
+mod orders;
+mod searches;
+mod seats;
+mod threads;
+
+use crate::ends::{End, Fault};
+use std::process::ExitCode;
+use std::sync::Wait;
+use std::thread::Threads;
+use std::{env, io};
+
+/// The cases' names, in the order in which they run.
+const CASES: [&str; 7] = [
+    "heap", "book", "mesh", "views", "seats", "search", "threads",
+];
+
+fn main(rt: HostRuntime) -> ExitCode {
+    let run = match words(&rt) {
+        Ok(words) => run_named(&rt, words.get(1)),
+        Err(_) => tell_no_words(&rt),
+    };
+    match run {
+        Ok(true) => ExitCode::SUCCESS,
+        Ok(false) | Err(_) => ExitCode::FAILURE,
+    }
+}
+
+/// Tells that there was no memory for the command line's words, which is no fault.
+fn tell_no_words<R: Print>(rt: &R) -> io::Result<bool> {
+    println!(rt; "words: out of memory")?;
+    Ok(true)
+}
+
+/// Runs the case that is named, or all cases where none is, and says whether all went right.
+fn run_named<R: AllocGlobal + Print + Threads + Wait + Sync>(
+    rt: &R,
+    case: Option<&String>,
+) -> io::Result<bool> {
+    match case {
+        Some(case) => run_case(rt, case.as_str()),
+        None => run_all(rt),
+    }
+}
+
+/// The words of the command line, the program's name first.
+fn words(rt: &HostRuntime) -> io::Result<Vec<String>> {
+    let words = env::args(rt)?.collect(rt.alloc())?;
+    Ok(words)
+}
+
+/// Runs all cases.
+fn run_all<R: AllocGlobal + Print + Threads + Wait + Sync>(rt: &R) -> io::Result<bool> {
+    let mut right = true;
+    for case in CASES.iter() {
+        right &= run_case(rt, case)?;
+    }
+    Ok(right)
+}
+
+/// Runs a case and prints its line.
+fn run_case<R: AllocGlobal + Print + Threads + Wait + Sync>(
+    rt: &R,
+    case: &str,
+) -> io::Result<bool> {
+    match end_of(rt, case) {
+        Ok(0) => println!(rt; "{case}: done")?,
+        Ok(refused) => println!(rt; "{case}: done, {refused} refused")?,
+        Err(Fault::Wrong(what)) => {
+            println!(rt; "WRONG {case}: {what}")?;
+            return Ok(false);
+        }
+        Err(fault) => println!(rt; "{case}: {fault}")?,
+    }
+    Ok(true)
+}
+
+/// How a case ends.
+fn end_of<R: AllocGlobal + Print + Threads + Wait + Sync>(rt: &R, case: &str) -> End {
+    let alloc = rt.alloc();
+    match case {
+        "heap" => heap::fill(alloc),
+        "book" => book::fill(alloc),
+        "mesh" => meshing::mesh(rt, alloc),
+        "views" => searches::search_alone(alloc),
+        "seats" => seats::share(rt, alloc),
+        "search" => searches::search_by_two(rt, alloc),
+        "threads" => threads::run_scripts(rt, alloc),
+        _ => Err(Fault::Wrong("no such case")),
+    }
+}

@@ -1,0 +1,110 @@
+//! A book that two seats share.
+ghost use Rattle.mesh_model.specs.Commands.{IsInRange};
+
+use crate::ends::{End, Fault, expect};
+use arrayvec::ArrayVec;
+use mesh_mutator::{Attempt, Book, Command};
+use mesh_shared::{Seat, Shared};
+use std::alloc::Global;
+use std::sync::Wait;
+
+/// How many calls each seat has room for.
+const ROOM: usize = 40;
+
+/// Two seats make calls of every kind, and their book is settled.
+pub(crate) fn share<R: Wait>(rt: &R, alloc: Global) -> End {
+    let book = Book::open(alloc, 32, 80)?;
+    let (shared, mut seats) = Shared::open(alloc, book, &[ROOM, ROOM])?;
+    let mut refused = 0u32;
+    let mut first_cell = 0u8;
+    for seat in seats.iter_mut() {
+        refused = refused.saturating_add(serve(rt, &shared, seat, first_cell)?);
+        first_cell = 128;
+    }
+    let calls = calls_of(seats.as_slice());
+    let ended = shared.finish(alloc, seats)?;
+    expect(ended.history.len() == calls, "another count of entries")?;
+    Ok(refused)
+}
+
+/// How many calls two seats keep.
+fn calls_of(seats: &[Seat]) -> usize {
+    let mut calls = 0usize;
+    for seat in seats.iter() {
+        calls = calls.saturating_add(seat.calls().len());
+    }
+    calls
+}
+
+/// Makes the calls of one seat, which uses the cells from one on.
+fn serve<R: Wait>(rt: &R, shared: &Shared, seat: &mut Seat, first: u8) -> End {
+    let mut refused = 0u32;
+    for k in 0..24u8 {
+        let cell = first.wrapping_add(k);
+        refused = refused.saturating_add(make(rt, shared, seat, &Command::New(cell, 2048, 0))?);
+    }
+    let mut bytes = ArrayVec::new();
+    bytes.push(b'w');
+    let next = first.wrapping_add(1);
+    call(rt, shared, seat, &Command::Put(first, 0, bytes))?;
+    call(rt, shared, seat, &Command::Get(first, 0, 1))?;
+    call(rt, shared, seat, &Command::Copy(next, 0, first, 0, 1))?;
+    call(rt, shared, seat, &Command::Addr(next))?;
+    call(rt, shared, seat, &Command::Poke(0x1000, b'p'))?;
+    call(rt, shared, seat, &Command::Peek(0x1000))?;
+    call(rt, shared, seat, &Command::Alias(next, first))?;
+    call(rt, shared, seat, &Command::Free(first))?;
+    Ok(refused)
+}
+
+/// Makes a call that takes no memory.
+fn call<R: Wait>(rt: &R, shared: &Shared, seat: &mut Seat, command: &Command) -> Result<(), Fault>
+    requires { IsInRange command.now }
+{
+    expect(
+        is_kept(rt, shared, seat, command)?,
+        "a call that met want of memory",
+    )
+}
+
+/// Makes a call, and makes it again where memory was refused.
+fn make<R: Wait>(rt: &R, shared: &Shared, seat: &mut Seat, command: &Command) -> End
+    requires { IsInRange command.now }
+{
+    if is_kept(rt, shared, seat, command)? {
+        return Ok(0);
+    }
+    expect(
+        is_kept(rt, shared, seat, command)?,
+        "one allocation was refused twice",
+    )?;
+    Ok(1)
+}
+
+/// Whether there was memory for a call. The seat keeps it exactly then.
+fn is_kept<R: Wait>(
+    rt: &R,
+    shared: &Shared,
+    seat: &mut Seat,
+    command: &Command,
+) -> Result<bool, Fault>
+    requires { IsInRange command.now }
+{
+    let before = seat.calls().len();
+    let attempt = shared.call(rt, seat, command);
+    let kept = seat.calls().len();
+    match attempt {
+        Attempt::Done(_) => {
+            expect(
+                kept > before && kept - before == 1,
+                "a call that the seat doesn't keep",
+            )?;
+            Ok(true)
+        }
+        Attempt::OutOfMemory => {
+            expect(kept == before, "the seat keeps a call that found no memory")?;
+            Ok(false)
+        }
+        Attempt::Blocked | Attempt::HistoryFull => Err(Fault::Wrong("a call that isn't answered")),
+    }
+}

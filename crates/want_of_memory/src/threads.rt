@@ -1,0 +1,76 @@
+//! Scripts in threads, with meshers at work.
+ghost use Rattle.std.specs.Prelude.{◌≡◌, ◌≤◌};
+ghost use Rattle.std.specs.List.{All};
+ghost use Rattle.mesh_model.specs.Commands.{IsInRange};
+
+use crate::ends::{End, Fault, expect};
+use arrayvec::ArrayVec;
+use mesh_mutator::{Book, Command};
+use mesh_shared::{MeshPlan, NoGate, RunError, run_threads};
+use mesh_text::Script;
+use std::alloc::{AllocError, Global};
+use std::sync::Wait;
+use std::thread::Threads;
+
+/// How many cells each worker has, and the first ones.
+const CELLS: u8 = 40;
+
+const FIRST_CELLS: [u8; 2] = [0, 128];
+
+/// Two scripts of 200 commands on threads of their own, beside two meshers with two searchers each.
+pub(crate) fn run_scripts<R: Threads + Wait + Sync>(rt: &R, alloc: Global) -> End {
+    let book = Book::open(alloc, 64, 400)?;
+    let one = script(alloc, FIRST_CELLS[0])?;
+    let other = script(alloc, FIRST_CELLS[1])?;
+    let plan = MeshPlan {
+        t: 8,
+        rounds: 3,
+        workers: 2,
+        words: Vec::new(alloc),
+        meshers: 2,
+    };
+    match run_threads(rt, alloc, book, &both(&one, &other), &plan, &NoGate) {
+        Ok(ended) => {
+            expect(ended.history.len() == 400, "another count of entries")?;
+            Ok(0)
+        }
+        Err(RunError::Memory) => Err(Fault::Memory),
+        Err(RunError::Thread) => Err(Fault::Thread),
+        Err(RunError::Finish(error)) => Err(error.into()),
+        Err(RunError::History) => Err(Fault::Wrong("a history that is full")),
+    }
+}
+
+/// Two scripts, as a run takes them.
+fn both<'a>(first: &'a Script, second: &'a Script) -> [&'a [Command]; 2]
+    ensures { All (λ script. All IsInRange script.now) result }
+{
+    [first.commands(), second.commands()]
+}
+
+/// A worker's script: objects, their bytes, every other pair of them freed, and what is read of them after that.
+fn script(alloc: Global, first: u8) -> Result<Script, AllocError> {
+    let mut script = Script::new(alloc);
+    for k in 0..CELLS {
+        script.push(Command::New(first.wrapping_add(k), 2048, 0))?;
+    }
+    for k in 0..CELLS {
+        let mut bytes = ArrayVec::new();
+        bytes.push(k);
+        script.push(Command::Put(first.wrapping_add(k), 0, bytes))?;
+    }
+    for k in 0..CELLS {
+        script.push(if matches!(k % 4, 0 | 3) {
+            Command::Free(first.wrapping_add(k))
+        } else {
+            Command::Get(first.wrapping_add(k), 0, 1)
+        })?;
+    }
+    for k in 0..CELLS {
+        script.push(Command::Get(first.wrapping_add(k), 0, 1))?;
+    }
+    for k in 0..CELLS {
+        script.push(Command::Addr(first.wrapping_add(k)))?;
+    }
+    Ok(script)
+}
