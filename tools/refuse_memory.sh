@@ -1,0 +1,154 @@
+#!/bin/sh
+# Refuses each allocation of the built programs once, and compares what is left with what the contracts say.
+#
+#     tools/refuse_memory.sh [CRATES]
+#
+# CRATES is the folder that holds the crates, whose programs stand in CRATES/NAME/out/NAME: `rt ci` leaves them there. A library that
+# `tools/refuse_memory/refuse.c` is compiled to is loaded into each run; it refuses the first allocation of one run, the second of the next, and
+# so on until a run meets no refusal. Each run must end by itself in time, as its case may, with as many bytes given back as were taken. A line
+# of the output says how many runs a case took, and the last line counts the cases. The status is 1 where one failed, 2 where there are no
+# programs or no C compiler.
+
+crates=${1:-$(dirname "$0")/../crates}
+case $crates in
+    /*) ;;
+    *) crates=$PWD/$crates ;;
+esac
+cd "$(dirname "$0")/.." || exit 2
+small=$crates/want_of_memory/out/want_of_memory
+meshrun=$crates/meshrun/out/meshrun
+for program in "$small" "$meshrun"; do
+    if [ ! -x "$program" ]; then
+        echo "there is no program at $program: run \`rt ci\`, or \`rt run\` in its crate" >&2
+        exit 2
+    fi
+done
+
+room=$(mktemp -d) || exit 2
+trap 'rm -rf "$room"' EXIT
+library=$room/refuse.so
+"${CC:-cc}" -O1 -Wall -shared -fPIC -o "$library" tools/refuse_memory/refuse.c || exit 2
+
+# Up to this allocation each one is refused, and then every STRIDE-th. How many a run in threads makes depends on how the threads fall.
+bound=300
+stride=3
+# How long a run may take, in seconds; and past this allocation a case is given up.
+limit=20
+most=20000
+passed=0
+failed=0
+
+# run N WORD..: a program with its words, whose N-th allocation is refused. Sets status, and refused, allocations, bytes, freed, stretches, within.
+run() {
+    number=$1
+    shift
+    rm -f "$room/counts"
+    timeout "$limit" env REFUSE="$number" REFUSE_FILE="$room/counts" LD_PRELOAD="$library" "$@" >"$room/output" 2>"$room/errors" </dev/null
+    status=$?
+    refused=none
+    [ ! -f "$room/counts" ] || read -r _ refused _ allocations _ bytes _ freed _ stretches _ within <"$room/counts"
+}
+
+# is_line FILE TEXT: whether a file is this one line.
+is_line() {
+    [ "$(cat "$1")" = "$2" ] && [ "$(wc -l <"$1")" -eq 1 ]
+}
+
+# Whether the output is whole lines that begin a file.
+begins() {
+    size=$(wc -c <"$room/output")
+    head -c "$size" "$1" | cmp -s - "$room/output" && { [ "$size" -eq 0 ] || [ -z "$(tail -c 1 "$room/output")" ]; }
+}
+
+# How a run of a case of the small program may end, as a fault or nothing.
+case_fault() {
+    [ "$status" -eq 0 ] || echo " status $status"
+    ! grep -q '^WRONG' "$room/output" || echo " $(grep '^WRONG' "$room/output")"
+    last=$(tail -n 1 "$room/output")
+    case $name/$last in
+        heap/"heap: done, 1 refused" | book/"book: done, 1 refused" | seats/"seats: done, 1 refused") ;;
+        search/"search: thread fault" | threads/"threads: thread fault") ;;
+        */"$name: done" | */"$name: out of memory" | */"words: out of memory") ;;
+        *) echo " another end: $last" ;;
+    esac
+    [ "$refused" -eq 1 ] || [ "$last" = "$name: done" ] || echo " $last though nothing was refused"
+    case $name in
+        mesh) [ "$last" != "mesh: done" ] || [ "$stretches/$within" = 1/0 ] || echo " $within allocations in $stretches stretches" ;;
+    esac
+}
+
+# How a run of the replay may end.
+replay_fault() {
+    if [ "$status" -eq 0 ]; then
+        cmp -s "$room/output" jobs/mesh.out && [ ! -s "$room/errors" ] || echo " another output"
+    else
+        [ "$status" -eq 1 ] || echo " status $status"
+        is_line "$room/errors" "out of memory" || echo " another line of fault"
+        begins jobs/mesh.out || echo " an output that isn't whole lines of the beginning"
+    fi
+    [ "$refused" -eq 1 ] || [ "$status" -eq 0 ] || echo " a fault though nothing was refused"
+}
+
+# How a run of the scripts in threads may end.
+threads_fault() {
+    if [ "$status" -eq 0 ]; then
+        cmp -s "$room/output" jobs/threads.out && [ ! -s "$room/errors" ] || echo " another output"
+    else
+        [ "$status" -eq 1 ] || echo " status $status"
+        is_line "$room/errors" "out of memory" || is_line "$room/errors" "thread fault" || echo " another line of fault"
+        [ ! -s "$room/output" ] || echo " an output beside a fault"
+    fi
+    [ "$refused" -eq 1 ] || [ "$status" -eq 0 ] || echo " a fault though nothing was refused"
+}
+
+# refuse_each NAME JUDGE WORD..: runs a case until nothing is refused. JUDGE says how a run may end.
+refuse_each() {
+    name=$1 judge=$2
+    shift 2
+    fault=
+    runs=0
+    wrong=0
+    stopped=0
+    n=1
+    while :; do
+        run "$n" "$@"
+        runs=$((runs + 1))
+        case $refused in
+            0 | 1)
+                found=$($judge | tr -d '\n')
+                [ "$bytes" -eq "$freed" ] || found="$found $bytes bytes taken and $freed given back"
+                ;;
+            *) found=" ended by status $status, with no counts" ;;
+        esac
+        if [ -n "$found" ]; then
+            wrong=$((wrong + 1))
+            [ "$wrong" -gt 3 ] || fault="$fault allocation $n:$found;"
+            case $refused in 0 | 1) ;; *) break ;; esac
+        fi
+        [ "$refused" -eq 1 ] || break
+        [ "$(cat "$room/output" "$room/errors" | grep -c 'out of memory\|thread fault\|refused')" -eq 0 ] || stopped=$((stopped + 1))
+        if [ "$n" -lt "$bound" ]; then n=$((n + 1)); else n=$((n + stride)); fi
+        if [ "$n" -gt "$most" ]; then
+            fault="$fault no end after $most allocations;"
+            break
+        fi
+    done
+    told="$runs runs, $stopped told of a refusal, $allocations allocations and $bytes bytes with none refused"
+    [ "$n" -le "$bound" ] || told="$told; every ${stride}rd past $bound"
+    if [ -z "$fault" ]; then
+        passed=$((passed + 1))
+        echo "ok: $name: $told"
+    else
+        failed=$((failed + 1))
+        echo "FAILED: $name: $told; $wrong wrong runs, of them$fault"
+    fi
+}
+
+for name in heap book mesh views seats search threads; do
+    refuse_each "$name" case_fault "$small" "$name"
+done
+refuse_each "meshrun replay" replay_fault "$meshrun" replay jobs/mesh.job
+refuse_each "meshrun threads" threads_fault "$meshrun" threads jobs/threads.job --probe 8 --rounds 3 --workers 2 --seed 1 --meshers 2
+
+echo "$passed passed, $failed failed"
+[ "$failed" -eq 0 ]
