@@ -18,7 +18,7 @@ use mesh_search::Gate;
 use std::alloc::{AllocError, Global};
 use std::sync::Wait;
 use std::thread;
-use std::thread::{Promise, Threads};
+use std::thread::{Promise, PromisedHandle, Threads};
 
 /// Runs 1 to 64 scripts, each in a thread of its own, on a book with an empty journal, and meshes meanwhile as the plan says, each mesher in a
 /// thread of its own. Hands out heap, root cells and the one history, in which each worker's entries are its whole script.
@@ -184,8 +184,12 @@ fn serve_all<R: Threads + Wait + Sync, G: Gate + Sync>(
                     Err(_) => refused = Some(Stop::Thread),
                 }
             }
-            let Ok(served) = thread::join_promised(rt, workers) else {
-                return Err(RunError::Memory);
+            let served = match thread::join_promised(rt, workers) {
+                Ok(served) => served,
+                Err(refused) => {
+                    drop_seats(rt, refused.value);
+                    return Err(RunError::Memory);
+                }
             };
             let Ok(ends) = thread::join_promised(rt, meshers) else {
                 return Err(RunError::Memory);
@@ -196,6 +200,13 @@ fn serve_all<R: Threads + Wait + Sync, G: Gate + Sync>(
             }
         },
     )
+}
+
+// Joins workers whose seats nobody wants. Those of a handle that is dropped would be kept.
+fn drop_seats<'a, R: Threads>(rt: &R, handles: Vec<PromisedHandle<Served, Works<'a>>>) {
+    for handle in handles {
+        let _ = handle.join(rt);
+    }
 }
 
 // The meshing of one mesher.
