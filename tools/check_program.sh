@@ -6,19 +6,9 @@
 # PROGRAM is crates/meshrun/out/meshrun where none is given: `rt ci` leaves it there, and so does `rt run` in crates/meshrun. Each case is a line of
 # the output, and the last line counts them. The status is 1 where a case failed, and 2 where there is no program.
 
-program=${1:-$(dirname "$0")/../crates/meshrun/out/meshrun}
-case $program in
-    /*) ;;
-    *) program=$PWD/$program ;;
-esac
-cd "$(dirname "$0")/.." || exit 2
-if [ ! -x "$program" ]; then
-    echo "there is no program at $program: run \`rt ci\`, or \`rt run\` in crates/meshrun" >&2
-    exit 2
-fi
-
-room=$(mktemp -d) || exit 2
-trap 'rm -rf "$room"' EXIT
+. "$(dirname "$0")/program.sh"
+find_program "$1"
+make_room
 : >"$room/nothing"
 passed=0
 failed=0

@@ -9,12 +9,7 @@
 # processor time and of the wall time are printed, and how much longer a command takes in threads without a round than in a replay. In that are the
 # lock, the threads, and the one history that is made of journal and seats in the end. It judges nothing; run it on an idle machine.
 
-here=$(dirname "$0")
-program=${1:-$here/../crates/meshrun/out/meshrun}
-if [ ! -x "$program" ]; then
-    echo "there is no program at $program: run \`rt run\` in crates/meshrun" >&2
-    exit 2
-fi
-room=$(mktemp -d) || exit 2
-trap 'rm -rf "$room"' EXIT
-python3 "$here/lock_times/files.py" "$room" && python3 "$here/lock_times/table.py" "$program" "${2:-21}" "$room"/*.job
+. "$(dirname "$0")/program.sh"
+find_program "$1"
+make_room
+python3 "tools/bench/lock_files.py" "$room" && python3 "tools/bench/lock_times.py" "$program" "${2:-21}" "$room"/*.job

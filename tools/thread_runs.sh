@@ -10,19 +10,9 @@
 # status is 1 where a run differs, and 2 where there is no program.
 
 count=${1:-1000}
-program=${2:-$(dirname "$0")/../crates/meshrun/out/meshrun}
-case $program in
-    /*) ;;
-    *) program=$PWD/$program ;;
-esac
-cd "$(dirname "$0")/.." || exit 2
-if [ ! -x "$program" ]; then
-    echo "there is no program at $program: run \`rt ci\`, or \`rt run\` in crates/meshrun" >&2
-    exit 2
-fi
-
-room=$(mktemp -d) || exit 2
-trap 'rm -rf "$room"' EXIT
+. "$(dirname "$0")/program.sh"
+find_program "$2"
+make_room
 differing=0
 run=0
 while [ "$run" -lt "$count" ]; do

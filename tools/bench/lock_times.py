@@ -4,7 +4,8 @@ command takes more in threads without a round than in a replay. The outputs go n
 import os
 import statistics
 import sys
-import time
+
+from timed import run
 
 NUMBERS = ["--probe", "2", "--workers", "1", "--seed", "1"]
 WAYS = {
@@ -12,16 +13,6 @@ WAYS = {
     "threads": lambda file: ["threads", file, "--rounds", "0", *NUMBERS],
     "with rounds": lambda file: ["threads", file, "--rounds", "20", *NUMBERS],
 }
-
-
-def run(command, nowhere):
-    """The processor seconds and the wall seconds of one run."""
-    start = time.perf_counter()
-    child = os.posix_spawn(command[0], command, os.environ, file_actions=[(os.POSIX_SPAWN_DUP2, nowhere, 1)])
-    _, status, used = os.wait4(child, 0)
-    if status != 0:
-        sys.exit(f"{' '.join(command)} ended with status {os.waitstatus_to_exitcode(status)}")
-    return used.ru_utime + used.ru_stime, time.perf_counter() - start
 
 
 def commands_of(file):
@@ -39,7 +30,7 @@ def main():
         replayed = 0.0
         for way, words in WAYS.items():
             used = [run([program, *words(file)], nowhere) for _ in range(runs)]
-            processor, wall = (statistics.median(column) for column in zip(*used))
+            processor, wall, _ = (statistics.median(column) for column in zip(*used))
             if way == "replay":
                 replayed = wall
             more = f"{(wall - replayed) / commands * 1e9:20.0f}" if way == "threads" else ""
