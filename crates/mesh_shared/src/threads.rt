@@ -187,12 +187,17 @@ fn serve_all<R: Threads + Wait + Sync, G: Gate + Sync>(
             let served = match thread::join_promised(rt, workers) {
                 Ok(served) => served,
                 Err(refused) => {
-                    drop_seats(rt, refused.value);
+                    drop_results(rt, refused.value);
+                    drop_results(rt, meshers);
                     return Err(RunError::Memory);
                 }
             };
-            let Ok(ends) = thread::join_promised(rt, meshers) else {
-                return Err(RunError::Memory);
+            let ends = match thread::join_promised(rt, meshers) {
+                Ok(ends) => ends,
+                Err(refused) => {
+                    drop_results(rt, refused.value);
+                    return Err(RunError::Memory);
+                }
             };
             match first_stop_of(refused, ends.as_slice(), served.as_slice()) {
                 Some(stop) => Err(stop.into()),
@@ -202,8 +207,9 @@ fn serve_all<R: Threads + Wait + Sync, G: Gate + Sync>(
     )
 }
 
-// Joins workers whose seats nobody wants. Those of a handle that is dropped would be kept.
-fn drop_seats<'a, R: Threads>(rt: &R, handles: Vec<PromisedHandle<Served, Works<'a>>>) {
+// Joins threads whose results nobody wants. The thread of a handle that is dropped would keep its result, and might free its own block only
+// after the scope has ended.
+fn drop_results<R: Threads, T: Drop, P: Promise<T>>(rt: &R, handles: Vec<PromisedHandle<T, P>>) {
     for handle in handles {
         let _ = handle.join(rt);
     }
