@@ -4,19 +4,17 @@ use Rattle.std.proofs.KnownBytes.{Appends-trans}
 use Rattle.std.proofs.Math.Seq.{take-append_seam}
 use Rattle.std.proofs.lemmas.Grind.{flat_map-append}
 use Rattle.std.specs.Io.KnownBytes.{Appends}
-use Rattle.mesh_model.specs.Jobs.{Answer as PlainAnswer, Job, Line, State, answer, answers_from, opening, state_after}
+use Rattle.mesh_model.specs.Jobs.{Answer, Job, Line, State, answer, answers_from, opening, state_after}
 use Rattle.mesh_model.specs.Texts.{answer_text, ended, output}
 use Rattle.mesh_mutator.specs.Book.{Book}
-use Rattle.mesh_text.specs.Answers.{answer_of}
 use Rattle.mesh_text.specs.Transfer.{AppendsBeginning}
-use Rattle.mesh_text.specs.Turns.{HasGathered, IsAt, IsNextAt, lines_of, lines_up_to, state_up_to}
-use Rattle.mesh_text.specs.declared.answers.Answer.{Answer}
+use Rattle.mesh_text.specs.Turns.{HasGathered, IsAt, IsTold, lines_of, lines_up_to, state_up_to}
 
 -- the answers to two parts of a plan
 answers_after : (job : Job) (state : State) (xs ys : List Line)
     → answers_from job state (xs ++ ys) ≡ answers_from job state xs ++ answers_from job (state_after job state xs) ys
 answers_after job state [] ys = refl
-answers_after job state (x ∷ xs) ys = let next = answer job state x in ap (λ (told : List PlainAnswer). next.answer ∷ told) (answers_after job next.state xs ys)
+answers_after job state (x ∷ xs) ys = let next = answer job state x in ap (λ (told : List Answer). next.answer ∷ told) (answers_after job next.state xs ys)
 
 -- where a job stands after two parts of a plan
 states_after : (job : Job) (state : State) (xs ys : List Line) → state_after job state (xs ++ ys) ≡ state_after job (state_after job state xs) ys
@@ -24,7 +22,7 @@ states_after job state [] ys = refl
 states_after job state (x ∷ xs) ys = states_after job (answer job state x).state xs ys
 
 -- the lines of answers and of others
-lines_after : (told bs : List PlainAnswer) → lines_of (told ++ bs) ≡ lines_of told ++ lines_of bs
+lines_after : (told bs : List Answer) → lines_of (told ++ bs) ≡ lines_of told ++ lines_of bs
 lines_after told bs = flat_map-append (λ a. ended (answer_text a)) told bs
 
 -- where a job stands after one more line
@@ -49,22 +47,22 @@ output_after job n =
     ∙ lines_after (answers_from job (opening job) (take n job.plan)) (answers_from job (state_up_to job n) (drop n job.plan))
 
 -- a job stands where its line was answered
-pub next_at : (job : Job) (n : ℕ) (line : Line) (book : Book) (places : List ℕ) (given : Answer) → take (n + 1) job.plan ≡ take n job.plan ++ line ∷ []
-    → IsNextAt job (answer job (state_up_to job n) line) book places given → IsAt job (state_up_to job (n + 1)) book places
-next_at job n line book places given more next = subst (λ state. IsAt job state book places) (sym (state_more job n line more)) next.at
+pub next_at : (job : Job) (n : ℕ) (line : Line) (book : Book) (places text text' : List ℕ) → take (n + 1) job.plan ≡ take n job.plan ++ line ∷ []
+    → IsTold job (answer job (state_up_to job n) line) book places text text' → IsAt job (state_up_to job (n + 1)) book places
+next_at job n line book places text text' more told = subst (λ state. IsAt job state book places) (sym (state_more job n line more)) told.at
 
 -- the line of an answer is gathered
-pub gathered_more : (job : Job) (n : ℕ) (line : Line) (book : Book) (places : List ℕ) (given : Answer) (old new : Option (List ℕ)) (text text' : List ℕ)
-    → take (n + 1) job.plan ≡ take n job.plan ++ line ∷ [] → IsNextAt job (answer job (state_up_to job n) line) book places given
-    → HasGathered job n old new text → text' ≡ text ++ ended (answer_text (answer_of given)) → HasGathered job (n + 1) old new text'
-gathered_more job n line book places given old new text text' more next so_far added =
-    let line' = ended (answer_text (answer job (state_up_to job n) line).answer) in
+pub gathered_more : (job : Job) (n : ℕ) (line : Line) (book : Book) (places : List ℕ) (old new : Option (List ℕ)) (text text' text'' : List ℕ)
+    → take (n + 1) job.plan ≡ take n job.plan ++ line ∷ [] → IsTold job (answer job (state_up_to job n) line) book places text text'
+    → HasGathered job n old new text → text'' ≡ text' ++ 10 ∷ [] → HasGathered job (n + 1) old new text''
+gathered_more job n line book places old new text text' text'' more told so_far end =
+    let line' = answer_text (answer job (state_up_to job n) line).answer in
     record {
       lines = so_far.lines;
       wrote = so_far.wrote;
-      all = ap (λ t. lines_up_to job so_far.lines ++ t) (added ∙ ap (λ a. text ++ ended (answer_text a)) next.answer_is)
-          ∙ sym (append_assoc (lines_up_to job so_far.lines) text line')
-          ∙ ap (λ front. front ++ line') so_far.all
+      all = ap (λ t. lines_up_to job so_far.lines ++ t) (end ∙ ap (λ t. t ++ 10 ∷ []) told.added ∙ append_assoc text line' (10 ∷ []))
+          ∙ sym (append_assoc (lines_up_to job so_far.lines) text (ended line'))
+          ∙ ap (λ front. front ++ ended line') so_far.all
           ∙ sym (lines_more job n line more);
     }
 

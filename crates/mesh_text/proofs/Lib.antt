@@ -4,5 +4,6 @@ pub mod Meshing
 pub mod PartTexts
 pub mod Parts
 pub mod PlanLines
+pub mod Telling
 pub mod Turning
 pub mod PlayEnds

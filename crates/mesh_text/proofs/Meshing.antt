@@ -4,7 +4,7 @@ use Rattle.std.specs.Prelude.{IfErr, IfOk, find, nat_eq, true}
 use Rattle.std.specs.Option.{option_map}
 use Rattle.std.proofs.lemmas.Bool.Decides.{eqb_tells}
 use Rattle.std.proofs.lemmas.Result.{IfOk-weaker}
-use Rattle.mesh_model.specs.Jobs.{Answer as PlainAnswer, Job, State, PagesMeshed, PagesSwept, Reported as PlainReported, StepsLeft, counted, step_answered, told}
+use Rattle.mesh_model.specs.Jobs.{Answer, Job, State, MesherRefused, PagesMeshed, PagesSwept, Reported, StepMade, StepsLeft, counted, step_answered, told}
 use Rattle.mesh_model.specs.Mesh.{begin, cancel, first_mesh, mesh_in, mesh_whole, step}
 use Rattle.mesh_model.specs.Table.{Counted, Mesh, Table, report_of, sweep}
 use Rattle.mesh_model.specs.declared.refusals.Refusal.{Refusal}
@@ -13,13 +13,11 @@ use Rattle.mesh_mutator.specs.Book.{Book, table_of_book}
 use Rattle.mesh_mutator.specs.Mesher.{KeepsBook}
 use Rattle.mesh_steps.specs.HeapMeshes.{IsMeshBegun, IsMeshCancelled, IsMeshed, IsStepMade, IsSwept}
 use Rattle.mesh_steps.specs.declared.answers.StepDone.{StepDone}
-use Rattle.mesh_text.specs.Answers.{answer_of, count_answer, step_answer}
+use Rattle.mesh_text.specs.Answers.{count_told, step_told}
 use Rattle.mesh_steps.specs.Heap.{arena_of}
 use Rattle.mesh_steps.specs.PageHeap.{counts_told}
 use Rattle.mesh_steps.specs.declared.answers.Report.{Report}
 use Rattle.mesh_text.specs.Turns.{IsAt, IsCall, IsNextAt, IsReport}
-use Rattle.mesh_text.specs.declared.answers.Answer.{Answer}
-use Rattle.mesh_text.specs.declared.answers.Answer.TheVariants.{Left, Meshed, Refused, Reported, Stepped, Swept}
 
 -- where a job stands after a call that left this table
 stands_after : (job : Job) (state : State) (old new : Book) (places : List ℕ) → IsAt job state old places → KeepsBook old new
@@ -35,67 +33,67 @@ stands_after job state old new places at kept = record {
 }
 
 -- a call that answers a count is what the definition of the count says
-counted_call : (say : ℕ → PlainAnswer) (of : ℕ → Answer) → ((n : ℕ) → answer_of (of n) ≡ say n) → (what : Table → Result Counted Refusal) (old new : Book)
+counted_call : (say : ℕ → Answer) (what : Table → Result Counted Refusal) (old new : Book)
     (count : Result ℕ Refusal) → IfOk count (λ n. what (table_of_book old) ≡ Ok (record { count = n; table = table_of_book new }))
     → IfErr count (λ refusal. (what (table_of_book old) ≡ Err refusal) × (new ≡ old)) → KeepsBook old new
-    → IsCall (λ state. counted state say (what state.table)) old new (count_answer of count)
-counted_call say of same what old new (Ok n) made refused kept job state places at =
-    subst (λ r. IsNextAt job (counted state say r) new places (of n)) (sym made ∙ ap what at.table)
-    (record { answer_is = same n; at = stands_after job state old new places at kept })
-counted_call say of same what old new (Err refusal) made refused kept job state places at =
-    subst (λ r. IsNextAt job (counted state say r) new places (Refused refusal)) (sym refused.0 ∙ ap what at.table)
+    → IsCall (λ state. counted state say (what state.table)) old new (count_told say count)
+counted_call say what old new (Ok n) made refused kept job state places at =
+    subst (λ r. IsNextAt job (counted state say r) new places (say n)) (sym made ∙ ap what at.table)
+    (record { answer_is = refl; at = stands_after job state old new places at kept })
+counted_call say what old new (Err refusal) made refused kept job state places at =
+    subst (λ r. IsNextAt job (counted state say r) new places (MesherRefused refusal)) (sym refused.0 ∙ ap what at.table)
     (record { answer_is = refl; at = subst (λ b. IsAt job state b places) (sym refused.1) at })
 
 -- a mesh that began, or didn't
 pub begun_call : (busy : Table → ℕ → Bool) (old new : Book) (source destination : ℕ) (count : Result ℕ Refusal)
     → IfOk count (IsMeshBegun busy old.heap new.heap source destination)
     → IfErr count (λ refusal. (begin busy (table_of_book old) source destination ≡ Err refusal) × (new ≡ old)) → KeepsBook old new
-    → IsCall (λ state. counted state StepsLeft (begin busy state.table source destination)) old new (count_answer Left count)
+    → IsCall (λ state. counted state StepsLeft (begin busy state.table source destination)) old new (count_told StepsLeft count)
 begun_call busy old new source destination count made refused kept =
-    counted_call StepsLeft Left (λ n. refl) (λ t. begin busy t source destination) old new count (IfOk-weaker count _ _ (λ n m. m.table) made) refused kept
+    counted_call StepsLeft (λ t. begin busy t source destination) old new count (IfOk-weaker count _ _ (λ n m. m.table) made) refused kept
 
 -- a mesh that was cancelled, or not
 pub cancelled_call : (old new : Book) (class : ℕ) (count : Result ℕ Refusal) → IfOk count (IsMeshCancelled old.heap new.heap class)
     → IfErr count (λ refusal. (cancel (table_of_book old) (mesh_in (table_of_book old) class) ≡ Err refusal) × (new ≡ old)) → KeepsBook old new
-    → IsCall (λ state. counted state StepsLeft (cancel state.table (mesh_in state.table class))) old new (count_answer Left count)
+    → IsCall (λ state. counted state StepsLeft (cancel state.table (mesh_in state.table class))) old new (count_told StepsLeft count)
 cancelled_call old new class count made refused kept =
-    counted_call StepsLeft Left (λ n. refl) (λ t. cancel t (mesh_in t class)) old new count (IfOk-weaker count _ _ (λ n m. m.table) made) refused kept
+    counted_call StepsLeft (λ t. cancel t (mesh_in t class)) old new count (IfOk-weaker count _ _ (λ n m. m.table) made) refused kept
 
 -- two groups that were meshed, or not
 pub meshed_call : (busy : Table → ℕ → Bool) (old new : Book) (source destination : ℕ) (count : Result ℕ Refusal)
     → IfOk count (IsMeshed busy old.heap new.heap source destination)
     → IfErr count (λ refusal. (mesh_whole busy (table_of_book old) source destination ≡ Err refusal) × (new ≡ old)) → KeepsBook old new
-    → IsCall (λ state. counted state PagesMeshed (mesh_whole busy state.table source destination)) old new (count_answer Meshed count)
+    → IsCall (λ state. counted state PagesMeshed (mesh_whole busy state.table source destination)) old new (count_told PagesMeshed count)
 meshed_call busy old new source destination count made refused kept =
-    counted_call PagesMeshed Meshed (λ n. refl) (λ t. mesh_whole busy t source destination) old new count (IfOk-weaker count _ _ (λ n m. m.table) made) refused kept
+    counted_call PagesMeshed (λ t. mesh_whole busy t source destination) old new count (IfOk-weaker count _ _ (λ n m. m.table) made) refused kept
 
 -- a group that was swept, or not
 pub swept_call : (old new : Book) (group : ℕ) (count : Result ℕ Refusal) → IfOk count (IsSwept old.heap new.heap group)
     → IfErr count (λ refusal. (sweep (table_of_book old) group ≡ Err refusal) × (new ≡ old)) → KeepsBook old new
-    → IsCall (λ state. counted state PagesSwept (sweep state.table group)) old new (count_answer Swept count)
+    → IsCall (λ state. counted state PagesSwept (sweep state.table group)) old new (count_told PagesSwept count)
 swept_call old new group count made refused kept =
-    counted_call PagesSwept Swept (λ n. refl) (λ t. sweep t group) old new count (IfOk-weaker count _ _ (λ n m. m.table) made) refused kept
+    counted_call PagesSwept (λ t. sweep t group) old new count (IfOk-weaker count _ _ (λ n m. m.table) made) refused kept
 
 -- a step that was made, or not
 pub stepped_call : (old new : Book) (class : ℕ) (done : Result StepDone Refusal) → IfOk done (IsStepMade old.heap new.heap class)
     → IfErr done (λ refusal. (step (table_of_book old) (mesh_in (table_of_book old) class) ≡ Err refusal) × (new ≡ old)) → KeepsBook old new
-    → IsCall (λ state. step_answered state (step state.table (mesh_in state.table class))) old new (step_answer done)
+    → IsCall (λ state. step_answered state (step state.table (mesh_in state.table class))) old new (step_told done)
 stepped_call old new class (Ok done) made refused kept job state places at =
-    subst (λ r. IsNextAt job (step_answered state r) new places (Stepped done)) (sym made.table ∙ ap (λ t. step t (mesh_in t class)) at.table)
+    subst (λ r. IsNextAt job (step_answered state r) new places (StepMade done.kind done.left)) (sym made.table ∙ ap (λ t. step t (mesh_in t class)) at.table)
     (record { answer_is = refl; at = stands_after job state old new places at kept })
 stepped_call old new class (Err refusal) made refused kept job state places at =
-    subst (λ r. IsNextAt job (step_answered state r) new places (Refused refusal)) (sym refused.0 ∙ ap (λ t. step t (mesh_in t class)) at.table)
+    subst (λ r. IsNextAt job (step_answered state r) new places (MesherRefused refusal)) (sym refused.0 ∙ ap (λ t. step t (mesh_in t class)) at.table)
     (record { answer_is = refl; at = subst (λ b. IsAt job state b places) (sym refused.1) at })
 
 -- a call that changes nothing
-pub look_call : (what : Table → PlainAnswer) (book : Book) (given : Answer) → answer_of given ≡ what (table_of_book book)
+pub look_call : (what : Table → Answer) (book : Book) (given : Answer) → given ≡ what (table_of_book book)
     → IsCall (λ state. told state (what state.table)) book book given
 look_call what book given is job state places at = record { answer_is = is ∙ ap what at.table; at = at }
 
 -- what a book counts is what a job counts
-pub report_call : (book : Book) (report : Report) → counts_told report ≡ report_of (length (arena_of book.heap)) (table_of_book book) → IsReport book (Reported report)
+pub report_call : (book : Book) (report : Report) → counts_told report ≡ report_of (length (arena_of book.heap)) (table_of_book book) → IsReport book (Reported (counts_told report))
 report_call book report is job state places at = record {
-  answer_is = ap PlainReported (is ∙ ap (λ n. report_of n (table_of_book book)) at.pages ∙ ap (λ t. report_of job.pages t) at.table);
+  answer_is = ap Reported (is ∙ ap (λ n. report_of n (table_of_book book)) at.pages ∙ ap (λ t. report_of job.pages t) at.table);
   at = at;
 }
 
@@ -134,13 +132,13 @@ none_first None is = refl
 none_first (Some mesh) is = absurd (cc is)
 
 pub none_stepped : (book : Book) → None ≡ option_map (λ mesh. mesh.class) (first_mesh (table_of_book book))
-    → IsCall (λ state. step_answered state (step state.table (first_mesh state.table))) book book (Refused NoMesh)
+    → IsCall (λ state. step_answered state (step state.table (first_mesh state.table))) book book (MesherRefused NoMesh)
 none_stepped book none job state places at =
-    subst (λ which. IsNextAt job (step_answered state (step state.table which)) book places (Refused NoMesh))
+    subst (λ which. IsNextAt job (step_answered state (step state.table which)) book places (MesherRefused NoMesh))
     (sym (subst (λ t. first_mesh t ≡ None) at.table (none_first (first_mesh (table_of_book book)) none))) (record { answer_is = refl; at = at })
 
 pub none_cancelled : (book : Book) → None ≡ option_map (λ mesh. mesh.class) (first_mesh (table_of_book book))
-    → IsCall (λ state. counted state StepsLeft (cancel state.table (first_mesh state.table))) book book (Refused NoMesh)
+    → IsCall (λ state. counted state StepsLeft (cancel state.table (first_mesh state.table))) book book (MesherRefused NoMesh)
 none_cancelled book none job state places at =
-    subst (λ which. IsNextAt job (counted state StepsLeft (cancel state.table which)) book places (Refused NoMesh))
+    subst (λ which. IsNextAt job (counted state StepsLeft (cancel state.table which)) book places (MesherRefused NoMesh))
     (sym (subst (λ t. first_mesh t ≡ None) at.table (none_first (first_mesh (table_of_book book)) none))) (record { answer_is = refl; at = at })

@@ -3,7 +3,7 @@ use Rattle.std.proofs.Common.{◌≡◌, ℕ, zero, suc, ◌+◌, ◌<◌, ◌�
 use Rattle.std.proofs.lemmas.Bool.Decides.{eqb_tells, leb_tells}
 use Rattle.std.proofs.lemmas.List.{get_or-set_other, get_or-set_same, get_or_default}
 use Rattle.std.proofs.Math.ListN.{length-set}
-use Rattle.mesh_model.specs.Jobs.{Job, Outcome, Replied as PlainReplied, RunWorker, State, JournalFull, answer, answered, attempted, later_commands, run_next, is_held_back}
+use Rattle.mesh_model.specs.Jobs.{Answer, Job, Outcome, Replied, RunWorker, State, JournalFull, ScriptOver, StoreBlocked, answer, answered, attempted, later_commands, run_next, is_held_back}
 use Rattle.mesh_model.specs.Memory.{Memory}
 use Rattle.mesh_model.specs.Plain.{Entry}
 use Rattle.mesh_model.specs.Table.{Table}
@@ -13,8 +13,6 @@ use Rattle.mesh_mutator.specs.Book.{Book, IsAttempt, memory_of_book, table_of_bo
 use Rattle.mesh_mutator.specs.declared.attempts.Attempt.{Attempt}
 use Rattle.mesh_mutator.specs.declared.attempts.Attempt.TheVariants.{Blocked as HeldBack, Done, HistoryFull as NoRoom, OutOfMemory}
 use Rattle.mesh_text.specs.Turns.{IsAt, IsNextAt}
-use Rattle.mesh_text.specs.declared.answers.Answer.{Answer}
-use Rattle.mesh_text.specs.declared.answers.Answer.TheVariants.{Replied, Blocked, HistoryFull, Over}
 
 -- past the last command none is left
 none_left : (n : ℕ) (script : List Command) → None ≡ slice_get script n → drop n script ≡ []
@@ -46,10 +44,10 @@ commands_left job state book places script worker at is = at.scripts worker ∙ 
 -- a worker whose script is passed is told so
 pub turn_over : (job : Job) (state : State) (book : Book) (places : List ℕ) (script : List Command) (worker : ℕ) → IsAt job state book places
     → script ≡ slice_index_or job.scripts worker [] → None ≡ slice_get script (slice_index places worker)
-    → IsNextAt job (answer job state (RunWorker worker)) book places Over
+    → IsNextAt job (answer job state (RunWorker worker)) book places ScriptOver
 turn_over job state book places script worker at is past =
     let none : slice_index_or state.scripts worker [] ≡ [] = commands_left job state book places script worker at is ∙ none_left (slice_index places worker) script past in
-    subst (λ commands. IsNextAt job (run_next job state worker commands) book places Over) (sym none) (record { answer_is = refl; at = at })
+    subst (λ commands. IsNextAt job (run_next job state worker commands) book places ScriptOver) (sym none) (record { answer_is = refl; at = at })
 
 -- the outcome of a command is one on the state's memory and table
 outcome_at : (m m' : Memory) (t t' : Table) (command : Command) → m ≡ m' → t ≡ t' → answered m t command ≡ answered m' t' command
@@ -67,9 +65,9 @@ held_at state m t command reply held memory table is h =
 -- what a turn tells of an attempt that had memory
 abbrev pub given_to : Attempt → Answer
 given_to (Done reply) = Replied reply
-given_to HeldBack = Blocked
-given_to NoRoom = HistoryFull
-given_to OutOfMemory = Over
+given_to HeldBack = StoreBlocked
+given_to NoRoom = JournalFull
+given_to OutOfMemory = ScriptOver
 
 -- the places after it
 abbrev pub passed_by : Attempt → List ℕ → ℕ → List ℕ
@@ -150,7 +148,7 @@ turn_taken job state book book' places script worker command attempt at is here 
         let reply_is : reply ≡ (answered state.memory state.table command).reply = outcome.reply_is ∙ ap (λ (o : Outcome). o.reply) same in
         subst (λ next. IsNextAt job next book' (passed_by (Done reply) places worker) (Replied reply)) (sym whole)
         (record {
-          answer_is = ap (λ r. PlainReplied r) reply_is;
+          answer_is = ap (λ r. Replied r) reply_is;
           at = record {
             memory = outcome.memory ∙ ap (λ (o : Outcome). o.memory) same;
             table = outcome.table ∙ ap (λ (o : Outcome). o.table) same;
@@ -166,11 +164,11 @@ turn_taken job state book book' places script worker command attempt at is here 
         let held = held_at state (memory_of_book book) (table_of_book book) command (answered (memory_of_book book) (table_of_book book) command).reply true at.memory at.table refl done.1 in
         let whole : answer job state (RunWorker worker) ≡ attempted state worker command true (answered state.memory state.table command)
         = ap (λ cs. run_next job state worker cs) left ∙ open_room commands true done.0 held in
-        subst (λ next. IsNextAt job next book' places Blocked) (sym whole)
+        subst (λ next. IsNextAt job next book' places StoreBlocked) (sym whole)
         (record { answer_is = refl; at = subst (λ b. IsAt job state b places) (sym done.2) at })
     go NoRoom commands left done some =
         let whole : answer job state (RunWorker worker) ≡ record { answer = JournalFull; state = state }
         = ap (λ cs. run_next job state worker cs) left ∙ full true (no_room done.0) commands in
-        subst (λ next. IsNextAt job next book' places HistoryFull) (sym whole)
+        subst (λ next. IsNextAt job next book' places JournalFull) (sym whole)
         (record { answer_is = refl; at = subst (λ b. IsAt job state b places) (sym done.1) at })
     go OutOfMemory commands left done some = absurd some

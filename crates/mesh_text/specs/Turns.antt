@@ -1,20 +1,12 @@
 -- How far the workers of a job have come, and what was written for it.
-use Rattle.std.specs.Prelude.{◌≡◌, ℕ, ◌+◌, List, [], ◌++◌, Option, drop, length, slice_index, slice_index_or, slice_set, take}
+use Rattle.std.specs.Prelude.{◌≡◌, ℕ, List, [], ◌++◌, Option, drop, length, slice_index, slice_index_or, take}
 use Rattle.std.specs.Io.KnownBytes.{Appends}
 use Rattle.std.specs.List.{flat_map}
-use Rattle.mesh_model.specs.Jobs.{Answer as PlainAnswer, Job, Next, State, answers_from, opening, state_after, Reported as PlainReported, told}
+use Rattle.mesh_model.specs.Jobs.{Answer, Job, Next, State, answers_from, opening, state_after, Reported, told}
 use Rattle.mesh_model.specs.Texts.{answer_text, ended}
 use Rattle.mesh_model.specs.Table.{report_of}
 use Rattle.mesh_mutator.specs.Book.{Book, memory_of_book, table_of_book}
 use Rattle.mesh_steps.specs.Heap.{arena_of}
-use Rattle.mesh_text.specs.Answers.{answer_of}
-use Rattle.mesh_text.specs.declared.answers.Answer.{Answer}
-use Rattle.mesh_text.specs.declared.answers.Answer.TheVariants.{Replied}
-
--- the places of the workers' next commands after a worker was answered: a reply alone passes a command
-abbrev pub places_after : Answer → List ℕ → ℕ → List ℕ
-places_after (Replied reply) places worker = slice_set places worker (slice_index places worker + 1)
-places_after answer places worker = places
 
 -- a job stands where this book and these places of its workers' next commands are
 pub record IsAt (job : Job) (state : State) (book : Book) (places : List ℕ) : Type 0 where
@@ -28,7 +20,12 @@ pub record IsAt (job : Job) (state : State) (book : Book) (places : List ℕ) : 
 
 -- this is the answer to a line of the plan, and book and places are where the job stands after it
 pub record IsNextAt (job : Job) (next : Next) (book : Book) (places : List ℕ) (given : Answer) : Type 0 where
-  pub answer_is : answer_of given ≡ next.answer
+  pub answer_is : given ≡ next.answer
+  pub at : IsAt job next.state book places
+
+-- a text grew by the answer to the line of the plan, without its end, and book and places are where the job stands after it
+pub record IsTold (job : Job) (next : Next) (book : Book) (places : List ℕ) (text text' : List ℕ) : Type 0 where
+  pub added : text' ≡ text ++ answer_text next.answer
   pub at : IsAt job next.state book places
 
 -- wherever a job stands, this call of the mesher is answered so, and leaves the book where the job stands then
@@ -38,10 +35,10 @@ IsCall call old new given = (job : Job) (state : State) (places : List ℕ) → 
 -- wherever a job stands, this is the answer to a report
 abbrev pub IsReport : Book → Answer → Type 0
 IsReport book given = (job : Job) (state : State) (places : List ℕ) → IsAt job state book places
-    → IsNextAt job (told state (PlainReported (report_of job.pages state.table))) book places given
+    → IsNextAt job (told state (Reported (report_of job.pages state.table))) book places given
 
 -- the lines of answers, each with its end
-abbrev pub lines_of : List PlainAnswer → List ℕ
+abbrev pub lines_of : List Answer → List ℕ
 lines_of answers = flat_map (λ a. ended (answer_text a)) answers
 
 -- the lines of the answers to the first lines of a job's plan

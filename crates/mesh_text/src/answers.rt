@@ -1,66 +1,13 @@
-//! The answer lines.
+//! The answer lines, without their ends.
 ghost use Rattle.std.specs.Prelude.{◌≡◌, ◌+◌, ◌<◌, ◌≤◌, ◌++◌, decimal, length, vec_capacity, vec_len, OnOk};
-ghost use Rattle.mesh_model.specs.Texts.{address_text, answer_text, byte_text, bytes_text, ended, hex_digit, refusal_text, reply_text};
-ghost use Rattle.mesh_text.specs.Answers.{answer_of};
+ghost use Rattle.mesh_model.specs.Texts.{address_text, byte_text, bytes_text, hex_digit, refusal_text, reply_text};
 
 mod mesher;
 
 use itoa::Buffer;
 use mesh_model::{Refusal, Reply};
-use mesh_search::Found;
-use mesh_steps::{Report, StepDone};
-use mesher::{add_count, add_found, add_report, add_step};
+pub(crate) use mesher::{add_counted, add_found, add_report, add_step};
 use std::alloc::AllocError;
-
-/// The answer to one line of a plan.
-#[derive(Drop)]
-pub(crate) enum Answer {
-    /// The command was attempted and answered.
-    Replied(Reply),
-    /// The command's store was held back by a page that is read-only.
-    Blocked,
-    /// The journal has no room for another entry.
-    HistoryFull,
-    /// The worker's script is passed.
-    Over,
-    /// A mesh began or was cancelled, and so many steps are to come.
-    Left(u32),
-    /// A step of a mesh was made.
-    Stepped(StepDone),
-    /// Two groups were meshed, and so many pages were given back.
-    Meshed(u32),
-    /// A group was swept, and so many pages were given back.
-    Swept(u32),
-    /// A class was searched for pairs.
-    Found(Found),
-    /// The heap was counted.
-    Reported(Report),
-    /// A call of the mesher was refused.
-    Refused(Refusal),
-}
-
-impl Answer {
-    /// Adds the answer's line, with its line end.
-    pub(crate) fn add_to(&self, text: &mut Vec<u8>) -> Result<(), AllocError>
-        ensures { OnOk result (text.new.items ≡ text.old.items ++ ended (answer_text (answer_of self.now))) }
-    {
-        match self {
-            Answer::Replied(reply) => add_reply(text, reply)?,
-            Answer::Blocked => text.extend_from_slice(b"blocked")?,
-            Answer::HistoryFull => text.extend_from_slice(b"history full")?,
-            Answer::Over => text.extend_from_slice(b"over")?,
-            Answer::Left(steps) => add_count(text, b"left ", *steps)?,
-            Answer::Stepped(step) => add_step(text, *step)?,
-            Answer::Meshed(pages) => add_count(text, b"meshed ", *pages)?,
-            Answer::Swept(pages) => add_count(text, b"swept ", *pages)?,
-            Answer::Found(found) => add_found(text, found)?,
-            Answer::Reported(report) => add_report(text, *report)?,
-            Answer::Refused(refusal) => add_refusal(text, *refusal)?,
-        }
-        text.push(b'\n')?;
-        Ok(())
-    }
-}
 
 /// Adds what a reply's line says.
 pub(crate) fn add_reply(text: &mut Vec<u8>, reply: &Reply) -> Result<(), AllocError>

@@ -1,5 +1,5 @@
 //! The replay of a job.
-ghost use Rattle.std.specs.Prelude.{◌≡◌, ◌<◌, ◌≤◌, ◌⊎◌, ◌↔◌, [], slice_index, slice_index_or, false, true, length, vec_len, is_err, IfOk, IfErr, OnOk, OnErr};
+ghost use Rattle.std.specs.Prelude.{◌≡◌, ◌<◌, ◌⊎◌, [], slice_index_or, false, true, length, vec_len, is_err, IfOk, IfErr, OnOk, OnErr};
 ghost use Rattle.std.specs.Io.KnownBytes.{Appends, Keeps};
 ghost use Rattle.mesh_model.specs.Files.{IsValidLine};
 ghost use Rattle.mesh_model.specs.Jobs.{Job as PlainJob, RunWorker, State, answer, opening};
@@ -7,9 +7,9 @@ ghost use Rattle.mesh_model.specs.Texts.{output as output_of};
 ghost use Rattle.mesh_job.specs.Plan.{line_of};
 ghost use Rattle.mesh_text.specs.Replay.{HasReplayed, HasStopped};
 ghost use Rattle.mesh_text.specs.Transfer.{AppendsBeginning};
-ghost use Rattle.mesh_text.specs.Turns.{AppendsLines, IsAt, IsNextAt, places_after};
+ghost use Rattle.mesh_text.specs.Turns.{AppendsLines, IsAt, IsTold};
 
-use crate::answers::Answer;
+use crate::answers::{add_counted, add_found, add_reply, add_report, add_step};
 use crate::mesher::{begin, cancel, cancel_first, pair, report, step, step_first, sweep, whole};
 use crate::reading::read_job;
 use crate::transfer::write_all;
@@ -59,8 +59,8 @@ fn play<O: Sink>(alloc: Global, job: &Job, output: &mut O) -> Result<(), ReplayE
     let mut turns = Turns::open(alloc, job)?;
     let mut text = Vec::new(alloc);
     for line in job.plan.lines() {
-        let answer = turns.answer(alloc, job, line)?;
-        answer.add_to(&mut text)?;
+        turns.answer(alloc, job, line, &mut text)?;
+        text.extend_from_slice(b"\n")?;
         if text.len() >= CHUNK_BYTES {
             write_answers(output, text.as_slice())?;
             text.clear();
@@ -100,57 +100,69 @@ impl Turns {
         })
     }
 
-    /// Answers a line of the plan. An error is want of memory, which only a `new` or a search meets.
-    fn answer(&mut self, alloc: Global, job: &Job, line: &PlanLine) -> Result<Answer, AllocError>
+    /// Adds the answer to a line of the plan, without the line's end. An error is want of memory.
+    fn answer(
+        &mut self,
+        alloc: Global,
+        job: &Job,
+        line: &PlanLine,
+        text: &mut Vec<u8>,
+    ) -> Result<(), AllocError>
         requires fits { IsValidLine job.now.version (length job.now.scripts) (line_of line.now) }
         requires workers { vec_len self.old.next ≡ length job.now.scripts }
         ensures workers { vec_len self.new.next ≡ vec_len self.old.next }
-        ensures answered { IfOk result (λ given. (state : State) → IsAt job.now state self.old.book self.old.next.items
-            → IsNextAt job.now (answer job.now state (line_of line.now)) self.new.book self.new.next.items given) }
+        ensures told { OnOk result ((state : State) → IsAt job.now state self.old.book self.old.next.items
+            → IsTold job.now (answer job.now state (line_of line.now)) self.new.book self.new.next.items text.old.items text.new.items) }
     {
+        let book = &mut self.book;
         match line {
-            PlanLine::Run(worker) => self.run(*worker, job.scripts.of(*worker)),
-            PlanLine::Pair(asked) => pair(alloc, &self.book, asked),
+            PlanLine::Run(worker) => self.run(*worker, job.scripts.of(*worker), text),
+            PlanLine::Pair(asked) => add_found(text, &pair(alloc, book, asked)?),
             PlanLine::Begin {
                 source,
                 destination,
-            } => Ok(begin(&mut self.book, job.version, *source, *destination)),
-            PlanLine::Step => Ok(step_first(&mut self.book)),
-            PlanLine::Cancel => Ok(cancel_first(&mut self.book)),
-            PlanLine::StepClass(class) => Ok(step(&mut self.book, *class)),
-            PlanLine::CancelClass(class) => Ok(cancel(&mut self.book, *class)),
+            } => add_counted(
+                text,
+                b"left ",
+                begin(book, job.version, *source, *destination),
+            ),
+            PlanLine::Step => add_step(text, step_first(book)),
+            PlanLine::Cancel => add_counted(text, b"left ", cancel_first(book)),
+            PlanLine::StepClass(class) => add_step(text, step(book, *class)),
+            PlanLine::CancelClass(class) => add_counted(text, b"left ", cancel(book, *class)),
             PlanLine::Whole {
                 source,
                 destination,
-            } => Ok(whole(&mut self.book, job.version, *source, *destination)),
-            PlanLine::Sweep(group) => Ok(sweep(&mut self.book, *group)),
-            PlanLine::Report => Ok(report(&self.book)),
+            } => add_counted(
+                text,
+                b"meshed ",
+                whole(book, job.version, *source, *destination),
+            ),
+            PlanLine::Sweep(group) => add_counted(text, b"swept ", sweep(book, *group)),
+            PlanLine::Report => add_report(text, report(book)),
         }
     }
 
-    /// Attempts the worker's next command. It stays the next one unless there is a reply.
-    fn run(&mut self, worker: u32, script: &Script) -> Result<Answer, AllocError>
+    /// Attempts the worker's next command, and adds what it is answered. It stays the next one unless there is a reply.
+    fn run(&mut self, worker: u32, script: &Script, text: &mut Vec<u8>) -> Result<(), AllocError>
         requires { worker < vec_len self.old.next }
         ensures workers { vec_len self.new.next ≡ vec_len self.old.next }
-        ensures next { IfOk result (λ answer. self.new.next.items ≡ places_after answer self.old.next.items worker) }
-        ensures over { IfOk result (λ answer. (answer ≡ Answer.Over)
-            ↔ (length script.now ≤ slice_index self.old.next.items worker)) }
-        ensures answered { IfOk result (λ given. (job : PlainJob) (state : State)
+        ensures told { OnOk result ((job : PlainJob) (state : State)
             → IsAt job state self.old.book self.old.next.items → vec_len self.old.next ≡ length job.scripts
             → script.now ≡ slice_index_or job.scripts worker []
-            → IsNextAt job (answer job state (RunWorker worker)) self.new.book self.new.next.items given) }
+            → IsTold job (answer job state (RunWorker worker)) self.new.book self.new.next.items text.old.items text.new.items) }
     {
         let place = self.next[worker as usize];
         let Some(command) = script.get(place) else {
-            return Ok(Answer::Over);
+            return text.extend_from_slice(b"over");
         };
         match self.book.act(worker, command) {
             Attempt::Done(reply) => {
                 self.next[worker as usize] = place + 1;
-                Ok(Answer::Replied(reply))
+                add_reply(text, &reply)
             }
-            Attempt::Blocked => Ok(Answer::Blocked),
-            Attempt::HistoryFull => Ok(Answer::HistoryFull),
+            Attempt::Blocked => text.extend_from_slice(b"blocked"),
+            Attempt::HistoryFull => text.extend_from_slice(b"history full"),
             Attempt::OutOfMemory => Err(AllocError),
         }
     }

@@ -1,29 +1,52 @@
 //! The answer lines of a mesher's calls.
 ghost use Rattle.std.specs.Prelude.{◌≡◌, ◌++◌, decimal, OnOk};
 ghost use Rattle.std.specs.List.{flat_map};
-ghost use Rattle.mesh_model.specs.Texts.{field, found_text, kind_text, left_text, pair_text, report_text};
+ghost use Rattle.mesh_model.specs.Texts.{answer_text, found_text, kind_text, pair_text, report_text};
 ghost use Rattle.mesh_steps.specs.PageHeap.{counts_told};
+ghost use Rattle.mesh_text.specs.Answers.{counted_text, step_told};
 
-use super::add_decimal;
-use mesh_model::StepKind;
+use super::{add_decimal, add_refusal};
+use mesh_model::{Refusal, StepKind};
 use mesh_search::{Found, Pair};
 use mesh_steps::{Report, StepDone};
 use std::alloc::AllocError;
 
+/// Adds words and the number behind them that a call answered, or its refusal.
+pub(crate) fn add_counted(
+    text: &mut Vec<u8>,
+    words: &[u8],
+    count: Result<u32, Refusal>,
+) -> Result<(), AllocError>
+    ensures { OnOk result (text.new.items ≡ text.old.items ++ counted_text words.now count) }
+{
+    match count {
+        Ok(count) => add_count(text, words, count),
+        Err(refusal) => add_refusal(text, refusal),
+    }
+}
+
 /// Adds words and a number behind them.
-pub(crate) fn add_count(text: &mut Vec<u8>, words: &[u8], count: u32) -> Result<(), AllocError>
+fn add_count(text: &mut Vec<u8>, words: &[u8], count: u32) -> Result<(), AllocError>
     ensures { OnOk result (text.new.items ≡ text.old.items ++ (words.now ++ decimal count)) }
 {
     text.extend_from_slice(words)?;
     add_decimal(text, u64::from(count))
 }
 
-/// Adds `KIND left N`.
-pub(crate) fn add_step(text: &mut Vec<u8>, step: StepDone) -> Result<(), AllocError>
-    ensures { OnOk result (text.new.items ≡ text.old.items ++ (kind_text step.kind ++ field (left_text step.left))) }
+/// Adds `KIND left N` for a step that was made, or its refusal.
+pub(crate) fn add_step(
+    text: &mut Vec<u8>,
+    step: Result<StepDone, Refusal>,
+) -> Result<(), AllocError>
+    ensures { OnOk result (text.new.items ≡ text.old.items ++ answer_text (step_told step)) }
 {
-    text.extend_from_slice(kind_word(step.kind).as_bytes())?;
-    add_count(text, b" left ", step.left)
+    match step {
+        Ok(step) => {
+            text.extend_from_slice(kind_word(step.kind).as_bytes())?;
+            add_count(text, b" left ", step.left)
+        }
+        Err(refusal) => add_refusal(text, refusal),
+    }
 }
 
 /// The word of a kind of step.

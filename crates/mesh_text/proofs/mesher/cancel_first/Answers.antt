@@ -1,9 +1,11 @@
 use Rattle.std.proofs.Common.{◌∙◌, sym}
+use Rattle.mesh_model.specs.Jobs.{StepsLeft}
+use Rattle.mesh_text.specs.Answers.{count_told}
 use Rattle.mesh_text.proofs.Meshing.{first_cancelled, none_cancelled}
 use Rattle.mesh_text.proofs.mesher.cancel_first.Goals as goal
 
 pub returns-in-Some : goal.returns-in-Some
-returns-in-Some c = first_cancelled c.args.book.now c.cancel.new.book c.in-Some.class c.cancel.result (sym c.in-Some.is ∙ c.first_running.ensures) c.cancel.ensures
+returns-in-Some c = first_cancelled c.args.book.now c.cancel.new.book c.in-Some.class (count_told StepsLeft c.cancel.result) (sym c.in-Some.is ∙ c.first_running.ensures) c.cancel.ensures
 
 pub returns-in-None : goal.returns-in-None
 returns-in-None c = none_cancelled c.args.book.now (sym c.in-None.is ∙ c.first_running.ensures)

@@ -30,21 +30,21 @@ loop-line-preserved g c =
     let i = c.loop-line.line-index in
     let line : PlanLine = c.line-item.result in
     let more = one_more c.lines-line-items.result.now job.plan i line line (c.lines-line-items.ensures ∙ ap (λ (j : Job). j.plan) c.job.view_is) c.loop-line-test.true c.line-item.is in
-    let next = c.in_ok-answer.ensures.answered (state_up_to job i) c.loop-line.invariant.at in
-    let gathered : HasGathered job (i + 1) (g.O.Sink.written c.args.output.now) (g.O.Sink.written c.loop-line.output) c.add_to.new.text.items
-    = gathered_more job i (line_of line) c.answer.new.self.book c.answer.new.self.next.items c.in_ok-answer.answer (g.O.Sink.written c.args.output.now)
-    (g.O.Sink.written c.loop-line.output) c.loop-line.text.items c.add_to.new.text.items more next c.loop-line.invariant.gathered c.in_ok-add_to.ensures in
+    let next = c.in_ok-answer.ensures.told (state_up_to job i) c.loop-line.invariant.at in
+    let gathered : HasGathered job (i + 1) (g.O.Sink.written c.args.output.now) (g.O.Sink.written c.loop-line.output) c.extend_from_slice.new.self.items
+    = gathered_more job i (line_of line) c.answer.new.self.book c.answer.new.self.next.items (g.O.Sink.written c.args.output.now)
+    (g.O.Sink.written c.loop-line.output) c.loop-line.text.items c.answer.new.text.items c.extend_from_slice.new.self.items more next c.loop-line.invariant.gathered c.in_ok-extend_from_slice.ensures.items in
     let workers = c.in_ok-answer.ensures.workers ∙ c.loop-line.invariant.workers in
-    let at = next_at job i (line_of line) c.answer.new.self.book c.answer.new.self.next.items c.in_ok-answer.answer more next in
+    let at = next_at job i (line_of line) c.answer.new.self.book c.answer.new.self.next.items c.loop-line.text.items c.answer.new.text.items more next in
     elim c.if-len-ge-CHUNK_BYTES.branch [
       | then-len-ge-CHUNK_BYTES+in_ok-write_answers w ↦
-          let wrote : Appends (g.O.Sink.written c.loop-line.output) (g.O.Sink.written w.write_answers.new.output) c.add_to.new.text.items
+          let wrote : Appends (g.O.Sink.written c.loop-line.output) (g.O.Sink.written w.write_answers.new.output) c.extend_from_slice.new.self.items
           = subst (λ bytes. Appends (g.O.Sink.written c.loop-line.output) (g.O.Sink.written w.write_answers.new.output) bytes) w.as_slice.ensures.value w.in_ok-write_answers.ensures.ok in
           record {
             workers = workers;
             fresh = ap (λ o. g.O.Sink.has_failed o) w.output-is ∙ w.in_ok-write_answers.ensures.fails;
             at = at;
-            gathered = rw (w.output-is, w.text-is, w.clear.ensures.items) (all_written job (i + 1) _ _ _ c.add_to.new.text.items gathered wrote);
+            gathered = rw (w.output-is, w.text-is, w.clear.ensures.items) (all_written job (i + 1) _ _ _ c.extend_from_slice.new.self.items gathered wrote);
           }
       | else-len-ge-CHUNK_BYTES w ↦ record {
         workers = workers;
@@ -60,11 +60,11 @@ returns-in_err-write_answers-clause-beginning g c is =
     let i = c.loop-line.line-index in
     let line : PlanLine = c.line-item.result in
     let more = one_more c.lines-line-items.result.now job.plan i line line (c.lines-line-items.ensures ∙ ap (λ (j : Job). j.plan) c.job.view_is) c.loop-line-test.true c.line-item.is in
-    let next = c.in_ok-answer.ensures.answered (state_up_to job i) c.loop-line.invariant.at in
-    let gathered : HasGathered job (i + 1) (g.O.Sink.written c.args.output.now) (g.O.Sink.written c.loop-line.output) c.add_to.new.text.items
-    = gathered_more job i (line_of line) c.answer.new.self.book c.answer.new.self.next.items c.in_ok-answer.answer (g.O.Sink.written c.args.output.now)
-    (g.O.Sink.written c.loop-line.output) c.loop-line.text.items c.add_to.new.text.items more next c.loop-line.invariant.gathered c.in_ok-add_to.ensures in
-    part_written job (i + 1) _ _ _ c.add_to.new.text.items gathered
+    let next = c.in_ok-answer.ensures.told (state_up_to job i) c.loop-line.invariant.at in
+    let gathered : HasGathered job (i + 1) (g.O.Sink.written c.args.output.now) (g.O.Sink.written c.loop-line.output) c.extend_from_slice.new.self.items
+    = gathered_more job i (line_of line) c.answer.new.self.book c.answer.new.self.next.items (g.O.Sink.written c.args.output.now)
+    (g.O.Sink.written c.loop-line.output) c.loop-line.text.items c.answer.new.text.items c.extend_from_slice.new.self.items more next c.loop-line.invariant.gathered c.in_ok-extend_from_slice.ensures.items in
+    part_written job (i + 1) _ _ _ c.extend_from_slice.new.self.items gathered
     (subst (λ bytes. AppendsBeginning (g.O.Sink.written c.loop-line.output) (g.O.Sink.written c.write_answers.new.output) bytes) c.as_slice.ensures.value c.in_err-write_answers.ensures.err)
 
 pub returns-clause-whole : goal.returns-clause-whole
@@ -120,23 +120,23 @@ returns-in_err-answer-clause-lines g c is = (c.loop-line.invariant.gathered.line
 pub returns-in_err-answer-clause-kinds : goal.returns-in_err-answer-clause-kinds
 returns-in_err-answer-clause-kinds g c = is_memory c.from_residual-in_err-answer.result c.from_residual-in_err-answer.ensures.1
 
-pub returns-in_err-add_to-clause-ok : goal.returns-in_err-add_to-clause-ok
-returns-in_err-add_to-clause-ok g c = never_ok _ c.from_residual-in_err-add_to.result c.from_residual-in_err-add_to.ensures.0
+pub returns-in_err-extend_from_slice-clause-ok : goal.returns-in_err-extend_from_slice-clause-ok
+returns-in_err-extend_from_slice-clause-ok g c = never_ok _ c.from_residual-in_err-extend_from_slice.result c.from_residual-in_err-extend_from_slice.ensures.0
 
-pub returns-in_err-add_to-clause-whole : goal.returns-in_err-add_to-clause-whole
-returns-in_err-add_to-clause-whole g c = never_ok _ c.from_residual-in_err-add_to.result c.from_residual-in_err-add_to.ensures.0
+pub returns-in_err-extend_from_slice-clause-whole : goal.returns-in_err-extend_from_slice-clause-whole
+returns-in_err-extend_from_slice-clause-whole g c = never_ok _ c.from_residual-in_err-extend_from_slice.result c.from_residual-in_err-extend_from_slice.ensures.0
 
-pub returns-in_err-add_to-clause-fails : goal.returns-in_err-add_to-clause-fails
-returns-in_err-add_to-clause-fails g c is = absurd (not_write c.from_residual-in_err-add_to.result c.from_residual-in_err-add_to.ensures.1 is)
+pub returns-in_err-extend_from_slice-clause-fails : goal.returns-in_err-extend_from_slice-clause-fails
+returns-in_err-extend_from_slice-clause-fails g c is = absurd (not_write c.from_residual-in_err-extend_from_slice.result c.from_residual-in_err-extend_from_slice.ensures.1 is)
 
-pub returns-in_err-add_to-clause-beginning : goal.returns-in_err-add_to-clause-beginning
-returns-in_err-add_to-clause-beginning g c is = absurd (not_write c.from_residual-in_err-add_to.result c.from_residual-in_err-add_to.ensures.1 is)
+pub returns-in_err-extend_from_slice-clause-beginning : goal.returns-in_err-extend_from_slice-clause-beginning
+returns-in_err-extend_from_slice-clause-beginning g c is = absurd (not_write c.from_residual-in_err-extend_from_slice.result c.from_residual-in_err-extend_from_slice.ensures.1 is)
 
-pub returns-in_err-add_to-clause-lines : goal.returns-in_err-add_to-clause-lines
-returns-in_err-add_to-clause-lines g c is = (c.loop-line.invariant.gathered.lines, c.loop-line.invariant.gathered.wrote)
+pub returns-in_err-extend_from_slice-clause-lines : goal.returns-in_err-extend_from_slice-clause-lines
+returns-in_err-extend_from_slice-clause-lines g c is = (c.loop-line.invariant.gathered.lines, c.loop-line.invariant.gathered.wrote)
 
-pub returns-in_err-add_to-clause-kinds : goal.returns-in_err-add_to-clause-kinds
-returns-in_err-add_to-clause-kinds g c = is_memory c.from_residual-in_err-add_to.result c.from_residual-in_err-add_to.ensures.1
+pub returns-in_err-extend_from_slice-clause-kinds : goal.returns-in_err-extend_from_slice-clause-kinds
+returns-in_err-extend_from_slice-clause-kinds g c = is_memory c.from_residual-in_err-extend_from_slice.result c.from_residual-in_err-extend_from_slice.ensures.1
 
 pub returns-in_err-write_answers-clause-ok : goal.returns-in_err-write_answers-clause-ok
 returns-in_err-write_answers-clause-ok g c = never_ok _ c.from_residual-in_err-write_answers.result c.from_residual-in_err-write_answers.ensures.0
