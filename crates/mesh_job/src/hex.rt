@@ -16,11 +16,13 @@ fn digit(byte: u8) -> Option<u8>
     ensures value { result ≡ hex_value byte }
     ensures below { IfSome result (λ value. value < 16) }
 {
-    match byte {
-        b'0'..=b'9' => Some(byte - b'0'),
-        b'a'..=b'f' => Some(byte - b'a' + 10),
-        _ => None,
-    }
+    // Any other byte wraps to 16 or more: digits of a text fall as they like, and no branch is to depend on which they are.
+    let value = if byte <= b'9' {
+        byte.wrapping_sub(b'0')
+    } else {
+        byte.wrapping_sub(b'a').saturating_add(10)
+    };
+    if value < 16 { Some(value) } else { None }
 }
 
 /// The byte of two hexadecimal digits. HEX where one of them is no such digit.

@@ -1,3 +1,4 @@
+pub mod Digits
 pub mod Gathering
 pub mod HistoryParts
 pub mod Meshing

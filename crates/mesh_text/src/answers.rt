@@ -4,8 +4,9 @@ ghost use Rattle.mesh_model.specs.Texts.{address_text, byte_text, bytes_text, he
 
 mod mesher;
 
+use hex::encode_to_slice;
 use itoa::Buffer;
-use mesh_model::{Refusal, Reply};
+use mesh_model::{MAX_BYTES, Refusal, Reply};
 pub(crate) use mesher::{add_counted, add_found, add_report, add_step};
 use std::alloc::AllocError;
 
@@ -60,15 +61,29 @@ pub(crate) fn add_decimal(text: &mut Vec<u8>, number: u64) -> Result<(), AllocEr
     text.extend_from_slice(digits.format(number).as_bytes())
 }
 
+/// The most digits of an address.
+const MOST_DIGITS: usize = 8;
+
 /// Adds an address in hexadecimal digits without a leading zero.
 fn add_address(text: &mut Vec<u8>, address: u32) -> Result<(), AllocError>
     ensures { OnOk result (text.new.items ≡ text.old.items ++ address_text address) }
 {
-    if address >= 16 {
-        add_address(text, address / 16)?;
-    }
-    text.push(digit((address % 16) as u8))?;
+    text.reserve(MOST_DIGITS)?;
+    push_address(text, address);
     Ok(())
+}
+
+/// Adds the digits of an address, for which there is room.
+fn push_address(text: &mut Vec<u8>, address: u32)
+    requires { vec_len text.old + length (address_text address) ≤ vec_capacity text.old }
+    ensures digits { text.new.items ≡ text.old.items ++ address_text address }
+    ensures len { vec_len text.new ≡ vec_len text.old + length (address_text address) }
+    ensures room { vec_capacity text.new ≡ vec_capacity text.old }
+{
+    if address >= 16 {
+        push_address(text, address / 16);
+    }
+    text.push_reserved(digit((address % 16) as u8));
 }
 
 /// Adds up to 32 bytes, two hexadecimal digits each.
@@ -76,22 +91,10 @@ fn add_bytes(text: &mut Vec<u8>, bytes: &[u8]) -> Result<(), AllocError>
     requires { length bytes.now ≤ 32 }
     ensures { OnOk result (text.new.items ≡ text.old.items ++ bytes_text bytes.now) }
 {
-    text.reserve(2 * bytes.len())?;
-    for byte in bytes {
-        push_byte(text, *byte);
-    }
-    Ok(())
-}
-
-/// Adds a byte in two hexadecimal digits, for which there is room.
-fn push_byte(text: &mut Vec<u8>, byte: u8)
-    requires { vec_len text.old + 2 ≤ vec_capacity text.old }
-    ensures digits { text.new.items ≡ text.old.items ++ byte_text byte }
-    ensures len { vec_len text.new ≡ vec_len text.old + 2 }
-    ensures room { vec_capacity text.new ≡ vec_capacity text.old }
-{
-    text.push_reserved(digit(byte / 16));
-    text.push_reserved(digit(byte % 16));
+    let mut digits = [0; 2 * MAX_BYTES];
+    let digits = &mut digits[..2 * bytes.len()];
+    encode_to_slice(bytes, digits).unwrap();
+    text.extend_from_slice(digits)
 }
 
 /// The hexadecimal digit of a value below 16, in lower case.

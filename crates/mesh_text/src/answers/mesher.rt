@@ -1,7 +1,7 @@
 //! The answer lines of a mesher's calls.
 ghost use Rattle.std.specs.Prelude.{◌≡◌, ◌++◌, decimal, OnOk};
 ghost use Rattle.std.specs.List.{flat_map};
-ghost use Rattle.mesh_model.specs.Texts.{answer_text, found_text, kind_text, pair_text, report_text};
+ghost use Rattle.mesh_model.specs.Texts.{answer_text, field, found_text, kind_text, left_text, pair_text, report_text};
 ghost use Rattle.mesh_steps.specs.PageHeap.{counts_told};
 ghost use Rattle.mesh_text.specs.Answers.{counted_text, step_told};
 
@@ -41,24 +41,21 @@ pub(crate) fn add_step(
     ensures { OnOk result (text.new.items ≡ text.old.items ++ answer_text (step_told step)) }
 {
     match step {
-        Ok(step) => {
-            text.extend_from_slice(kind_word(step.kind).as_bytes())?;
-            add_count(text, b" left ", step.left)
-        }
+        Ok(step) => add_step_done(text, step),
         Err(refusal) => add_refusal(text, refusal),
     }
 }
 
-/// The word of a kind of step.
-fn kind_word(kind: StepKind) -> &'static str
-    ensures { result.now ≡ kind_text kind }
+/// Adds `KIND left N`.
+fn add_step_done(text: &mut Vec<u8>, step: StepDone) -> Result<(), AllocError>
+    ensures { OnOk result (text.new.items ≡ text.old.items ++ (kind_text step.kind ++ field (left_text step.left))) }
 {
-    match kind {
-        StepKind::Protect => "protect",
-        StepKind::Copy => "copy",
-        StepKind::Remap => "remap",
-        StepKind::Unprotect => "unprotect",
-        StepKind::Release => "release",
+    match step.kind {
+        StepKind::Protect => add_count(text, b"protect left ", step.left),
+        StepKind::Copy => add_count(text, b"copy left ", step.left),
+        StepKind::Remap => add_count(text, b"remap left ", step.left),
+        StepKind::Unprotect => add_count(text, b"unprotect left ", step.left),
+        StepKind::Release => add_count(text, b"release left ", step.left),
     }
 }
 
