@@ -11,18 +11,28 @@ use mesh_model::{FaultKind, MAX_BYTES};
 /// The greatest address, the last byte of the last virtual page.
 const MOST_ADDRESS: u32 = 0xfff_ffff;
 
+/// What is no value of a digit.
+const NO_DIGIT: u8 = 16;
+
 /// The value of a hexadecimal digit in lower case.
 fn digit(byte: u8) -> Option<u8>
     ensures value { result ≡ hex_value byte }
     ensures below { IfSome result (λ value. value < 16) }
 {
-    // Any other byte wraps to 16 or more: digits of a text fall as they like, and no branch is to depend on which they are.
-    let value = if byte <= b'9' {
-        byte.wrapping_sub(b'0')
+    // The digits of a text fall as they like, so no branch is to depend on which they are: both readings are made, and one is chosen.
+    let letter = byte.wrapping_sub(b'a');
+    let decimal = byte.wrapping_sub(b'0');
+    let value = if letter < 6 {
+        letter + 10
+    } else if decimal < 10 {
+        decimal
     } else {
-        byte.wrapping_sub(b'a').saturating_add(10)
+        NO_DIGIT
     };
-    if value < 16 { Some(value) } else { None }
+    if value == NO_DIGIT {
+        return None;
+    }
+    Some(value)
 }
 
 /// The byte of two hexadecimal digits. HEX where one of them is no such digit.
