@@ -3,4 +3,3 @@ pub mod CommandsBuilt
 pub mod FirstWords
 pub mod NumbersRead
 pub mod Telling
-mod WorkedView

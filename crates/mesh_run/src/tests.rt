@@ -1,4 +1,4 @@
-//! The program's worked rows and failing devices, over memory, and the tests of the crates below.
+//! The program's command line, worked rows and failing devices, over memory.
 //!
 //! Each expected text was worked out by hand from the rules, and none was copied from a run.
 
@@ -6,22 +6,11 @@ use crate::{Input, Output, replay_run};
 use std::alloc::Global;
 
 mod arguments;
-mod calls;
 mod devices;
 mod faults;
 mod files;
-mod gates;
 mod histories;
-mod indexes;
-mod memory;
-mod meshers;
-mod meshes;
-mod numbers;
-mod plain;
 mod rows;
-mod search;
-mod searchers;
-mod shared;
 mod threads;
 mod words;
 

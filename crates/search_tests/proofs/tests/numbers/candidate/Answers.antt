@@ -1,6 +1,6 @@
 use Rattle.std.proofs.Common.{true, Bool, List, slice_set, ap, ◌∙◌}
-use Rattle.mesh_run.proofs.WorkedView.{one_object}
-use Rattle.mesh_run.proofs.tests.numbers.candidate.Goals as goal
+use Rattle.search_tests.proofs.WorkedView.{one_object}
+use Rattle.search_tests.proofs.tests.numbers.candidate.Goals as goal
 
 pub returns-clause-candidate : goal.returns-clause-candidate
 returns-clause-candidate c =

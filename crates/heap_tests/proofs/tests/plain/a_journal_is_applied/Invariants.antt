@@ -1,6 +1,6 @@
 use Rattle.std.proofs.Common.{◌≡◌, ◌≤◌, length}
 use Rattle.mesh_model.specs.Memory.{next_serial}
-use Rattle.mesh_run.proofs.tests.plain.a_journal_is_applied.Given as goal
+use Rattle.heap_tests.proofs.tests.plain.a_journal_is_applied.Given as goal
 
 -- no more objects were made than entries applied
 abbrev pub invariant-loop-command : goal.invariant-loop-command

@@ -1,6 +1,6 @@
 use Rattle.std.proofs.Common.{◌≤◌, ℕ}
 use Rattle.mesh_spans.specs.Index.{AreUnused, Index}
-use Rattle.mesh_run.proofs.tests.indexes.index_of.Given as goal
+use Rattle.search_tests.proofs.tests.indexes.index_of.Given as goal
 
 -- the next span may begin at this page
 pub record IsNext (index : Index) (next : ℕ) : Type 0 where

@@ -1,5 +1,5 @@
-use Rattle.mesh_run.proofs.WorkedView.{are_named, is_view}
-use Rattle.mesh_run.proofs.tests.numbers.worked_view.Goals as goal
+use Rattle.search_tests.proofs.WorkedView.{are_named, is_view}
+use Rattle.search_tests.proofs.tests.numbers.worked_view.Goals as goal
 
 pub new-requires : goal.new-requires
 new-requires c =

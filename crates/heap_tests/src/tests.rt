@@ -1,0 +1,6 @@
+//! Each expected answer was worked out by hand from the rules, and none was copied from a run.
+
+mod calls;
+mod memory;
+mod meshes;
+mod plain;
