@@ -1,8 +1,8 @@
 #!/usr/bin/env python3
-"""Writes the crate mesh_rows, and the table of mesh_run's tests, from the files under jobs/rows.
+"""Writes the crate mesh_rows, and the tables of program_tests, from the files under jobs/rows.
 
 Each folder there is a subject, and each NAME.job in it a row: NAME.out has the lines that the job is answered, or NAME.err the fault of a file
-that is no job. In mesh_rows a subject becomes a spec file, a function whose clauses are its rows, and that function's proof; in mesh_run's tests
+that is no job. In mesh_rows a subject becomes a spec file, a function whose clauses are its rows, and that function's proof; in program_tests
 the rows become tables, one a subject. Run it from the top of the repository after a row was added or changed; what it writes is
 committed.
 """
@@ -13,7 +13,7 @@ import subprocess
 
 ROWS = pathlib.Path("jobs/rows")
 CRATE = pathlib.Path("crates/mesh_rows")
-PROGRAM = pathlib.Path("crates/mesh_run")
+TESTS = pathlib.Path("crates/program_tests")
 # The definitions are computed on files below this length; the longer one is there for the program alone.
 MOST_BYTES = 100_000
 
@@ -134,8 +134,8 @@ def write_tables():
             lines += table(folder.name.upper(), f"Rows of {folder.name.replace('_', ' ')}: for each its name, its file and its answers.", rows, ".out")
     faults = [row for row in sorted(ROWS.glob("*/*.job")) if row.with_suffix(".err").exists() and len(file_text(row)) < 1000]
     lines += table("FAULTS", "For each short file that is no job its name, its bytes and the line of its fault.", faults, ".err")
-    (PROGRAM / "src" / "tests" / "files.rt").write_text("\n".join(lines))
-    subprocess.run(["rt", "fmt"], cwd=PROGRAM, check=True)
+    (TESTS / "src" / "tests" / "files.rt").write_text("\n".join(lines))
+    subprocess.run(["rt", "fmt"], cwd=TESTS, check=True)
 
 
 def main():

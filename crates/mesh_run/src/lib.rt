@@ -20,6 +20,3 @@ pub use shuffle_words::words;
 pub use threads::threads_run;
 pub use threads_args::ThreadsArgs;
 pub use threads_error::ThreadsError;
-
-#[cfg(test)]
-mod tests;

@@ -1,5 +1,5 @@
 //! The words of the shuffles, against the generator written anew from its authors' papers in another language.
-use crate::words;
+use mesh_run::words;
 use std::test::Fail;
 
 /// For each seed words at some places.

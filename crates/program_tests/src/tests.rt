@@ -2,7 +2,7 @@
 //!
 //! Each expected text was worked out by hand from the rules, and none was copied from a run.
 
-use crate::{Input, Output, replay_run};
+use mesh_run::{Input, Output, replay_run};
 use std::alloc::Global;
 
 mod arguments;

@@ -4,7 +4,7 @@ ghost use Rattle.std.specs.Prelude.{◌≡◌, ◌≤◌, false};
 use crate::tests::Ran;
 use crate::tests::devices::SlowSource;
 use crate::tests::files::FAULTS;
-use crate::{Input, Output, Source, ThreadsArgs, threads_run};
+use mesh_run::{Input, Output, Source, ThreadsArgs, threads_run};
 use std::sync::Wait;
 use std::test::Fail;
 use std::thread::Threads;

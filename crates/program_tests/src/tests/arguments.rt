@@ -1,5 +1,5 @@
 //! Command lines.
-use crate::{Args, Output, arguments, stop_run, unopened_run};
+use mesh_run::{Args, Output, arguments, stop_run, unopened_run};
 use std::test::Fail;
 
 /// For each command line that asks for no run its words, the exit status, and how the text that it prints begins.

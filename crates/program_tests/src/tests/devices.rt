@@ -2,7 +2,7 @@
 ghost use Rattle.std.specs.Prelude.{◌≡◌, None, false};
 
 use crate::tests::files::{MESH_ANSWERS, MESH_FILE};
-use crate::{DeviceFault, Input, Output, Sink, Source, replay_run};
+use mesh_run::{DeviceFault, Input, Output, Sink, Source, replay_run};
 use std::alloc::Global;
 
 /// More calls than any run makes.
