@@ -1,16 +1,18 @@
 -- The set that four words hold.
-use Rattle.std.proofs.Common.{◌≡◌, ◌≢◌, ℕ, zero, suc, ◌+◌, ◌-◌, ◌*◌, ◌/◌, ◌%◌, ◌^◌, ◌<◌, ◌≤◌, Bool, true, false, cond, not, nat_eq, Option, None, Some, IfSome, take, List, [], ◌∷◌, map, length, replicate, slice_set, slice_index, count_by, get_or, set, ap, refl, sym, ◌∙◌, arith, inl, inr, zero-add, add_assoc}
+use Rattle.std.proofs.Common.{◌≡◌, ◌≢◌, ℕ, zero, suc, ◌+◌, ◌-◌, ◌*◌, ◌/◌, ◌%◌, ◌^◌, ◌<◌, ◌≤◌, Bool, true, false, cond, not, nat_eq, Option, None, Some, IfSome, take, w64, bit_and, List, [], ◌∷◌, map, length, replicate, slice_set, slice_index, count_by, get_or, set, ap, refl, sym, ◌∙◌, arith, inl, inr, zero-add, add-zero, add_assoc}
 use Rattle.std.proofs.Math.Nat.{pow-suc}
 use Rattle.std.proofs.lemmas.List.Sums.{sum_by-cons}
 use Rattle.std.proofs.lemmas.List.{get_or-set_other, get_or-set_same, get_or-replicate}
 use Rattle.std.proofs.Math.ListN.{length-set, length-replicate}
 use Rattle.std.proofs.lemmas.Bool.Decides.{eqb_tells}
-use Rattle.std.specs.Int.{bit_at}
+use Rattle.std.specs.Int.{bit_at, bit_not}
+use Rattle.std.specs.Int.Bits.{and_self, and_zero_l, and_zero_r}
+use Rattle.std.proofs.lemmas.Nat.{and_mod, and_shr}
 use lib.Count.{ones, ones_in, ones_step}
 use Rattle.std.specs.List.{range_with_len}
 use Rattle.std.proofs.lemmas.List.FromFn.{length-map-range_with_len, get_or-map-range_with_len, fill_by_all, sum_by-map-range_with_len_more, take-map-range_with_len}
-use Rattle.std.proofs.lemmas.Nat.Bits.{bit_at-zero, bit_at-suc, bit_at_lowest}
-use Rattle.mesh_bits.specs.Bits.{has, members, is_member, member_count, clear_count, PutsBit, IsBitmap}
+use Rattle.std.proofs.lemmas.Nat.Bits.{bit_at-zero, bit_at-suc, bit_at-lt, bit_at_lowest, bit_at_not}
+use Rattle.mesh_bits.specs.Bits.{has, members, is_member, member_count, clear_count, low_ones, PutsBit, IsBitmap}
 
 -- the set is as long as its width
 pub length_members : (words : List ℕ) (width : ℕ) → length (members words width) ≡ width
@@ -76,11 +78,6 @@ has_zeros i = rw (zero_word (i / 64), bit_at-zero (i % 64)) refl
 pub members_zeros : (width : ℕ) → members (0 ∷ 0 ∷ 0 ∷ 0 ∷ []) width ≡ replicate width false
 members_zeros width = sym (fill_by_all (has (0 ∷ 0 ∷ 0 ∷ 0 ∷ [])) (replicate width false) width false (length-replicate width false)
     (λ k h. get_or-replicate width k false false h ∙ sym (has_zeros k)))
-
--- how many of the k lowest bits of n are set
-low_ones : ℕ → ℕ → ℕ
-low_ones zero n = 0
-low_ones (suc k) n = n % 2 + low_ones k (n / 2)
 
 -- how many of k numbers from a on pass
 passing : (ℕ → Bool) → ℕ → ℕ → ℕ
@@ -211,3 +208,150 @@ clear_count_word words j a from fits =
     let all = clear_and_members (members words (a + 64)) ∙ length_members words (a + 64) in
     let below = clear_and_members (members words a) ∙ length_members words a in
     omega (arith, whole, before, parts, word, all, below)
+
+-- how many of one more bit are set
+low_ones_more : (k n : ℕ) → low_ones (suc k) n ≡ low_ones k n + bit_at n k
+unfolding low_ones
+low_ones_more zero n = let lowest = bit_at_lowest n in omega (arith, lowest)
+low_ones_more (suc k) n =
+    let rest : low_ones (suc k) (n / 2) ≡ low_ones k (n / 2) + bit_at (n / 2) k = low_ones_more k (n / 2) in
+    let bit = bit_at-suc n k in
+    omega (arith, rest, bit)
+
+-- no bit of zero is
+pub low_ones_none : (k : ℕ) → low_ones k 0 ≡ 0
+unfolding low_ones
+low_ones_none zero = refl
+low_ones_none (suc k) = let rest = low_ones_none k in omega (arith, rest)
+
+-- nor is one below the lowest
+pub low_ones_below : (k n : ℕ) → ((i : ℕ) → i < k → bit_at n i ≡ 0) → low_ones k n ≡ 0
+unfolding low_ones
+low_ones_below zero n none = refl
+low_ones_below (suc k) n none =
+    let first : n % 2 ≡ 0 = sym (bit_at_lowest n) ∙ none 0 (omega arith) in
+    let rest : low_ones k (n / 2) ≡ 0 = low_ones_below k (n / 2) (λ i below. sym (bit_at-suc n i) ∙ none (suc i) (omega (arith, below))) in
+    omega (arith, first, rest)
+
+-- a bit that is set in the other bits of a word is clear in the word
+pub clear_bit_of : (words : List ℕ) (i j k : ℕ) → 64 * j + k ≡ i → k < 64 → slice_index words j < 2 ^ 64 → has words i ≡ nat_eq (1 - bit_at (bit_not w64 (slice_index words j)) k) 1
+clear_bit_of words i j k is below fits =
+    let word : i / 64 ≡ j = omega (arith, is, below) in
+    let bit : i % 64 ≡ k = omega (arith, is, below) in
+    let not_bit = bit_at_not w64 (slice_index words j) k fits below in
+    let few = bit_at-lt (slice_index words j) k in
+    let same : bit_at (slice_index words j) k ≡ 1 - bit_at (bit_not w64 (slice_index words j)) k = omega (arith, not_bit, few) in
+    rw (word, bit) (ap (λ (b : ℕ). nat_eq b 1) same)
+
+-- a clear bit as a number
+clear_worth : (words : List ℕ) (j k : ℕ) → k < 64 → slice_index words j < 2 ^ 64
+    → cond (not (has words (64 * j + k))) 1 0 ≡ bit_at (bit_not w64 (slice_index words j)) k
+clear_worth words j k below fits =
+    let bit : ℕ = bit_at (bit_not w64 (slice_index words j)) k in
+    ap (λ (b : Bool). cond (not b) 1 0) (clear_bit_of words (64 * j + k) j k refl below fits)
+    ∙ worth bit (bit_at-lt (bit_not w64 (slice_index words j)) k)
+  where
+    worth : (b : ℕ) → b < 2 → cond (not (nat_eq (1 - b) 1)) 1 0 ≡ b
+    worth zero few = refl
+    worth (suc zero) few = refl
+    worth (suc (suc b)) few = absurd (omega (arith, few))
+
+-- a word without its lowest set bit
+abbrev pub lowered : ℕ → ℕ
+lowered n = bit_and n (n - 1)
+
+lowered_odd : (n : ℕ) → n % 2 ≡ 1 → (lowered n % 2 ≡ 0) × (lowered n / 2 ≡ n / 2)
+lowered_odd n odd =
+    let bit : (n - 1) % 2 ≡ 0 = omega (arith, odd) in
+    let half : (n - 1) / 2 ≡ n / 2 = omega (arith, odd) in (
+      and_mod n (n - 1) 1 ∙ ap (λ (b : ℕ). bit_and (n % 2) b) bit ∙ and_zero_r (n % 2),
+      and_shr n (n - 1) 1 ∙ ap (λ (b : ℕ). bit_and (n / 2) b) half ∙ and_self (n / 2),
+    )
+
+lowered_even : (n : ℕ) → 0 < n → n % 2 ≡ 0 → (lowered n % 2 ≡ 0) × (lowered n / 2 ≡ lowered (n / 2))
+lowered_even n some even =
+    let half : (n - 1) / 2 ≡ n / 2 - 1 = omega (arith, some, even) in (
+      and_mod n (n - 1) 1 ∙ ap (λ (b : ℕ). bit_and b ((n - 1) % 2)) even ∙ and_zero_l ((n - 1) % 2),
+      and_shr n (n - 1) 1 ∙ ap (λ (b : ℕ). bit_and (n / 2) b) half,
+    )
+
+-- the bits that are left of a word without its lowest one
+pub record IsLowered (k old new : ℕ) : Type 0 where
+  pub is : bit_at new k ≡ 1 → bit_at old k ≡ 1
+  pub place : bit_at new k ≡ 1 → low_ones k new + 1 ≡ low_ones k old
+
+no_lowest : (n : ℕ) → n % 2 ≡ 0 → bit_at n 0 ≡ 1 → ⊥
+no_lowest n even is = let lowest = bit_at_lowest n in omega (arith, even, is, lowest)
+
+pub is_lowered : (k n : ℕ) → 0 < n → IsLowered k n (lowered n)
+unfolding low_ones
+is_lowered zero n some = elim (eqb_tells (n % 2) 1) [
+  | inl odd ↦ let new = lowered_odd n odd.1 in
+      record { is = λ bit. absurd (no_lowest (lowered n) new.0 bit); place = λ bit. absurd (no_lowest (lowered n) new.0 bit) }
+  | inr other ↦ let apart = other.1 in let new = lowered_even n some (omega (arith, apart)) in
+      record { is = λ bit. absurd (no_lowest (lowered n) new.0 bit); place = λ bit. absurd (no_lowest (lowered n) new.0 bit) }
+]
+is_lowered (suc k) n some = elim (eqb_tells (n % 2) 1) [
+  | inl odd ↦
+      let new = lowered_odd n odd.1 in
+      let first = odd.1 in let none = new.0 in
+      let rest : low_ones k (lowered n / 2) ≡ low_ones k (n / 2) = ap (low_ones k) new.1 in
+      record {
+        is = λ bit. bit_at-suc n k ∙ ap (λ (h : ℕ). bit_at h k) (sym new.1) ∙ sym (bit_at-suc (lowered n) k) ∙ bit;
+        place = λ bit. omega (arith, first, none, rest);
+      }
+  | inr other ↦
+      let apart = other.1 in
+      let even : n % 2 ≡ 0 = omega (arith, apart) in
+      let new = lowered_even n some even in
+      let none = new.0 in
+      let half = is_lowered k (n / 2) (omega (arith, some, even)) in
+      let down : bit_at (lowered n) (suc k) ≡ bit_at (lowered (n / 2)) k = bit_at-suc (lowered n) k ∙ ap (λ (h : ℕ). bit_at h k) new.1 in
+      let rest : low_ones k (lowered n / 2) ≡ low_ones k (lowered (n / 2)) = ap (low_ones k) new.1 in
+      record {
+        is = λ bit. bit_at-suc n k ∙ half.is (sym down ∙ bit);
+        place = λ bit. let below = half.place (sym down ∙ bit) in omega (arith, even, none, rest, below);
+      }
+]
+
+-- a word has one bit more than without its lowest one
+pub lowered_count : (k n : ℕ) → 0 < n → n < 2 ^ k → low_ones k (lowered n) + 1 ≡ low_ones k n
+unfolding low_ones
+lowered_count zero n some fits = absurd (omega (arith, some, fits))
+lowered_count (suc k) n some fits = elim (eqb_tells (n % 2) 1) [
+  | inl odd ↦
+      let new = lowered_odd n odd.1 in
+      let first = odd.1 in let none = new.0 in
+      let rest : low_ones k (lowered n / 2) ≡ low_ones k (n / 2) = ap (low_ones k) new.1 in
+      omega (arith, first, none, rest)
+  | inr other ↦
+      let apart = other.1 in
+      let even : n % 2 ≡ 0 = omega (arith, apart) in
+      let new = lowered_even n some even in
+      let none = new.0 in
+      let half = lowered_count k (n / 2) (omega (arith, some, even)) (half_lt k n fits) in
+      let rest : low_ones k (lowered n / 2) ≡ low_ones k (lowered (n / 2)) = ap (low_ones k) new.1 in
+      omega (arith, even, none, rest, half)
+]
+
+-- the clear numbers below a bit of a word are those below the word, and its clear bits below that one
+pub clear_count_bits : (words : List ℕ) (j k : ℕ) → k ≤ 64 → slice_index words j < 2 ^ 64
+    → clear_count (members words (64 * j + k)) ≡ clear_count (members words (64 * j)) + low_ones k (bit_not w64 (slice_index words j))
+unfolding low_ones
+clear_count_bits words j zero few fits = let same : 64 * j + 0 ≡ 64 * j = omega arith in rw same (sym (add-zero (clear_count (members words (64 * j)))))
+clear_count_bits words j (suc k) few fits =
+    let rest = clear_count_bits words j k (omega (arith, few)) fits in
+    let more = clear_count_more words (64 * j + k) in
+    let bits = low_ones_more k (bit_not w64 (slice_index words j)) in
+    let one = clear_worth words j k (omega (arith, few)) fits in
+    let same : 64 * j + suc k ≡ 64 * j + k + 1 = omega arith in
+    rw same (omega (arith, rest, more, bits, one))
+
+-- no more numbers are clear below a lower number
+pub clear_count_below : (words : List ℕ) (i k : ℕ) → clear_count (members words i) ≤ clear_count (members words (i + k))
+clear_count_below words i zero = let same : i + 0 ≡ i = omega arith in rw same (omega arith)
+clear_count_below words i (suc k) =
+    let rest = clear_count_below words i k in
+    let more = clear_count_more words (i + k) in
+    let same : i + suc k ≡ i + k + 1 = omega arith in
+    rw same (omega (arith, rest, more))

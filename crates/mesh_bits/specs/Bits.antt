@@ -1,5 +1,5 @@
 -- An occupancy bitmap as a list of truth values, one a number, as long as its width.
-use Rattle.std.specs.Prelude.{◌≡◌, ◌≢◌, ℕ, ◌+◌, ◌/◌, ◌%◌, ◌<◌, ◌≤◌, Bool, true, false, ◌&&◌, ◌||◌, not, nat_eq, List, [], ◌∷◌, map, slice_index, slice_index_or, count_by}
+use Rattle.std.specs.Prelude.{◌≡◌, ◌≢◌, ℕ, zero, suc, ◌+◌, ◌/◌, ◌%◌, ◌<◌, ◌≤◌, Bool, true, false, ◌&&◌, ◌||◌, not, nat_eq, List, [], ◌∷◌, map, slice_index, slice_index_or, count_by}
 use Rattle.std.specs.Int.{bit_at}
 use Rattle.std.specs.Int.RustNames.{count_ones}
 use Rattle.std.specs.List.{range_with_len}
@@ -63,3 +63,8 @@ HasBitsOfEither words others new = (i : ℕ) → i < 256 → has new i ≡ (has 
 abbrev pub ones_of : List ℕ → ℕ
 ones_of words =
     count_ones (slice_index words 0) + count_ones (slice_index words 1) + count_ones (slice_index words 2) + count_ones (slice_index words 3)
+
+-- how many of the k lowest bits of a word are set
+unfoldable pub low_ones : ℕ → ℕ → ℕ
+low_ones zero word = 0
+low_ones (suc k) word = word % 2 + low_ones k (word / 2)

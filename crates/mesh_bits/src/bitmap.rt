@@ -1,8 +1,9 @@
 //! `Bits`, a set of numbers below a width.
-ghost use Rattle.std.specs.Prelude.{◌≡◌, ◌<◌, ◌≤◌, ◌+◌, ◌||◌, ◌↔◌, true, false, length, replicate, slice_index, slice_set, take, IsTrue, IfSome, IfNone, ℕ, ◌^◌};
+ghost use Rattle.std.specs.Prelude.{◌≡◌, ◌<◌, ◌≤◌, ◌+◌, ◌%◌, ◌||◌, ◌↔◌, ◌⊎◌, true, false, length, replicate, slice_index, slice_set, take, IsTrue, IfSome, IfNone, ℕ, ◌^◌};
+ghost use Rattle.std.specs.Int.{bit_at};
 ghost use Rattle.std.specs.Int.Bits.{bit_and, bit_or};
 ghost use Rattle.std.specs.Simd.Lanes.{fold_l, zip2};
-ghost use Rattle.mesh_bits.specs.Bits.{is_member, member_count, clear_count, are_meshable, AreApart, union_of, has, members, ones_of, PutsBit, HaveNoBitInBoth, HasBitsOfEither};
+ghost use Rattle.mesh_bits.specs.Bits.{is_member, member_count, clear_count, are_meshable, AreApart, union_of, has, low_ones, members, ones_of, PutsBit, HaveNoBitInBoth, HasBitsOfEither};
 
 use std::marker::Model;
 use std::simd::prelude::*;
@@ -161,29 +162,23 @@ fn nth_clear_bit(words: &[u64; WORDS], width: u32, place: u32) -> Option<u32>
     ensures place { IfSome result (λ i. clear_count (members words.now i) ≡ place) }
     ensures none { IfNone result (clear_count (members words.now width) ≤ place) }
 {
-    let (first, mut left) = skip_words(words, width, place);
-    for i in first..width {
-        if has_bit(words, i) {
-            continue;
-        }
-        if left == 0 {
-            return Some(i);
-        }
-        left -= 1;
-    }
-    None
+    let (first, left) = skip_words(words, width, place);
+    let i = first + nth_one(!words[(first / WORD_BITS) as usize], left)?;
+    if i < width { Some(i) } else { None }
 }
 
-// Where to begin to look for the clear bit at place `place`, and its place from there on. Each word that ends
-// before that bit is passed by the count of its clear bits.
+// The first bit of the word in which the clear bit at place `place` is, where it is below the width, and its place
+// in that word. Each word that ends before that bit is passed by the count of its clear bits.
 fn skip_words(words: &[u64; WORDS], width: u32, place: u32) -> (u32, u32)
     requires { width ≤ 256 }
-    ensures within { result.0 ≤ width }
+    ensures word { result.0 % 64 ≡ 0 }
+    ensures within { result.0 ≤ 192 }
     ensures place { result.1 + clear_count (members words.now result.0) ≡ place }
+    ensures last { (width ≤ result.0 + 64) ⊎ (place < clear_count (members words.now (result.0 + 64))) }
 {
     let mut first = 0;
     let mut left = place;
-    while first + WORD_BITS <= width {
+    while first + WORD_BITS < width {
         let clear = WORD_BITS - words[(first / WORD_BITS) as usize].count_ones();
         if left < clear {
             break;
@@ -192,6 +187,25 @@ fn skip_words(words: &[u64; WORDS], width: u32, place: u32) -> (u32, u32)
         first += WORD_BITS;
     }
     (first, left)
+}
+
+// The bit at place `place`, from 0, among the set bits of a word, ascending.
+fn nth_one(word: u64, place: u32) -> Option<u32>
+    ensures one { IfSome result (λ k. (k < 64) × (bit_at word k ≡ 1)) }
+    ensures place { IfSome result (λ k. low_ones k word ≡ place) }
+    ensures none { IfNone result (low_ones 64 word ≤ place) }
+{
+    let mut rest = word;
+    for _gone in 0..place {
+        if rest == 0 {
+            return None;
+        }
+        rest &= rest - 1;
+    }
+    if rest == 0 {
+        return None;
+    }
+    Some(rest.trailing_zeros())
 }
 
 // How many bits of the words are set.
