@@ -281,18 +281,25 @@ pub passed_start : (words : List ℕ) (from : ℕ) → ArePassed words from (64 
 passed_start words from m above below = absurd (omega (arith, above, below))
 
 -- the least bit of the words past a word that has none, by the summary
-pub found_by_summary : (words summary : List ℕ) (from j next k n : ℕ) → IsMarked words summary → ArePassed words from (64 * j) → from ≤ 64 * j
-    → IsFirst (has summary) j 1024 next → IsFirst (bit (slice_index words next)) 0 64 k → n ≡ 64 * next + k → IsFirst (has words) from 65536 n
-found_by_summary words summary from j next k n marked passed start least low is =
-    let above = least.above in let below = least.below in
+pub found_by_summary : (words summary : List ℕ) (from marks end j next k n : ℕ) → IsMarked words summary → ArePassed words from (64 * j) → from ≤ 64 * j
+    → IsFirst (has summary) j marks next → 64 * next + 64 ≤ end → IsFirst (bit (slice_index words next)) 0 64 k → n ≡ 64 * next + k → IsFirst (has words) from end n
+found_by_summary words summary from marks end j next k n marked passed start least inside low is =
+    let above = least.above in
     let all : ArePassed words from (64 * next + 0) = (λ m h l. passed_zeros words from j next passed (λ i h l. unmarked words summary i marked (least.first i h l)) m h (omega (arith, l))) in
-    found_in_word words from 65536 next 0 k n all (omega (arith, start, above)) (omega arith) low (omega (arith, below)) is
+    found_in_word words from end next 0 k n all (omega (arith, start, above)) (omega arith) low inside is
 
 -- nothing there where the summary has nothing
-pub none_by_summary : (words summary : List ℕ) (from j : ℕ) → IsMarked words summary → ArePassed words from (64 * j) → IsLeast (has summary) j 1024 None
-    → IsLeast (has words) from 65536 None
-none_by_summary words summary from j marked passed none m above below =
-    passed_zeros words from j 1024 passed (λ i h l. unmarked words summary i marked (none i h l)) m above (omega (arith, below))
+pub none_by_summary : (words summary : List ℕ) (from marks end j : ℕ) → IsMarked words summary → ArePassed words from (64 * j) → IsLeast (has summary) j marks None
+    → end ≤ 64 * marks → IsLeast (has words) from end None
+none_by_summary words summary from marks end j marked passed none few m above below =
+    passed_zeros words from j marks passed (λ i h l. unmarked words summary i marked (none i h l)) m above (omega (arith, below, few))
+
+-- a word that the summary marks is one of the words
+pub marked_inside : (words summary : List ℕ) (j : ℕ) → IsMarked words summary → has summary j ≡ true → j < length words
+marked_inside words summary j marked is = elim (leb_tells (length words) j) [
+  | inl past ↦ absurd (let two : false ≡ true = sym (ap (λ (w : ℕ). not (nat_eq w 0)) (get_or_past words j 0 past.1)) ∙ sym (marked j) ∙ is in cc two)
+  | inr within ↦ within.1
+]
 
 -- zero words have no marks
 pub marked_zeros : (k l : ℕ) → IsMarked (replicate k 0) (replicate l 0)

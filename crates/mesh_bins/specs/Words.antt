@@ -38,8 +38,10 @@ pub record PutsBit (old new : List ℕ) (n : ℕ) (value : Bool) : Type 0 where
 abbrev pub IsMarked : List ℕ → List ℕ → Type 0
 IsMarked words summary = (j : ℕ) → has summary j ≡ not (nat_eq (slice_index words j) 0)
 
--- a set's words, and its summary
-pub record IsBin (words summary : List ℕ) : Type 0 where
+-- a set's words, its summary, and the summary of that
+pub record IsBin (words summary top : List ℕ) : Type 0 where
   pub sized : length words ≡ 1024
   pub summed : length summary ≡ 16
+  pub topped : length top ≡ 1
   pub marked : IsMarked words summary
+  pub top_marked : IsMarked summary top

@@ -3,7 +3,9 @@ ghost use Rattle.std.specs.Prelude.{◌≡◌, ℕ, ◌<◌, ◌≤◌, true, fa
 ghost use Rattle.std.specs.FinSet as set;
 ghost use Rattle.mesh_bins.specs.Words.{IsLeast, has, IsMarked};
 
-use crate::words::{WORD_BITS, clear_bit, has_bit, is_zero, least_in, least_of, set_bit};
+use crate::words::{
+    WORD_BITS, clear_bit, has_bit, is_zero, least_in, least_marked, mark, set_bit, unmark,
+};
 use std::alloc::{AllocError, Global};
 use std::marker::Model;
 
@@ -20,6 +22,8 @@ pub struct Bin {
     words: Vec<u64>,
     // Bit `j % 64` of word `j / 64` is set where word `j` of the set isn't zero.
     summary: [u64; SUMMARY],
+    // Bit `j` is set where word `j` of the summary isn't zero.
+    top: [u64; 1],
 }
 
 impl Model for Bin {
@@ -35,7 +39,7 @@ impl Model for Bin {
 
     ghost view = { λ b. set_of b.words.items };
 
-    ghost invariant = { λ b. IsBin b.words.items b.summary };
+    ghost invariant = { λ b. IsBin b.words.items b.summary b.top };
 }
 
 impl Bin {
@@ -47,6 +51,7 @@ impl Bin {
         Ok(Bin {
             words,
             summary: [0; SUMMARY],
+            top: [0],
         })
     }
 
@@ -56,7 +61,7 @@ impl Bin {
         ensures { self.new ≡ set.insert self.old n }
     {
         set_bit(self.words.as_mut_slice(), n);
-        set_bit(&mut self.summary, n / WORD_BITS);
+        mark(&mut self.summary, &mut self.top, n / WORD_BITS);
     }
 
     /// Takes a number out of the set.
@@ -66,7 +71,7 @@ impl Bin {
     {
         clear_bit(self.words.as_mut_slice(), n);
         if is_zero(self.words.as_slice(), n / WORD_BITS) {
-            clear_bit(&mut self.summary, n / WORD_BITS);
+            unmark(&mut self.summary, &mut self.top, n / WORD_BITS);
         }
     }
 
@@ -87,7 +92,7 @@ impl Bin {
         if let Some(bit) = least_in(word, from % WORD_BITS) {
             return Some(place * WORD_BITS + bit);
         }
-        let next = least_of(&self.summary, place + 1)?;
+        let next = least_marked(&self.summary, &self.top, place + 1)?;
         let bit = least_in(self.words[next as usize], 0)?;
         Some(next * WORD_BITS + bit)
     }

@@ -1,6 +1,6 @@
 //! Bits in a list of words.
 ghost use Rattle.std.specs.Prelude.{◌≡◌, ◌≢◌, ℕ, ◌/◌, ◌^◌, nat_eq, ◌<◌, ◌≤◌, ◌*◌, true, false, length, slice_index};
-ghost use Rattle.mesh_bins.specs.Words.{has, bit, IsLeast, PutsBit};
+ghost use Rattle.mesh_bins.specs.Words.{has, bit, IsLeast, IsMarked, PutsBit};
 
 // The bits of a word.
 pub(crate) const WORD_BITS: u32 = 64;
@@ -36,6 +36,36 @@ pub(crate) fn clear_bit(words: &mut [u64], n: u32)
     words[at] &= !(1 << (n % WORD_BITS));
 }
 
+// Sets bit `n` of the words, and marks its word.
+pub(crate) fn mark(words: &mut [u64], marks: &mut [u64], n: u32)
+    requires within { n < 64 * length words.old }
+    requires room { n / 64 < 64 * length marks.old }
+    requires marked { IsMarked words.old marks.old }
+    ensures puts { PutsBit words.old words.new n true }
+    ensures marked { IsMarked words.new marks.new }
+    ensures long { length words.new ≡ length words.old }
+    ensures marks { length marks.new ≡ length marks.old }
+{
+    set_bit(words, n);
+    set_bit(marks, n / WORD_BITS);
+}
+
+// Clears bit `n` of the words, and the mark of its word where that is zero then.
+pub(crate) fn unmark(words: &mut [u64], marks: &mut [u64], n: u32)
+    requires within { n < 64 * length words.old }
+    requires room { n / 64 < 64 * length marks.old }
+    requires marked { IsMarked words.old marks.old }
+    ensures puts { PutsBit words.old words.new n false }
+    ensures marked { IsMarked words.new marks.new }
+    ensures long { length words.new ≡ length words.old }
+    ensures marks { length marks.new ≡ length marks.old }
+{
+    clear_bit(words, n);
+    if is_zero(words, n / WORD_BITS) {
+        clear_bit(marks, n / WORD_BITS);
+    }
+}
+
 // Whether a word is zero.
 pub(crate) fn is_zero(words: &[u64], place: u32) -> bool
     requires { place < length words.now }
@@ -69,4 +99,21 @@ pub(crate) fn least_of(words: &[u64], from: u32) -> Option<u32>
         low = 0;
     }
     None
+}
+
+// The least bit of the words at or above `from`, by the marks of the words that aren't zero.
+pub(crate) fn least_marked(words: &[u64], marks: &[u64], from: u32) -> Option<u32>
+    requires few { 64 * length marks.now ≤ 65536 }
+    requires long { length words.now ≤ 64 * length marks.now }
+    requires marked { IsMarked words.now marks.now }
+    ensures { IsLeast (has words.now) from (64 * length words.now) result }
+{
+    let place = from / WORD_BITS;
+    let word = *words.get(place as usize)?;
+    if let Some(bit) = least_in(word, from % WORD_BITS) {
+        return Some(place * WORD_BITS + bit);
+    }
+    let next = least_of(marks, place + 1)?;
+    let bit = least_in(words[next as usize], 0)?;
+    Some(next * WORD_BITS + bit)
 }

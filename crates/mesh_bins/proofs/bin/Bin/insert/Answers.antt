@@ -14,9 +14,11 @@ invariant_of-self c =
     let others = rw was at c.set_bit.ensures.others in
     rw written record {
       sized = long ∙ c.self.invariant.sized;
-      summed = c.set_bit-2.ensures.long ∙ c.self.invariant.summed;
-      marked = marked_insert c.self.inside.words.items c.set_bit.new.words c.self.inside.summary c.set_bit-2.new.words c.args.n c.self.invariant.marked
-          others puts.here c.set_bit-2.ensures.puts;
+      summed = c.mark.ensures.long ∙ c.self.invariant.summed;
+      topped = c.mark.ensures.marks ∙ c.self.invariant.topped;
+      marked = marked_insert c.self.inside.words.items c.set_bit.new.words c.self.inside.summary c.mark.new.words c.args.n c.self.invariant.marked
+          others puts.here c.mark.ensures.puts;
+      top_marked = c.mark.ensures.marked;
     }
 
 pub returns : goal.returns

@@ -1,4 +1,4 @@
-use Rattle.std.proofs.Common.{◌≡◌, ◌<◌, ◌+◌, ◌*◌, ◌/◌, ◌%◌, ◌^◌, ℕ, List, None, Some, slice_index, true, length, arith, rules}
+use Rattle.std.proofs.Common.{◌≡◌, ◌<◌, ◌+◌, ◌*◌, ◌/◌, ◌%◌, ◌^◌, None, Some, slice_index, true, length, arith, rules}
 use Rattle.std.proofs.lemmas.Grind.{common_steps}
 use Rattle.mesh_bins.specs.Words.{IsFirst, IsLeast, has, bit}
 use Rattle.mesh_bins.proofs.WordLemmas.{found_by_summary, found_in_word, least_contained, marked_some, none_by_summary, passed_start, passed_word}
@@ -19,17 +19,8 @@ returns-in_err-next c =
     let none : IsLeast (bit (slice_index c.self.inside.words.items (c.args.from / 64))) (c.args.from % 64) 64 None = rw word at c.in_default.ensures in
     let passed = passed_word c.self.inside.words.items c.args.from (c.args.from / 64) (c.args.from % 64) (passed_start c.self.inside.words.items c.args.from) none in
     rw c.from_residual-in_err-next.ensures (least_contained c.self.inside.words.items c.args.self.now c.args.from 65536 None c.self.view_is
-    (none_by_summary c.self.inside.words.items c.self.inside.summary c.args.from (c.args.from / 64 + 1) c.self.invariant.marked passed
-    (λ m above below. c.in_err-next.ensures m above (let summed = c.self.invariant.summed in omega (arith, summed, below)))))
-
--- the word that the summary names
-next : (n : ℕ) (summary : List ℕ) (from : ℕ) → length summary ≡ 16 → IsFirst (has summary) from (64 * length summary) n → IsFirst (has summary) from 1024 n
-next n summary from summed first = record {
-  above = first.above;
-  below = let below = first.below in omega (arith, below, summed);
-  passes = first.passes;
-  first = first.first;
-}
+    (none_by_summary c.self.inside.words.items c.self.inside.summary c.args.from (64 * length c.self.inside.summary) 65536 (c.args.from / 64 + 1) c.self.invariant.marked passed
+    c.in_err-next.ensures (let summed = c.self.invariant.summed in omega (arith, summed))))
 
 pub returns-in_err-bit : goal.returns-in_err-bit
 returns-in_err-bit c =
@@ -44,9 +35,9 @@ returns c =
     let word : c.in_ok-word.field-0.now ≡ slice_index c.self.inside.words.items (c.args.from / 64) = grind (arith, common_steps) in
     let none : IsLeast (bit (slice_index c.self.inside.words.items (c.args.from / 64))) (c.args.from % 64) 64 None = rw word at c.in_default.ensures in
     let passed = passed_word c.self.inside.words.items c.args.from (c.args.from / 64) (c.args.from % 64) (passed_start c.self.inside.words.items c.args.from) none in
-    let next : IsFirst (has c.self.inside.summary) (c.args.from / 64 + 1) 1024 c.in_ok-next.next = next c.in_ok-next.next c.self.inside.summary (c.args.from / 64 + 1) c.self.invariant.summed c.in_ok-next.ensures in
+    let next : IsFirst (has c.self.inside.summary) (c.args.from / 64 + 1) (64 * length c.self.inside.summary) c.in_ok-next.next = c.in_ok-next.ensures in
     let at : c.index.result.now ≡ slice_index c.self.inside.words.items c.in_ok-next.next = grind (arith, common_steps) in
     let low : IsFirst (bit (slice_index c.self.inside.words.items c.in_ok-next.next)) 0 64 c.in_ok-bit.bit = rw at at c.in_ok-bit.ensures in
     least_contained c.self.inside.words.items c.args.self.now c.args.from 65536 (Some (c.in_ok-next.next * 64 + c.in_ok-bit.bit)) c.self.view_is
-    (found_by_summary c.self.inside.words.items c.self.inside.summary c.args.from (c.args.from / 64 + 1) c.in_ok-next.next c.in_ok-bit.bit _
-    c.self.invariant.marked passed (omega arith) next low (omega arith))
+    (found_by_summary c.self.inside.words.items c.self.inside.summary c.args.from (64 * length c.self.inside.summary) 65536 (c.args.from / 64 + 1) c.in_ok-next.next c.in_ok-bit.bit _
+    c.self.invariant.marked passed (omega arith) next (let below = next.below in let summed = c.self.invariant.summed in omega (arith, below, summed)) low (omega arith))

@@ -7,7 +7,7 @@ use Rattle.mesh_bins.proofs.bin.Bin.new.Goals as goal
 pub invariant_of-result : goal.invariant_of-result
 invariant_of-result c =
     let zeros : c.in_ok-words.words.items ≡ replicate 1024 0 = c.in_ok-words.ensures.items_if_clones_equal (search rules) in
-    record { sized = ap length zeros ∙ length-replicate {A = ℕ} 1024 0; summed = refl; marked = rw zeros (marked_zeros 1024 16) }
+    record { sized = ap length zeros ∙ length-replicate {A = ℕ} 1024 0; summed = refl; topped = refl; marked = rw zeros (marked_zeros 1024 16); top_marked = marked_zeros 16 1 }
 
 pub returns : goal.returns
 returns c =

@@ -27,9 +27,11 @@ invariant_of-self c =
     let others = rw was at c.clear_bit.ensures.others in
     rw written record {
       sized = long ∙ c.self.invariant.sized;
-      summed = c.clear_bit-then-is_zero.ensures.long ∙ c.self.invariant.summed;
-      marked = marked_cleared c.self.inside.words.items c.clear_bit.new.words c.self.inside.summary c.clear_bit-then-is_zero.new.words c.args.n c.self.invariant.marked
-          others (eqb-true _ 0 (sym zero ∙ c.if-is_zero.true)) c.clear_bit-then-is_zero.ensures.puts;
+      summed = c.unmark.ensures.long ∙ c.self.invariant.summed;
+      topped = c.unmark.ensures.marks ∙ c.self.invariant.topped;
+      marked = marked_cleared c.self.inside.words.items c.clear_bit.new.words c.self.inside.summary c.unmark.new.words c.args.n c.self.invariant.marked
+          others (eqb-true _ 0 (sym zero ∙ c.if-is_zero.true)) c.unmark.ensures.puts;
+      top_marked = c.unmark.ensures.marked;
     }
 
 pub invariant_of-self-else-is_zero : goal.invariant_of-self-else-is_zero
@@ -44,6 +46,8 @@ invariant_of-self-else-is_zero c =
     rw written record {
       sized = long ∙ c.self.invariant.sized;
       summed = c.self.invariant.summed;
+      topped = c.self.invariant.topped;
+      top_marked = c.self.invariant.top_marked;
       marked = marked_kept c.self.inside.words.items c.clear_bit.new.words c.self.inside.summary c.args.n c.self.invariant.marked
           others puts (c.clear_bit.ensures.fits (c.args.n / 64)) (eqb-false _ 0 (sym zero ∙ c.if-is_zero.false));
     }
