@@ -1,6 +1,7 @@
 -- What groups count, as one of them changes.
-use Rattle.std.proofs.Common.{◌≡◌, ℕ, suc, ◌+◌, ◌-◌, ◌*◌, ◌<◌, ◌≤◌, false, List, [], ◌∷◌, ◌++◌, Option, Some, None, is_some, length, replicate, slice_index_or, slice_set, ap, refl, ◌∙◌, arith}
+use Rattle.std.proofs.Common.{◌≡◌, ℕ, suc, ◌+◌, ◌-◌, ◌*◌, ◌<◌, ◌≤◌, if◌then◌else◌, count_by, true, false, List, [], ◌∷◌, ◌++◌, Option, Some, None, is_some, length, replicate, slice_index_or, slice_set, ap, refl, ◌∙◌, arith}
 use Rattle.std.specs.Prelude.{sum_by}
+use Rattle.std.specs.Option.{option_map}
 use Rattle.std.proofs.Math.Seq.{get_or-append_seam}
 use Rattle.std.proofs.Math.Nat.{mul-le-mul_right}
 use Rattle.std.proofs.lemmas.List.{get_or-set_same, get_or_default, length-map}
@@ -9,10 +10,10 @@ use Rattle.std.proofs.lemmas.List.Sums.{count_by-le-length, get_or-le-sum_by, su
 use Rattle.mesh_class.specs.Classes.{pages_of}
 use Rattle.mesh_model.specs.Mesh.{do_overlap, page_count, united}
 use Rattle.mesh_model.specs.Table.{Group, Slot, len_in, object_count}
-use Rattle.mesh_spans.specs.Counts.{IsCounted, IsPart, IsWithin, byte_count, bytes_in, counts_of, mapped_in, objects_in, recounted}
+use Rattle.mesh_spans.specs.Counts.{IsCounted, IsPart, IsWithin, byte_count, bytes_in, counts_of, mapped_in, objects_in, recounted, with_object, without_object}
 use Rattle.mesh_spans.specs.declared.totals.Totals.{Totals}
 use Rattle.mesh_spans.specs.Groups.{first_of, groups_from, groups_of, table_group}
-use Rattle.mesh_spans.specs.Index.{GroupEntry, Index, IsGroup, IsIndex, IsObject, SpanEntry, group_at}
+use Rattle.mesh_spans.specs.Index.{GroupEntry, Index, IsGroup, IsIndex, IsObject, SpanEntry, group_at, slot_in, with_entry, with_slot}
 use Rattle.mesh_spans.proofs.FilingLemmas.{few_groups}
 
 -- terms of at most c sum to at most c for each
@@ -39,6 +40,10 @@ bytes_few group is =
 -- a group with no object has none
 pub bytes_none : (n : ℕ) → 0 ≡ sum_by len_in (replicate {A = Option Slot} n None)
 bytes_none n = let all = sum_by-replicate len_in n None in omega (arith, all)
+
+-- and no slot of it is occupied
+pub count_none : (n : ℕ) → 0 ≡ count_by is_some (replicate {A = Option Slot} n None)
+count_none n = let all = sum_by-replicate (λ (o : Option Slot). if is_some o then 1 else 0) n None in omega (arith, all)
 
 -- what one group counts at most
 pub group_few : (group : GroupEntry) → IsGroup group → IsWithin 1 (counts_of (Some group))
@@ -163,6 +168,17 @@ bytes_put slots k bytes before now was entry below is at old new =
     let part = get_or-le-sum_by len_in slots k None below in
     omega (arith, is, set, part, old', new)
 
+-- how many slots of a group are occupied with another entry in one
+pub count_put : (slots : List (Option Slot)) (k count before now : ℕ) (was entry : Option Slot) → k < length slots → count ≡ count_by is_some slots
+    → was ≡ slice_index_or slots k was → before ≡ (if is_some was then 1 else 0) → now ≡ (if is_some entry then 1 else 0)
+    → count - before + now ≡ count_by is_some (slice_set slots k entry)
+count_put slots k count before now was entry below is at old new =
+    let old' : before ≡ (if is_some (slice_index_or slots k None) then 1 else 0)
+    = old ∙ ap (λ (o : Option Slot). if is_some o then 1 else 0) (at ∙ get_or_default slots k was None below) in
+    let set = sum_by-set (λ (o : Option Slot). if is_some o then 1 else 0) slots k entry None below in
+    let part = get_or-le-sum_by (λ (o : Option Slot). if is_some o then 1 else 0) slots k None below in
+    omega (arith, is, set, part, old', new)
+
 -- they are few
 pub put_few : (group : GroupEntry) (bytes before now : ℕ) (entry : Option Slot) → IsGroup group → IsObject group.class entry → bytes ≡ sum_by len_in group.slots
     → now ≡ len_in entry → bytes - before + now < 4294967296
@@ -191,3 +207,80 @@ bytes_united (Some x ∷ xs) (None ∷ ys) long apart =
     let a = sum_by-cons len_in (Some x) xs in let b = sum_by-cons len_in None ys in let c = sum_by-cons len_in (Some x) (united ys xs) in
     omega (arith, rest, a, b, c)
 bytes_united (Some x ∷ xs) (Some y ∷ ys) long apart = absurd (cc apart)
+
+-- what is summed over the slots of groups, as one entry of a group changes
+entry_sum : (h : Option GroupEntry → ℕ) (f : Option Slot → ℕ) (groups : List (Option GroupEntry)) (n k : ℕ) (group : GroupEntry) (entry : Option Slot)
+    → ((g : GroupEntry) → h (Some g) ≡ sum_by f g.slots) → group_at groups n ≡ Some group → n < length groups → k < length group.slots
+    → sum_by h (with_entry groups n k entry) + f (slice_index_or group.slots k None) ≡ sum_by h groups + f entry
+entry_sum h f groups n k group entry is at below inside =
+    let new : with_entry groups n k entry ≡ slice_set groups n (Some (with_slot k entry group))
+    = ap (λ (o : Option GroupEntry). slice_set groups n (option_map (with_slot k entry) o)) at in
+    let outer = sum_by-set h groups n (Some (with_slot k entry group)) None below in
+    let inner = sum_by-set f group.slots k entry None inside in
+    let old : h (group_at groups n) ≡ sum_by f group.slots = ap h at ∙ is group in
+    let now : h (Some (with_slot k entry group)) ≡ sum_by f (slice_set group.slots k entry) = is (with_slot k entry group) in
+    rw new (omega (arith, outer, inner, old, now))
+
+-- as many pages are mapped
+entry_mapped : (groups : List (Option GroupEntry)) (n k : ℕ) (group : GroupEntry) (entry : Option Slot) → group_at groups n ≡ Some group → n < length groups
+    → sum_by mapped_in (with_entry groups n k entry) ≡ sum_by mapped_in groups
+entry_mapped groups n k group entry at below =
+    let new : with_entry groups n k entry ≡ slice_set groups n (Some (with_slot k entry group))
+    = ap (λ (o : Option GroupEntry). slice_set groups n (option_map (with_slot k entry) o)) at in
+    let outer = sum_by-set mapped_in groups n (Some (with_slot k entry group)) None below in
+    let old : mapped_in (group_at groups n) ≡ mapped_in (Some (with_slot k entry group)) = ap mapped_in at in
+    rw new (omega (arith, outer, old))
+
+-- the counts stay right as an object is put into a free slot
+pub counted_more : (groups new : List (Option GroupEntry)) (n k : ℕ) (group : GroupEntry) (entry : Slot) (totals before after : Totals) → IsCounted groups totals
+    → before ≡ totals → after ≡ with_object before entry.len → group_at groups n ≡ Some group → n < length groups → k < length group.slots
+    → slice_index_or group.slots k None ≡ None → new ≡ with_entry groups n k (Some entry) → IsCounted new after
+counted_more groups new n k group entry totals before after is same counts at below inside free put =
+    let objects = entry_sum objects_in (λ (o : Option Slot). if is_some o then 1 else 0) groups n k group (Some entry) (λ g. refl) at below inside in
+    let bytes = entry_sum bytes_in len_in groups n k group (Some entry) (λ g. refl) at below inside in
+    let mapped = entry_mapped groups n k group (Some entry) at below in
+    let none : ◌≡◌ {A = ℕ} (if is_some (slice_index_or group.slots k None) then 1 else 0) 0 = rw free refl in
+    let empty : len_in (slice_index_or group.slots k None) ≡ 0 = rw free refl in
+    rw (counts, same, put) (record {
+      objects = let all = is.objects in omega (arith, objects, none, all);
+      bytes = let all = is.bytes in omega (arith, bytes, empty, all);
+      mapped = let all = is.mapped in omega (arith, mapped, all);
+    })
+
+-- there is an object to take away where one stands in a slot
+pub record HasObject (totals : Totals) (len : ℕ) : Type 0 where
+  pub some : 1 ≤ totals.objects
+  pub part : len ≤ totals.bytes
+
+pub has_object : (groups : List (Option GroupEntry)) (n k len : ℕ) (group : GroupEntry) (totals before : Totals) → IsCounted groups totals → before ≡ totals
+    → group_at groups n ≡ Some group → n < length groups → k < length group.slots → is_some (slice_index_or group.slots k None) ≡ true
+    → len ≡ len_in (slot_in (group_at groups n) k) → HasObject before len
+has_object groups n k len group totals before is same at below inside filled measured =
+    let objects = get_or-le-sum_by objects_in groups n None below in
+    let bytes = get_or-le-sum_by bytes_in groups n None below in
+    let own : objects_in (group_at groups n) ≡ count_by is_some group.slots = ap objects_in at in
+    let own_bytes : bytes_in (group_at groups n) ≡ sum_by len_in group.slots = ap bytes_in at in
+    let one = get_or-le-sum_by (λ (o : Option Slot). if is_some o then 1 else 0) group.slots k None inside in
+    let one_bytes = get_or-le-sum_by len_in group.slots k None inside in
+    let there : ◌≡◌ {A = ℕ} (if is_some (slice_index_or group.slots k None) then 1 else 0) 1 = rw filled refl in
+    let length_is : len ≡ len_in (slice_index_or group.slots k None) = measured ∙ ap (λ (o : Option GroupEntry). len_in (slot_in o k)) at in
+    rw same (record {
+      some = let all = is.objects in omega (arith, objects, own, one, there, all);
+      part = let all = is.bytes in omega (arith, bytes, own_bytes, one_bytes, length_is, all);
+    })
+
+-- the counts stay right as it is taken away
+pub counted_less : (groups new : List (Option GroupEntry)) (n k len : ℕ) (group : GroupEntry) (totals before after : Totals) → IsCounted groups totals
+    → before ≡ totals → after ≡ without_object before len → group_at groups n ≡ Some group → n < length groups → k < length group.slots
+    → is_some (slice_index_or group.slots k None) ≡ true → len ≡ len_in (slot_in (group_at groups n) k) → new ≡ with_entry groups n k None → IsCounted new after
+counted_less groups new n k len group totals before after is same counts at below inside filled measured put =
+    let objects = entry_sum objects_in (λ (o : Option Slot). if is_some o then 1 else 0) groups n k group None (λ g. refl) at below inside in
+    let bytes = entry_sum bytes_in len_in groups n k group None (λ g. refl) at below inside in
+    let mapped = entry_mapped groups n k group None at below in
+    let there : ◌≡◌ {A = ℕ} (if is_some (slice_index_or group.slots k None) then 1 else 0) 1 = rw filled refl in
+    let length_is : len ≡ len_in (slice_index_or group.slots k None) = measured ∙ ap (λ (o : Option GroupEntry). len_in (slot_in o k)) at in
+    rw (counts, same, put) (record {
+      objects = let all = is.objects in omega (arith, objects, there, all);
+      bytes = let all = is.bytes in omega (arith, bytes, length_is, all);
+      mapped = let all = is.mapped in omega (arith, mapped, all);
+    })

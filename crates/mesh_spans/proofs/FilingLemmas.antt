@@ -12,7 +12,7 @@ use Rattle.std.specs.Cmp.{unsigned_tied, nat_cmp_total}
 use Rattle.std.specs.FinSet.{FinSet, contains, insert, remove, empty, contains-insert, contains-remove, contains-empty}
 use Rattle.mesh_bins.specs.Words.{IsLeast}
 use Rattle.mesh_class.specs.Classes.{IsClass, slots_of}
-use Rattle.mesh_spans.specs.Filing.{IsFiled, is_partial, bin_at, class_place, file_of, filed, is_at, kind_of, lower_of, unfiled}
+use Rattle.mesh_spans.specs.Filing.{AreMoved, IsFiled, is_partial, bin_at, class_place, file_of, filed, is_at, kind_of, lower_of, unfiled}
 use Rattle.mesh_spans.specs.Index.{GroupEntry, IsGroup, IsIndex, SpanEntry, group_at, is_open}
 
 tied_same : (v : ℕ) → eq_by_cmp nat_cmp v v ≡ true
@@ -168,15 +168,31 @@ few_groups spans groups sound = elim (eqb_tells (length groups) 0) [
       let last : length groups - 1 < 65536 = number_fits spans groups (length groups - 1) sound (omega (arith, apart)) in omega (arith, last)
 ]
 
+-- groups stay in their bins as one changes that stays in its own
+IsFiled_same : (groups new : List (Option GroupEntry)) (bins : List (FinSet nat_cmp)) (n : ℕ) → IsFiled groups bins
+    → file_of (group_at new n) ≡ file_of (group_at groups n) → ((m : ℕ) → m ≢ n → group_at new m ≡ group_at groups m) → IsFiled new bins
+IsFiled_same groups new bins n is same others = record {
+  sized = is.sized;
+  each = λ place m below. is.each place m below ∙ ap (λ (f : Option ℕ). is_at f place) (sym (elim (eqb_tells m n) [
+    | inl here ↦ rw here.1 same
+    | inr other ↦ ap (λ (o : Option GroupEntry). file_of o) (others m other.1)
+  ]));
+}
+
 -- groups stay in their bins as one changes and is filed anew
 pub refiled_is : (groups new groups0 new0 : List (Option GroupEntry)) (bins after : List (FinSet nat_cmp)) (n : ℕ) (before : Option ℕ) → IsFiled groups bins
-    → groups0 ≡ groups → new0 ≡ new → before ≡ file_of (group_at groups0 n) → after ≡ filed (unfiled bins n before) n (file_of (group_at new0 n))
+    → groups0 ≡ groups → new0 ≡ new → before ≡ file_of (group_at groups0 n) → AreMoved bins after n before (file_of (group_at new0 n))
     → ((m : ℕ) → m ≢ n → group_at new m ≡ group_at groups m) → IsFiled new after
-refiled_is groups new groups0 new0 bins after n before is old now was refiles others =
+refiled_is groups new groups0 new0 bins after n before is old now was moves others =
     let b : before ≡ file_of (group_at groups n) = was ∙ ap (λ (gs : List (Option GroupEntry)). file_of (group_at gs n)) old in
-    let a : after ≡ refiled groups new bins n = refiles ∙ ap (λ (f : Option ℕ). filed (unfiled bins n f) n (file_of (group_at new0 n))) b
-    ∙ ap (λ (gs : List (Option GroupEntry)). filed (unfiled bins n (file_of (group_at groups n))) n (file_of (group_at gs n))) now in
-    rw a (IsFiled_changed groups new bins n is others)
+    let to : file_of (group_at new0 n) ≡ file_of (group_at new n) = ap (λ (gs : List (Option GroupEntry)). file_of (group_at gs n)) now in
+    elim moves [
+      | inl stays ↦ rw stays.1 (IsFiled_same groups new bins n is (sym to ∙ sym stays.0 ∙ b) others)
+      | inr refiles ↦
+          let a : after ≡ refiled groups new bins n = refiles ∙ ap (λ (f : Option ℕ). filed (unfiled bins n f) n (file_of (group_at new0 n))) b
+          ∙ ap (λ (f : Option ℕ). filed (unfiled bins n (file_of (group_at groups n))) n f) to in
+          rw a (IsFiled_changed groups new bins n is others)
+    ]
 
 -- the size of the class at a place of the class table
 abbrev pub size_at : ℕ → ℕ
@@ -341,8 +357,8 @@ added_others (y ∷ groups) x (suc m) apart = added_others groups x m (λ e. apa
 pub merged_filed : (groups middle after groups0 middle0 middle1 after0 : List (Option GroupEntry)) (bins between last : List (FinSet nat_cmp)) (s d : ℕ) (x y : Option GroupEntry)
     (from before : Option ℕ) → IsFiled groups bins → middle ≡ slice_set groups s x → after ≡ slice_set middle d y
     → groups0 ≡ groups → middle0 ≡ middle → middle1 ≡ middle → after0 ≡ after
-    → from ≡ file_of (group_at groups0 s) → between ≡ filed (unfiled bins s from) s (file_of (group_at middle0 s))
-    → before ≡ file_of (group_at middle1 d) → last ≡ filed (unfiled between d before) d (file_of (group_at after0 d)) → IsFiled after last
+    → from ≡ file_of (group_at groups0 s) → AreMoved bins between s from (file_of (group_at middle0 s))
+    → before ≡ file_of (group_at middle1 d) → AreMoved between last d before (file_of (group_at after0 d)) → IsFiled after last
 merged_filed groups middle after groups0 middle0 middle1 after0 bins between last s d x y from before is one two e0 e1 e2 e3 was refiles was' refiles' =
     refiled_is middle after middle1 after0 between last d before
     (refiled_is groups middle groups0 middle0 bins between s from is e0 e1 was refiles
@@ -390,9 +406,12 @@ partial_least groups bins bins0 class from r same is each y low least = moved r 
     moved None h = λ m above below. sym (told m) ∙ h m above below
     moved (Some n) h = record { above = h.above; below = h.below; passes = sym (told n) ∙ h.passes; first = λ m above below. sym (told m) ∙ h.first m above below }
 
--- there are as many bins after a number is refiled
-pub filed_sized : (bins new : List (FinSet nat_cmp)) (n : ℕ) (from to : Option ℕ) → length bins ≡ 30 → new ≡ filed (unfiled bins n from) n to → length new ≡ 30
-filed_sized bins new n None None sized is = ap (λ (xs : List (FinSet nat_cmp)). length xs) is ∙ sized
-filed_sized bins new n None (Some q) sized is = ap (λ (xs : List (FinSet nat_cmp)). length xs) is ∙ length-set bins q _ ∙ sized
-filed_sized bins new n (Some p) None sized is = ap (λ (xs : List (FinSet nat_cmp)). length xs) is ∙ length-set bins p _ ∙ sized
-filed_sized bins new n (Some p) (Some q) sized is = ap (λ (xs : List (FinSet nat_cmp)). length xs) is ∙ length-set _ q _ ∙ length-set bins p _ ∙ sized
+refiled_sized : (bins : List (FinSet nat_cmp)) (n : ℕ) (from to : Option ℕ) → length (filed (unfiled bins n from) n to) ≡ length bins
+refiled_sized bins n from to = filed_long (unfiled bins n from) n to ∙ unfiled_long bins n from
+
+-- there are as many bins after a number is moved
+pub moved_sized : (bins new : List (FinSet nat_cmp)) (n : ℕ) (from to : Option ℕ) → length bins ≡ 30 → AreMoved bins new n from to → length new ≡ 30
+moved_sized bins new n from to sized moves = elim moves [
+  | inl stays ↦ rw stays.1 sized
+  | inr refiles ↦ rw refiles (refiled_sized bins n from to ∙ sized)
+]

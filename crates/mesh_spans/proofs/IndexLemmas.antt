@@ -1,5 +1,5 @@
 -- What keeps spans, groups and the table of virtual pages fit together.
-use Rattle.std.proofs.Common.{◌≡◌, ℕ, zero, suc, ◌+◌, ◌-◌, ◌*◌, ◌/◌, ◌<◌, ◌≤◌, Bool, true, false, if◌then◌else◌, List, [], ◌∷◌, ◌++◌, Option, Some, None, length, slice_index, slice_get, slice_index_or, IsSome, IfSome, ap, subst, refl, sym, ◌∙◌, arith, ◌⊎◌, inl, inr}
+use Rattle.std.proofs.Common.{◌≡◌, ℕ, zero, suc, ◌+◌, ◌-◌, ◌*◌, ◌/◌, ◌<◌, ◌≤◌, Bool, true, false, if◌then◌else◌, List, [], ◌∷◌, ◌++◌, Option, Some, None, length, slice_index, slice_get, slice_index_or, IsSome, IfSome, ap, subst, refl, sym, ◌∙◌, arith, ◌⊎◌, inl, inr, is_some}
 use Rattle.std.specs.Option.{option_map}
 use Rattle.std.proofs.lemmas.List.{get_or-set_other, get_or-set_same, get_or_past}
 use Rattle.std.proofs.Math.ListN.{length-set, get_or-append, length-append}
@@ -323,9 +323,14 @@ pub record Recorded (index : Index) (span k : ℕ) : Type 0 where
   pub group : GroupEntry
   pub there : group_at index.groups (span_at index.spans span).group ≡ Some group
   pub in_range : k < length group.slots
+  pub filled : is_some (slice_index_or group.slots k None) ≡ true
 
 unnamed : (member : ℕ) → IsSome (named_in member None) → ⊥
 unnamed member some = let two : false ≡ true = some in cc two
+
+named_some : (member : ℕ) (o : Option Slot) → IsSome (named_in member o) → is_some o ≡ true
+named_some member None some = absurd (unnamed member some)
+named_some member (Some slot) some = refl
 
 nothing : (member k : ℕ) → IsSome (named_in member (slot_in None k)) → ⊥
 nothing member k some = let two : false ≡ true = some in cc two
@@ -345,6 +350,7 @@ recorded_in index span k (Some group) below at some = record {
     | inl beyond ↦ absurd (unnamed (span_at index.spans span).first
         (subst (λ (o : Option Slot). IsSome (named_in (span_at index.spans span).first o)) (get_or_past group.slots k None beyond.1) some))
   ];
+  filled = named_some (span_at index.spans span).first (slice_index_or group.slots k None) some;
 }
 
 recorded_of : (index : Index) (span k : ℕ) (o : Option SpanEntry) → slice_get index.spans span ≡ o → IsSome (span_record o index.groups k) → Recorded index span k

@@ -36,6 +36,14 @@ recounted totals before now = record {
   mapped = totals.mapped - before.mapped + now.mapped;
 }
 
+-- the counts with one object of this length more
+abbrev pub with_object : Totals → ℕ → Totals
+with_object totals len = record { objects = totals.objects + 1; bytes = totals.bytes + len; mapped = totals.mapped }
+
+-- the counts without one object of this length
+abbrev pub without_object : Totals → ℕ → Totals
+without_object totals len = record { objects = totals.objects - 1; bytes = totals.bytes - len; mapped = totals.mapped }
+
 -- no count of the part is above that of the whole
 pub record IsPart (part whole : Totals) : Type 0 where
   pub objects : part.objects ≤ whole.objects

@@ -1,5 +1,5 @@
 -- In which bin a group is: three for each class, of the groups that are empty, partly filled and full.
-use Rattle.std.specs.Prelude.{◌≡◌, ℕ, ◌+◌, ◌*◌, ◌<◌, Bool, false, not, ◌&&◌, if◌then◌else◌, nat_eq, nat_le, nat_lt, count_by, is_some, filter, List, Option, Some, None, length, slice_index_or, slice_set}
+use Rattle.std.specs.Prelude.{◌≡◌, ◌⊎◌, ℕ, ◌+◌, ◌*◌, ◌<◌, Bool, false, not, ◌&&◌, if◌then◌else◌, nat_eq, nat_le, nat_lt, count_by, is_some, filter, List, Option, Some, None, length, slice_index_or, slice_set}
 use Rattle.std.specs.Ordering.{nat_cmp}
 use Rattle.std.specs.FinSet as set
 use Rattle.mesh_model.specs.Search.{may_be_paired}
@@ -41,6 +41,10 @@ unfiled bins n (Some place) = slice_set bins place (set.remove (bin_at bins plac
 abbrev pub filed : List (set.FinSet nat_cmp) → ℕ → Option ℕ → List (set.FinSet nat_cmp)
 filed bins n None = bins
 filed bins n (Some place) = slice_set bins place (set.insert (bin_at bins place) n)
+
+-- a number is moved from one bin to another: nothing changes where both are one
+abbrev pub AreMoved : List (set.FinSet nat_cmp) → List (set.FinSet nat_cmp) → ℕ → Option ℕ → Option ℕ → Type 0
+AreMoved old new n from to = ((from ≡ to) × (new ≡ old)) ⊎ (new ≡ filed (unfiled old n from) n to)
 
 -- each group is in its bin, and in no other
 pub record IsFiled (groups : List (Option GroupEntry)) (bins : List (set.FinSet nat_cmp)) : Type 0 where

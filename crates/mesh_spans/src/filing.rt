@@ -4,7 +4,7 @@ ghost use Rattle.std.specs.FinSet as set;
 ghost use Rattle.mesh_bins.specs.Words.{IsLeast};
 ghost use Rattle.mesh_class.specs.Classes.{IsClass};
 ghost use Rattle.mesh_spans.specs.Counts.{IsPart, IsWithin, counts_of, recounted};
-ghost use Rattle.mesh_spans.specs.Filing.{bin_at, class_place, file_of, filed, lower_of, unfiled};
+ghost use Rattle.mesh_spans.specs.Filing.{AreMoved, bin_at, class_place, file_of, filed, lower_of, unfiled};
 ghost use Rattle.mesh_spans.specs.Index.{group_at};
 
 use crate::Totals;
@@ -89,7 +89,7 @@ fn bin_of(group: &Option<Group>) -> Option<u32>
     if group.in_mesh() {
         return None;
     }
-    Some(3 * class_place(group.class()) + group.kind())
+    Some(3 * group.class_place() + group.kind())
 }
 
 // What a group counts, nothing where there is none.
@@ -100,11 +100,20 @@ fn counts_of(group: &Option<Group>) -> Totals
     match group {
         None => Totals::none(),
         Some(group) => Totals {
-            objects: group.occupied().count(),
+            objects: group.count(),
             bytes: group.bytes(),
             mapped: group.members().len() as u32 * group.class().pages(),
         },
     }
+}
+
+/// The bin in which the group of a number is to be.
+pub(crate) fn bin_for(groups: &[Option<Group>], n: u32) -> Option<u32>
+    requires { n < length groups.now }
+    ensures bin { result ≡ file_of (group_at groups.now n) }
+    ensures place { IfSome result (λ place. place < 30) }
+{
+    bin_of(&groups[n as usize])
 }
 
 /// How the group of a number is to be filed.
@@ -132,13 +141,28 @@ impl Files {
         requires place { IfSome before.bin (λ place. place < 30) }
         requires part { IsPart before.counts self.old.totals }
         requires few { IsWithin 65536 self.old.totals }
-        ensures bins { self.new.bins.items ≡ filed (unfiled self.old.bins.items n before.bin) n (file_of (group_at groups.now n)) }
+        ensures bins { AreMoved self.old.bins.items self.new.bins.items n before.bin (file_of (group_at groups.now n)) }
         ensures totals { self.new.totals ≡ recounted self.old.totals before.counts (counts_of (group_at groups.now n)) }
     {
-        let now = file_at(groups, n);
-        unfile(&mut self.bins, n, before.bin);
-        file(&mut self.bins, n, now.bin);
-        self.totals = self.totals.recounted(before.counts, now.counts);
+        self.rebin(groups, n, before.bin);
+        let now = counts_of(&groups[n as usize]);
+        self.totals = self.totals.recounted(before.counts, now);
+    }
+
+    /// Moves a group's number from the bin where it was into that of the group. Nothing is written where both are one.
+    pub fn rebin(&mut self, groups: &[Option<Group>], n: u32, before: Option<u32>)
+        requires there { n < length groups.now }
+        requires number { n < 65536 }
+        requires sized { length self.old.bins.items ≡ 30 }
+        requires place { IfSome before (λ place. place < 30) }
+        ensures bins { AreMoved self.old.bins.items self.new.bins.items n before (file_of (group_at groups.now n)) }
+        ensures totals { self.new.totals ≡ self.old.totals }
+    {
+        let now = bin_for(groups, n);
+        if before != now {
+            unfile(&mut self.bins, n, before);
+            file(&mut self.bins, n, now);
+        }
     }
 }
 

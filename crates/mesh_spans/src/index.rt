@@ -2,10 +2,10 @@
 ghost use Rattle.std.specs.Prelude.{◌≡◌, ℕ, ◌+◌, true, false, not, nat_eq, ◌&&◌, ◌||◌, filter, slice_set, ◌<◌, ◌≤◌, Some, None, [], ◌∷◌, ◌++◌, find, length, map, slice_index, slice_index_or, ◌/◌, IfOk, IfSome, IfNone, IsSome, IsSomeAnd, OnErr, position, option_copied, sum_by};
 ghost use Rattle.std.specs.Option.{option_map};
 ghost use Rattle.mesh_class.specs.Classes.{pages_of, slots_of};
-ghost use Rattle.mesh_model.specs.Table.{changed_at, fresh_group, object_count, slot_address, with_object_in, emptied_at, takes_objects};
+ghost use Rattle.mesh_model.specs.Table.{changed_at, fresh_group, len_in, object_count, slot_address, with_object_in, emptied_at, takes_objects};
 ghost use Rattle.mesh_spans.specs.Counts.{IsPart, IsWithin, byte_count};
 ghost use Rattle.mesh_spans.specs.Groups.{IsPicked, groups_of, is_closed, table_group};
-ghost use Rattle.mesh_spans.specs.Index.{AreUnused, GroupEntry, IsFoundAt, IsIndex, IsObject, IsRecorded, IsSpan, IsVacant, address_in, group_at, has_room, is_open, new_group, new_span, record_at, span_at, with_entry};
+ghost use Rattle.mesh_spans.specs.Index.{AreUnused, GroupEntry, IsFoundAt, IsIndex, IsObject, IsRecorded, IsSpan, IsVacant, address_in, group_at, has_room, is_open, new_group, new_span, record_at, slot_in, span_at, with_entry};
 ghost use Rattle.mesh_model.specs.Mesh.{do_overlap, merged, page_count};
 ghost use Rattle.mesh_model.specs.Table.{Group as TableGroup, has_number};
 ghost use Rattle.mesh_bins.specs.Words.{IsLeast};
@@ -13,7 +13,7 @@ ghost use Rattle.mesh_spans.specs.Filing.{candidate_from, candidates_from, is_pa
 ghost use Rattle.mesh_spans.specs.Changes.{IsMergeable, Merges, Regroups, merged_entry, merged_groups, with_flag};
 
 use crate::extent::Extent;
-use crate::filing::{Filed, Files, file_at, lowest_open, lowest_partial, new_bins};
+use crate::filing::{Filed, Files, bin_for, file_at, lowest_open, lowest_partial, new_bins};
 use crate::groups::Group;
 use crate::occupant::Occupant;
 use crate::owners::Owners;
@@ -152,9 +152,10 @@ impl Spans {
             len,
         };
         let group = extent.group();
-        let before = file_at(self.groups.as_slice(), group);
+        let before = bin_for(self.groups.as_slice(), group);
         put(&mut self.groups, group, slot, Some(object));
-        self.files.refile(self.groups.as_slice(), group, before);
+        self.files.rebin(self.groups.as_slice(), group, before);
+        self.files.totals = self.files.totals.with_object(len);
     }
 
     /// Takes the record of a slot out.
@@ -166,9 +167,10 @@ impl Spans {
         ensures closed { (n : ℕ) → is_closed self.new n ≡ is_closed self.old n }
     {
         let group = self.spans[span.index()].group();
-        let before = file_at(self.groups.as_slice(), group);
-        put(&mut self.groups, group, slot, None);
-        self.files.refile(self.groups.as_slice(), group, before);
+        let before = bin_for(self.groups.as_slice(), group);
+        let len = put(&mut self.groups, group, slot, None);
+        self.files.rebin(self.groups.as_slice(), group, before);
+        self.files.totals = self.files.totals.without_object(len);
     }
 
     /// Says that a group is in a mesh: it takes no new objects.
@@ -298,15 +300,17 @@ impl Spans {
     }
 }
 
-// Lets an object stand in a slot of a group, or nothing.
-fn put(groups: &mut Vec<Option<Group>>, number: u32, slot: Slot, object: Option<Occupant>)
+// Lets an object stand in a slot of a group, or nothing. Gives the length of the object that stood there, 0 where none did.
+fn put(groups: &mut Vec<Option<Group>>, number: u32, slot: Slot, object: Option<Occupant>) -> u32
     requires group { number < length groups.old.items }
     requires slot { IfSome (group_at groups.old.items number) (λ g. slot < slots_of g.class) }
     requires fits { IfSome (group_at groups.old.items number) (λ g. IsObject g.class object) }
-    ensures { groups.new.items ≡ with_entry groups.old.items number slot object }
+    ensures length { result ≡ len_in (slot_in (group_at groups.old.items number) slot) }
+    ensures groups { groups.new.items ≡ with_entry groups.old.items number slot object }
 {
-    if let Some(group) = &mut groups[number as usize] {
-        group.put(slot, object);
+    match &mut groups[number as usize] {
+        Some(group) => group.put(slot, object),
+        None => 0,
     }
 }
 

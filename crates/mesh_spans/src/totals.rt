@@ -1,6 +1,6 @@
 //! `Totals`, what groups count together.
-ghost use Rattle.std.specs.Prelude.{◌≡◌, None};
-ghost use Rattle.mesh_spans.specs.Counts.{IsPart, IsWithin, counts_of, recounted};
+ghost use Rattle.std.specs.Prelude.{◌≡◌, ◌≤◌, None};
+ghost use Rattle.mesh_spans.specs.Counts.{IsPart, IsWithin, counts_of, recounted, with_object, without_object};
 
 /// What groups count together.
 #[derive(Clone, Copy, Debug, PartialEq, Eq)]
@@ -36,6 +36,32 @@ impl Totals {
             objects: self.objects - before.objects + now.objects,
             bytes: self.bytes - before.bytes + now.bytes,
             mapped: self.mapped - before.mapped + now.mapped,
+        }
+    }
+
+    /// The counts with one object of this length more.
+    pub(crate) fn with_object(self, len: u32) -> Totals
+        requires few { IsWithin 65536 self }
+        requires short { len ≤ 2048 }
+        ensures { result ≡ with_object self len }
+    {
+        Totals {
+            objects: self.objects + 1,
+            bytes: self.bytes + len,
+            mapped: self.mapped,
+        }
+    }
+
+    /// The counts without one object of this length.
+    pub(crate) fn without_object(self, len: u32) -> Totals
+        requires some { 1 ≤ self.objects }
+        requires part { len ≤ self.bytes }
+        ensures { result ≡ without_object self len }
+    {
+        Totals {
+            objects: self.objects - 1,
+            bytes: self.bytes - len,
+            mapped: self.mapped,
         }
     }
 }

@@ -6,7 +6,7 @@ use Rattle.mesh_spans.specs.Index.{Index, group_at}
 use Rattle.mesh_spans.proofs.CountLemmas.{part_is, recounted_is, totals_few}
 use Rattle.mesh_spans.proofs.FlagLemmas.{IsIndex_replaced, replaced_none}
 use Rattle.mesh_spans.proofs.MergeLemmas.{absorbed, few_together, merge_closed, merge_keeps, merge_table, merges_is, same_classes, slots_apart}
-use Rattle.mesh_spans.proofs.FilingLemmas.{filed_sized, merged_filed, number_fits}
+use Rattle.mesh_spans.proofs.FilingLemmas.{moved_sized, merged_filed, number_fits}
 use Rattle.mesh_spans.proofs.IndexLemmas.{group_below}
 use Rattle.mesh_spans.proofs.ReadSpans.{members_below, set_below}
 use Rattle.mesh_spans.proofs.index.Spans.merge.Goals as goal
@@ -162,7 +162,7 @@ refile-requires-in-Some-clause-there c =
 
 pub refile-requires-in-Some-clause-sized : goal.refile-requires-in-Some-clause-sized
 refile-requires-in-Some-clause-sized c =
-    filed_sized c.self.inside.files.bins.items c.refile.new.self.bins.items c.args.src c.file_at-from.result.bin _ c.self.invariant.1.sized c.refile.ensures.bins
+    moved_sized c.self.inside.files.bins.items c.refile.new.self.bins.items c.args.src c.file_at-from.result.bin _ c.self.invariant.1.sized c.refile.ensures.bins
 
 pub refile-requires-in-Some-clause-place : goal.refile-requires-in-Some-clause-place
 refile-requires-in-Some-clause-place c = c.file_at-before.ensures.place
