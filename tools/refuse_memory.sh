@@ -37,13 +37,15 @@ limit=20
 most=20000
 passed=0
 failed=0
+# HOLD=1 where the first thread's allocations alone are refused, and what other threads free is held for a while.
+held=
 
 # run N WORD..: a program with its words, whose N-th allocation is refused. Sets status, and refused, allocations, bytes, freed, stretches, within.
 run() {
     number=$1
     shift
     rm -f "$room/counts"
-    timeout "$limit" env REFUSE="$number" REFUSE_FILE="$room/counts" LD_PRELOAD="$library" "$@" >"$room/output" 2>"$room/errors" </dev/null
+    timeout "$limit" env $held REFUSE="$number" REFUSE_FILE="$room/counts" LD_PRELOAD="$library" "$@" >"$room/output" 2>"$room/errors" </dev/null
     status=$?
     refused=none
     [ ! -f "$room/counts" ] || read -r _ refused _ allocations _ bytes _ freed _ stretches _ within <"$room/counts"
@@ -135,6 +137,7 @@ refuse_each() {
     done
     told="$runs runs, $stopped told of a refusal, $allocations allocations and $bytes bytes with none refused"
     [ "$n" -le "$bound" ] || told="$told; every ${stride}rd past $bound"
+    [ -z "$held" ] || told="$told; of the first thread's alone, with the others' frees held"
     if [ -z "$fault" ]; then
         passed=$((passed + 1))
         echo "ok: $name: $told"
@@ -147,6 +150,9 @@ refuse_each() {
 for name in heap book mesh views seats search threads; do
     refuse_each "$name" case_fault "$small" "$name"
 done
+held=HOLD=1
+refuse_each threads case_fault "$small" threads
+held=
 refuse_each "meshrun replay" replay_fault "$meshrun" replay jobs/mesh.job
 refuse_each "meshrun threads" threads_fault "$meshrun" threads jobs/threads.job --probe 8 --rounds 3 --workers 2 --seed 1 --meshers 2
 

@@ -2,6 +2,8 @@
  *
  *   REFUSE       the allocation that is refused, counted from 1; none is where it isn't set
  *   REFUSE_FILE  where the counts are written at the exit, in one line
+ *   HOLD         where it is set, the allocations of the first thread alone are counted and refused, and each block that another thread frees is
+ *                held for two milliseconds: so a thread that frees a block behind the end of the program is seen
  *
  * Every allocation of the process is counted and may be refused, those that the C library makes to start a thread among them. The bytes are
  * those of the program alone: the C library keeps the stacks of ended threads for the next ones. A line that the program writes which holds
@@ -25,6 +27,7 @@ extern ssize_t __write(int, const void *, size_t);
 static atomic_ulong refused, allocations, allocated, freed, stretches, within;
 static atomic_bool in_stretch;
 static unsigned long budget;
+static int holds;
 static char *first, *last;
 
 static int see(struct dl_phdr_info *info, size_t size, void *data) {
@@ -40,6 +43,7 @@ __attribute__((constructor)) static void begin(void) {
     dl_iterate_phdr(see, NULL);
     const char *number = getenv("REFUSE");
     budget = number ? strtoul(number, NULL, 10) : 0;
+    holds = getenv("HOLD") != NULL;
     atomic_store(&allocations, 0);
 }
 
@@ -64,7 +68,10 @@ __attribute__((destructor)) static void end(void) { tell(); }
 
 static int is_ours(void *caller) { return first <= (char *)caller && (char *)caller < last; }
 
+static int is_first_thread(void) { return gettid() == getpid(); }
+
 static int is_refused(void) {
+    if (holds && !is_first_thread()) return 0;
     if (atomic_load(&in_stretch)) atomic_fetch_add(&within, 1);
     if (atomic_fetch_add(&allocations, 1) + 1 != budget) return 0;
     atomic_fetch_add(&refused, 1);
@@ -107,6 +114,7 @@ void *realloc(void *block, size_t n) {
 }
 
 void free(void *block) {
+    if (holds && block && is_ours(CALLER) && !is_first_thread()) usleep(2000);
     gone(block, CALLER);
     __libc_free(block);
 }
