@@ -5,9 +5,10 @@
 #
 # CRATES is the folder that holds the crates, whose programs stand in CRATES/NAME/out/NAME: `rt ci` leaves them there. A library that
 # `tools/refuse_memory/refuse.c` is compiled to is loaded into each run; it refuses the first allocation of one run, the second of the next, and
-# so on until a run meets no refusal. Each run must end by itself in time, as its case may, with as many bytes given back as were taken. A line
-# of the output says how many runs a case took, and the last line counts the cases. The status is 1 where one failed, 2 where there are no
-# programs or no C compiler.
+# so on until a run meets no refusal. Each run must end by itself in time, as its case may, with as many bytes given back as were taken. The case
+# of the threads is run twice: the second time the first thread's allocations alone are refused, and what other threads free is held for a while,
+# so that a thread which nobody joined is seen. A line of the output says how many runs a case took, and the last line counts the cases. The
+# status is 1 where one failed, 2 where there are no programs or no C compiler.
 
 crates=${1:-$(dirname "$0")/../crates}
 case $crates in
