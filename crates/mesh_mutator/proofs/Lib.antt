@@ -3,3 +3,4 @@ pub mod Chains
 pub mod Copying
 pub mod Booking
 pub mod KeptBooks
+pub mod Packing

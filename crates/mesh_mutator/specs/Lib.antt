@@ -7,4 +7,6 @@ pub use Rattle.mesh_steps.specs.Heap
 pub mod Attempts
 pub mod Book
 pub mod Codes
+pub mod Journal
 pub mod Mesher
+pub mod Packing

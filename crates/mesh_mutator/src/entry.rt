@@ -73,8 +73,8 @@ pub fn reply_again(reply: &Reply) -> Reply
     }
 }
 
-// The same bytes. It takes no memory.
-fn bytes_again(bytes: &ArrayVec<u8, MAX_BYTES>) -> ArrayVec<u8, MAX_BYTES>
+/// The same bytes. It takes no memory.
+pub(crate) fn bytes_again(bytes: &ArrayVec<u8, MAX_BYTES>) -> ArrayVec<u8, MAX_BYTES>
     ensures { result ≡ bytes.now }
 {
     let mut again = ArrayVec::new();

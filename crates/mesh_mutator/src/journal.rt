@@ -1,138 +1,110 @@
-//! `Book`: a heap with its roots, driven by commands, and the journal of the answers.
-ghost use Rattle.std.specs.Prelude.{◌≡◌, ◌≤◌, ◌↔◌, [], IfOk, length, vec_capacity};
-ghost use Rattle.mesh_model.specs.Commands.{IsInRange};
-ghost use Rattle.mesh_model.specs.Memory.{empty_memory};
-ghost use Rattle.mesh_model.specs.Plain.{IsLegal};
-ghost use Rattle.mesh_model.specs.Table.{empty_table};
-ghost use Rattle.mesh_mutator.specs.Attempts.{IsLook};
-ghost use Rattle.mesh_mutator.specs.Book.{IsAttempt, IsLooked, memory_in, memory_of_book, table_of_book};
-ghost use Rattle.mesh_mutator.specs.declared.attempts.Attempt.{Attempt};
-ghost use Rattle.mesh_steps.specs.Always.{HasHeldPagesTaken, HasObjectsApart, HasPlacesApart, HasReadOnlyOfMeshes, LiesAsMeshesHaveIt};
-ghost use Rattle.mesh_steps.specs.Heap.{arena_of};
+//! `Journal`: all answered commands, in their order of effect.
+ghost use Rattle.std.specs.Prelude.{◌≡◌, ◌<◌, ◌≤◌, ◌↔◌, ◌∷◌, [], ◌++◌, IfOk, IsTrue, false, length, slice_index_or, true};
+ghost use Rattle.mesh_model.specs.Plain.{Entry as PlainEntry};
 
-mod mesher;
-
-use crate::attempts::{address, get, peek, perform};
-use crate::entry::Entry;
-use crate::roots::Roots;
-use crate::{Attempt, Command, Reply};
-use mesh_model::history_laws::answered_is_step;
-use mesh_model::laws::legal_histories;
-use mesh_steps::Heap;
+use crate::packed::{Bytes, PackedEntry, pack_command, pack_reply, unpack_command, unpack_reply};
+use crate::{Command, Entry, Reply};
 use std::alloc::{AllocError, Global};
 use std::marker::Model;
 
-/// A heap, its root cells and the journal of all answered commands, in their order of effect.
+/// Answered commands with their replies, in their order of effect.
+///
+/// An entry is kept in 32 bytes, and the bytes that its command stores or its reply loads beside it, since most have none. The room is made
+/// once.
 #[derive(Drop)]
-pub struct Book {
-    heap: Heap,
-    roots: Roots,
-    journal: Vec<Entry>,
-    // How many entries the journal was made for.
-    reserved: usize,
+pub struct Journal {
+    entries: Vec<PackedEntry>,
+    bytes: Vec<Bytes>,
+    // How many entries it was made for.
+    room: usize,
 }
 
-impl Model for Book {
-    ghost use Rattle.std.specs.Prelude.{◌≤◌, vec_capacity};
-    ghost use Rattle.mesh_mutator.specs.Book.{Book as State, IsBook, book_code};
+impl Model for Journal {
+    ghost use Rattle.std.specs.Prelude.{◌*◌, ◌≤◌, length, vec_capacity};
+    ghost use Rattle.std.specs.List.{All};
+    ghost use Rattle.mesh_mutator.specs.Journal.{Journal as State, journal_code};
+    ghost use Rattle.mesh_mutator.specs.Packing.{IsWithin, entries_in};
 
     ghost Value = { State };
 
-    ghost coded = { book_code };
+    ghost coded = { journal_code };
 
-    ghost view = { λ b. record { heap = b.heap; cells = b.roots; entries = b.journal.items; room = b.reserved } };
+    ghost view = { λ j. record { entries = entries_in j.bytes.items j.entries.items; room = j.room } };
 
-    ghost invariant = { λ b. IsBook (record { heap = b.heap; cells = b.roots; entries = b.journal.items; room = b.reserved })
-        × (b.reserved ≤ vec_capacity b.journal) };
+    ghost invariant = { λ j. All (IsWithin (length j.bytes.items)) j.entries.items
+        × (j.room ≤ vec_capacity j.entries) × (2 * j.room ≤ vec_capacity j.bytes)
+        × (length j.bytes.items ≤ 2 * length j.entries.items) × (length j.entries.items ≤ j.room) × (j.room ≤ 65536) };
 }
 
-impl Book {
-    /// A book with no object over `pages` physical pages, 1 to 4,096, whose journal has room for `history` entries, 0 to 65,536.
-    pub fn open(alloc: Global, pages: u32, history: u32) -> Result<Book, AllocError>
-        requires some { 1 ≤ pages }
-        requires most { pages ≤ 4096 }
-        requires limit { history ≤ 65536 }
-        ensures memory { IfOk result (λ book. memory_of_book book ≡ empty_memory) }
-        ensures table { IfOk result (λ book. table_of_book book ≡ empty_table pages) }
-        ensures entries { IfOk result (λ book. book.entries ≡ []) }
-        ensures room { IfOk result (λ book. book.room ≡ history) }
-        ensures pages { IfOk result (λ book. length (arena_of book.heap) ≡ pages) }
+impl Journal {
+    /// A journal without an entry, with room for `room` of them, at most 65,536.
+    pub(crate) fn with_capacity(alloc: Global, room: usize) -> Result<Journal, AllocError>
+        requires { room ≤ 65536 }
+        ensures entries { IfOk result (λ journal. journal.entries ≡ []) }
+        ensures room { IfOk result (λ journal. journal.room ≡ room) }
     {
-        let reserved = history as usize;
-        let journal = Vec::with_capacity(alloc, reserved)?;
-        let heap = Heap::open(alloc, pages)?;
-        Ok(Book {
-            heap,
-            roots: Roots::new(),
-            journal,
-            reserved,
+        Ok(Journal {
+            entries: Vec::with_capacity(alloc, room)?,
+            bytes: Vec::with_capacity(alloc, 2 * room)?,
+            room,
         })
     }
 
-    /// The entries of the journal: a legal history of the plain memory, which ends in what heap and roots stand for.
-    pub fn journal(&self) -> &[Entry]
-        ensures entries { result.now ≡ self.now.entries }
-        ensures legal { IsLegal result.now (memory_of_book self.now) }
+    /// How many entries there are.
+    pub fn len(&self) -> usize
+        ensures value { result ≡ length self.now.entries }
+        ensures fits { result ≤ self.now.room }
     {
-        self.journal.as_slice()
+        self.entries.len()
     }
 
-    /// Heap, root cells and journal, for whoever hands the book out.
-    pub fn into_parts(self) -> (Heap, Roots, Vec<Entry>)
-        ensures heap { result.0 ≡ self.heap }
-        ensures roots { result.1 ≡ self.cells }
-        ensures entries { result.2.items ≡ self.entries }
-        ensures legal { IsLegal result.2.items (memory_in result.0 result.1) }
-        ensures short { length result.2.items ≤ 65536 }
+    /// Whether there is no entry.
+    pub fn is_empty(&self) -> bool
+        ensures { IsTrue result ↔ (self.now.entries ≡ []) }
     {
-        (self.heap, self.roots, self.journal)
+        self.entries.is_empty()
     }
 
-    /// What always holds of its heap: two different bytes of live objects never share a place, no free page holds a live object, the
-    /// read-only pages are exactly those of the running meshes, and groups, page map and arena lie as these meshes have them.
-    pub fn always(&self)
-        ensures objects { HasObjectsApart self.now.heap }
-        ensures places { HasPlacesApart self.now.heap }
-        ensures held { HasHeldPagesTaken self.now.heap }
-        ensures read_only { HasReadOnlyOfMeshes self.now.heap }
-        ensures laid_out { LiesAsMeshesHaveIt self.now.heap }
+    /// Whether there is room for no further entry.
+    pub(crate) fn is_full(&self) -> bool
+        ensures full { result ≡ true → self.now.room ≤ length self.now.entries }
+        ensures free { result ≡ false → length self.now.entries < self.now.room }
     {
-        self.heap.always();
+        self.entries.len() == self.room
     }
 
-    /// One attempt of a worker at a command.
-    ///
-    /// HistoryFull comes before all else, where the journal is at its reserved length; then come refusals, then Blocked of a `Put`, a `Poke`
-    /// or a `Copy` that writes to a read-only page, then OutOfMemory of a `New` that needs a new span. Only a Done attempt is recorded.
-    pub fn act(&mut self, worker: u32, command: &Command) -> Attempt
-        requires { IsInRange command.now }
-        ensures attempt { IsAttempt self.old self.new worker command.now result }
-        ensures full { (result ≡ Attempt.HistoryFull) ↔ (self.old.room ≤ length self.old.entries) }
+    /// The worker of the entry at a place, counted from 0.
+    pub fn worker(&self, place: usize) -> u32
+        requires { place < length self.now.entries }
+        ensures { (other : PlainEntry) → result ≡ (slice_index_or self.now.entries place other).worker }
     {
-        if self.journal.len() == self.reserved {
-            return Attempt::HistoryFull;
+        self.entries[place].worker
+    }
+
+    /// The entry at a place, counted from 0. It takes no memory.
+    pub fn entry(&self, place: usize) -> Entry
+        requires { place < length self.now.entries }
+        ensures { (other : PlainEntry) → result ≡ slice_index_or self.now.entries place other }
+    {
+        let entry = &self.entries[place];
+        Entry {
+            worker: entry.worker,
+            command: unpack_command(self.bytes.as_slice(), &entry.command),
+            reply: unpack_reply(self.bytes.as_slice(), &entry.reply),
         }
-        self.heap.sound();
-        answered_is_step();
-        legal_histories();
-        let attempt = perform(&mut self.heap, &mut self.roots, command);
-        if let Attempt::Done(reply) = &attempt {
-            let entry = Entry::of(worker, command, reply);
-            self.journal.push_reserved(entry);
-        }
-        attempt
     }
 
-    /// What a `Get`, a `Peek` or an `Addr` is answered now. Records nothing.
-    pub fn look(&self, command: &Command) -> Reply
-        requires { IsLook command.now }
-        ensures { IsLooked self.now.heap self.now.cells command.now result }
+    /// Adds the entry of a worker's command and its reply. It takes no memory.
+    pub(crate) fn push(&mut self, worker: u32, command: &Command, reply: &Reply)
+        requires { length self.old.entries < self.old.room }
+        ensures { self.new ≡ record { entries = self.old.entries ++ record { worker = worker; command = command.now; reply = reply.now } ∷ []; room = self.old.room } }
     {
-        match command {
-            Command::Get(cell, off, len) => get(&self.heap, &self.roots, *cell, *off, *len),
-            Command::Addr(cell) => address(&self.heap, &self.roots, *cell),
-            Command::Peek(addr) => peek(&self.heap, &self.roots, *addr),
-            _ => unreachable!(),
-        }
+        let command = pack_command(&mut self.bytes, command);
+        let reply = pack_reply(&mut self.bytes, reply);
+        self.entries.push_reserved(PackedEntry {
+            worker,
+            command,
+            reply,
+        });
     }
 }

@@ -4,12 +4,15 @@
 #![tactic(auto)]
 
 mod attempts;
+mod book;
 mod entry;
 mod journal;
+mod packed;
 mod roots;
 
 pub use attempts::Attempt;
+pub use book::Book;
 pub use entry::{Entry, command_again, reply_again};
-pub use journal::Book;
+pub use journal::Journal;
 pub use mesh_model::{Command, Refusal, Reply};
 pub use roots::Roots;

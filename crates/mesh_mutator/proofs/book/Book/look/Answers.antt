@@ -1,7 +1,7 @@
 use Rattle.std.proofs.Common.{subst}
 use Rattle.mesh_model.specs.declared.commands.Command.TheVariants.{Peek}
 use Rattle.mesh_mutator.specs.Book.{Book, IsLooked}
-use Rattle.mesh_mutator.proofs.journal.Book.look.Goals as goal
+use Rattle.mesh_mutator.proofs.book.Book.look.Goals as goal
 
 pub returns-in-Peek : goal.returns-in-Peek
 returns-in-Peek c =

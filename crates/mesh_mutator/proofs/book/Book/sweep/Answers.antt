@@ -1,8 +1,8 @@
 use Rattle.std.proofs.Common.{◌≡◌, Err, refl}
 use Rattle.mesh_model.specs.Table.{sweep}
 use Rattle.mesh_mutator.proofs.KeptBooks.{IsKept, kept_book, kept_heap}
-use Rattle.mesh_mutator.proofs.journal.Book.sweep.Goals as goal
-use Rattle.mesh_mutator.proofs.journal.Book.sweep.Goals.{After-sweep}
+use Rattle.mesh_mutator.proofs.book.Book.sweep.Goals as goal
+use Rattle.mesh_mutator.proofs.book.Book.sweep.Goals.{After-sweep}
 use Rattle.mesh_mutator.specs.Book.{serials_of}
 use Rattle.mesh_steps.specs.Heap.{table_of}
 use Rattle.mesh_steps.specs.HeapMeshes.{IsSwept}
@@ -15,10 +15,8 @@ kept c =
     (λ x is. record { memory = is.memory; serial = is.serial; pages = is.pages })
 
 pub invariant_of-self : goal.invariant_of-self
-invariant_of-self c = (
-  kept_book c.self.inside.heap c.sweep.new.self c.self.inside.roots c.self.inside.journal.items c.self.inside.reserved (kept c) c.self.invariant.0,
-  c.self.invariant.1,
-)
+invariant_of-self c =
+    kept_book c.self.inside.heap c.sweep.new.self c.self.inside.roots c.self.inside.journal.entries c.self.inside.journal.room (kept c) c.self.invariant
 
 pub returns-clause-kept : goal.returns-clause-kept
 returns-clause-kept c = rw (← c.self.view_is) (record { others = refl; memory = (kept c).memory (serials_of c.self.inside.roots); pages = (kept c).pages })

@@ -1,11 +1,10 @@
 use Rattle.std.proofs.Common.{◌≡◌, ℕ, zero, suc, Option, Some, None, List, [], ◌∷◌, length, replicate, refl, sym, ap, ◌∙◌, arith}
-use Rattle.std.proofs.lemmas.Grind.{common_steps}
 use Rattle.std.proofs.Math.ListN.{length-replicate}
 use Rattle.mesh_model.specs.Memory.{Memory, empty_memory}
 use Rattle.mesh_mutator.specs.Book.{Cells, cell_at, memory_in, serials_of}
 use Rattle.mesh_steps.specs.Heap.{Heap, memory_of}
 use Rattle.mesh_steps.specs.declared.answers.Ref.{Ref}
-use Rattle.mesh_mutator.proofs.journal.Book.open.Goals as goal
+use Rattle.mesh_mutator.proofs.book.Book.open.Goals as goal
 
 -- an empty cell holds nothing
 none_held : (n cell : ℕ) (object : Ref) → cell_at (replicate n None) cell ≡ Some object → ⊥
@@ -28,14 +27,11 @@ pub returns-clause-memory : goal.returns-clause-memory
 returns-clause-memory c = empty_is c.in_ok-heap.heap c.new.result c.in_ok-heap.ensures.memory c.new.ensures
 
 pub invariant_of-result : goal.invariant_of-result
-invariant_of-result c = (
-  record {
-    cells = ap (λ (cs : Cells). length cs) c.new.ensures ∙ length-replicate {A = Option Ref} 256 None;
-    rooted = λ cell object at. absurd (none_held 256 cell object (ap (λ (cs : Cells). cell_at cs cell) (sym c.new.ensures) ∙ at));
-    legal = rw c.in_ok-journal.ensures.items (empty_is c.in_ok-heap.heap c.new.result c.in_ok-heap.ensures.memory c.new.ensures);
-    short = rw c.in_ok-journal.ensures.items (omega arith);
-    limit = c.requires.limit;
-    serials = rw (c.in_ok-journal.ensures.items, c.in_ok-heap.ensures.serial) (omega arith);
-  },
-  grind (arith, common_steps),
-)
+invariant_of-result c = record {
+  cells = ap (λ (cs : Cells). length cs) c.new.ensures ∙ length-replicate {A = Option Ref} 256 None;
+  rooted = λ cell object at. absurd (none_held 256 cell object (ap (λ (cs : Cells). cell_at cs cell) (sym c.new.ensures) ∙ at));
+  legal = rw c.in_ok-journal.ensures.entries (empty_is c.in_ok-heap.heap c.new.result c.in_ok-heap.ensures.memory c.new.ensures);
+  short = rw c.in_ok-journal.ensures.entries (omega arith);
+  limit = rw c.in_ok-journal.ensures.room c.requires.limit;
+  serials = rw (c.in_ok-journal.ensures.entries, c.in_ok-heap.ensures.serial) (omega arith);
+}

@@ -1,0 +1,54 @@
+use Rattle.std.proofs.Common.{subst, sym, arith}
+use Rattle.mesh_mutator.proofs.Booking.{IsBook_answered, attempt_answered, attempt_unrecorded, not_full, unrecorded_same}
+use Rattle.mesh_mutator.specs.Book.{Book, Cells, IsBook}
+use Rattle.mesh_mutator.specs.Journal.{Journal}
+use Rattle.mesh_steps.specs.Heap.{Heap}
+use Rattle.mesh_mutator.proofs.book.Book.act.Goals as goal
+
+-- the book of these parts
+abbrev book_of : Heap → Cells → Journal → Book
+book_of heap cells journal = record { heap = heap; cells = cells; entries = journal.entries; room = journal.room }
+
+pub invariant_of-self : goal.invariant_of-self
+invariant_of-self c =
+    let short = c.is_full.ensures.free c.if-is_full.false in
+    let done = c.perform-attempt.ensures.performed in
+    rw c.push.ensures (
+    IsBook_answered (book_of c.self.inside.heap c.self.inside.roots c.self.inside.journal) c.perform-attempt.new.heap c.perform-attempt.new.roots c.args.worker
+    c.args.command.now c.in-Done.reply c.answered_is_step.ensures c.legal_histories.ensures.goes_on c.sound.ensures c.self.invariant short
+    (rw c.in-Done.is at done) c.perform-attempt.ensures.rooted c.perform-attempt.ensures.cells c.perform-attempt.ensures.serials
+    )
+
+pub returns-in-Done : goal.returns-in-Done
+returns-in-Done c =
+    let short = c.is_full.ensures.free c.if-is_full.false in
+    let done = c.perform-attempt.ensures.performed in
+    let book = book_of c.self.inside.heap c.self.inside.roots c.self.inside.journal in
+    rw (← c.self.view_is, c.push.ensures) (record {
+      attempt = attempt_answered book c.perform-attempt.new.heap c.perform-attempt.new.roots c.args.worker c.args.command.now c.in-Done.reply
+          c.perform-attempt.result short c.in-Done.is done;
+      full = (
+        λ full. absurd (not_full book c.perform-attempt.new.heap c.perform-attempt.new.roots c.args.command.now c.perform-attempt.result done full),
+        λ past. absurd (omega (arith, short, past)),
+      );
+    })
+
+pub invariant_of-self-in_default : goal.invariant_of-self-in_default
+invariant_of-self-in_default c =
+    let same = unrecorded_same (book_of c.self.inside.heap c.self.inside.roots c.self.inside.journal) c.perform-attempt.new.heap c.perform-attempt.new.roots
+    c.args.command.now c.perform-attempt.result c.in_default.not-Done c.perform-attempt.ensures.performed in
+    subst (λ (b : Book). IsBook b) (sym same) c.self.invariant
+
+pub returns-in_default : goal.returns-in_default
+returns-in_default c =
+    let short = c.is_full.ensures.free c.if-is_full.false in
+    let done = c.perform-attempt.ensures.performed in
+    let book = book_of c.self.inside.heap c.self.inside.roots c.self.inside.journal in
+    rw (← c.self.view_is) (record {
+      attempt = attempt_unrecorded book c.perform-attempt.new.heap c.perform-attempt.new.roots c.args.worker c.args.command.now c.perform-attempt.result short
+          c.in_default.not-Done done;
+      full = (
+        λ full. absurd (not_full book c.perform-attempt.new.heap c.perform-attempt.new.roots c.args.command.now c.perform-attempt.result done full),
+        λ past. absurd (omega (arith, short, past)),
+      );
+    })

@@ -1,0 +1,132 @@
+//! `Book`: a heap with its roots, driven by commands, and the journal of the answers.
+ghost use Rattle.std.specs.Prelude.{◌≡◌, ◌≤◌, ◌↔◌, [], IfOk, length};
+ghost use Rattle.mesh_model.specs.Commands.{IsInRange};
+ghost use Rattle.mesh_model.specs.Memory.{empty_memory};
+ghost use Rattle.mesh_model.specs.Plain.{IsLegal};
+ghost use Rattle.mesh_model.specs.Table.{empty_table};
+ghost use Rattle.mesh_mutator.specs.Attempts.{IsLook};
+ghost use Rattle.mesh_mutator.specs.Book.{IsAttempt, IsLooked, memory_in, memory_of_book, table_of_book};
+ghost use Rattle.mesh_mutator.specs.declared.attempts.Attempt.{Attempt};
+ghost use Rattle.mesh_steps.specs.Always.{HasHeldPagesTaken, HasObjectsApart, HasPlacesApart, HasReadOnlyOfMeshes, LiesAsMeshesHaveIt};
+ghost use Rattle.mesh_steps.specs.Heap.{arena_of};
+
+mod mesher;
+
+use crate::attempts::{address, get, peek, perform};
+use crate::journal::Journal;
+use crate::roots::Roots;
+use crate::{Attempt, Command, Reply};
+use mesh_model::history_laws::answered_is_step;
+use mesh_model::laws::legal_histories;
+use mesh_steps::Heap;
+use std::alloc::{AllocError, Global};
+use std::marker::Model;
+
+/// A heap, its root cells and the journal of all answered commands, in their order of effect.
+#[derive(Drop)]
+pub struct Book {
+    heap: Heap,
+    roots: Roots,
+    journal: Journal,
+}
+
+impl Model for Book {
+    ghost use Rattle.mesh_mutator.specs.Book.{Book as State, IsBook, book_code};
+
+    ghost Value = { State };
+
+    ghost coded = { book_code };
+
+    ghost view = { λ b. record { heap = b.heap; cells = b.roots; entries = b.journal.entries; room = b.journal.room } };
+
+    ghost invariant = { λ b. IsBook (record { heap = b.heap; cells = b.roots; entries = b.journal.entries; room = b.journal.room }) };
+}
+
+impl Book {
+    /// A book with no object over `pages` physical pages, 1 to 4,096, whose journal has room for `history` entries, 0 to 65,536.
+    pub fn open(alloc: Global, pages: u32, history: u32) -> Result<Book, AllocError>
+        requires some { 1 ≤ pages }
+        requires most { pages ≤ 4096 }
+        requires limit { history ≤ 65536 }
+        ensures memory { IfOk result (λ book. memory_of_book book ≡ empty_memory) }
+        ensures table { IfOk result (λ book. table_of_book book ≡ empty_table pages) }
+        ensures entries { IfOk result (λ book. book.entries ≡ []) }
+        ensures room { IfOk result (λ book. book.room ≡ history) }
+        ensures pages { IfOk result (λ book. length (arena_of book.heap) ≡ pages) }
+    {
+        let journal = Journal::with_capacity(alloc, history as usize)?;
+        let heap = Heap::open(alloc, pages)?;
+        Ok(Book {
+            heap,
+            roots: Roots::new(),
+            journal,
+        })
+    }
+
+    /// The entries of the journal: a legal history of the plain memory, which ends in what heap and roots stand for.
+    pub fn journal(&self) -> &Journal
+        ensures entries { result.now.entries ≡ self.now.entries }
+        ensures room { result.now.room ≡ self.now.room }
+        ensures legal { IsLegal result.now.entries (memory_of_book self.now) }
+    {
+        &self.journal
+    }
+
+    /// Heap, root cells and journal, for whoever hands the book out.
+    pub fn into_parts(self) -> (Heap, Roots, Journal)
+        ensures heap { result.0 ≡ self.heap }
+        ensures roots { result.1 ≡ self.cells }
+        ensures entries { result.2.entries ≡ self.entries }
+        ensures legal { IsLegal result.2.entries (memory_in result.0 result.1) }
+        ensures short { length result.2.entries ≤ 65536 }
+    {
+        (self.heap, self.roots, self.journal)
+    }
+
+    /// What always holds of its heap: two different bytes of live objects never share a place, no free page holds a live object, the
+    /// read-only pages are exactly those of the running meshes, and groups, page map and arena lie as these meshes have them.
+    pub fn always(&self)
+        ensures objects { HasObjectsApart self.now.heap }
+        ensures places { HasPlacesApart self.now.heap }
+        ensures held { HasHeldPagesTaken self.now.heap }
+        ensures read_only { HasReadOnlyOfMeshes self.now.heap }
+        ensures laid_out { LiesAsMeshesHaveIt self.now.heap }
+    {
+        self.heap.always();
+    }
+
+    /// One attempt of a worker at a command.
+    ///
+    /// HistoryFull comes before all else, where the journal is at its reserved length; then come refusals, then Blocked of a `Put`, a `Poke`
+    /// or a `Copy` that writes to a read-only page, then OutOfMemory of a `New` that needs a new span. Only a Done attempt is recorded.
+    pub fn act(&mut self, worker: u32, command: &Command) -> Attempt
+        requires { IsInRange command.now }
+        ensures attempt { IsAttempt self.old self.new worker command.now result }
+        ensures full { (result ≡ Attempt.HistoryFull) ↔ (self.old.room ≤ length self.old.entries) }
+    {
+        if self.journal.is_full() {
+            return Attempt::HistoryFull;
+        }
+        self.heap.sound();
+        answered_is_step();
+        legal_histories();
+        let attempt = perform(&mut self.heap, &mut self.roots, command);
+        if let Attempt::Done(reply) = &attempt {
+            self.journal.push(worker, command, reply);
+        }
+        attempt
+    }
+
+    /// What a `Get`, a `Peek` or an `Addr` is answered now. Records nothing.
+    pub fn look(&self, command: &Command) -> Reply
+        requires { IsLook command.now }
+        ensures { IsLooked self.now.heap self.now.cells command.now result }
+    {
+        match command {
+            Command::Get(cell, off, len) => get(&self.heap, &self.roots, *cell, *off, *len),
+            Command::Addr(cell) => address(&self.heap, &self.roots, *cell),
+            Command::Peek(addr) => peek(&self.heap, &self.roots, *addr),
+            _ => unreachable!(),
+        }
+    }
+}
