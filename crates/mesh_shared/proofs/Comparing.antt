@@ -6,11 +6,13 @@ use Rattle.std.proofs.Math.Seq.{drop-cons}
 use Rattle.mesh_model.specs.Plain.{Entry}
 use Rattle.mesh_model.specs.Reads.{Kept, call_of, recorded}
 use Rattle.mesh_model.specs.Seats.{Call, DifferFirstAt, calls_of}
+use Rattle.mesh_model.specs.declared.commands.Command.TheVariants.{Free}
+use Rattle.mesh_model.specs.declared.commands.Reply.TheVariants.{Done}
 use Rattle.mesh_model.proofs.WovenCalls.{entry_call}
 use Rattle.mesh_shared.specs.Differing.{IsRecordedFirst}
 use Rattle.mesh_shared.specs.Seat.{Seat}
 use Rattle.mesh_shared.specs.Settle.{recorded_of}
-use Rattle.mesh_shared.proofs.Walking.{drop_all}
+use Rattle.mesh_shared.proofs.Walking.{drop_all, index_any}
 
 -- the calls compared so far are the same
 pub record SameSoFar (calls rest : List Kept) (worker : ℕ) (entries : List Entry) (k place : ℕ) : Type 0 where
@@ -24,6 +26,18 @@ pub record SameSoFar (calls rest : List Kept) (worker : ℕ) (entries : List Ent
 -- nothing is compared yet
 pub same_first : (calls rest : List Kept) (worker : ℕ) (entries : List Entry) → IsRecordedFirst calls rest → SameSoFar calls rest worker entries 0 0
 same_first calls rest worker entries skipped = record { done = []; theirs = sym skipped.same; ours = refl; many = refl; small = omega arith; first = skipped.first }
+
+-- an entry to read where there is none
+abbrev pub no_entry : Entry
+no_entry = record { worker = 0; command = Free 0; reply = Done }
+
+-- the entry at a place
+abbrev pub entry_at : List Entry → ℕ → Entry
+entry_at entries k = slice_index_or entries k no_entry
+
+-- it is there whatever is read in its stead
+pub entry_there : (entries : List Entry) (k : ℕ) → k < length entries → slice_index_or entries k (entry_at entries k) ≡ entry_at entries k
+entry_there entries k below = index_any entries k (entry_at entries k) no_entry below
 
 -- the entry there
 cut_at : (entries : List Entry) (k : ℕ) (e : Entry) → k < length entries → slice_index_or entries k e ≡ e → drop k entries ≡ e ∷ drop (suc k) entries

@@ -9,14 +9,14 @@ ghost use Rattle.mesh_shared.specs.Differing.{IsRecordedFirst};
 
 use crate::kept::Kept;
 use crate::seat::Seat;
-use mesh_mutator::Entry;
+use mesh_mutator::{Entry, Journal};
 
 // The first seat whose recorded calls aren't its worker's entries, and the place of the first such call among them. For each seat the
 // journal is gone through once, so with 64 seats and a journal of 65,536 entries some 4 million entries are looked at.
-pub fn differing(seats: &[Seat], journal: &[Entry]) -> Option<(u32, usize)>
+pub fn differing(seats: &[Seat], journal: &Journal) -> Option<(u32, usize)>
     requires few { length seats.now < 2 ^ 32 }
-    ensures settled { result ≡ None → AreSettled (length seats.now) (recorded_of seats.now) journal.now }
-    ensures differs { IfSome result (λ found. (found.0 < length seats.now) × SeatDiffers (recorded_of seats.now) journal.now found.0 found.1) }
+    ensures settled { result ≡ None → AreSettled (length seats.now) (recorded_of seats.now) journal.now.entries }
+    ensures differs { IfSome result (λ found. (found.0 < length seats.now) × SeatDiffers (recorded_of seats.now) journal.now.entries found.0 found.1) }
 {
     for w in 0..seats.len() {
         let worker = w as u32;
@@ -28,18 +28,18 @@ pub fn differing(seats: &[Seat], journal: &[Entry]) -> Option<(u32, usize)>
 }
 
 // The first place at which a seat's recorded calls aren't a worker's entries.
-fn first_difference(calls: &[Kept], journal: &[Entry], worker: u32) -> Option<usize>
-    ensures same { result ≡ None → recorded calls.now ≡ calls_of worker journal.now }
-    ensures differs { IfSome result (λ place. DifferFirstAt (recorded calls.now) (calls_of worker journal.now) place) }
+fn first_difference(calls: &[Kept], journal: &Journal, worker: u32) -> Option<usize>
+    ensures same { result ≡ None → recorded calls.now ≡ calls_of worker journal.now.entries }
+    ensures differs { IfSome result (λ place. DifferFirstAt (recorded calls.now) (calls_of worker journal.now.entries) place) }
 {
     let mut rest = skip_reads(calls);
     let mut place = 0;
-    for entry in journal {
-        if entry.worker == worker {
+    for n in 0..journal.len() {
+        if journal.worker(n) == worker {
             let Some((kept, tail)) = rest.split_first() else {
                 return Some(place);
             };
-            if !is_of(kept, entry) {
+            if !is_of(kept, &journal.entry(n)) {
                 return Some(place);
             }
             rest = skip_reads(tail);

@@ -7,14 +7,14 @@ ghost use Rattle.mesh_shared.specs.Seat.{numbers_of};
 
 use crate::seat::Seat;
 use mesh_model::seat_laws::missing_seat_is_least;
-use mesh_mutator::Entry;
+use mesh_mutator::Journal;
 
 // The seat that is missing: the least place whose seat hasn't the place's number; or the count, where there are more seats or an entry of a
 // worker without a seat.
-pub fn missing(seats: &[Seat], count: u32, journal: &[Entry]) -> Option<u32>
-    ensures missing { result ≡ missing_seat count (numbers_of seats.now) journal.now }
+pub fn missing(seats: &[Seat], count: u32, journal: &Journal) -> Option<u32>
+    ensures missing { result ≡ missing_seat count (numbers_of seats.now) journal.now.entries }
     ensures many { result ≡ None → length seats.now ≡ count }
-    ensures known { result ≡ None → All (λ entry. entry.worker < count) journal.now }
+    ensures known { result ≡ None → All (λ entry. entry.worker < count) journal.now.entries }
 {
     missing_seat_is_least();
     for w in 0..count {
@@ -39,12 +39,12 @@ fn is_seated(seats: &[Seat], place: u32) -> bool
 }
 
 // Whether an entry is of a worker without a seat.
-fn has_stranger(journal: &[Entry], count: u32) -> bool
-    ensures some { result ≡ true → (i : ℕ) × (entry : Entry) × (slice_get journal.now i ≡ Some entry) × (count ≤ entry.worker) }
-    ensures none { result ≡ false → All (λ entry. entry.worker < count) journal.now }
+fn has_stranger(journal: &Journal, count: u32) -> bool
+    ensures some { result ≡ true → (i : ℕ) × (entry : Entry) × (slice_get journal.now.entries i ≡ Some entry) × (count ≤ entry.worker) }
+    ensures none { result ≡ false → All (λ entry. entry.worker < count) journal.now.entries }
 {
-    for entry in journal {
-        if entry.worker >= count {
+    for n in 0..journal.len() {
+        if journal.worker(n) >= count {
             return true;
         }
     }

@@ -12,21 +12,21 @@ use crate::reads::take_all;
 use crate::rest::Rest;
 use crate::seat::Seat;
 use mesh_model::read_laws::few_are_made;
-use mesh_mutator::Entry;
+use mesh_mutator::{Entry, Journal};
 use mesh_plain::Plain;
 use std::alloc::{AllocError, Global};
 
 // The history of a journal and seats whose recorded calls are its entries, built in one walk of the journal; or the first wrong read. After a
 // wrong read only the seats below its own are looked at, since one of theirs would be told in its place.
-pub fn weave(alloc: Global, seats: &[Seat], journal: &[Entry]) -> Result<Vec<Entry>, FinishError>
+pub fn weave(alloc: Global, seats: &[Seat], journal: &Journal) -> Result<Vec<Entry>, FinishError>
     requires few { length seats.now < 2 ^ 32 }
-    requires short { length journal.now ≤ 65536 }
-    requires own { (w : ℕ) → w < length seats.now → recorded (kept_by (calls_of_seats seats.now) w) ≡ calls_of w journal.now }
-    requires known { All (λ entry. entry.worker < length seats.now) journal.now }
-    ensures walked { IfOk result (λ history. Walks 0 empty_memory (calls_of_seats seats.now) journal.now [] history.items) }
-    ensures right { OnOk result (AreRight (calls_of_seats seats.now) journal.now) }
+    requires short { length journal.now.entries ≤ 65536 }
+    requires own { (w : ℕ) → w < length seats.now → recorded (kept_by (calls_of_seats seats.now) w) ≡ calls_of w journal.now.entries }
+    requires known { All (λ entry. entry.worker < length seats.now) journal.now.entries }
+    ensures walked { IfOk result (λ history. Walks 0 empty_memory (calls_of_seats seats.now) journal.now.entries [] history.items) }
+    ensures right { OnOk result (AreRight (calls_of_seats seats.now) journal.now.entries) }
     ensures kept { OnOk result ((w : ℕ) → All IsKept (kept_by (calls_of_seats seats.now) w)) }
-    ensures fault { IfErr result (IsWalkFault (calls_of_seats seats.now) journal.now) }
+    ensures fault { IfErr result (IsWalkFault (calls_of_seats seats.now) journal.now.entries) }
 {
     few_are_made();
     let mut plain = Plain::new(alloc);
@@ -36,11 +36,11 @@ pub fn weave(alloc: Global, seats: &[Seat], journal: &[Entry]) -> Result<Vec<Ent
     for n in 0..journal.len() {
         let wrong = take_all(&plain, n as u32, rests.as_mut_slice(), &mut history)?;
         tell(seats, &mut rests, wrong, &mut told);
-        let entry = &journal[n];
-        let early = step(rests.as_mut_slice(), entry.worker);
+        let next = journal.entry(n);
+        let early = step(rests.as_mut_slice(), next.worker);
         tell(seats, &mut rests, early, &mut told);
-        plain.apply(&entry.command, &entry.reply)?;
-        history.push(Entry::of(entry.worker, &entry.command, &entry.reply))?;
+        plain.apply(&next.command, &next.reply)?;
+        history.push(next)?;
     }
     let wrong = take_all(
         &plain,

@@ -16,7 +16,7 @@ returns-in-Some-clause-differs c =
       below,
       record {
         same_below = c.loop-w.invariant;
-        first = subst (λ (l : List Call). DifferFirstAt l (calls_of c.loop-w.w c.args.journal.now) c.in-Some.place) (sym here) c.in-Some.ensures.differs;
+        first = subst (λ (l : List Call). DifferFirstAt l (calls_of c.loop-w.w c.args.journal.now.entries) c.in-Some.place) (sym here) c.in-Some.ensures.differs;
       },
     )
 
@@ -26,8 +26,8 @@ loop-w-preserved c v below_next =
     let seat : Seat = c.index-seats-w.result in
     let here : slice_index_or (recorded_of c.args.seats.now) c.loop-w.w [] ≡ recorded c.calls.result.now =
     recorded_at c.args.seats.now c.loop-w.w seat below ∙ ap (λ (s : Seat). recorded s.calls) (sym c.index-seats-w.is) ∙ ap (λ (l : List Kept). recorded l) (sym c.calls.ensures.calls) in
-    let whole : slice_index_or (recorded_of c.args.seats.now) c.loop-w.w [] ≡ calls_of c.loop-w.w c.args.journal.now = here ∙ c.in_default.ensures.same refl in
+    let whole : slice_index_or (recorded_of c.args.seats.now) c.loop-w.w [] ≡ calls_of c.loop-w.w c.args.journal.now.entries = here ∙ c.in_default.ensures.same refl in
     elim (eqb_tells v c.loop-w.w) [
-      | inl same ↦ subst (λ (x : ℕ). slice_index_or (recorded_of c.args.seats.now) x [] ≡ calls_of x c.args.journal.now) (sym same.1) whole
+      | inl same ↦ subst (λ (x : ℕ). slice_index_or (recorded_of c.args.seats.now) x [] ≡ calls_of x c.args.journal.now.entries) (sym same.1) whole
       | inr other ↦ c.loop-w.invariant v (let o = other.1 in omega (arith, o, below_next))
     ]

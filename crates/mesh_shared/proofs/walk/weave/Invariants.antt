@@ -3,4 +3,4 @@ use Rattle.mesh_shared.proofs.Rounds.{Goes}
 use Rattle.mesh_shared.proofs.walk.weave.Given as goal
 
 abbrev pub invariant-loop-n : goal.invariant-loop-n
-invariant-loop-n l = Goes (calls_of_seats l.seats) l.journal l.n l.plain l.rests.items l.history.items l.told
+invariant-loop-n l = Goes (calls_of_seats l.seats) l.journal.entries l.n l.plain l.rests.items l.history.items l.told
