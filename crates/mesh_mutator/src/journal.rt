@@ -37,7 +37,7 @@ impl Model for Journal {
 }
 
 impl Journal {
-    /// A journal without an entry, with room for `room` of them, at most 65,536.
+    /// A journal without an entry, with room for `room` of them, at most 65,536. An error is want of memory.
     pub(crate) fn with_capacity(alloc: Global, room: usize) -> Result<Journal, AllocError>
         requires { room ≤ 65536 }
         ensures entries { IfOk result (λ journal. journal.entries ≡ []) }
@@ -102,9 +102,9 @@ impl Journal {
         let command = pack_command(&mut self.bytes, command);
         let reply = pack_reply(&mut self.bytes, reply);
         self.entries.push_reserved(PackedEntry {
-            worker,
             command,
             reply,
+            worker,
         });
     }
 }

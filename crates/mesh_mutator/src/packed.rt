@@ -10,15 +10,15 @@ use mesh_model::MAX_BYTES;
 /// What a command stores or a reply loads.
 pub(crate) type Bytes = ArrayVec<u8, MAX_BYTES>;
 
-/// An entry without its bytes, in 32 bytes.
+/// An entry without its bytes, in 32 bytes. Fields lie in memory in their order, so the widest stands first.
 #[derive(Drop)]
 pub(crate) struct PackedEntry {
-    /// The worker's number.
-    pub(crate) worker: u32,
     /// The command.
     pub(crate) command: PackedCommand,
     /// Its reply.
     pub(crate) reply: PackedReply,
+    /// The worker's number.
+    pub(crate) worker: u32,
 }
 
 /// A command without its bytes.
