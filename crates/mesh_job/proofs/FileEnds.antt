@@ -1,23 +1,11 @@
--- The end of a reading: the first fault of a file, or its job.
-use Rattle.std.proofs.Common.{◌≡◌, ℕ, ◌≤◌, Bool, true, false, cond, nat_eq, List, [], ◌∷◌, Err, length, refl, ◌∙◌, arith}
+-- The end of a file: what its reading comes to.
+use Rattle.std.proofs.Common.{◌≡◌, ℕ, ◌≤◌, Bool, true, false, cond, nat_eq, List, [], ◌∷◌, Ok, Err, length, ap, refl, ◌∙◌, arith}
 use Rattle.std.specs.List.{onto_first}
-use Rattle.mesh_model.specs.Files.{Draft, fault_at, has_ended, lines_in, read_text}
-use Rattle.mesh_model.specs.declared.faults.FaultKind.TheVariants.{Trailing}
-use Rattle.mesh_job.specs.Faults.{IsReadFault, read_fault_at}
-use Rattle.mesh_job.specs.Reading.{IsFaultOfLine, text_lines}
-use Rattle.mesh_job.specs.declared.faults.LineFault.{LineFault}
-use Rattle.mesh_job.specs.declared.faults.LineFault.TheVariants.{Kind as LineKind, Memory as LineMemory}
+use Rattle.std.proofs.lemmas.Bool.{lt-leb}
+use Rattle.mesh_model.specs.Files.{Draft, fault_at, has_ended, job_of, lines_in}
+use Rattle.mesh_model.specs.declared.faults.FaultKind.TheVariants.{Cut, Trailing}
+use Rattle.mesh_job.specs.Reading.{IsPartOfLine, text_lines}
 use Rattle.mesh_job.proofs.Splits.{Parts, some_part}
-
--- how far a file was read: what reading on from the rest of it gives
-abbrev pub IsReadTo : List ℕ → List ℕ → ℕ → Draft → Type 0
-IsReadTo bytes rest number draft = read_text bytes ≡ lines_in number draft (text_lines rest)
-
--- a fault of a line is one of the file, where its line is the next one
-pub file_fault : (bytes rest : List ℕ) (number : ℕ) (draft : Draft) (fault : LineFault) → IsReadTo bytes rest number draft
-    → IsFaultOfLine draft rest fault → IsReadFault bytes (read_fault_at fault number)
-file_fault bytes rest number draft (LineKind kind) is told = is ∙ told number
-file_fault bytes rest number draft LineMemory is h = tt
 
 -- bytes behind the end
 trailing : (number : ℕ) (draft : Draft) (b : ℕ) (passes : Bool) (parts : List (List ℕ)) → Parts parts → has_ended draft.section ≡ true
@@ -27,12 +15,19 @@ trailing number draft b true (part ∷ parts) some ended = rw ended refl
 trailing number draft b false (part ∷ []) some ended = rw ended refl
 trailing number draft b false (part ∷ next ∷ parts) some ended = rw ended refl
 
-behind_end : (rest : List ℕ) (number : ℕ) (draft : Draft) → 1 ≤ length rest → has_ended draft.section ≡ true
+pub behind_end : (rest : List ℕ) (number : ℕ) (draft : Draft) → 1 ≤ length rest → has_ended draft.section ≡ true
     → lines_in number draft (text_lines rest) ≡ Err (fault_at number Trailing)
 behind_end [] number draft some ended = absurd (omega (arith, some))
 behind_end (b ∷ bs) number draft some ended = trailing number draft b (nat_eq b 10) (text_lines bs) (some_part 10 bs) ended
 
--- a file with bytes behind its end
-pub file_trailing : (bytes rest : List ℕ) (number : ℕ) (draft : Draft) → IsReadTo bytes rest number draft → 1 ≤ length rest → has_ended draft.section ≡ true
-    → read_text bytes ≡ Err (fault_at number Trailing)
-file_trailing bytes rest number draft is some ended = is ∙ behind_end rest number draft some ended
+-- no bytes behind the end
+pub at_end : (rest : List ℕ) (number : ℕ) (draft : Draft) → length rest ≤ 0 → has_ended draft.section ≡ true
+    → lines_in number draft (text_lines rest) ≡ Ok (job_of draft)
+at_end [] number draft none ended = rw ended refl
+at_end (b ∷ bs) number draft none ended = absurd (omega (arith, none))
+
+-- the file ends before its last line was taken
+pub cut_off : (rest : List ℕ) (number : ℕ) (draft : Draft) → IsPartOfLine rest → has_ended draft.section ≡ false
+    → lines_in number draft (text_lines rest) ≡ Err (fault_at number Cut)
+cut_off rest number draft part going =
+    ap (lines_in number draft) part.unended ∙ rw (going, lt-leb 1025 (length rest) (omega (arith, part.short))) refl

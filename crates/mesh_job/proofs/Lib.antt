@@ -4,6 +4,7 @@ pub mod FileEnds
 pub mod HexFields
 pub mod ManyFields
 pub mod PlanReadings
-pub mod Reading
 pub mod Sames
 pub mod Splits
+pub mod Takes
+pub mod TextLines

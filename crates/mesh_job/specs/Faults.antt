@@ -1,15 +1,8 @@
 -- Why a file can't be read.
 use Rattle.std.specs.Prelude.{◌≡◌, ℕ, List, Err}
 use Rattle.mesh_model.specs.Files.{read_text}
-use Rattle.mesh_job.specs.declared.faults.LineFault.{LineFault}
-use Rattle.mesh_job.specs.declared.faults.LineFault.TheVariants.{Kind as LineKind, Memory as LineMemory}
 use Rattle.mesh_job.specs.declared.faults.ReadFault.{ReadFault}
 use Rattle.mesh_job.specs.declared.faults.ReadFault.TheVariants.{Text as ReadText, Memory as ReadMemory}
-
--- the fault of a line as that of its file
-abbrev pub read_fault_at : LineFault → ℕ → ReadFault
-read_fault_at (LineKind kind) line = ReadText (record { line = line; kind = kind })
-read_fault_at LineMemory line = ReadMemory
 
 -- why a text gave no job: its first fault, or want of memory
 abbrev pub IsReadFault : List ℕ → ReadFault → Type 0

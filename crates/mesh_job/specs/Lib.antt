@@ -3,6 +3,7 @@ pub mod Faults
 pub mod Job
 pub mod Plan
 pub mod Reading
+pub mod Taken
 pub use Rattle.mesh_model.specs.Commands
 pub use Rattle.mesh_model.specs.Files
 pub use Rattle.mesh_model.specs.Jobs

@@ -1,5 +1,5 @@
 -- The lines and fields of a text, and what the reader tells of a text that it can't read.
-use Rattle.std.specs.Prelude.{◌≡◌, ℕ, ◌+◌, ◌≤◌, Bool, true, false, nat_eq, List, ◌∷◌, Result, Err, is_some, length, map}
+use Rattle.std.specs.Prelude.{◌≡◌, ℕ, ◌+◌, ◌≤◌, Bool, true, false, nat_eq, List, [], ◌∷◌, ◌++◌, Result, Err, is_some, length, map}
 use Rattle.std.specs.List.{list_all, slice_split}
 use Rattle.mesh_model.specs.Files.{Draft, fault_at, has_ended, hex_value, is_between, is_printable, lines_in}
 use Rattle.mesh_model.specs.declared.faults.FaultKind.{FaultKind}
@@ -39,22 +39,30 @@ pub record IsSplit (text : List ℕ) (fields : List (List ℕ)) (rest : List ℕ
   pub printable : list_all is_printable line ≡ true
   pub has_fields : fields ≡ line_fields line
 
--- whatever was read before it, the next line of this text has this fault
+-- the text has no line end, and is no longer than a line may be
+pub record IsPartOfLine (text : List ℕ) : Type 0 where
+  pub unended : text_lines text ≡ text ∷ []
+  pub short : length text ≤ 1024
+
+-- whatever was read before it and whatever follows, the next line of this text has this fault
 abbrev pub IsFaultyLine : List ℕ → FaultKind → Type 0
 IsFaultyLine text kind =
-    (number : ℕ) (draft : Draft) → has_ended draft.section ≡ false → lines_in number draft (text_lines text) ≡ Err (fault_at number kind)
+    (number : ℕ) (draft : Draft) (more : List ℕ) → has_ended draft.section ≡ false
+    → lines_in number draft (text_lines (text ++ more)) ≡ Err (fault_at number kind)
 
--- reading on from a text gives what reading on from the rest of it gives, one line later
-abbrev pub IsReadOn : Draft → List ℕ → Draft → List ℕ → Type 0
-IsReadOn before text after rest =
-    (number : ℕ) → lines_in number before (text_lines text) ≡ lines_in (number + 1) after (text_lines rest)
+-- a line of a text was taken with its end, and this is the rest: whatever follows the line, it is read on from there, one line later
+pub record IsReadOn (before : Draft) (text : List ℕ) (after : Draft) (rest : List ℕ) : Type 0 where
+  pub taken : List ℕ
+  pub whole : text ≡ taken ++ rest
+  pub reads : (number : ℕ) (more : List ℕ) → lines_in number before (text_lines (taken ++ more)) ≡ lines_in (number + 1) after (text_lines more)
 
 -- why a step of reading was not made: its refusal, or want of memory
 abbrev pub IsFaultOfStep : {A : Type 0} → Result A FaultKind → LineFault → Type 0
 IsFaultOfStep read (LineKind kind) = read ≡ Err kind
 IsFaultOfStep read LineMemory = Unit {0}
 
--- why the next line of a text was not taken into a draft: its fault, which ends the reading, or want of memory
+-- why the next line of a text was not taken into a draft: its fault, which ends the reading whatever follows, or want of memory
 abbrev pub IsFaultOfLine : Draft → List ℕ → LineFault → Type 0
-IsFaultOfLine draft text (LineKind kind) = (number : ℕ) → lines_in number draft (text_lines text) ≡ Err (fault_at number kind)
+IsFaultOfLine draft text (LineKind kind) =
+    (number : ℕ) (more : List ℕ) → lines_in number draft (text_lines (text ++ more)) ≡ Err (fault_at number kind)
 IsFaultOfLine draft text LineMemory = Unit {0}

@@ -1,9 +1,9 @@
 //! The job as far as its file was read, line by line.
-ghost use Rattle.std.specs.Prelude.{◌≡◌, ◌<◌, true, false, [], ◌∷◌, ◌++◌, Ok, Err, length, OnOk, IfOk, IfErr};
+ghost use Rattle.std.specs.Prelude.{◌≡◌, ◌<◌, true, false, [], ◌∷◌, ◌++◌, Ok, Err, length, OnOk, IfOk, IfErr, IfSome, IsNone};
 ghost use Rattle.std.specs.List.{list_any};
 ghost use Rattle.mesh_model.specs.Files.{blank_draft, has_ended, is_empty, job_of, plan_line, script_line, take_fields, take_in, version_of};
 ghost use Rattle.mesh_job.specs.Draft.{IsDraft, draft_of, is_in_header, section_of};
-ghost use Rattle.mesh_job.specs.Reading.{IsFaultOfLine, IsFaultOfStep, IsReadOn, texts};
+ghost use Rattle.mesh_job.specs.Reading.{IsFaultOfLine, IsFaultOfStep, IsPartOfLine, IsReadOn, texts};
 
 use crate::commands::command_of;
 use crate::faults::LineFault;
@@ -91,38 +91,43 @@ impl Draft {
         }
     }
 
-    /// Takes the next line of the text, and gives the bytes behind it.
-    pub(crate) fn take_line<'a>(&mut self, text: &'a [u8]) -> Result<&'a [u8], LineFault>
+    /// Takes the next line of the text, and gives the bytes behind it. None where the text is the beginning of a line, of which
+    /// nothing is taken.
+    pub(crate) fn take_line<'a>(&mut self, text: &'a [u8]) -> Result<Option<&'a [u8]>, LineFault>
         requires draft { IsDraft self.old }
         requires going { has_ended (draft_of self.old).section ≡ false }
         ensures draft { OnOk result (IsDraft self.new) }
-        ensures shorter { IfOk result (λ rest. length rest.now < length text.now) }
-        ensures ok { IfOk result (λ rest. IsReadOn (draft_of self.old) text.now (draft_of self.new) rest.now) }
+        ensures shorter { IfOk result (λ next. IfSome next (λ rest. length rest.now < length text.now)) }
+        ensures ok { IfOk result (λ next. IfSome next (λ rest. IsReadOn (draft_of self.old) text.now (draft_of self.new) rest.now)) }
+        ensures part { IfOk result (λ next. IsNone next → IsPartOfLine text.now × (self.new ≡ self.old)) }
         ensures err { IfErr result (λ fault. IsFaultOfLine (draft_of self.old) text.now fault) }
     {
         let mut few = FewFields::new();
         if let Some(rest) = few_fields(text, &mut few) {
             self.take(few.as_slice())?;
-            return Ok(rest);
+            return Ok(Some(rest));
         }
         self.take_long_line(text)
     }
 
-    /// The same, for a line that has a fault or many fields.
+    /// The same, for a line that has a fault or many fields, or that isn't whole.
     #[cold]
     #[inline(never)]
-    fn take_long_line<'a>(&mut self, text: &'a [u8]) -> Result<&'a [u8], LineFault>
+    fn take_long_line<'a>(&mut self, text: &'a [u8]) -> Result<Option<&'a [u8]>, LineFault>
         requires draft { IsDraft self.old }
         requires going { has_ended (draft_of self.old).section ≡ false }
         ensures draft { OnOk result (IsDraft self.new) }
-        ensures shorter { IfOk result (λ rest. length rest.now < length text.now) }
-        ensures ok { IfOk result (λ rest. IsReadOn (draft_of self.old) text.now (draft_of self.new) rest.now) }
+        ensures shorter { IfOk result (λ next. IfSome next (λ rest. length rest.now < length text.now)) }
+        ensures ok { IfOk result (λ next. IfSome next (λ rest. IsReadOn (draft_of self.old) text.now (draft_of self.new) rest.now)) }
+        ensures part { IfOk result (λ next. IsNone next → IsPartOfLine text.now × (self.new ≡ self.old)) }
         ensures err { IfErr result (λ fault. IsFaultOfLine (draft_of self.old) text.now fault) }
     {
-        let (line, rest) = next_line(text)?;
+        let Some((line, rest)) = next_line(text)? else {
+            return Ok(None);
+        };
         let fields = fields_of(line)?;
         self.take(fields.as_slice())?;
-        Ok(rest)
+        Ok(Some(rest))
     }
 
     /// Takes the fields of the next line.

@@ -1,7 +1,7 @@
 //! Why a file or a line of it can't be read.
 ghost use Rattle.std.specs.Prelude.{◌≡◌};
-ghost use Rattle.mesh_job.specs.Faults.{read_fault_at};
 ghost use Rattle.mesh_job.specs.declared.faults.LineFault.{LineFault};
+ghost use Rattle.mesh_job.specs.declared.faults.ReadFault.{ReadFault};
 
 use mesh_model::{FaultKind, TextFault};
 use std::alloc::{AllocError, AllocFailed};
@@ -18,6 +18,14 @@ pub enum ReadFault {
     Memory,
 }
 
+impl From<AllocError> for ReadFault {
+    ghost from_gives = { λ _ fault. fault ≡ ReadFault.Memory };
+
+    fn from(_refused: AllocError) -> ReadFault {
+        ReadFault::Memory
+    }
+}
+
 /// Why a line could not be taken into a job.
 #[derive(Clone, Copy, Debug, PartialEq, Eq)]
 pub(crate) enum LineFault {
@@ -25,18 +33,6 @@ pub(crate) enum LineFault {
     Kind(FaultKind),
     /// A growth of the job was refused for want of memory.
     Memory,
-}
-
-impl LineFault {
-    /// The fault as that of the line with this number.
-    pub(crate) fn at(self, line: u32) -> ReadFault
-        ensures { result ≡ read_fault_at self line }
-    {
-        match self {
-            LineFault::Kind(kind) => ReadFault::Text(TextFault { line, kind }),
-            LineFault::Memory => ReadFault::Memory,
-        }
-    }
 }
 
 impl From<FaultKind> for LineFault {

@@ -2,7 +2,7 @@
 ghost use Rattle.std.specs.Prelude.{◌≡◌, ◌-◌, ◌<◌, ◌≤◌, ◌⊎◌, ◌∷◌, [], Ok, Err, true, false, ◌++◌, length, take, drop, nat_eq, IfSome, IfOk, IfErr, IsNone, OnOk, OnErr};
 ghost use Rattle.std.specs.List.{list_all, list_any, slice_split};
 ghost use Rattle.mesh_model.specs.Files.{are_same, five_fields, header_in, is_empty, is_printable, no_field, one_field, three_fields, two_fields};
-ghost use Rattle.mesh_job.specs.Reading.{IsFaultyLine, IsSplit, is_field_byte, line_fields, text_lines, texts};
+ghost use Rattle.mesh_job.specs.Reading.{IsFaultyLine, IsPartOfLine, IsSplit, is_field_byte, line_fields, text_lines, texts};
 
 use crate::numbers::number32;
 use arrayvec::ArrayVec;
@@ -40,23 +40,23 @@ fn is_printable(byte: u8) -> bool
     (b' '..=b'~').contains(&byte)
 }
 
-/// The next line without its end, and the bytes behind it.
+/// The next line without its end, and the bytes behind it. None where the text holds no line end and no more than a line may have.
 ///
-/// LONG_LINE where its first 1,025 bytes hold no line end, CUT where the text ends before it does, and BYTE where one of its bytes
-/// isn't from 20 to 7e.
-pub(crate) fn next_line(text: &[u8]) -> Result<(&[u8], &[u8]), FaultKind>
-    ensures lines { IfOk result (λ pieces. text_lines text.now ≡ pieces.0.now ∷ text_lines pieces.1.now) }
-    ensures short { IfOk result (λ pieces. length pieces.0.now ≤ 1024) }
-    ensures printable { IfOk result (λ pieces. list_all is_printable pieces.0.now ≡ true) }
-    ensures shorter { IfOk result (λ pieces. length pieces.1.now < length text.now) }
+/// LONG_LINE where its first 1,025 bytes hold no line end, and BYTE where one of the line's bytes isn't from 20 to 7e.
+pub(crate) fn next_line(text: &[u8]) -> Result<Option<(&[u8], &[u8])>, FaultKind>
+    ensures lines { IfOk result (λ next. IfSome next (λ pieces. text_lines text.now ≡ pieces.0.now ∷ text_lines pieces.1.now)) }
+    ensures short { IfOk result (λ next. IfSome next (λ pieces. length pieces.0.now ≤ 1024)) }
+    ensures printable { IfOk result (λ next. IfSome next (λ pieces. list_all is_printable pieces.0.now ≡ true)) }
+    ensures shorter { IfOk result (λ next. IfSome next (λ pieces. length pieces.1.now < length text.now)) }
+    ensures part { IfOk result (λ next. IsNone next → IsPartOfLine text.now) }
     ensures err { IfErr result (λ kind. IsFaultyLine text.now kind) }
 {
     let Some((line, rest)) = cut(text, b'\n') else {
-        return Err(if text.len() > MOST_LINE_BYTES {
-            FaultKind::LongLine
+        return if text.len() > MOST_LINE_BYTES {
+            Err(FaultKind::LongLine)
         } else {
-            FaultKind::Cut
-        });
+            Ok(None)
+        };
     };
     if line.len() > MOST_LINE_BYTES {
         return Err(FaultKind::LongLine);
@@ -64,7 +64,7 @@ pub(crate) fn next_line(text: &[u8]) -> Result<(&[u8], &[u8]), FaultKind>
     if !line.iter().all(|byte| is_printable(*byte)) {
         return Err(FaultKind::Byte);
     }
-    Ok((line, rest))
+    Ok(Some((line, rest)))
 }
 
 /// Splits the next line of a text into its fields, its word first, and gives the bytes behind it: one scan for the lines that most

@@ -1,12 +1,15 @@
 //! The reader of job files.
-ghost use Rattle.std.specs.Prelude.{◌≡◌, ◌<◌, ◌↔◌, Ok, length, IfOk, IfErr};
+ghost use Rattle.std.specs.Prelude.{◌≡◌, ◌+◌, ◌-◌, ◌<◌, ◌≤◌, ◌↔◌, List, ℕ, Ok, [], ◌++◌, None, drop, length, take, IfOk, IfErr, IfSome, OnOk};
 ghost use Rattle.mesh_model.specs.Files.{read_text};
+ghost use Rattle.mesh_job.specs.Draft.{IsDraft, draft_of};
 ghost use Rattle.mesh_job.specs.Faults.{IsReadFault};
+ghost use Rattle.mesh_job.specs.Taken.{HasTaken, IsLeft, IsReadTo, IsReading, bytes_taken};
 
 use crate::draft::Draft;
+use crate::faults::LineFault;
 use crate::{Job, ReadFault};
 use mesh_model::{FaultKind, TextFault};
-use std::alloc::Global;
+use std::alloc::{AllocError, Global};
 
 /// The most bytes of a job file.
 pub const MOST_FILE_BYTES: usize = 1_048_576;
@@ -22,28 +25,118 @@ pub fn read_file(alloc: Global, bytes: &[u8]) -> Result<Job, ReadFault>
     ensures too_long { (result ≡ Err (ReadFault.Text (record { line = 0; kind = FaultKind.TooLong })))
         ↔ (1048576 < length bytes.now) }
 {
-    if bytes.len() > MOST_FILE_BYTES {
-        return Err(fault_at(0, FaultKind::TooLong));
-    }
-    let mut draft = Draft::new(alloc);
-    let mut rest = bytes;
-    let mut number = 1;
-    while !draft.has_ended() {
-        match draft.take_line(rest) {
-            Ok(behind) => rest = behind,
-            Err(fault) => return Err(fault.at(number)),
-        }
-        number += 1;
-    }
-    if !rest.is_empty() {
-        return Err(fault_at(number, FaultKind::Trailing));
-    }
-    Ok(draft.finish())
+    Reading::new(alloc).finish(bytes)
 }
 
-/// The fault of this kind in the line with this number.
-fn fault_at(line: u32, kind: FaultKind) -> ReadFault
-    ensures { result ≡ ReadFault.Text (record { line = line; kind = kind }) }
-{
-    ReadFault::Text(TextFault { line, kind })
+/// A job file that is being read, piece by piece. Once memory was refused it can't be read on.
+#[derive(Drop)]
+pub struct Reading {
+    /// The job as far as its lines were taken.
+    draft: Draft,
+    /// The number of the next line.
+    number: u32,
+    /// How many bytes were taken.
+    taken: usize,
+    /// The file's first fault, once it was found.
+    fault: Option<TextFault>,
+}
+
+impl Reading {
+    /// The reading of a file of which nothing was taken.
+    pub fn new(alloc: Global) -> Self
+        ensures { HasTaken result [] }
+    {
+        Reading {
+            draft: Draft::new(alloc),
+            number: 1,
+            taken: 0,
+            fault: None,
+        }
+    }
+
+    /// Takes the whole lines at the beginning of the file's next bytes, and gives how many bytes they are. The bytes that it leaves,
+    /// at most 1,024, begin a line: the next call is to have them again, with what follows them. Where the file has a fault or
+    /// its last line was taken, it takes all bytes.
+    pub fn take(&mut self, bytes: &[u8]) -> Result<usize, AllocError>
+        requires sound { IsReading self.old }
+        requires most { bytes_taken self.old + length bytes.now ≤ 1048577 }
+        ensures sound { OnOk result (IsReading self.new) }
+        ensures taken { IfOk result (λ count. (text : List ℕ) → HasTaken self.old text → HasTaken self.new (text ++ take count bytes.now)) }
+        ensures within { IfOk result (λ count. count ≤ length bytes.now) }
+        ensures left { IfOk result (λ count. IsLeft self.new (drop count bytes.now)) }
+    {
+        let left = match self.fault {
+            Some(_) => &[],
+            None => self.take_lines(bytes)?,
+        };
+        let count = bytes.len() - left.len();
+        self.taken += count;
+        Ok(count)
+    }
+
+    /// Takes the whole lines at the beginning of some bytes, as `take` does, and gives the bytes that it leaves.
+    fn take_lines<'a>(&mut self, bytes: &'a [u8]) -> Result<&'a [u8], AllocError>
+        requires sound { IsReading self.old }
+        requires going { self.old.fault ≡ None }
+        requires most { bytes_taken self.old + length bytes.now ≤ 1048577 }
+        ensures read { IfOk result (λ left. IsReadTo self.old bytes.now self.new left.now) }
+        ensures left { IfOk result (λ left. IsLeft self.new left.now) }
+        ensures draft { OnOk result (self.new.fault ≡ None → IsDraft self.new.draft) }
+        ensures fault { OnOk result (IfSome self.new.fault (λ fault. 1 ≤ fault.line)) }
+        ensures numbered { OnOk result (1 ≤ self.new.number) }
+        ensures counted { IfOk result (λ left. self.new.number + length left.now ≤ self.old.number + length bytes.now) }
+        ensures taken { OnOk result (bytes_taken self.new ≡ bytes_taken self.old) }
+    {
+        let mut rest = bytes;
+        while !self.draft.has_ended() {
+            match self.draft.take_line(rest) {
+                Ok(Some(behind)) => rest = behind,
+                Ok(None) => return Ok(rest),
+                Err(LineFault::Kind(kind)) => {
+                    self.fault = Some(self.fault_of_line(kind));
+                    return Ok(&[]);
+                }
+                Err(LineFault::Memory) => return Err(AllocError),
+            }
+            self.number += 1;
+        }
+        if !rest.is_empty() {
+            self.fault = Some(self.fault_of_line(FaultKind::Trailing));
+        }
+        Ok(&[])
+    }
+
+    /// The fault of this kind in the next line.
+    fn fault_of_line(&self, kind: FaultKind) -> TextFault
+        ensures { result ≡ record { line = self.now.number; kind = kind } }
+    {
+        TextFault {
+            line: self.number,
+            kind,
+        }
+    }
+
+    /// The job, with the last bytes of its file.
+    pub fn finish(mut self, rest: &[u8]) -> Result<Job, ReadFault>
+        requires { IsReading self }
+        ensures ok { IfOk result (λ job. (text : List ℕ) → HasTaken self text → read_text (text ++ rest.now) ≡ Ok job) }
+        ensures fault { IfErr result (λ fault. (text : List ℕ) → HasTaken self text → IsReadFault (text ++ rest.now) fault) }
+        ensures too_long { (result ≡ Err (ReadFault.Text (record { line = 0; kind = FaultKind.TooLong })))
+            ↔ (1048576 < bytes_taken self + length rest.now) }
+    {
+        if self.taken.saturating_add(rest.len()) > MOST_FILE_BYTES {
+            return Err(ReadFault::Text(TextFault {
+                line: 0,
+                kind: FaultKind::TooLong,
+            }));
+        }
+        self.take(rest)?;
+        if let Some(fault) = self.fault {
+            return Err(ReadFault::Text(fault));
+        }
+        if !self.draft.has_ended() {
+            return Err(ReadFault::Text(self.fault_of_line(FaultKind::Cut)));
+        }
+        Ok(self.draft.finish())
+    }
 }

@@ -1,10 +1,20 @@
-use Rattle.std.proofs.Common.{◌≡◌, sym, ◌∙◌, rules, tests}
+use Rattle.std.proofs.Common.{◌≡◌, [], ◌∷◌, sym, ◌∙◌, rules, tests}
 use Rattle.std.specs.List.{list_all}
 use Rattle.std.proofs.lemmas.Iterator.{YieldsList-from_slice}
 use Rattle.std.proofs.lemmas.Iterator.Search.{all_from_yields_List}
 use Rattle.mesh_model.specs.Files.{is_printable}
-use Rattle.mesh_job.proofs.Reading.{byte_fault}
+use Rattle.mesh_job.specs.Reading.{text_lines}
+use Rattle.mesh_job.proofs.TextLines.{byte_fault, long_fault, unended_fault}
 use Rattle.mesh_job.proofs.lines.next_line.Goals as goal
+
+pub returns-then-text-gt-MOST_LINE_BYTES-clause-err : goal.returns-then-text-gt-MOST_LINE_BYTES-clause-err
+returns-then-text-gt-MOST_LINE_BYTES-clause-err c =
+    let one : text_lines c.args.text.now ≡ c.args.text.now ∷ [] = search rules in
+    unended_fault c.args.text.now one c.if-text-gt-MOST_LINE_BYTES.true
+
+pub returns-then-line-gt-MOST_LINE_BYTES-clause-err : goal.returns-then-line-gt-MOST_LINE_BYTES-clause-err
+returns-then-line-gt-MOST_LINE_BYTES-clause-err c =
+    long_fault c.args.text.now c.in-Some.line.now c.in-Some.rest.now c.in-Some.ensures.some c.if-line-gt-MOST_LINE_BYTES.true
 
 pub returns-then-not-all-clause-err : goal.returns-then-not-all-clause-err
 returns-then-not-all-clause-err c =

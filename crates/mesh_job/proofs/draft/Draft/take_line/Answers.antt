@@ -3,7 +3,7 @@ use Rattle.std.proofs.lemmas.Result.{err_from_is_err_and}
 use Rattle.mesh_model.specs.Files.{take_fields}
 use Rattle.mesh_job.specs.Draft.{draft_of}
 use Rattle.mesh_job.specs.Reading.{IsFaultOfStep, line_fields, texts}
-use Rattle.mesh_job.proofs.Reading.{line_fault, line_taken, split_is_line}
+use Rattle.mesh_job.proofs.TextLines.{line_fault, line_taken, split_is_line}
 use Rattle.mesh_job.proofs.draft.Draft.take_line.Goals as goal
 
 pub returns-in_err-take-clause-err : goal.returns-in_err-take-clause-err
