@@ -4,7 +4,8 @@ pub mod HistoryParts
 pub mod Meshing
 pub mod PartTexts
 pub mod Parts
+pub mod Pieces
 pub mod PlanLines
+pub mod PlayEnds
 pub mod Telling
 pub mod Turning
-pub mod PlayEnds

@@ -1,10 +1,10 @@
--- Bytes that are read, and a text that is written, part by part.
+-- A text that is written part by part.
 use Rattle.std.proofs.Common.{ℕ, ◌+◌, ◌-◌, List, Option, length, take, drop, sym, subst}
 use Rattle.std.proofs.lemmas.List.{take_rest}
 use Rattle.std.proofs.Math.Seq.{take-add}
-use Rattle.std.specs.Io.KnownBytes.{Appends, Consumes}
-use Rattle.std.proofs.KnownBytes.{Appends-trans, Consumes-trans}
-use Rattle.mesh_text.specs.Transfer.{AppendsBeginning, ReadsOnto}
+use Rattle.std.specs.Io.KnownBytes.{Appends}
+use Rattle.std.proofs.KnownBytes.{Appends-trans}
+use Rattle.mesh_text.specs.Transfer.{AppendsBeginning}
 
 -- a call that took more of the rest of a text
 pub wrote_more : (a b c : Option (List ℕ)) (bytes : List ℕ) (done count : ℕ) → Appends a b (take done bytes)
@@ -17,7 +17,3 @@ wrote_more a b c bytes done count first more =
 pub wrote_beginning : (a b c : Option (List ℕ)) (bytes : List ℕ) (done : ℕ) → Appends a b (take done bytes)
     → AppendsBeginning b c (take (length bytes - done) (drop done bytes)) → AppendsBeginning a c bytes
 wrote_beginning a b c bytes done first rest = (done + rest.0, wrote_more a b c bytes done rest.0 first rest.1)
-
--- a call that read more
-pub read_more : (a b c : Option (List ℕ)) (before after : List ℕ) → Consumes a b before → ReadsOnto b c before after → Consumes a c after
-read_more a b c before after first more = subst (λ (all : List ℕ). Consumes a c all) (sym more.1) (Consumes-trans a b c before more.0 first more.2)

@@ -8,3 +8,4 @@ pub mod Turns
 pub use Rattle.mesh_model.specs.Commands
 pub use Rattle.mesh_job.specs.Job
 pub use Rattle.mesh_job.specs.Reading
+pub use Rattle.mesh_job.specs.Taken

@@ -1,9 +1,11 @@
 -- What a replay has read and written when it ends, and when it stops.
-use Rattle.std.specs.Prelude.{◌≡◌, ◌⊎◌, ℕ, List, Option, Ok, Err, length}
+use Rattle.std.specs.Prelude.{◌≡◌, ◌⊎◌, ℕ, List, ◌++◌, Option, Ok, Err, length}
 use Rattle.std.specs.Io.KnownBytes.{Appends, Consumes, IsAtEnd, Keeps}
 use Rattle.mesh_model.specs.Files.{read_text, replayed}
 use Rattle.mesh_model.specs.Jobs.{Job}
 use Rattle.mesh_model.specs.declared.faults.TextFault.{TextFault}
+use Rattle.mesh_job.specs.Taken.{HasTaken}
+use Rattle.mesh_job.specs.declared.reader.Reading.{Reading}
 use Rattle.mesh_text.specs.Transfer.{AppendsBeginning}
 use Rattle.mesh_text.specs.Turns.{AppendsLines}
 use Rattle.mesh_text.specs.declared.faults.ReplayError.{ReplayError}
@@ -13,6 +15,18 @@ use Rattle.mesh_text.specs.declared.faults.ReplayError.TheVariants.{Read, Write,
 pub record HasRead (left left' : Option (List ℕ)) (text : List ℕ) : Type 0 where
   pub taken : Consumes left left' text
   pub whole : IsAtEnd left' ⊎ (length text ≡ 1048577)
+
+-- of a text a reading has taken all but these last bytes
+pub record IsHeld (reading : Reading) (held text : List ℕ) : Type 0 where
+  pub taken : List ℕ
+  pub all : text ≡ taken ++ held
+  pub has_taken : HasTaken reading taken
+
+-- a text was read from the input, of which a reading has taken all but these last bytes
+pub record HasReadInto (left left' : Option (List ℕ)) (reading : Reading) (held : List ℕ) : Type 0 where
+  pub text : List ℕ
+  pub read : HasRead left left' text
+  pub is_held : IsHeld reading held text
 
 -- the input was read to its end, and its text is this job's
 pub record HasReadJob (left left' : Option (List ℕ)) (job : Job) : Type 0 where

@@ -1,11 +1,21 @@
 //! The job that a device gives.
-ghost use Rattle.std.specs.Prelude.{◌≡◌, false, true, IfOk, IfErr, OnOk};
-ghost use Rattle.mesh_text.specs.Replay.{HasReadJob, HasReadNoJob};
+ghost use Rattle.std.specs.Prelude.{◌≡◌, ◌+◌, ◌≤◌, ◌⊎◌, false, true, ℕ, List, [], length, take, vec_len, IfOk, IfErr, OnOk};
+ghost use Rattle.mesh_job.specs.Taken.{HasTaken, IsReading, bytes_taken};
+ghost use Rattle.mesh_text.specs.Replay.{HasReadInto, HasReadJob, HasReadNoJob, IsHeld};
 
-use crate::transfer::read_all;
+use crate::transfer::read_some;
 use crate::{ReplayError, Source};
-use mesh_job::{Job, read_file};
-use std::alloc::Global;
+use mesh_job::{Job, MOST_FILE_BYTES, Reading};
+use std::alloc::{AllocError, Global};
+
+/// The most bytes that are read: one more than a job file may have, which tells a file that is too long.
+const MOST_READ: usize = MOST_FILE_BYTES + 1;
+
+/// The most bytes of one read.
+const READ_BYTES: usize = 16_384;
+
+/// The most bytes of a line, of which the beginning may have been read.
+const MOST_LINE_BYTES: usize = 1024;
 
 /// The job of the file that the input gives.
 ///
@@ -18,6 +28,59 @@ pub fn read_job<I: Source>(alloc: Global, input: &mut I) -> Result<Job, ReplayEr
     ensures none { IfErr result (HasReadNoJob (I.remaining input.old) (I.remaining input.new)) }
     ensures read { result ≡ Err ReplayError.Read → I.has_failed input.new ≡ true }
 {
-    let bytes = read_all(alloc, input)?;
-    Ok(read_file(alloc, bytes.as_slice())?)
+    let mut reading = Reading::new(alloc);
+    let mut buffer = room_to_read(alloc)?;
+    let held = read_pieces(input, &mut reading, &mut buffer)?;
+    Ok(reading.finish(&buffer[..held])?)
+}
+
+/// Room for the bytes of one read, and for the beginning of a line before them.
+fn room_to_read(alloc: Global) -> Result<Vec<u8>, AllocError>
+    ensures { IfOk result (λ room. vec_len room ≡ 17408) }
+{
+    vec![in alloc; 0; READ_BYTES + MOST_LINE_BYTES]
+}
+
+/// Reads the input to its end, or to its first 1,048,577 bytes, piece by piece. The reading takes the whole lines of each piece. Gives
+/// how many bytes are left: the buffer holds them at its front.
+fn read_pieces<I: Source>(
+    input: &mut I,
+    reading: &mut Reading,
+    buffer: &mut [u8],
+) -> Result<usize, ReplayError>
+    requires fresh { I.has_failed input.old ≡ false }
+    requires none { HasTaken reading.old [] }
+    requires room { length buffer.old ≡ 17408 }
+    ensures held { IfOk result (λ held. HasReadInto (I.remaining input.old) (I.remaining input.new) reading.new (take held buffer.new)) }
+    ensures within { IfOk result (λ held. held ≤ length buffer.new) }
+    ensures ok { OnOk result (I.has_failed input.new ≡ false) }
+    ensures read { IfErr result (λ error. error ≡ ReplayError.Read → I.has_failed input.new ≡ true) }
+    ensures kinds { IfErr result (λ error. (error ≡ ReplayError.Read) ⊎ (error ≡ ReplayError.Memory)) }
+{
+    let mut held = 0;
+    let mut count = 0;
+    while count < MOST_READ {
+        let room = READ_BYTES.min(MOST_READ - count);
+        let more = read_some(input, &mut buffer[held..held + room])?;
+        if more == 0 {
+            return Ok(held);
+        }
+        count += more;
+        held = take_lines(reading, buffer, held + more)?;
+    }
+    Ok(held)
+}
+
+/// Takes the whole lines among the first `held` bytes of a buffer, moves what they leave to its front, and gives how many bytes it is.
+fn take_lines(reading: &mut Reading, buffer: &mut [u8], held: usize) -> Result<usize, AllocError>
+    requires sound { IsReading reading.old }
+    requires held { held ≤ length buffer.old }
+    requires most { bytes_taken reading.old + held ≤ 1048577 }
+    ensures len { length buffer.new ≡ length buffer.old }
+    ensures few { IfOk result (λ left. left ≤ 1024) }
+    ensures held { IfOk result (λ left. (text : List ℕ) → IsHeld reading.old (take held buffer.old) text → IsHeld reading.new (take left buffer.new) text) }
+{
+    let taken = reading.take(&buffer[..held])?;
+    buffer.copy_within(taken..held, 0);
+    Ok(held - taken)
 }

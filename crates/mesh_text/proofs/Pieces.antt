@@ -1,0 +1,93 @@
+-- A file that is read in pieces.
+use Rattle.std.proofs.Common.{◌≡◌, ℕ, ◌+◌, ◌-◌, ◌≤◌, List, ◌++◌, Option, length, take, drop, ap, append_assoc, sym, subst, ◌∙◌, arith, Ok, inl, inr}
+use Rattle.std.proofs.KnownBytes.{Consumes-trans}
+use Rattle.std.proofs.lemmas.List.{drop-take, length-append, length-drop, take-append-drop, take-append-le}
+use Rattle.std.proofs.Math.Seq.{drop-append_seam, take-add, take-append_seam}
+use Rattle.std.proofs.lemmas.List.Edits.{take-paste}
+use Rattle.std.specs.Io.KnownBytes.{Consumes}
+use Rattle.std.specs.List.{copy_within}
+use Rattle.mesh_model.specs.Files.{read_text}
+use Rattle.mesh_model.specs.Jobs.{Job}
+use Rattle.std.proofs.lemmas.Bool.Decides.{leb_tells}
+use Rattle.mesh_job.specs.Taken.{HasTaken}
+use Rattle.mesh_job.specs.declared.reader.Reading.{Reading}
+use Rattle.mesh_text.specs.Replay.{HasReadInto, HasReadJob, IsHeld}
+
+-- what was held behind the bytes that were taken is moved to the front
+moved_front : (buffer : List ℕ) (taken held : ℕ) → taken ≤ held → held ≤ length buffer
+    → take (held - taken) (copy_within buffer taken held 0) ≡ drop taken (take held buffer)
+moved_front buffer taken held some within =
+    let sum : taken + (held - taken) ≡ held = omega (arith, some) in
+    let room : held - taken ≤ length (drop taken buffer) = omega (arith, within, length-drop taken buffer) in
+    let none : held - taken ≡ 0 + (held - taken) = omega arith in
+    ap (λ (n : ℕ). take n (copy_within buffer taken held 0)) none ∙ take-paste buffer 0 (drop taken buffer) (held - taken) (omega arith) room
+    ∙ sym (ap (λ (n : ℕ). drop taken (take n buffer)) (sym sum) ∙ drop-take taken (held - taken) buffer)
+
+-- a reading that took more of what is held
+pub held_on : (old new : Reading) (buffer text : List ℕ) (taken held : ℕ) → taken ≤ held → held ≤ length buffer → IsHeld old (take held buffer) text
+    → ((before : List ℕ) → HasTaken old before → HasTaken new (before ++ take taken (take held buffer)))
+    → IsHeld new (take (held - taken) (copy_within buffer taken held 0)) text
+held_on old new buffer text taken held some within before on = record {
+  taken = before.taken ++ take taken (take held buffer);
+  all =
+      before.all ∙ ap (λ (bytes : List ℕ). before.taken ++ bytes) (sym (take-append-drop taken (take held buffer)))
+      ∙ sym (append_assoc before.taken (take taken (take held buffer)) (drop taken (take held buffer)))
+      ∙ ap (λ (bytes : List ℕ). (before.taken ++ take taken (take held buffer)) ++ bytes) (sym (moved_front buffer taken held some within));
+  has_taken = on before.taken before.has_taken;
+}
+
+-- so many bytes were read from the input, of which a reading has taken all but these last ones
+pub record HasCounted (left left' : Option (List ℕ)) (reading : Reading) (held : List ℕ) (count : ℕ) : Type 0 where
+  pub text : List ℕ
+  pub taken : Consumes left left' text
+  pub counted : length text ≡ count
+  pub is_held : IsHeld reading held text
+
+-- what was read stands behind what was held
+held_more : (reading : Reading) (held text part : List ℕ) → IsHeld reading held text → IsHeld reading (held ++ part) (text ++ part)
+held_more reading held text part before = record {
+  taken = before.taken;
+  all = ap (λ (bytes : List ℕ). bytes ++ part) before.all ∙ append_assoc before.taken held part;
+  has_taken = before.has_taken;
+}
+
+-- a call that read more, of which the reading took what it could
+pub counted_on : (a b c : Option (List ℕ)) (old new : Reading) (held part all left : List ℕ) (count more : ℕ) → HasCounted a b old held count
+    → Consumes b c part → length part ≡ more → all ≡ held ++ part → ((text : List ℕ) → IsHeld old all text → IsHeld new left text)
+    → HasCounted a c new left (count + more)
+counted_on a b c old new held part all left count more before read len is on = record {
+  text = before.text ++ part;
+  taken = Consumes-trans a b c before.text part before.taken read;
+  counted = omega (arith, before.counted, len, length-append before.text part);
+  is_held = on (before.text ++ part) (subst (λ (bytes : List ℕ). IsHeld old bytes (before.text ++ part)) (sym is)
+      (held_more old held before.text part before.is_held));
+}
+
+-- a list of which some elements behind a front were written
+pub front_and_part : (front part behind : List ℕ) (place more : ℕ) → length front ≡ place → more ≤ length part
+    → take (place + more) (front ++ (part ++ behind)) ≡ front ++ take more part
+front_and_part front part behind place more is within =
+    take-add place more (front ++ (part ++ behind))
+    ∙ ap (λ (n : ℕ). take n (front ++ (part ++ behind)) ++ take more (drop n (front ++ (part ++ behind)))) (sym is)
+    ∙ ap (λ (xs : List ℕ). xs ++ take more (drop (length front) (front ++ (part ++ behind)))) (take-append_seam front (part ++ behind))
+    ∙ ap (λ (xs : List ℕ). front ++ take more xs) (drop-append_seam front (part ++ behind))
+    ∙ ap (λ (xs : List ℕ). front ++ xs) (take-append-le more part behind within)
+
+-- a text that is read to a job isn't too long
+not_too_long : (text : List ℕ) (job : Job) → read_text text ≡ Ok job → length text ≤ 1048576
+not_too_long text job is = elim (leb_tells 1048577 (length text)) [
+  | inl long ↦ let refused = rw long.0 at is in absurd (cc refused)
+  | inr short ↦ omega (arith, short.1)
+]
+
+-- the job of the text that was read
+pub job_read : (left left' : Option (List ℕ)) (reading : Reading) (held : List ℕ) (job : Job) → HasReadInto left left' reading held
+    → ((text : List ℕ) → HasTaken reading text → read_text (text ++ held) ≡ Ok job) → HasReadJob left left' job
+job_read left left' reading held job into is =
+    let read : read_text into.text ≡ Ok job = ap read_text into.is_held.all ∙ is into.is_held.taken into.is_held.has_taken in
+    record {
+      text = into.text;
+      taken = into.read.taken;
+      whole = elim into.read.whole [ inl end ↦ end | inr long ↦ absurd (omega (arith, long, not_too_long into.text job read)) ];
+      is_job = read;
+    }

@@ -1,0 +1,18 @@
+use Rattle.std.proofs.Common.{◌≡◌, List, ℕ, ◌++◌, ap, length, take, drop, rules, subst, sym, ◌∙◌}
+use Rattle.std.proofs.Math.Seq.{take-append_seam}
+use Rattle.mesh_text.specs.Replay.{HasReadInto}
+use Rattle.mesh_text.proofs.Pieces.{job_read}
+use Rattle.mesh_text.proofs.reading.read_job.Goals as goal
+
+pub returns-clause-job : goal.returns-clause-job
+returns-clause-job g c =
+    let left = g.I.Source.remaining in
+    let buffer = c.read_pieces.new.buffer in
+    let len : c.in_ok-buffer.buffer.len ≡ length buffer = search rules in
+    let same : c.deref.result.now ≡ buffer = c.deref.ensures.value
+    ∙ ap (λ (n : ℕ). take n (buffer ++ drop (length buffer) c.in_ok-buffer.buffer.items)) len
+    ∙ take-append_seam buffer (drop (length buffer) c.in_ok-buffer.buffer.items) in
+    let into = subst (λ (bytes : List ℕ). HasReadInto (left c.args.input.now) (left c.read_pieces.new.input) c.read_pieces.new.reading (take c.in_ok-held.held bytes))
+    (sym same) c.in_ok-held.ensures.held in
+    job_read (left c.args.input.now) (left c.read_pieces.new.input) c.read_pieces.new.reading (take c.in_ok-held.held c.deref.result.now) c.in_ok-finish.field-0
+    into c.in_ok-finish.ensures.ok
