@@ -112,9 +112,9 @@ impl Sink for SlowSink {
     }
 }
 
-/// Replays the file from a slow source.
-fn read_slowly(alloc: Global, calls: usize) -> (u8, Vec<u8>, Vec<u8>) {
-    let mut input = SlowSource::new(MESH_FILE.as_bytes(), calls);
+/// Replays a file from a slow source.
+fn read_slowly(alloc: Global, file: &str, calls: usize) -> (u8, Vec<u8>, Vec<u8>) {
+    let mut input = SlowSource::new(file.as_bytes(), calls);
     let mut output = Output::new(Vec::new(alloc));
     let mut errors = Output::new(Vec::new(alloc));
     let status = replay_run(alloc, &mut input, &mut output, &mut errors);
@@ -133,7 +133,7 @@ fn write_slowly(alloc: Global, most: usize, calls: usize, end: End) -> (u8, Vec<
 
 #[test]
 fn works_byte_by_byte(rt: HostRuntime) {
-    let (status, output, errors) = read_slowly(rt.alloc(), ENOUGH);
+    let (status, output, errors) = read_slowly(rt.alloc(), MESH_FILE, ENOUGH);
     assert_eq!(rt; output.as_slice(), MESH_ANSWERS.as_bytes());
     assert_eq!(rt; errors.as_slice(), b"".as_slice());
     assert_eq!(rt; status, 0);
@@ -143,17 +143,22 @@ fn works_byte_by_byte(rt: HostRuntime) {
     assert_eq!(rt; status, 0);
 }
 
+/// A file whose second line has a fault, which a source that fails comes before.
+const FAULTY_FILE: &str = "mesh 1\npages 0\nhistory 1\n";
+
 #[test]
 fn fails_at_each_read(rt: HostRuntime) {
-    for calls in 0..MESH_FILE.len() + 1 {
-        let (status, output, errors) = read_slowly(rt.alloc(), calls);
-        assert_eq!(rt; output.as_slice(), b"".as_slice(), "after {calls}");
-        assert_eq!(rt;
-            errors.as_slice(),
-            b"read fault\n".as_slice(),
-            "after {calls}"
-        );
-        assert_eq!(rt; status, 1, "after {calls}");
+    for file in [MESH_FILE, FAULTY_FILE] {
+        for calls in 0..file.len() + 1 {
+            let (status, output, errors) = read_slowly(rt.alloc(), file, calls);
+            assert_eq!(rt; output.as_slice(), b"".as_slice(), "after {calls}");
+            assert_eq!(rt;
+                errors.as_slice(),
+                b"read fault\n".as_slice(),
+                "after {calls}"
+            );
+            assert_eq!(rt; status, 1, "after {calls}");
+        }
     }
 }
 
