@@ -33,7 +33,7 @@ fn two(first: u8, second: u8) -> ArrayVec<u8, 32>
 
 #[test]
 fn the_journal_tells_each_kind_of_entry(rt: HostRuntime) -> Result<(), AllocError> {
-    let mut book = Book::open(rt.alloc(), 1, 10)?;
+    let mut book = Book::open(rt.alloc(), 1, 11)?;
     let put = Command::Put(0, 2, two(0x68, 0x69));
     let told = records(
         &mut book,
@@ -55,14 +55,15 @@ fn the_journal_tells_each_kind_of_entry(rt: HostRuntime) -> Result<(), AllocErro
             &Command::Get(1, 4, 2),
             &Reply::Bytes(two(0x69, 0x21)),
         )
+        && records(&mut book, &Command::Free(0), &Reply::Done)
         && records(
             &mut book,
-            &Command::Get(2, 0, 1),
-            &Reply::Refused(Refusal::Empty),
+            &Command::Get(1, 0, 1),
+            &Reply::Refused(Refusal::Freed),
         );
     assert!(&rt; told, "each entry is told when it is the last");
     let journal = book.journal();
-    assert!(&rt; journal.len() == 10, "the journal is full");
+    assert!(&rt; journal.len() == 11, "the journal is full");
     assert!(&rt;
         journal.entry(1) == Entry::of(7, &put, &Reply::Done),
         "a store's bytes stay"
