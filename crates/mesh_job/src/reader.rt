@@ -56,7 +56,7 @@ impl Reading {
 
     /// Takes the whole lines at the beginning of the file's next bytes, and gives how many bytes they are. The bytes that it leaves,
     /// at most 1,024, begin a line: the next call is to have them again, with what follows them. Where the file has a fault or
-    /// its last line was taken, it takes all bytes.
+    /// its last line was taken, it takes all bytes. An error is want of memory.
     pub fn take(&mut self, bytes: &[u8]) -> Result<usize, AllocError>
         requires sound { IsReading self.old }
         requires most { bytes_taken self.old + length bytes.now ≤ 1048577 }
@@ -117,6 +117,9 @@ impl Reading {
     }
 
     /// The job, with the last bytes of its file.
+    ///
+    /// TOO_LONG, of line 0, comes exactly where the file has more than 1,048,576 bytes, and else the first fault of its lines. Memory
+    /// comes where a growth of the job is refused.
     pub fn finish(mut self, rest: &[u8]) -> Result<Job, ReadFault>
         requires { IsReading self }
         ensures ok { IfOk result (λ job. (text : List ℕ) → HasTaken self text → read_text (text ++ rest.now) ≡ Ok job) }
