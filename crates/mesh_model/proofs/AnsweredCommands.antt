@@ -163,7 +163,7 @@ others_tied m t u (Err refusal) tied after = tied
 others_tied m t u (Ok x) tied after = after x refl
 
 -- the object that a cell names is live
-named_live : (m : Memory) (cell : ℕ) (named : Named) → named_by m cell ≡ Ok named → object_of m named.serial ≡ Some named.object
+pub named_live : (m : Memory) (cell : ℕ) (named : Named) → named_by m cell ≡ Ok named → object_of m named.serial ≡ Some named.object
 named_live m cell named h =
     let serial = or_refuse_went Empty (root_of m cell) _ named h in
     let object = or_refuse_went Freed (object_of m serial.value) _ named serial.then in
@@ -194,10 +194,10 @@ holder_has (Some object ∷ objects) from serial address h = elim (tells (has_ad
 ]
 
 -- an object that is live and has the address
-record IsHeld (m : Memory) (named : Named) (address : ℕ) : Type 0 where
-  live : object_of m named.serial ≡ Some named.object
-  from : named.object.address ≤ address
-  below : address < named.object.address + length named.object.bytes
+pub record IsHeld (m : Memory) (named : Named) (address : ℕ) : Type 0 where
+  pub live : object_of m named.serial ≡ Some named.object
+  pub from : named.object.address ≤ address
+  pub below : address < named.object.address + length named.object.bytes
 
 -- an address that an object has is in its range
 in_range : (object : Object) (address : ℕ) → has_address object address ≡ true
@@ -210,7 +210,7 @@ in_range object address h =
     least a b h = elim (leb_tells a b) [ inl below ↦ below.1 | inr past ↦ let clash : false ≡ true = rw past.0 at h in absurd (cc clash) ]
 
 -- the object that has an address is live and has it
-holding_held : (m : Memory) (address : ℕ) (named : Named) → holding m address ≡ Ok named → IsHeld m named address
+pub holding_held : (m : Memory) (address : ℕ) (named : Named) → holding m address ≡ Ok named → IsHeld m named address
 holding_held m address named h =
     let serial = or_refuse_went Stray (holder_of m address) _ named h in
     let object = or_refuse_went Stray (object_of m serial.value) _ named serial.then in
@@ -224,7 +224,7 @@ holding_held m address named h =
     subst (λ (x : Named). IsHeld m x address) is (record { live = object.is; from = range.0; below = range.1 })
 
 -- a range that does not end outside is within the object
-within_object : (object : Object) (off len : ℕ) → ends_outside object off len ≡ false → off + len ≤ length object.bytes
+pub within_object : (object : Object) (off len : ℕ) → ends_outside object off len ≡ false → off + len ≤ length object.bytes
 within_object object off len h = elim (leb_tells (suc (length object.bytes)) (off + len)) [
   | inl past ↦ let clash : true ≡ false = rw past.0 at h in absurd (cc clash)
   | inr within ↦ omega (arith, within.1)
@@ -303,13 +303,13 @@ both_live m to from pair h =
     subst (λ (x : Named × Named). (object_of m x.0.serial ≡ Some x.0.object) × (object_of m x.1.serial ≡ Some x.1.object)) is (a.is, b.is)
 
 -- neither of two tests holds
-neither_holds : (a b : Bool) → (a || b) ≡ false → (a ≡ false) × (b ≡ false)
+pub neither_holds : (a b : Bool) → (a || b) ≡ false → (a ≡ false) × (b ≡ false)
 neither_holds false false h = (refl, refl)
 neither_holds false true h = absurd (cc h)
 neither_holds true b h = absurd (cc h)
 
 -- as many bytes as were read
-read_length : (bytes : List ℕ) (off len : ℕ) → off + len ≤ length bytes → length (slice_range bytes off (off + len)) ≡ len
+pub read_length : (bytes : List ℕ) (off len : ℕ) → off + len ≤ length bytes → length (slice_range bytes off (off + len)) ≡ len
 read_length bytes off len within = simp (length-take, length-drop) (omega (arith, within))
 
 -- what a `copy` leaves is tied

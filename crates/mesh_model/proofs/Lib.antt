@@ -1,3 +1,4 @@
+mod Addresses
 pub mod AnsweredCommands
 pub mod Apart
 mod Calls

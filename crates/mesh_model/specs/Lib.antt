@@ -1,3 +1,4 @@
+pub mod AddressLaws
 pub mod Classes
 pub mod Commands
 pub mod CopyLaws

@@ -5,6 +5,7 @@
 //! `effect_laws`, `copy_laws`, `history_laws`, `meaning_laws`, `read_laws`, `record_laws`, `text_laws` and `reader_laws`. It has no other code.
 #![tactic(auto)]
 
+pub mod address_laws;
 mod commands;
 pub mod copy_laws;
 pub mod effect_laws;
