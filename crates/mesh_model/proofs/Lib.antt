@@ -3,6 +3,7 @@ pub mod AnsweredCommands
 pub mod Apart
 mod Calls
 pub mod Chains
+mod ClassMeshes
 mod CommandLines
 mod CopiedBytes
 mod CopiedRanges

@@ -40,7 +40,7 @@ other_mesh t this m ms sound sound' none = elim (eqb_tells m.class this.class) [
 ]
 
 -- another progress of a mesh changes no meshes of which none is of its class
-none_at : (t : Table) (this : Mesh) (progress : Progress) (ms : List Mesh) → IsSoundMesh t this → AreSoundMeshes t ms → meshes_of this.class ms ≡ 0
+pub none_at : (t : Table) (this : Mesh) (progress : Progress) (ms : List Mesh) → IsSoundMesh t this → AreSoundMeshes t ms → meshes_of this.class ms ≡ 0
     → with_progress ms this progress ≡ ms
 none_at t this progress [] sound meshes none = refl
 none_at t this progress (m ∷ ms) sound meshes none =
@@ -48,7 +48,7 @@ none_at t this progress (m ∷ ms) sound meshes none =
     rw other.0 (ap (λ (xs : List Mesh). m ∷ xs) (none_at t this progress ms sound meshes.1 other.1))
 
 -- nor does its end
-none_without : (t : Table) (this : Mesh) (ms : List Mesh) → IsSoundMesh t this → AreSoundMeshes t ms → meshes_of this.class ms ≡ 0
+pub none_without : (t : Table) (this : Mesh) (ms : List Mesh) → IsSoundMesh t this → AreSoundMeshes t ms → meshes_of this.class ms ≡ 0
     → without_mesh ms this ≡ ms
 none_without t this [] sound meshes none = refl
 none_without t this (m ∷ ms) sound meshes none =

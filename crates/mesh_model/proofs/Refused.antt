@@ -33,7 +33,7 @@ running t class sound = elim (tells (list_any (of_class class) t.meshes)) [
     none_found (Some mesh) is none = absurd (let clash : true ≡ false = sym (found_some (of_class class) t.meshes mesh is) ∙ none in cc clash)
 
 -- a step of a mesh that is there is made
-step_made : (t : Table) (mesh : Mesh) (source : Group) (which : Option Mesh) → which ≡ Some mesh → group_of t mesh.source ≡ Some source
+pub step_made : (t : Table) (mesh : Mesh) (source : Group) (which : Option Mesh) → which ≡ Some mesh → group_of t mesh.source ≡ Some source
     → step t which ≡ Ok (stepped t mesh source mesh.progress)
 step_made t mesh source which is source_is =
     ap (step t) is ∙ ap (λ (o : Option Group). or_refuse NoMesh o >>= λ a. Ok (stepped t mesh a mesh.progress)) source_is

@@ -1,7 +1,7 @@
 -- How the steps of a mesh are counted, and that at most one mesh runs a class.
 use Rattle.std.specs.Prelude.{◌≡◌, ◌≢◌, ◌↔◌, ◌⊎◌, ℕ, zero, suc, ◌+◌, ◌*◌, ◌<◌, Bool, true, false, Option, Some, None, Result, Ok, Err, length, slice_get}
 use Rattle.mesh_model.specs.Classes.{pages_of, slots_of}
-use Rattle.mesh_model.specs.Mesh.{Stepped, begin, cancel, left_of, mesh_in, mesh_of_class, mesh_whole, page_count, step}
+use Rattle.mesh_model.specs.Mesh.{Stepped, any_mesh, begin, cancel, left_of, mesh_in, mesh_of_class, mesh_whole, page_count, step}
 use Rattle.mesh_model.specs.Sound.{IsSound}
 use Rattle.mesh_model.specs.Table.{Counted, Group, Made, Mesh, Progress, Table, group_of}
 use Rattle.mesh_model.specs.TableLaws.{IsBusyTest}
@@ -67,6 +67,23 @@ steps_of_class class (suc n) t = step t (mesh_in t class) >>= λ stepped. steps_
 -- the steps to come and those made are as many as were to come
 abbrev pub StepsCountDown : Type 0
 StepsCountDown = (n class : ℕ) (t u : Table) → IsSound t → steps_of_class class n t ≡ Ok u → left_in u class + n ≡ left_in t class
+
+-- on this table a whole mesh is `begin` and all steps of its class, whatever meshes of other classes are running
+abbrev pub IsAllStepsOfClass : (Table → ℕ → Bool) → Table → Type 0
+IsAllStepsOfClass busy t = (source destination : ℕ) (group : Group) (whole begun : Counted) → mesh_whole busy t source destination ≡ Ok whole
+    → begin busy t source destination ≡ Ok begun → group_of t source ≡ Some group → steps_of_class group.class begun.count begun.table ≡ Ok whole.table
+
+-- it is so on a sound table, where the test of busy classes is one
+abbrev pub WholeIsAllStepsOfClass : Type 0
+WholeIsAllStepsOfClass = (busy : Table → ℕ → Bool) (t : Table) → IsBusyTest busy t → IsSound t → IsAllStepsOfClass busy t
+
+-- so where one mesh at a time may run
+abbrev pub WholeIsAllStepsAlone : Type 0
+WholeIsAllStepsAlone = (t : Table) → IsSound t → IsAllStepsOfClass any_mesh t
+
+-- and where one of each class may
+abbrev pub WholeIsAllStepsBeside : Type 0
+WholeIsAllStepsBeside = (t : Table) → IsSound t → IsAllStepsOfClass mesh_of_class t
 
 -- no two running meshes are of one class
 abbrev pub AtMostOneAClass : Table → Type 0

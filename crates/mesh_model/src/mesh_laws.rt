@@ -1,6 +1,6 @@
 //! Laws of running meshes: how their steps are counted, that at most one runs a class, and when a step or a cancel is refused. Each is the contract of a
 //! function that does nothing.
-ghost use Rattle.mesh_model.specs.MeshLaws.{BeginAnswersAllSteps, BeginLeavesSteps, StepTakesOne, LastStepEnds, CancelAnswersLeft, CancelOfNoneEnds, OthersKeepTheirSteps, StepsCountDown, SoundHasOneAClass, BeginKeepsOneAClass, WholeKeepsOneAClass, StepKeepsOneAClass, CancelKeepsOneAClass, MeshInIsOfClass, ClassHasMesh, StepIsRefusedWithoutMesh, CancelIsRefusedWithoutMesh, CancelIsRefusedLate, CancelHasTwoRefusals};
+ghost use Rattle.mesh_model.specs.MeshLaws.{BeginAnswersAllSteps, BeginLeavesSteps, StepTakesOne, LastStepEnds, CancelAnswersLeft, CancelOfNoneEnds, OthersKeepTheirSteps, StepsCountDown, WholeIsAllStepsOfClass, WholeIsAllStepsAlone, WholeIsAllStepsBeside, SoundHasOneAClass, BeginKeepsOneAClass, WholeKeepsOneAClass, StepKeepsOneAClass, CancelKeepsOneAClass, MeshInIsOfClass, ClassHasMesh, StepIsRefusedWithoutMesh, CancelIsRefusedWithoutMesh, CancelIsRefusedLate, CancelHasTwoRefusals};
 
 /// `begin` answers all steps of the mesh, and leaves as many to come.
 pub fn begin_answers_all_steps()
@@ -20,6 +20,13 @@ pub fn steps_count_down()
 pub fn cancel_answers_left()
     ensures left { CancelAnswersLeft }
     ensures none { CancelOfNoneEnds }
+{}
+
+/// A whole mesh is `begin` and all steps of its class, whatever meshes of other classes run beside it.
+pub fn whole_mesh_is_all_steps_of_its_class()
+    ensures tested { WholeIsAllStepsOfClass }
+    ensures any { WholeIsAllStepsAlone }
+    ensures of_class { WholeIsAllStepsBeside }
 {}
 
 /// At most one mesh runs a class, whatever the mesher does.
