@@ -79,11 +79,11 @@ rows_up_to len most class (r ∷ rows) up_to h = elim (leb_tells len r.size) [
 ]
 
 -- no class holds a request of more than 2048 bytes
-class_none : (len : ℕ) → class_for len ≡ None → 2048 < len
+pub class_none : (len : ℕ) → class_for len ≡ None → 2048 < len
 class_none len h = (rows_short len table h).1.1.1.1.1.1.1.1.1.0
 
 -- a class holds requests of up to 2048 bytes
-class_some : (len class : ℕ) → class_for len ≡ Some class → len ≤ 2048
+pub class_some : (len class : ℕ) → class_for len ≡ Some class → len ≤ 2048
 class_some len class h = rows_up_to len 2048 class table
     (omega arith, (omega arith, (omega arith, (omega arith, (omega arith, (omega arith, (omega arith, (omega arith, (omega arith, (omega arith, tt)))))))))) h
 
@@ -146,7 +146,7 @@ new_well m t cell len word (Ok placed) sound tied h =
     within few = elim (leb_tells 2049 len) [ inl past ↦ absurd (omega (arith, past.1, few)) | inr below ↦ below.0 ]
 
 -- what is answered follows the plain memory
-others_follow : (m : Memory) (t u : Table) (r : Result (Reply × Memory) Refusal)
+pub others_follow : (m : Memory) (t u : Table) (r : Result (Reply × Memory) Refusal)
     → Follows r m (others_answered m t u r).reply (others_answered m t u r).memory
 others_follow m t u (Err refusal) = (refl, refl)
 others_follow m t u (Ok x) = (refl, refl)
@@ -172,15 +172,15 @@ named_live m cell named h =
     subst (λ (x : Named). object_of m x.serial ≡ Some x.object) is object.is
 
 -- the object of a list, counted from a number, that has the address
-record IsHolder (objects : List (Option Object)) (from serial address : ℕ) : Type 0 where
-  at : ℕ
-  object : Object
-  is : serial ≡ from + at
-  live : slice_index_or objects at None ≡ Some object
-  has : has_address object address ≡ true
+pub record IsHolder (objects : List (Option Object)) (from serial address : ℕ) : Type 0 where
+  pub at : ℕ
+  pub object : Object
+  pub is : serial ≡ from + at
+  pub live : slice_index_or objects at None ≡ Some object
+  pub has : has_address object address ≡ true
 
 -- the holder of an address has it
-holder_has : (objects : List (Option Object)) (from serial address : ℕ) → holder_from from objects address ≡ Some serial → IsHolder objects from serial address
+pub holder_has : (objects : List (Option Object)) (from serial address : ℕ) → holder_from from objects address ≡ Some serial → IsHolder objects from serial address
 holder_has [] from serial address h = absurd (cc)
 holder_has (None ∷ objects) from serial address h =
     let rest = holder_has objects (from + 1) serial address h in let is : serial ≡ from + 1 + rest.at = rest.is in

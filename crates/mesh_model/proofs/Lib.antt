@@ -22,6 +22,8 @@ mod JobPages
 mod JobReplies
 mod KeptRecords
 pub mod LineReadings
+mod ListPlaces
+mod LowestRefusals
 pub mod MadeObjects
 pub mod Meanings
 mod MeshClasses
@@ -37,6 +39,11 @@ mod ReadOnlyPages
 mod Readings
 pub mod Records
 mod Refused
+mod RefusedCommands
+mod RefusedMeshes
+mod RefusedObjects
+mod RefusedReplies
+mod RefusedSteps
 mod Replies
 pub mod RightReads
 pub mod SameRecords

@@ -17,7 +17,7 @@ one_follows (Ok x) m n n' reply reply' h h' = h.0 ∙ sym h'.0
 one_follows (Err e) m n n' reply reply' h h' = h.0 ∙ sym h'.0
 
 -- a length that may have room is between the bounds
-not_between : (len : ℕ) → (nat_le 1 len && nat_le len 2048) ≡ false → 1 ≤ len → len ≤ 2048 → ⊥
+pub not_between : (len : ℕ) → (nat_le 1 len && nat_le len 2048) ≡ false → 1 ≤ len → len ≤ 2048 → ⊥
 not_between len h low high = elim (leb_tells 1 len) [
   | inl some ↦ elim (leb_tells len 2048) [
     | inl few ↦ let clash : true ≡ false = rw (some.0, few.0) at h in cc clash
@@ -27,7 +27,7 @@ not_between len h low high = elim (leb_tells 1 len) [
 ]
 
 -- a length without room is refused for being none, or too large
-refused_by_length : (len : ℕ) (refusal : Refusal) → (nat_le 1 len && nat_le len 2048) ≡ false → IsNewRefusal len refusal
+pub refused_by_length : (len : ℕ) (refusal : Refusal) → (nat_le 1 len && nat_le len 2048) ≡ false → IsNewRefusal len refusal
     → ((len ≡ 0) × (refusal ≡ Zero)) ⊎ ((2048 < len) × (refusal ≡ TooLarge))
 refused_by_length len Zero h is = inl (is, refl)
 refused_by_length len TooLarge h is = inr (is, refl)

@@ -20,6 +20,7 @@ pub mod ReadLaws
 pub mod ReaderLaws
 pub mod Reads
 pub mod RecordLaws
+pub mod RefusalLaws
 pub mod Refusals
 pub mod Search
 pub mod SeatLaws

@@ -18,6 +18,7 @@ pub mod page_laws;
 pub mod read_laws;
 pub mod reader_laws;
 pub mod record_laws;
+pub mod refusal_laws;
 mod refusals;
 pub mod seat_laws;
 pub mod step_laws;
