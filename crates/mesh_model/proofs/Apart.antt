@@ -198,7 +198,7 @@ free_at (Some x ∷ slots) from i below = let rest = free_at slots (from + 1) i 
     record { at = suc rest.at; is = omega (arith, is); free = rest.free }
 
 -- each slot has an object or is free
-free_count : (from : ℕ) (slots : List (Option Slot)) → count_by is_some slots + length (free_from from slots) ≡ length slots
+pub free_count : (from : ℕ) (slots : List (Option Slot)) → count_by is_some slots + length (free_from from slots) ≡ length slots
 free_count from [] = refl
 free_count from (None ∷ slots) = let rest = free_count (from + 1) slots in omega (arith, rest)
 free_count from (Some x ∷ slots) = let rest = free_count (from + 1) slots in

@@ -30,6 +30,7 @@ mod MeshClasses
 pub mod MeshLists
 pub mod NewApart
 pub mod NewObjects
+mod NewPlaces
 mod OneMesh
 pub mod OneSlot
 pub mod OpenGroups

@@ -12,6 +12,7 @@ pub mod MeaningLaws
 pub mod Memory
 pub mod Mesh
 pub mod MeshLaws
+pub mod NewLaws
 pub mod PageCounts
 pub mod PageLaws
 pub mod Places

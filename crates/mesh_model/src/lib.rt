@@ -14,6 +14,7 @@ pub mod history_laws;
 pub mod laws;
 pub mod meaning_laws;
 pub mod mesh_laws;
+pub mod new_laws;
 pub mod page_laws;
 pub mod read_laws;
 pub mod reader_laws;
