@@ -2,6 +2,7 @@ mod Addresses
 pub mod AnsweredCommands
 pub mod Apart
 mod Calls
+mod Candidates
 pub mod Chains
 mod ClassMeshes
 mod CommandLines

@@ -90,7 +90,7 @@ placed_picked t g word serial len there some_member some =
     }
 
 -- a group of ascending ones is from the first bound on
-at_from : (low high : ℕ) (gs : List Group) (i : ℕ) (g : Group) → AscendBetween low gs high → slice_get gs i ≡ Some g → low ≤ g.number
+pub at_from : (low high : ℕ) (gs : List Group) (i : ℕ) (g : Group) → AscendBetween low gs high → slice_get gs i ≡ Some g → low ≤ g.number
 at_from low high [] i g ascend at = absurd (cc)
 at_from low high (x ∷ xs) zero g ascend at = let here : Some x ≡ Some g = at in let same : x ≡ g = cc here in
     let from = ascend.0 in let number : x.number ≡ g.number = ap (λ (y : Group). y.number) same in omega (arith, from, number)

@@ -24,7 +24,7 @@ sweep_from t n low no_group busy not_empty NotEmpty h = not_empty h
 sweep_from t n low no_group busy not_empty _ h = absurd h
 
 -- the group is of a mesh
-of_mesh : (t : Table) (n : ℕ) → is_meshing t n ≡ true → IsOfMesh t n
+pub of_mesh : (t : Table) (n : ℕ) → is_meshing t n ≡ true → IsOfMesh t n
 of_mesh t n h = let one = any_passes Mesh (takes_part n) t.meshes h in
     record { i = one.i; mesh = one.x; running = one.there; part = parts one.x one.passes }
   where
@@ -35,7 +35,7 @@ of_mesh t n h = let one = any_passes Mesh (takes_part n) t.meshes h in
     ]
 
 -- or of none
-of_no_mesh : (t : Table) (n : ℕ) → is_meshing t n ≡ false → ¬ IsOfMesh t n
+pub of_no_mesh : (t : Table) (n : ℕ) → is_meshing t n ≡ false → ¬ IsOfMesh t n
 of_no_mesh t n h one = parts one.mesh (none_passes Mesh (takes_part n) t.meshes h one.i one.mesh one.running) one.part
   where
     parts : (mesh : Mesh) → takes_part n mesh ≡ false → (mesh.source ≡ n) ⊎ (mesh.destination ≡ n) → ⊥
@@ -48,7 +48,7 @@ of_no_mesh t n h one = parts one.mesh (none_passes Mesh (takes_part n) t.meshes 
     ]
 
 -- where objects are counted a slot has one
-pub counted_filled : (slots : List (Option Slot)) → 1 ≤ count_by is_some slots → (k : ℕ) × (slot : Slot) × (slice_get slots k ≡ Some (Some slot))
+counted_filled : (slots : List (Option Slot)) → 1 ≤ count_by is_some slots → (k : ℕ) × (slot : Slot) × (slice_get slots k ≡ Some (Some slot))
 counted_filled [] h = absurd (omega (arith, h))
 counted_filled (Some x ∷ slots) h = (0, x, refl)
 counted_filled (None ∷ slots) h =

@@ -24,6 +24,7 @@ pub mod RecordLaws
 pub mod RefusalLaws
 pub mod Refusals
 pub mod Search
+pub mod SearchLaws
 pub mod SeatLaws
 pub mod Seats
 pub mod Sound
