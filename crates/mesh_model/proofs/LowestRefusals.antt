@@ -12,7 +12,9 @@ use Rattle.mesh_model.specs.declared.refusals.Refusal.TheVariants.{Zero, TooLarg
 
 -- the refusals by their numbers
 abbrev by_number : List Refusal
-by_number = Zero ∷ Zero ∷ TooLarge ∷ NoPages ∷ NoAddresses ∷ Empty ∷ Freed ∷ Outside ∷ Stray ∷ NoGroup ∷ Same ∷ Class ∷ Busy ∷ Overlap ∷ Members ∷ NoMesh ∷ TooLate ∷ NotEmpty ∷ []
+by_number =
+    Zero ∷ Zero ∷ TooLarge ∷ NoPages ∷ NoAddresses ∷ Empty ∷ Freed ∷ Outside ∷ Stray ∷ NoGroup ∷ Same ∷ Class ∷ Busy ∷ Overlap ∷ Members ∷ NoMesh ∷ TooLate
+    ∷ NotEmpty ∷ []
 
 -- the refusal of its number
 of_number : (r : Refusal) → slice_index_or by_number (number_of r) Zero ≡ r
