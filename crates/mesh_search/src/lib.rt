@@ -6,6 +6,7 @@
 #![tactic(auto)]
 
 mod candidate;
+mod faults;
 mod from_index;
 mod gate;
 mod parallel;
@@ -17,10 +18,10 @@ mod split;
 mod view;
 
 pub use candidate::{Candidate, Pair};
+pub use faults::SearchError;
 pub use from_index::class_view;
 pub use gate::{Actor, Gate, NoGate, Point};
 pub use mesh_model::StepKind;
-pub use parallel::SearchError;
 pub use parts::part;
 pub use picking::shuffle;
 pub use rounds::Found;

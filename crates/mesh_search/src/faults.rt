@@ -1,0 +1,34 @@
+//! Why a search ends without an answer.
+ghost use Rattle.std.specs.Prelude.{◌≡◌};
+ghost use Rattle.mesh_search.specs.declared.faults.SearchError.{SearchError};
+
+use std::alloc::AllocError;
+use std::thread::SpawnError;
+use thiserror::Error;
+
+/// Why a search ended without an answer.
+#[derive(Debug, Drop, PartialEq, Eq, Error)]
+pub enum SearchError {
+    /// Memory was refused.
+    #[error("out of memory")]
+    Memory,
+    /// A thread couldn't be started, or its result isn't the one that was asked for.
+    #[error("thread fault")]
+    Thread,
+}
+
+impl From<AllocError> for SearchError {
+    ghost from_gives = { λ _ error. error ≡ SearchError.Memory };
+
+    fn from(_refused: AllocError) -> SearchError {
+        SearchError::Memory
+    }
+}
+
+impl<T: Drop> From<SpawnError<T>> for SearchError {
+    ghost from_gives = { λ _ error. error ≡ SearchError.Thread };
+
+    fn from(_refused: SpawnError<T>) -> SearchError {
+        SearchError::Thread
+    }
+}
