@@ -1,11 +1,15 @@
 mod Comparing
+mod Joining
 mod Looking
 mod Righting
 mod Rounds
+mod RunExamples
 mod Running
 mod Seating
 mod Settled
 mod Standing
 mod Stopping
 mod Taking
+mod ToldStops
 mod Walking
+mod Words

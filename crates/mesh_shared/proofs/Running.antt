@@ -2,7 +2,7 @@
 use Rattle.std.proofs.Common.{◌≡◌, ℕ, zero, suc, ◌+◌, ◌<◌, ◌≤◌, List, [], ◌∷◌, ◌++◌, Option, None, length, map, take, slice_index_or, Bor, ap, subst, refl, sym, ◌∙◌, arith}
 use Rattle.std.specs.List.{All}
 use Rattle.std.proofs.lemmas.List.Elements.{All-cons}
-use Rattle.std.proofs.lemmas.List.{length-map, map-append, take_all, take_more}
+use Rattle.std.proofs.lemmas.List.{map-append, take_all, take_more}
 use Rattle.mesh_model.specs.Memory.{Memory}
 use Rattle.mesh_model.specs.Plain.{Entry}
 use Rattle.mesh_model.specs.Reads.{Kept, call_of, kept_by}
@@ -12,12 +12,8 @@ use Rattle.mesh_model.specs.declared.commands.Reply.{Reply}
 use Rattle.mesh_shared.specs.Runs.{AreServed, HasBegun, HasRun, HasWorked, IsBeginning, commands_by, commands_in, script_of}
 use Rattle.mesh_shared.specs.Seat.{Keeps, Seat, calls_of_seats, empty_seats}
 use Rattle.mesh_shared.specs.Settle.{IsEnd}
-use Rattle.mesh_shared.specs.Stops.{first_stop}
 use Rattle.mesh_shared.specs.declared.stops.Stop.{Stop}
 use Rattle.mesh_shared.specs.declared.worker.Served.{Served}
-use Rattle.mesh_shared.specs.declared.worker.Works.{Works}
-use Rattle.std.specs.declared.thread.PromisedHandle.{PromisedHandle}
-use Rattle.mesh_shared.proofs.Stopping.{none_stopped}
 
 -- what is taken from the front is taken again by its length
 taken_again : {A : Type 0} (k : ℕ) (xs : List A) → take k xs ≡ take (length (take k xs)) xs
@@ -69,29 +65,6 @@ script_there [] w d below = absurd (omega (arith, below))
 script_there (script ∷ scripts) zero d below = refl
 script_there (script ∷ scripts) (suc w) d below = script_there scripts w d (omega (arith, below))
 
--- where each worker kept its promise and nothing stopped one, all scripts were served
-pub all_served : (tries : Option ℕ) (scripts : List (List Command)) (served : List Served) (seats : List Seat)
-    → length served ≡ length scripts → seats ≡ map (λ one. one.seat) served → first_stop (map (λ one. one.stop) served) ≡ None
-    → ((w : ℕ) (d : Served) → w < length served
-    → HasWorked tries (script_of scripts w) (slice_index_or served w d).seat.calls (slice_index_or served w d).stop)
-    → AreServed tries scripts seats
-all_served tries scripts served seats many is none worked = record {
-  many = ap (λ (l : List Seat). length l) is ∙ length-map served (λ (one : Served). one.seat) ∙ many;
-  begun = λ w below. (at w below).begun;
-  whole = λ no_end w below. (at w below).whole no_end refl;
-}
-  where
-    at : (w : ℕ) → w < length scripts → HasWorked tries (script_of scripts w) (kept_by (calls_of_seats seats) w) None
-    at w below =
-        let within : w < length served = omega (arith, many, below) in
-        let there = seat_there served w within in
-        let one : Served = there.0 in
-        let calls : one.seat.calls ≡ kept_by (calls_of_seats seats) w = sym (ap (λ (l : List Seat). kept_by (calls_of_seats l) w) is ∙ there.2) in
-        let stop : one.stop ≡ None = ap (λ (x : Served). x.stop) (sym there.1) ∙ none_stopped served w one none within in
-        let did : HasWorked tries (script_of scripts w) one.seat.calls one.stop
-        = subst (λ (x : Served). HasWorked tries (script_of scripts w) x.seat.calls x.stop) there.1 (worked w one within) in
-        subst (λ (l : List Kept). HasWorked tries (script_of scripts w) l None) calls (subst (λ (x : Option Stop). HasWorked tries (script_of scripts w) one.seat.calls x) stop did)
-
 -- what holds of each place of a list holds of the list with one element more, where it holds of that
 pub each_and_one_more : {A : Type 0} (P : ℕ → A → Type 0) (xs : List A) (x : A)
     → ((i : ℕ) (d : A) → i < length xs → P i (slice_index_or xs i d)) → P (length xs) x → (i : ℕ) (d : A) → i < suc (length xs) → P i (slice_index_or (xs ++ x ∷ []) i d)
@@ -100,14 +73,6 @@ each_and_one_more P [] x each last (suc i) d below = absurd (omega (arith, below
 each_and_one_more P (y ∷ ys) x each last zero d below = each zero d (omega arith)
 each_and_one_more {A} P (y ∷ ys) x each last (suc i) d below =
     each_and_one_more (λ (j : ℕ) (a : A). P (suc j) a) ys x (λ j e b. each (suc j) e (omega (arith, b))) last i d (omega (arith, below))
-
--- what a worker promised, by the promise that its handle carries
-pub promised : (hs : List (PromisedHandle Served Works)) (w : ℕ) (h : PromisedHandle Served Works) (tries : Option ℕ) (script : List Command) (served : Served)
-    → h ≡ slice_index_or hs w h → (slice_index_or hs w h).promise.tries ≡ tries → (slice_index_or hs w h).promise.script.now ≡ script
-    → HasWorked h.promise.tries h.promise.script.now served.seat.calls served.stop → HasWorked tries script served.seat.calls served.stop
-promised hs w h tries script served is same_tries same_script did =
-    subst (λ (s : List Command). HasWorked tries s served.seat.calls served.stop) (ap (λ (k : PromisedHandle Served Works). k.promise.script.now) is ∙ same_script)
-    (subst (λ (t : Option ℕ). HasWorked t h.promise.script.now served.seat.calls served.stop) (ap (λ (k : PromisedHandle Served Works). k.promise.tries) is ∙ same_tries) did)
 
 -- opened seats have no call
 pub opened_empty : (k : ℕ) (counts : List ℕ) → All (λ seat. seat.calls ≡ []) (empty_seats k counts)

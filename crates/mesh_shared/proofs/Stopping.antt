@@ -3,7 +3,6 @@ use Rattle.std.proofs.Common.{◌≡◌, ℕ, zero, suc, ◌+◌, ◌<◌, List,
 use Rattle.std.proofs.lemmas.List.{append_assoc, map-append, take_more}
 use Rattle.mesh_shared.specs.Stops.{either_stop, first_of, first_stop}
 use Rattle.mesh_shared.specs.declared.stops.Stop.{Stop}
-use Rattle.mesh_shared.specs.declared.worker.Served.{Served}
 use Rattle.mesh_shared.specs.declared.stops.Stop.TheVariants.{Memory, Thread, History}
 
 -- of three stops
@@ -61,9 +60,15 @@ pub nothing_behind : (ends others : List (Option Stop)) → first_stop (ends ++ 
 nothing_behind [] others h = h
 nothing_behind (end ∷ ends) others h = nothing_behind ends others (none_of_two end (first_stop (ends ++ others)) h).1
 
--- so none of several workers was stopped
-pub none_stopped : (served : List Served) (w : ℕ) (d : Served) → first_stop (map (λ one. one.stop) served) ≡ None → w < length served
-    → (slice_index_or served w d).stop ≡ None
-none_stopped [] w d h below = absurd (omega (arith, below))
-none_stopped (one ∷ rest) zero d h below = (none_of_two one.stop _ h).0
-none_stopped (one ∷ rest) (suc w) d h below = none_stopped rest w d (none_of_two one.stop _ h).1 (omega (arith, below))
+pub nothing_ahead : (ends others : List (Option Stop)) → first_stop (ends ++ others) ≡ None → first_stop ends ≡ None
+nothing_ahead [] others h = refl
+nothing_ahead (end ∷ ends) others h =
+    let both = none_of_two end (first_stop (ends ++ others)) h in
+    ap (λ (e : Option Stop). either_stop e (first_stop ends)) both.0 ∙ nothing_ahead ends others both.1
+
+-- so none of several threads was stopped
+pub none_stopped : {A : Type 0} (end_of : A → Option Stop) (ones : List A) (w : ℕ) (d : A) → first_stop (map end_of ones) ≡ None → w < length ones
+    → end_of (slice_index_or ones w d) ≡ None
+none_stopped end_of [] w d h below = absurd (omega (arith, below))
+none_stopped end_of (one ∷ rest) zero d h below = (none_of_two (end_of one) _ h).0
+none_stopped end_of (one ∷ rest) (suc w) d h below = none_stopped end_of rest w d (none_of_two (end_of one) _ h).1 (omega (arith, below))

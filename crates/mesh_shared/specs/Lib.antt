@@ -2,6 +2,9 @@ pub use Rattle.mesh_model.specs.Plain
 pub use Rattle.mesh_model.specs.Reads
 pub use Rattle.mesh_model.specs.Seats
 pub mod Differing
+pub mod Joined
+pub mod Meshing
+pub mod RunLaws
 pub mod Runs
 pub mod Seat
 pub mod Settle

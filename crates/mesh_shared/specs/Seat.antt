@@ -1,5 +1,5 @@
 -- A seat: what one mutator thread was answered.
-use Rattle.std.specs.Prelude.{◌≡◌, ℕ, suc, ◌<◌, ◌≤◌, List, [], ◌∷◌, ◌++◌, Option, is_some, length, map, refl}
+use Rattle.std.specs.Prelude.{◌≡◌, ℕ, suc, ◌<◌, ◌≤◌, List, [], ◌∷◌, ◌++◌, Option, None, is_some, length, map, refl}
 use Rattle.std.specs.Coded.{Coded, code_by, coded×, coded_list, coded_option, coded_ℕ}
 use Rattle.std.specs.List.{All}
 use Rattle.mesh_model.specs.Commands.{IsInRange}
@@ -40,6 +40,17 @@ pub record IsSeat (s : Seat) : Type 0 where
 abbrev pub Keeps : Seat → Seat → Command → Reply → Type 0
 Keeps old new command reply = (seen : Option ℕ) × (new ≡ record old { calls = old.calls ++ record { command = command; reply = reply; seen = seen } ∷ [] })
     × (is_some seen ≡ is_read command)
+
+-- the seat with one call more
+abbrev pub noted : Seat → Command → Reply → Option ℕ → Seat
+noted seat command reply seen = record seat { calls = seat.calls ++ record { command = command; reply = reply; seen = seen } ∷ [] }
+
+-- what an attempt that is recorded leaves of the seat: it keeps the call where it is done
+abbrev pub IsNoted : Seat → Seat → Command → Attempt → Type 0
+IsNoted old new command (Done reply) = new ≡ noted old command reply None
+IsNoted old new command Blocked = new ≡ old
+IsNoted old new command HistoryFull = new ≡ old
+IsNoted old new command OutOfMemory = new ≡ old
 
 -- the command stores bytes, and may be held back by a read-only page
 abbrev pub IsStore : Command → Type 0

@@ -1,5 +1,7 @@
 -- Which of several stops of a run is told.
 use Rattle.std.specs.Prelude.{List, [], ◌∷◌, Option, Some, None}
+use Rattle.mesh_search.specs.declared.faults.SearchError.{SearchError}
+use Rattle.mesh_search.specs.declared.faults.SearchError.TheVariants.{Memory as SearchMemory, Thread as SearchThread}
 use Rattle.mesh_shared.specs.declared.stops.RunError.{RunError}
 use Rattle.mesh_shared.specs.declared.stops.RunError.TheVariants.{Memory as NoMemory, Thread as NoThread, History as NoRoom}
 use Rattle.mesh_shared.specs.declared.stops.Stop.{Stop}
@@ -29,3 +31,8 @@ abbrev pub error_of : Stop → RunError
 error_of Memory = NoMemory
 error_of Thread = NoThread
 error_of History = NoRoom
+
+-- the stop that tells why a search ended
+abbrev pub stop_of : SearchError → Stop
+stop_of SearchMemory = Memory
+stop_of SearchThread = Thread

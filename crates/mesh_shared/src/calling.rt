@@ -5,10 +5,11 @@ ghost use Rattle.mesh_model.specs.Reads.{is_read};
 ghost use Rattle.mesh_mutator.specs.declared.attempts.Attempt.{Attempt};
 ghost use Rattle.mesh_shared.specs.Seat.{IsNew, IsStore, IsTaken};
 
+use crate::guarded::{act, look};
 use crate::kept::is_read;
 use crate::seat::Seat;
 use crate::shared::Shared;
-use mesh_mutator::{Attempt, Command, Reply};
+use mesh_mutator::{Attempt, Command};
 use mesh_search::{Actor, Gate, Point};
 use std::sync::Wait;
 
@@ -30,15 +31,12 @@ impl Shared {
             return Attempt::HistoryFull;
         }
         if is_read(command) {
-            let (reply, seen) = self.read(rt, gate, seat, command);
-            seat.keep(command, &reply, Some(seen));
-            return Attempt::Done(reply);
+            let book = self.book.read(rt);
+            let call = counted(seat.calls().len());
+            gate.arrive(Actor::Worker(seat.number()), Point::Reading(call));
+            return Attempt::Done(look(&book, seat, command));
         }
-        let attempt = self.act(rt, seat.number(), command);
-        if let Attempt::Done(reply) = &attempt {
-            seat.keep(command, reply, None);
-        }
-        attempt
+        act(&mut self.book.write(rt), seat, command)
     }
 
     /// Attempts until one isn't Blocked.
@@ -102,34 +100,6 @@ impl Shared {
             }
         }
         self.attempt(rt, gate, seat, command)
-    }
-
-    // A read under the shared lock, and the journal's length there.
-    fn read<R: Wait, G: Gate>(
-        &self,
-        rt: &R,
-        gate: &G,
-        seat: &Seat,
-        command: &Command,
-    ) -> (Reply, u32)
-        requires range { IsInRange command.now }
-        requires read { is_read command.now ≡ true }
-    {
-        let book = self.book.read(rt);
-        let call = counted(seat.calls().len());
-        gate.arrive(Actor::Worker(seat.number()), Point::Reading(call));
-        let reply = book.look(command);
-        let seen = book.journal().len() as u32;
-        (reply, seen)
-    }
-
-    // An attempt that is recorded, under the exclusive lock.
-    fn act<R: Wait>(&self, rt: &R, worker: u32, command: &Command) -> Attempt
-        requires { IsInRange command.now }
-        ensures blocked { result ≡ Attempt.Blocked → IsStore command.now }
-        ensures memory { result ≡ Attempt.OutOfMemory → IsNew command.now }
-    {
-        self.book.write(rt).act(worker, command)
     }
 }
 

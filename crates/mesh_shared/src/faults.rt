@@ -1,6 +1,7 @@
 //! Why no seats could be made, and why seats and journal make no history.
 ghost use Rattle.std.specs.Prelude.{◌≡◌};
 ghost use Rattle.mesh_shared.specs.declared.faults.FinishError.{FinishError};
+ghost use Rattle.mesh_shared.specs.declared.faults.OpenError.{OpenError};
 
 use std::alloc::{AllocError, AllocFailed};
 use thiserror::Error;
@@ -14,6 +15,8 @@ pub enum OpenError {
 }
 
 impl From<AllocError> for OpenError {
+    ghost from_gives = { λ _ error. error ≡ OpenError.Memory };
+
     fn from(_refused: AllocError) -> OpenError {
         OpenError::Memory
     }

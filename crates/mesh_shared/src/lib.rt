@@ -6,15 +6,18 @@
 #![tactic(auto)]
 
 mod calling;
+mod calls;
 mod differing;
 mod ending;
 mod faults;
+mod guarded;
 mod kept;
 mod mesher;
 mod missing;
 mod plan;
 mod reads;
 mod rest;
+pub mod run_laws;
 mod seat;
 mod shared;
 mod stops;

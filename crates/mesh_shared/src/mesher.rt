@@ -1,15 +1,20 @@
 //! A mesher of a run.
-ghost use Rattle.std.specs.Prelude.{◌≤◌};
+ghost use Rattle.std.specs.Prelude.{◌≡◌, ◌+◌, ◌↔◌, ◌≤◌, IfOk, IsTrue, None, length, map};
+ghost use Rattle.mesh_model.specs.Search.{search, views};
+ghost use Rattle.mesh_shared.specs.Meshing.{AreOwn, HasMeshed, HasSearched, IsOver, own_views, words_in};
 
+use crate::calls::Calls;
+use crate::guarded::{begin, step};
 use crate::plan::MeshPlan;
 use crate::shared::Shared;
 use crate::stops::Stop;
 use mesh_class::Class;
-use mesh_search::{Actor, ClassView, Gate, Pair, Point, search};
+use mesh_model::Refusal;
+use mesh_search::{Actor, ClassView, Found, Gate, Pair, Point, search};
 use mesh_steps::StepDone;
 use std::alloc::{AllocError, Global};
 use std::sync::Wait;
-use std::thread::Threads;
+use std::thread::{Promise, Threads};
 
 /// One mesher of a run, with what its thread was lent.
 #[derive(Drop)]
@@ -23,45 +28,106 @@ pub(crate) struct Mesher<'a, R, G> {
     pub number: u32,
 }
 
-/// How many more calls of `begin` and `step` a mesher may make that are answered; None has no end.
+/// What a mesher's thread gives back.
+#[derive(Clone, Copy, Debug)]
+pub(crate) struct Meshed {
+    /// The mesher's number.
+    pub number: u32,
+    /// How many rounds it made of which each pair that was found was refused, or meshed until no step was left.
+    pub rounds: u32,
+    /// How many of its calls were answered, where there is an end to them.
+    pub calls: u32,
+    /// Why it ended before its rounds did. A mesher whose calls were over has nothing to tell.
+    pub stop: Option<Stop>,
+}
+
+// That a mesher has its number, made all rounds where nothing ended it, and was answered no more often than it may be.
 #[derive(Clone, Copy)]
-struct CallsLeft(Option<u32>);
+pub(crate) struct Meshes {
+    pub rounds: u32,
+    pub number: u32,
+    pub most: Option<u32>,
+}
 
-impl CallsLeft {
-    fn is_over(self) -> bool {
-        self.0 == Some(0)
-    }
+impl Promise<Meshed> for Meshes {
+    ghost kept_by = { λ p told. HasMeshed p.rounds p.number p.most told };
+}
 
-    fn spend(&mut self) {
-        self.0 = self.0.map(|calls| calls.saturating_sub(1));
+/// What a round of a mesher was.
+#[derive(Drop)]
+struct Round {
+    /// Which round, counted from 0.
+    round: u32,
+    /// The views that were searched.
+    views: Vec<ClassView>,
+    /// What was found in each.
+    found: Vec<Found>,
+    /// Of how many of them each pair was refused, or meshed to its end.
+    whole: usize,
+}
+
+impl Round {
+    // Whether it is this round, and each pair was refused or meshed to its end.
+    fn is_whole(&self, round: u32) -> bool
+        ensures { IsTrue result ↔ ((self.now.round ≡ round) × (self.now.whole ≡ length self.now.found.items)) }
+    {
+        self.round == round && self.whole == self.found.len()
     }
 }
 
 impl<'a, R: Threads + Wait + Sync, G: Gate + Sync> Mesher<'a, R, G> {
-    /// Makes all rounds, unless the calls that it may make are over before, and tells what else stopped it. It leaves no mesh running
-    /// but where its calls are over within one.
-    pub(crate) fn mesh(&self, calls: Option<u32>) -> Option<Stop>
+    /// Makes all rounds, unless the calls that it may make are over before, and tells what it did. It leaves no mesh running but where its
+    /// calls are over within one.
+    pub(crate) fn mesh(&self, most: Option<u32>) -> Meshed
         requires some { 1 ≤ self.now.plan.now.workers }
         requires most { self.now.plan.now.workers ≤ 16 }
         requires own { 1 ≤ self.now.plan.now.meshers }
+        ensures { HasMeshed self.now.plan.now.rounds self.now.number most result }
     {
-        let mut left = CallsLeft(calls);
+        let mut calls = Calls::of(most);
+        let (rounds, stop) = self.make_rounds(&mut calls);
+        Meshed {
+            number: self.number,
+            rounds,
+            calls: calls.made,
+            stop,
+        }
+    }
+
+    // Makes the rounds one after another: how many were made to their ends, and what stopped it.
+    fn make_rounds(&self, calls: &mut Calls) -> (u32, Option<Stop>)
+        requires some { 1 ≤ self.now.plan.now.workers }
+        requires most { self.now.plan.now.workers ≤ 16 }
+        requires own { 1 ≤ self.now.plan.now.meshers }
+        ensures whole { calls.old.most ≡ None → result.1 ≡ None → result.0 ≡ self.now.plan.now.rounds }
+        ensures most { calls.new.most ≡ calls.old.most }
+    {
+        let mut whole = 0;
         for round in 0..self.plan.rounds {
-            if left.is_over() {
-                break;
+            if calls.is_over() {
+                return (whole, None);
             }
-            if let Err(stop) = self.make_round(round, &mut left) {
-                return Some(stop);
+            match self.make_round(round, calls) {
+                Ok(made) => {
+                    if made.is_whole(round) {
+                        whole += 1;
+                    }
+                }
+                Err(stop) => return (whole, Some(stop)),
             }
         }
-        None
+        (whole, None)
     }
 
     // Searches the views of its classes, outside the lock, and meshes what was found, classes ascending.
-    fn make_round(&self, round: u32, left: &mut CallsLeft) -> Result<(), Stop>
+    fn make_round(&self, round: u32, calls: &mut Calls) -> Result<Round, Stop>
         requires some { 1 ≤ self.now.plan.now.workers }
         requires most { self.now.plan.now.workers ≤ 16 }
         requires own { 1 ≤ self.now.plan.now.meshers }
+        ensures round { IfOk result (λ made. made.round ≡ round) }
+        ensures searched { IfOk result (λ made. HasSearched self.now.plan.now self.now.number round made.views.items made.found.items) }
+        ensures whole { calls.old.most ≡ None → IfOk result (λ made. made.whole ≡ length made.found.items) }
+        ensures most { calls.new.most ≡ calls.old.most }
     {
         let plan = self.plan;
         let views = self.own_views()?;
@@ -74,68 +140,129 @@ impl<'a, R: Threads + Wait + Sync, G: Gate + Sync> Mesher<'a, R, G> {
             plan.workers,
             self.gate,
         )?;
-        for (view, found) in views.iter().zip(found.iter()) {
-            for pair in found.pairs.as_slice() {
-                self.mesh_pair(view.class(), *pair, left);
-            }
-        }
-        Ok(())
+        let whole = self.mesh_all(views.as_slice(), found.as_slice(), calls);
+        Ok(Round {
+            round,
+            views,
+            found,
+            whole,
+        })
     }
 
     // The views of its classes, taken under the shared lock.
     fn own_views(&self) -> Result<Vec<ClassView>, AllocError>
         requires { 1 ≤ self.now.plan.now.meshers }
+        ensures { IfOk result (λ own. AreOwn self.now.plan.now self.now.number own.items) }
     {
         let views = self.shared.book.read(self.rt).views(self.alloc)?;
-        let mut own = Vec::with_capacity(self.alloc, views.len())?;
-        for (place, view) in views.into_iter().enumerate() {
-            if place % self.plan.meshers as usize == self.number as usize {
-                own.push(view)?;
-            }
-        }
-        Ok(own)
+        own_of(self.alloc, views, self.plan.meshers, self.number)
     }
 
-    // Meshes a pair step by step, unless it is refused by now.
-    fn mesh_pair(&self, class: Class, pair: Pair, left: &mut CallsLeft) {
-        if left.is_over() || !self.begin(pair, left) {
-            return;
+    // Meshes what was found in each view. Gives in how many of them each pair was refused, or meshed to its end.
+    fn mesh_all(&self, views: &[ClassView], found: &[Found], calls: &mut Calls) -> usize
+        requires { length views.now ≡ length found.now }
+        ensures whole { calls.old.most ≡ None → result ≡ length found.now }
+        ensures most { calls.new.most ≡ calls.old.most }
+    {
+        let mut whole = 0;
+        for k in 0..found.len() {
+            let one = &found[k];
+            let pairs = one.pairs.as_slice();
+            if self.mesh_pairs(views[k].class(), pairs, calls) == pairs.len() {
+                whole += 1;
+            }
         }
+        whole
+    }
+
+    // Meshes pairs of a class one after another, as long as there are calls. Gives how many were refused, or meshed to their ends.
+    fn mesh_pairs(&self, class: Class, pairs: &[Pair], calls: &mut Calls) -> usize
+        ensures whole { calls.old.most ≡ None → result ≡ length pairs.now }
+        ensures most { calls.new.most ≡ calls.old.most }
+    {
+        let mut ended = 0;
+        for k in 0..pairs.len() {
+            if calls.is_over() {
+                return ended;
+            }
+            if has_ended(self.mesh_pair(class, pairs[k], calls)) {
+                ended += 1;
+            }
+        }
+        ended
+    }
+
+    // Meshes a pair step by step, unless it is refused by now: how many steps were left when it ended.
+    fn mesh_pair(&self, class: Class, pair: Pair, calls: &mut Calls) -> Result<u32, Refusal>
+        requires { IsOver calls.old → ⊥ }
+        ensures ended { calls.old.most ≡ None → IfOk result (λ left. left ≡ 0) }
+        ensures most { calls.new.most ≡ calls.old.most }
+    {
+        let mut left = self.begin(pair, calls)?;
         for _ in self.rt.forever() {
-            if left.is_over() {
-                return;
+            if calls.is_over() {
+                return Ok(left);
             }
-            match self.step(class, left) {
-                Some(done) if done.left > 0 => {}
-                _ => return,
+            left = self.step(class, calls)?.left;
+            if left == 0 {
+                return Ok(left);
             }
         }
+        unreachable!()
     }
 
-    // Begins a mesh, and tells whether it did.
-    fn begin(&self, pair: Pair, left: &mut CallsLeft) -> bool {
-        let begun = self
-            .shared
-            .book
-            .write(self.rt)
-            .begin(pair.source, pair.destination);
-        if begun.is_err() {
-            return false;
-        }
-        left.spend();
+    // Begins a mesh under the exclusive lock: how many steps are to come.
+    fn begin(&self, pair: Pair, calls: &mut Calls) -> Result<u32, Refusal>
+        requires { IsOver calls.old → ⊥ }
+        ensures { calls.new.most ≡ calls.old.most }
+    {
+        let left = begin(&mut self.shared.book.write(self.rt), pair, calls)?;
         self.arrive(Point::Begun);
-        true
+        Ok(left)
     }
 
-    // Makes a step of the mesh that it began.
-    fn step(&self, class: Class, left: &mut CallsLeft) -> Option<StepDone> {
-        let done = self.shared.book.write(self.rt).step(class).ok()?;
-        left.spend();
+    // Makes a step of the mesh that it began, under the exclusive lock.
+    fn step(&self, class: Class, calls: &mut Calls) -> Result<StepDone, Refusal>
+        requires { IsOver calls.old → ⊥ }
+        ensures { calls.new.most ≡ calls.old.most }
+    {
+        let done = step(&mut self.shared.book.write(self.rt), class, calls)?;
         self.arrive(Point::Stepped(done.kind, done.left));
-        Some(done)
+        Ok(done)
     }
 
     fn arrive(&self, point: Point) {
         self.gate.arrive(Actor::Mesher(self.number), point);
     }
+}
+
+// Whether a pair was refused, or meshed until no step was left.
+fn has_ended(tried: Result<u32, Refusal>) -> bool
+    ensures { IsTrue result ↔ IfOk tried (λ left. left ≡ 0) }
+{
+    match tried {
+        Ok(left) => left == 0,
+        Err(_) => true,
+    }
+}
+
+// Of the views of all classes those whose place leaves a number when divided.
+fn own_of(
+    alloc: Global,
+    all: Vec<ClassView>,
+    meshers: u32,
+    number: u32,
+) -> Result<Vec<ClassView>, AllocError>
+    requires { 1 ≤ meshers }
+    ensures { IfOk result (λ own. own.items ≡ own_views meshers number all.items) }
+{
+    let mut own = Vec::with_capacity(alloc, all.len())?;
+    let mut place = 0usize;
+    for view in all {
+        if place % meshers as usize == number as usize {
+            own.push(view)?;
+        }
+        place += 1;
+    }
+    Ok(own)
 }

@@ -1,4 +1,6 @@
 //! What meshers do in a run, and how long threads go on.
+ghost use Rattle.std.specs.Prelude.{◌≡◌};
+ghost use Rattle.mesh_shared.specs.Meshing.{words_in};
 
 /// What meshers do while scripts run. In each of its rounds a mesher takes the views of its classes, searches them, and meshes each pair.
 #[derive(Drop)]
@@ -17,7 +19,9 @@ pub struct MeshPlan {
 
 impl MeshPlan {
     /// The words of a round, as far as there are any.
-    pub(crate) fn words_of(&self, round: u32) -> &[u64] {
+    pub(crate) fn words_of(&self, round: u32) -> &[u64]
+        ensures { result.now ≡ words_in self.now.words.items round }
+    {
         let all = self.words.as_slice();
         let first = all.len().min(round as usize * WORDS_A_ROUND);
         let end = all.len().min(first + WORDS_A_ROUND);

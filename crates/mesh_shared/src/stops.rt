@@ -1,10 +1,13 @@
 //! Why a run in threads hands out nothing.
 ghost use Rattle.std.specs.Prelude.{◌≡◌};
-ghost use Rattle.mesh_shared.specs.Stops.{either_stop, error_of, first_of};
+ghost use Rattle.mesh_shared.specs.Stops.{either_stop, error_of, first_of, stop_of};
+ghost use Rattle.mesh_shared.specs.declared.stops.RunError.{RunError};
+ghost use Rattle.mesh_shared.specs.declared.stops.Stop.{Stop};
 
 use crate::faults::{FinishError, OpenError};
 use mesh_search::SearchError;
 use std::alloc::AllocError;
+use std::thread::SpawnError;
 use thiserror::Error;
 
 /// Why a run in threads hands out nothing: the first of these that some thread met, in the order in which they stand here.
@@ -25,6 +28,8 @@ pub enum RunError {
 }
 
 impl From<OpenError> for RunError {
+    ghost from_gives = { λ _ error. error ≡ RunError.Memory };
+
     fn from(refused: OpenError) -> RunError {
         match refused {
             OpenError::Memory => RunError::Memory,
@@ -33,12 +38,16 @@ impl From<OpenError> for RunError {
 }
 
 impl From<AllocError> for RunError {
+    ghost from_gives = { λ _ error. error ≡ RunError.Memory };
+
     fn from(_refused: AllocError) -> RunError {
         RunError::Memory
     }
 }
 
 impl From<FinishError> for RunError {
+    ghost from_gives = { λ end error. error ≡ RunError.Finish end };
+
     fn from(error: FinishError) -> RunError {
         RunError::Finish(error)
     }
@@ -68,12 +77,24 @@ pub(crate) enum Stop {
 }
 
 impl From<AllocError> for Stop {
+    ghost from_gives = { λ _ stop. stop ≡ Stop.Memory };
+
     fn from(_refused: AllocError) -> Stop {
         Stop::Memory
     }
 }
 
+impl<T: Drop> From<SpawnError<T>> for Stop {
+    ghost from_gives = { λ _ stop. stop ≡ Stop.Thread };
+
+    fn from(_refused: SpawnError<T>) -> Stop {
+        Stop::Thread
+    }
+}
+
 impl From<SearchError> for Stop {
+    ghost from_gives = { λ error stop. stop ≡ stop_of error };
+
     fn from(error: SearchError) -> Stop {
         match error {
             SearchError::Memory => Stop::Memory,

@@ -1,13 +1,15 @@
 //! Scripts on threads, with meshers at work between their commands.
-ghost use Rattle.std.specs.Prelude.{◌≡◌, ◌≤◌, ◌++◌, ◌∷◌, [], None, length, map, vec_len, IfOk};
+ghost use Rattle.std.specs.Prelude.{◌≡◌, ◌≤◌, ◌++◌, ◌∷◌, [], None, length, map, vec_len, IfOk, OnOk};
 ghost use Rattle.std.specs.List.{All};
 ghost use Rattle.mesh_model.specs.Commands.{IsInRange};
 ghost use Rattle.mesh_mutator.specs.Book.{memory_in};
+ghost use Rattle.mesh_shared.specs.Joined.{HaveMeshed, HaveServed};
+ghost use Rattle.mesh_shared.specs.Meshing.{AreMeshed, HasMeshed};
 ghost use Rattle.mesh_shared.specs.Runs.{AreServed, HasBegun, HasRun, HasWorked};
 ghost use Rattle.mesh_shared.specs.Stops.{first_stop};
 
 use crate::ending::Ended;
-use crate::mesher::Mesher;
+use crate::mesher::{Meshed, Mesher, Meshes};
 use crate::plan::{MeshPlan, Patience};
 use crate::seat::Seat;
 use crate::shared::Shared;
@@ -49,7 +51,8 @@ pub fn run_threads<R: Threads + Wait + Sync, G: Gate + Sync>(
         calls: None,
         tries: None,
     };
-    run(rt, alloc, book, scripts, plan, patience, gate)
+    let ran = run(rt, alloc, book, scripts, plan, patience, gate)?;
+    Ok(ran.ended)
 }
 
 /// Runs scripts as `run_threads` does, with meshers that are abandoned and workers that give up.
@@ -80,7 +83,15 @@ pub fn run_abandoned<R: Threads + Wait + Sync, G: Gate + Sync>(
         calls: Some(stop_after),
         tries: Some(tries),
     };
-    run(rt, alloc, book, scripts, plan, patience, gate)
+    let ran = run(rt, alloc, book, scripts, plan, patience, gate)?;
+    Ok(ran.ended)
+}
+
+// What a run hands out, and what its meshers tell.
+#[derive(Drop)]
+struct Ran {
+    ended: Ended,
+    meshers: Vec<Meshed>,
 }
 
 // Runs scripts with threads that go on as long as they have patience.
@@ -92,21 +103,26 @@ fn run<R: Threads + Wait + Sync, G: Gate + Sync>(
     plan: &MeshPlan,
     patience: Patience,
     gate: &G,
-) -> Result<Ended, RunError>
+) -> Result<Ran, RunError>
     requires empty { book.entries ≡ [] }
     requires some { 1 ≤ length scripts.now }
     requires few { length scripts.now ≤ 64 }
     requires range { All (λ script. All IsInRange script.now) scripts.now }
     requires searchers { (1 ≤ plan.now.workers) × (plan.now.workers ≤ 16) }
     requires meshers { (1 ≤ plan.now.meshers) × (plan.now.meshers ≤ 10) }
-    ensures begun { IfOk result (λ ended. HasBegun (map (λ script. script.now) scripts.now) ended.history.items (memory_in ended.heap ended.roots)) }
+    ensures begun { IfOk result (λ ran. HasBegun (map (λ script. script.now) scripts.now) ran.ended.history.items (memory_in ran.ended.heap ran.ended.roots)) }
     ensures whole { patience.tries ≡ None
-        → IfOk result (λ ended. HasRun (map (λ script. script.now) scripts.now) ended.history.items (memory_in ended.heap ended.roots)) }
+        → IfOk result (λ ran. HasRun (map (λ script. script.now) scripts.now) ran.ended.history.items (memory_in ran.ended.heap ran.ended.roots)) }
+    ensures meshed { IfOk result (λ ran. AreMeshed plan.now patience.calls ran.meshers.items) }
 {
     let counts = counts_of(alloc, scripts)?;
     let (shared, seats) = Shared::open(alloc, book, counts.as_slice())?;
-    let seats = serve_all(rt, alloc, &shared, seats, scripts, plan, patience, gate)?;
-    Ok(shared.finish(alloc, seats)?)
+    let service = serve_all(rt, alloc, &shared, seats, scripts, plan, patience, gate)?;
+    let ended = shared.finish(alloc, service.seats)?;
+    Ok(Ran {
+        ended,
+        meshers: service.meshers,
+    })
 }
 
 // How many commands each script has.
@@ -120,15 +136,14 @@ fn counts_of(alloc: Global, scripts: &[&[Command]]) -> Result<Vec<usize>, AllocE
     Ok(counts)
 }
 
-// What a mesher's thread promises of its end, which is nothing.
-#[derive(Clone, Copy)]
-struct Meshes;
-
-impl Promise<Option<Stop>> for Meshes {
-    ghost kept_by = { λ p end. Unit {0} };
+// What the threads of a run gave back.
+#[derive(Drop)]
+struct Service {
+    seats: Vec<Seat>,
+    meshers: Vec<Meshed>,
 }
 
-// Serves each script from its seat, and meshes meanwhile. Gives the seats back once all threads have ended.
+// Serves each script from its seat, and meshes meanwhile. Gives the seats back once all threads have ended, and what the meshers tell.
 fn serve_all<R: Threads + Wait + Sync, G: Gate + Sync>(
     rt: &R,
     alloc: Global,
@@ -138,24 +153,26 @@ fn serve_all<R: Threads + Wait + Sync, G: Gate + Sync>(
     plan: &MeshPlan,
     patience: Patience,
     gate: &G,
-) -> Result<Vec<Seat>, RunError>
+) -> Result<Service, RunError>
     requires many { vec_len seats ≡ length scripts.now }
     requires empty { All (λ seat. seat.calls ≡ []) seats.items }
     requires range { All (λ script. All IsInRange script.now) scripts.now }
     requires searchers { (1 ≤ plan.now.workers) × (plan.now.workers ≤ 16) }
     requires meshers { (1 ≤ plan.now.meshers) × (plan.now.meshers ≤ 10) }
-    ensures { IfOk result (λ seats. AreServed patience.tries (map (λ script. script.now) scripts.now) seats.items) }
+    ensures served { IfOk result (λ service. AreServed patience.tries (map (λ script. script.now) scripts.now) service.seats.items) }
+    ensures meshed { IfOk result (λ service. AreMeshed plan.now patience.calls service.meshers.items) }
 {
     thread::scope(
         thread::scope_env(),
         rt,
-        |scope| -> Result<Vec<Seat>, RunError>
+        |scope| -> Result<Service, RunError>
             requires many { vec_len seats ≡ length scripts.now }
             requires empty { All (λ seat. seat.calls ≡ []) seats.items }
             requires range { All (λ script. All IsInRange script.now) scripts.now }
             requires searchers { (1 ≤ plan.now.workers) × (plan.now.workers ≤ 16) }
             requires meshers { (1 ≤ plan.now.meshers) × (plan.now.meshers ≤ 10) }
-            ensures { IfOk result (λ seats. AreServed patience.tries (map (λ script. script.now) scripts.entry.now) seats.items) }
+            ensures served { IfOk result (λ service. AreServed patience.tries (map (λ script. script.now) scripts.entry.now) service.seats.items) }
+            ensures meshed { IfOk result (λ service. AreMeshed plan.entry.now patience.calls service.meshers.items) }
         {
             let mut workers = Vec::with_capacity(alloc, seats.len())?;
             let mut meshers = Vec::with_capacity(alloc, plan.meshers as usize)?;
@@ -169,42 +186,70 @@ fn serve_all<R: Threads + Wait + Sync, G: Gate + Sync>(
                 { serve(rt, gate, shared, seat, script, tries) };
                 match scope.spawn_with(Works { script, tries }, job) {
                     Ok(handle) => workers.push_reserved(handle),
-                    Err(_) => {
-                        refused = Some(Stop::Thread);
+                    Err(unstarted) => {
+                        refused = Some(unstarted.into());
                         break;
                     }
                 }
             }
+            let (rounds, most) = (plan.rounds, patience.calls);
             for number in 0..plan.meshers {
-                let job = move || -> Option<Stop>
+                let job = move || -> Meshed
                     requires { (1 ≤ plan.now.workers) × (plan.now.workers ≤ 16) × (1 ≤ plan.now.meshers) }
-                { mesh(rt, alloc, gate, shared, plan, number, patience.calls) };
-                match scope.spawn_with(Meshes, job) {
+                    ensures { HasMeshed plan.entry.now.rounds number most result }
+                { mesh(rt, alloc, gate, shared, plan, number, most) };
+                match scope.spawn_with(
+                    Meshes {
+                        rounds,
+                        number,
+                        most,
+                    },
+                    job,
+                ) {
                     Ok(handle) => meshers.push_reserved(handle),
-                    Err(_) => refused = Some(Stop::Thread),
+                    Err(unstarted) => refused = Some(unstarted.into()),
                 }
             }
-            let served = match thread::join_promised(rt, workers) {
-                Ok(served) => served,
-                Err(refused) => {
-                    drop_results(rt, refused.value);
-                    drop_results(rt, meshers);
-                    return Err(RunError::Memory);
-                }
-            };
-            let ends = match thread::join_promised(rt, meshers) {
-                Ok(ends) => ends,
-                Err(refused) => {
-                    drop_results(rt, refused.value);
-                    return Err(RunError::Memory);
-                }
-            };
-            match first_stop_of(refused, ends.as_slice(), served.as_slice()) {
-                Some(stop) => Err(stop.into()),
-                None => Ok(seats_of_served(alloc, served)?),
-            }
+            join_all(rt, alloc, refused, workers, meshers)
         },
     )
+}
+
+// Joins all threads. Gives what they gave back where each was started and none was stopped, else tells the first stop.
+fn join_all<'a, R: Threads>(
+    rt: &R,
+    alloc: Global,
+    refused: Option<Stop>,
+    workers: Vec<PromisedHandle<Served, Works<'a>>>,
+    meshers: Vec<PromisedHandle<Meshed, Meshes>>,
+) -> Result<Service, RunError>
+    ensures started { OnOk result (refused ≡ None) }
+    ensures served { IfOk result (λ service. HaveServed workers.entry.items service.seats.items) }
+    ensures meshed { IfOk result (λ service. HaveMeshed meshers.items service.meshers.items) }
+{
+    let served = match thread::join_promised(rt, workers) {
+        Ok(served) => served,
+        Err(unjoined) => {
+            drop_results(rt, unjoined.value);
+            drop_results(rt, meshers);
+            return Err(RunError::Memory);
+        }
+    };
+    let meshed = match thread::join_promised(rt, meshers) {
+        Ok(meshed) => meshed,
+        Err(unjoined) => {
+            drop_results(rt, unjoined.value);
+            return Err(RunError::Memory);
+        }
+    };
+    if let Some(stop) = first_stop_of(refused, meshed.as_slice(), served.as_slice()) {
+        return Err(stop.into());
+    }
+    let seats = seats_of_served(alloc, served)?;
+    Ok(Service {
+        seats,
+        meshers: meshed,
+    })
 }
 
 // Joins threads whose results nobody wants. The thread of a handle that is dropped would keep its result, and might free its own block only
@@ -223,11 +268,12 @@ fn mesh<R: Threads + Wait + Sync, G: Gate + Sync>(
     shared: &Shared,
     plan: &MeshPlan,
     number: u32,
-    calls: Option<u32>,
-) -> Option<Stop>
+    most: Option<u32>,
+) -> Meshed
     requires some { 1 ≤ plan.now.workers }
     requires most { plan.now.workers ≤ 16 }
     requires own { 1 ≤ plan.now.meshers }
+    ensures { HasMeshed plan.now.rounds number most result }
 {
     let mesher = Mesher {
         rt,
@@ -237,16 +283,16 @@ fn mesh<R: Threads + Wait + Sync, G: Gate + Sync>(
         plan,
         number,
     };
-    mesher.mesh(calls)
+    mesher.mesh(most)
 }
 
 // The first of what stopped the threads of a run: where one was refused, then of the meshers and of the workers.
-fn first_stop_of(refused: Option<Stop>, ends: &[Option<Stop>], served: &[Served]) -> Option<Stop>
-    ensures { result ≡ first_stop (refused ∷ ends.now ++ map (λ one. one.stop) served.now) }
+fn first_stop_of(refused: Option<Stop>, meshed: &[Meshed], served: &[Served]) -> Option<Stop>
+    ensures { result ≡ first_stop (refused ∷ map (λ one. one.stop) meshed.now ++ map (λ one. one.stop) served.now) }
 {
     let mut stop = refused;
-    for q in 0..ends.len() {
-        stop = either_stop(stop, ends[q]);
+    for q in 0..meshed.len() {
+        stop = either_stop(stop, meshed[q].stop);
     }
     for w in 0..served.len() {
         stop = either_stop(stop, served[w].stop);

@@ -21,15 +21,15 @@ returns-clause-begun g c =
     let counted : length c.as_slice.result.now ≡ vec_len c.in_ok-counts.counts = ap (λ (l : List ℕ). length l) c.as_slice.ensures.value ∙ sym c.in_ok-counts.counts.ok.0 in
     let many : c.in_ok-shared.shared.seats ≡ length (map (λ (script : Bor (List Command)). script.now) c.args.scripts.now)
     = c.in_ok-shared.ensures.count ∙ counted ∙ c.in_ok-counts.ensures ∙ sym (length-map c.args.scripts.now (λ (script : Bor (List Command)). script.now)) in
-    let ended = c.in_ok-finish.ensures.ended in
-    run_begun c.args.patience.tries (map (λ (script : Bor (List Command)). script.now) c.args.scripts.now) c.in_ok-seats.seats.items c.in_ok-shared.shared.seats ended.0
-    c.in_ok-finish.field-0.history.items (memory_in c.in_ok-finish.field-0.heap c.in_ok-finish.field-0.roots) c.in_ok-seats.ensures many ended.1
+    let ended = c.in_ok-ended.ensures.ended in
+    run_begun c.args.patience.tries (map (λ (script : Bor (List Command)). script.now) c.args.scripts.now) c.in_ok-service.service.seats.items c.in_ok-shared.shared.seats ended.0
+    c.in_ok-ended.ended.history.items (memory_in c.in_ok-ended.ended.heap c.in_ok-ended.ended.roots) c.in_ok-service.ensures.served many ended.1
 
 pub returns-clause-whole : goal.returns-clause-whole
 returns-clause-whole g c no_end =
     let counted : length c.as_slice.result.now ≡ vec_len c.in_ok-counts.counts = ap (λ (l : List ℕ). length l) c.as_slice.ensures.value ∙ sym c.in_ok-counts.counts.ok.0 in
     let many : c.in_ok-shared.shared.seats ≡ length (map (λ (script : Bor (List Command)). script.now) c.args.scripts.now)
     = c.in_ok-shared.ensures.count ∙ counted ∙ c.in_ok-counts.ensures ∙ sym (length-map c.args.scripts.now (λ (script : Bor (List Command)). script.now)) in
-    let ended = c.in_ok-finish.ensures.ended in
-    run_whole c.args.patience.tries (map (λ (script : Bor (List Command)). script.now) c.args.scripts.now) c.in_ok-seats.seats.items c.in_ok-shared.shared.seats ended.0
-    c.in_ok-finish.field-0.history.items (memory_in c.in_ok-finish.field-0.heap c.in_ok-finish.field-0.roots) no_end c.in_ok-seats.ensures many ended.1
+    let ended = c.in_ok-ended.ensures.ended in
+    run_whole c.args.patience.tries (map (λ (script : Bor (List Command)). script.now) c.args.scripts.now) c.in_ok-service.service.seats.items c.in_ok-shared.shared.seats ended.0
+    c.in_ok-ended.ended.history.items (memory_in c.in_ok-ended.ended.heap c.in_ok-ended.ended.roots) no_end c.in_ok-service.ensures.served many ended.1

@@ -1,16 +1,16 @@
-use Rattle.std.proofs.Common.{rules, ◌≡◌, ◌<◌, ◌+◌, ◌++◌, ◌∷◌, None, Option, List, ℕ, length, map, slice_index_or, vec_len, Bor, ap, subst, sym, ◌∙◌, arith}
+use Rattle.std.proofs.Common.{rules, ◌≡◌, ◌<◌, ◌+◌, None, List, ℕ, length, map, slice_index_or, Bor, Global, Vec, ap, subst, sym, ◌∙◌, arith}
 use Rattle.std.proofs.lemmas.List.{length-map}
 use Rattle.std.specs.declared.thread.PromisedHandle.{PromisedHandle}
 use Rattle.mesh_model.specs.declared.commands.Command.{Command}
 use Rattle.mesh_shared.specs.Runs.{script_of}
-use Rattle.mesh_shared.specs.Stops.{first_stop}
-use Rattle.mesh_shared.specs.declared.stops.Stop.{Stop}
+use Rattle.mesh_shared.specs.declared.mesher.Meshed.{Meshed}
+use Rattle.mesh_shared.specs.declared.mesher.Meshes.{Meshes}
 use Rattle.mesh_shared.specs.declared.worker.Served.{Served}
 use Rattle.mesh_shared.specs.declared.worker.Works.{Works}
-use Rattle.mesh_shared.proofs.Running.{all_served, each_and_one_more, promised, script_there}
-use Rattle.mesh_shared.proofs.Stopping.{nothing_behind, nothing_first}
+use Rattle.mesh_shared.proofs.Joining.{all_meshed, all_served, if_ok_both, one_mesher_more}
+use Rattle.mesh_shared.proofs.Running.{each_and_one_more, script_there}
 use Rattle.mesh_shared.proofs.threads.fn.serve_all.scope.Goals as goal
-use Rattle.mesh_shared.proofs.threads.fn.serve_all.scope.Goals.{in-None, in-Some+in-Err}
+use Rattle.mesh_shared.proofs.threads.fn.serve_all.scope.Goals.{in-None, in-Some+in-Err, in-Ok-spawn_with, in-Err-spawn_with}
 
 pub loop-seat-preserved : goal.loop-seat-preserved
 loop-seat-preserved g c =
@@ -35,27 +35,44 @@ loop-seat-preserved g c =
       λ i d b. subst (λ (l : List (PromisedHandle Served Works)). P i (slice_index_or l i d)) (sym c.push_reserved.ensures.items) (more i d (let one = c.push_reserved.ensures.len in let long = ok.0 in omega (arith, b, one, long))),
     )
 
-pub returns-in_ok-seats_of_served-in-None-first_stop_of :
-    goal.returns-in_ok-seats_of_served-in-None-first_stop_of
-returns-in_ok-seats_of_served-in-None-first_stop_of g c =
+pub loop-number-preserved : goal.loop-number-preserved
+loop-number-preserved g c =
+    let was = c.loop-number.invariant in (
+      search rules,
+      search rules,
+      search rules,
+      search rules,
+      λ started q d below. elim c.match-spawn_with-2.branch [
+        | in-Ok-spawn_with w ↦ (
+            let before : c.loop-number.refused ≡ None = sym w.refused-is ∙ started in
+            let many = was.3 before in
+            let long = c.loop-number.meshers.ok.0 in
+            one_mesher_more c.captures.plan.now.rounds c.captures.patience-calls c.loop-number.number c.loop-number.meshers.items c.match-spawn_with-2.meshers.items
+            w.in-Ok-spawn_with.handle (omega (arith, many, long))
+            (ap (λ (v : Vec (PromisedHandle Meshed Meshes) Global). v.items) w.meshers-is ∙ w.push_reserved-in-Ok-spawn_with.ensures.items)
+            w.in-Ok-spawn_with.ensures.ok (was.4 before) q d below)
+        | in-Err-spawn_with w ↦ absurd (cc (sym w.refused-is ∙ started))
+      ],
+    )
+
+pub returns : goal.returns
+returns g c =
     let scripts : List (List Command) = map (λ (script : Bor (List Command)). script.now) c.captures.scripts.now in
-    let served : List Served = c.in-Ok-join_promised.served.items in
-    let ends : List (Option Stop) = c.in-Ok-join_promised-2.ends.items in
-    let total : first_stop (c.loop-number.refused ∷ (ends ++ map (λ (one : Served). one.stop) served)) ≡ None
-    = ap (λ (l : List (Option Stop)). first_stop (c.loop-number.refused ∷ (l ++ map (λ (one : Served). one.stop) served))) (sym c.as_slice.ensures.value)
-    ∙ ap (λ (l : List Served). first_stop (c.loop-number.refused ∷ (c.as_slice.result.now ++ map (λ (one : Served). one.stop) l))) (sym c.as_slice-2.ensures.value)
-    ∙ sym c.first_stop_of.ensures ∙ c.in-None-first_stop_of.is in
-    let none = nothing_first c.loop-number.refused (ends ++ map (λ (one : Served). one.stop) served) total in
-    let started : c.match-next.refused ≡ None = c.loop-number.invariant.2 none.0 in
-    let whole : vec_len c.loop-seat.workers ≡ length c.captures.scripts.now = elim c.match-next.branch [
-      | in-None w ↦ (let end = w.in-None.ensures.steps.0 in let many = c.loop-seat.invariant.1 in omega (arith, end, many))
+    let each = c.loop-seat.workers.ok.0 in
+    let whole : c.loop-number.refused ≡ None → length c.loop-seat.workers.items ≡ length c.captures.scripts.now = λ none.
+    let started : c.match-next.refused ≡ None = c.loop-number.invariant.2 none in elim c.match-next.branch [
+      | in-None w ↦ (let end = w.in-None.ensures.steps.0 in let many = c.loop-seat.invariant.1 in omega (arith, end, many, each))
       | in-Some+in-Err w ↦ absurd (cc (sym w.refused-is ∙ started))
     ] in
-    let as_many : length served ≡ length c.captures.scripts.now
-    = (let long = c.in-Ok-join_promised.served.ok.0 in let joined = c.in-Ok-join_promised.ensures.len in omega (arith, long, joined, whole)) in
-    all_served c.captures.patience-tries scripts served c.in_ok-seats_of_served-in-None-first_stop_of.field-0.items
-    (as_many ∙ sym (length-map c.captures.scripts.now (λ (script : Bor (List Command)). script.now))) c.in_ok-seats_of_served-in-None-first_stop_of.ensures
-    (nothing_behind ends (map (λ (one : Served). one.stop) served) none.1)
-    (λ w d below. let within : w < vec_len c.loop-seat.workers = omega (arith, below, as_many, whole) in
-    let kept = (c.in-Ok-join_promised.ensures.each w d within).1 in let of_handle = c.loop-seat.invariant.4 w kept.handle within in
-    promised c.loop-seat.workers.items w kept.handle c.captures.patience-tries (script_of scripts w) (slice_index_or served w d) kept.handle_is of_handle.0 of_handle.1 kept.kept)
+    let long = c.loop-number.meshers.ok.0 in record {
+      served = if_ok_both _ _ _ c.join_all.result
+          (λ service none have. all_served c.captures.patience-tries scripts c.loop-seat.workers.items service.seats.items have
+          (whole none ∙ sym (length-map c.captures.scripts.now (λ (script : Bor (List Command)). script.now)))
+          (λ w h below. c.loop-seat.invariant.4 w h (omega (arith, below, each))))
+          c.join_all.ensures.started c.join_all.ensures.served;
+      meshed = if_ok_both _ _ _ c.join_all.result
+          (λ service none have. let many = c.loop-number.invariant.3 none in let past = c.loop-number-test.false in let end = c.loop-number.auto.number-end in
+          all_meshed c.captures.plan.now c.captures.patience-calls c.loop-number.meshers.items service.meshers.items have (omega (arith, many, past, end, long))
+          (λ q h below. c.loop-number.invariant.4 none q h (omega (arith, below, many, long))))
+          c.join_all.ensures.started c.join_all.ensures.meshed;
+    }

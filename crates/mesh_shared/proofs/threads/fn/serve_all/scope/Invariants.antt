@@ -13,7 +13,10 @@ invariant-loop-seat g l =
     × ((i : ℕ) (d : _) → i < vec_len l.workers → ((slice_index_or l.workers.items i d).promise.tries ≡ l.patience-tries)
     × ((slice_index_or l.workers.items i d).promise.script.now ≡ script_of (map (λ script. script.now) l.scripts) i))
 
--- as many meshers as there is room for, and a worker that couldn't be started is not forgotten
+-- as many meshers as there is room for; where each thread was started, one for each of the first numbers
 abbrev pub invariant-loop-number : goal.invariant-loop-number
 invariant-loop-number g l =
     (vec_len l.meshers ≤ l.number) × (l.plan.now.meshers ≤ vec_capacity l.meshers) × (l.refused ≡ None → l.initial.refused ≡ None)
+    × (l.refused ≡ None → vec_len l.meshers ≡ l.number)
+    × (l.refused ≡ None → (q : ℕ) (d : _) → q < l.number
+    → (slice_index_or l.meshers.items q d).promise ≡ record { rounds = l.rounds; number = q; most = l.most })

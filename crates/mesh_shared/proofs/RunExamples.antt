@@ -1,0 +1,59 @@
+-- What is a run of two scripts, and what isn't.
+use Rattle.std.proofs.Common.{◌≡◌, ℕ, zero, suc, ◌<◌, slice_index_or, refl, arith}
+use Rattle.mesh_model.specs.Memory.{empty_memory}
+use Rattle.mesh_model.specs.Plain.{Entry}
+use Rattle.mesh_shared.specs.Runs.{IsBeginning, commands_by, script_of}
+use Rattle.mesh_shared.specs.RunLaws.{ExchangedIsNoBeginning, ExchangedIsNoRun, FirstAloneIsNoRun, StrangerIsNoBeginning, StrangerIsNoRun, WholeIsRun, WithoutLastIsBegun, WithoutLastIsNoRun, refused_new, two_scripts, whole_run, without_last}
+
+pub whole_is_run : WholeIsRun
+whole_is_run = record {
+  legal = (empty_memory, (refl, refl), (empty_memory, (refl, refl), (empty_memory, (refl, refl), refl)));
+  whole = own;
+  no_other = known;
+}
+  where
+    own : (w : ℕ) → w < 2 → commands_by w whole_run ≡ script_of two_scripts w
+    own zero below = refl
+    own (suc zero) below = refl
+    own (suc (suc w)) below = absurd (omega (arith, below))
+
+    known : (i : ℕ) (d : Entry) → i < 3 → (slice_index_or whole_run i d).worker < 2
+    known zero d below = omega arith
+    known (suc zero) d below = omega arith
+    known (suc (suc zero)) d below = omega arith
+    known (suc (suc (suc i))) d below = absurd (omega (arith, below))
+
+pub without_last_is_begun : WithoutLastIsBegun
+without_last_is_begun = record {
+  legal = (empty_memory, (refl, refl), (empty_memory, (refl, refl), refl));
+  begun = own;
+  no_other = known;
+}
+  where
+    own : (w : ℕ) → w < 2 → IsBeginning (commands_by w without_last) (script_of two_scripts w)
+    own zero below = refl
+    own (suc zero) below = refl
+    own (suc (suc w)) below = absurd (omega (arith, below))
+
+    known : (i : ℕ) (d : Entry) → i < 2 → (slice_index_or without_last i d).worker < 2
+    known zero d below = omega arith
+    known (suc zero) d below = omega arith
+    known (suc (suc i)) d below = absurd (omega (arith, below))
+
+pub without_last_is_no_run : WithoutLastIsNoRun
+without_last_is_no_run end run = let w = run.whole 1 (omega arith) in cc w
+
+pub first_alone_is_no_run : FirstAloneIsNoRun
+first_alone_is_no_run end run = let w = run.whole 1 (omega arith) in cc w
+
+pub stranger_is_no_run : StrangerIsNoRun
+stranger_is_no_run end run = let low : 2 < 2 = run.no_other 0 (refused_new 0 0) (omega arith) in omega (arith, low)
+
+pub stranger_is_no_beginning : StrangerIsNoBeginning
+stranger_is_no_beginning end begun = let low : 2 < 2 = begun.no_other 0 (refused_new 0 0) (omega arith) in omega (arith, low)
+
+pub exchanged_is_no_run : ExchangedIsNoRun
+exchanged_is_no_run end run = let w = run.whole 0 (omega arith) in cc w
+
+pub exchanged_is_no_beginning : ExchangedIsNoBeginning
+exchanged_is_no_beginning end begun = let w = begun.begun 0 (omega arith) in cc w

@@ -1,0 +1,5 @@
+use Rattle.std.proofs.Common.{◌≡◌}
+use Rattle.mesh_shared.proofs.mesher.Mesher.mesh_pair.Given as goal
+
+abbrev pub invariant-loop : goal.invariant-loop
+invariant-loop g l = l.calls.most ≡ l.initial.calls.most

@@ -1,0 +1,24 @@
+-- What is known of threads that were joined, by the promises that their handles carry.
+use Rattle.std.specs.Prelude.{◌≡◌, ℕ, ◌<◌, List, None, length, slice_index_or}
+use Rattle.std.specs.declared.thread.PromisedHandle.{PromisedHandle}
+use Rattle.mesh_model.specs.Reads.{kept_by}
+use Rattle.mesh_shared.specs.Meshing.{HasMeshed}
+use Rattle.mesh_shared.specs.Runs.{HasWorked}
+use Rattle.mesh_shared.specs.Seat.{Seat, calls_of_seats}
+use Rattle.mesh_shared.specs.declared.mesher.Meshed.{Meshed}
+use Rattle.mesh_shared.specs.declared.mesher.Meshes.{Meshes}
+use Rattle.mesh_shared.specs.declared.worker.Served.{Served}
+use Rattle.mesh_shared.specs.declared.worker.Works.{Works}
+
+-- there is a seat of each worker, whose calls are what the worker promised, and nothing stopped it
+pub record HaveServed (handles : List (PromisedHandle Served Works)) (seats : List Seat) : Type 0 where
+  pub many : length seats ≡ length handles
+  pub kept : (w : ℕ) (h : PromisedHandle Served Works) → w < length handles
+      → HasWorked (slice_index_or handles w h).promise.tries (slice_index_or handles w h).promise.script.now (kept_by (calls_of_seats seats) w) None
+
+-- each mesher tells what it promised, and nothing stopped it
+pub record HaveMeshed (handles : List (PromisedHandle Meshed Meshes)) (told : List Meshed) : Type 0 where
+  pub many : length told ≡ length handles
+  pub kept : (q : ℕ) (h : PromisedHandle Meshed Meshes) (d : Meshed) → q < length handles
+      → HasMeshed (slice_index_or handles q h).promise.rounds (slice_index_or handles q h).promise.number (slice_index_or handles q h).promise.most (slice_index_or told q d)
+  pub unstopped : (q : ℕ) (d : Meshed) → q < length handles → (slice_index_or told q d).stop ≡ None

@@ -1,0 +1,53 @@
+-- What meshers do in a run, and what they tell of it.
+use Rattle.std.specs.Prelude.{◌≡◌, ℕ, suc, ◌*◌, ◌%◌, ◌<◌, ◌≤◌, ◌==◌, if◌then◌else◌, List, [], ◌∷◌, Option, Some, None, drop, length, map, slice_index_or, take}
+use Rattle.mesh_model.specs.Search.{Found, View, search, views}
+use Rattle.mesh_model.specs.Table.{Table}
+use Rattle.mesh_shared.specs.declared.calls.Calls.{Calls}
+use Rattle.mesh_shared.specs.declared.mesher.Meshed.{Meshed}
+use Rattle.mesh_shared.specs.declared.plan.MeshPlan.{MeshPlan}
+
+-- the words of a round: those from number 256 times the round on, 256 of them as far as there are any
+abbrev pub words_in : List ℕ → ℕ → List ℕ
+words_in words round = take 256 (drop (256 * round) words)
+
+-- of views from a place on those whose place leaves a mesher's number when divided by the number of meshers
+abbrev pub own_from : ℕ → ℕ → ℕ → List View → List View
+own_from meshers number place [] = []
+own_from meshers number place (view ∷ rest) =
+    if place % meshers == number then view ∷ own_from meshers number (suc place) rest else own_from meshers number (suc place) rest
+
+-- the views of a mesher's classes
+abbrev pub own_views : ℕ → ℕ → List View → List View
+own_views meshers number all = own_from meshers number 0 all
+
+-- the views are those of a mesher's classes in some table
+pub record AreOwn (plan : MeshPlan) (number : ℕ) (own : List View) : Type 0 where
+  pub table : Table
+  pub is_own : own ≡ own_views plan.meshers number (views table)
+
+-- a mesher's classes of some table were searched by the words of this round
+pub record HasSearched (plan : MeshPlan) (number round : ℕ) (own : List View) (found : List Found) : Type 0 where
+  pub of_classes : AreOwn plan number own
+  pub by_words : found ≡ map (λ view. search view (words_in plan.words.items round) plan.t) own
+
+-- the calls are over
+abbrev pub IsOver : Calls → Type 0
+IsOver calls = calls.most ≡ Some calls.made
+
+-- one call more was made
+pub record IsSpent (old new : Calls) : Type 0 where
+  pub most : new.most ≡ old.most
+  pub made : (n : ℕ) → old.most ≡ Some n → new.made ≡ suc old.made
+
+-- what a mesher tells: its number; with no end to its calls and no stop, that it made all rounds, each pair of which was refused or meshed to its end;
+-- and with an end, that no more calls were answered
+pub record HasMeshed (rounds number : ℕ) (most : Option ℕ) (told : Meshed) : Type 0 where
+  pub named : told.number ≡ number
+  pub whole : most ≡ None → told.stop ≡ None → told.rounds ≡ rounds
+  pub few : (n : ℕ) → most ≡ Some n → told.calls ≤ n
+
+-- each mesher of the plan tells so, none was stopped, and each has its own number
+pub record AreMeshed (plan : MeshPlan) (most : Option ℕ) (told : List Meshed) : Type 0 where
+  pub many : length told ≡ plan.meshers
+  pub each : (q : ℕ) (d : Meshed) → q < plan.meshers → HasMeshed plan.rounds q most (slice_index_or told q d)
+  pub unstopped : (q : ℕ) (d : Meshed) → q < plan.meshers → (slice_index_or told q d).stop ≡ None
