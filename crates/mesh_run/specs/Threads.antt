@@ -1,11 +1,13 @@
 -- What a run of scripts in threads has read and written when it ends, and when it stops, and what it tells then.
-use Rattle.std.specs.Prelude.{◌≡◌, ℕ, ◌<◌, ◌≤◌, Bool, false, List, Option, codes, length}
+use Rattle.std.specs.Prelude.{◌≡◌, ℕ, ◌<◌, ◌≤◌, Bool, false, List, [], Option, codes, length}
 use Rattle.std.specs.Io.KnownBytes.{Appends, Keeps}
 use Rattle.std.specs.List.{sum_by}
 use Rattle.mesh_model.specs.Jobs.{Job}
-use Rattle.mesh_model.specs.Memory.{Memory}
+use Rattle.mesh_model.specs.Memory.{Memory, empty_memory}
 use Rattle.mesh_model.specs.Plain.{Entry}
+use Rattle.mesh_model.specs.Table.{empty_table}
 use Rattle.mesh_model.specs.declared.commands.Command.{Command}
+use Rattle.mesh_mutator.specs.Book.{Book, memory_of_book, table_of_book}
 use Rattle.mesh_run.specs.Runs.{HasFailed, error_text}
 use Rattle.mesh_run.specs.Status.{status_of_error}
 use Rattle.mesh_run.specs.declared.threads_args.ThreadsArgs.{ThreadsArgs}
@@ -88,6 +90,13 @@ pub record IsPlanOf (args : ThreadsArgs) (plan : MeshPlan) : Type 0 where
   pub searchers : plan.workers ≡ args.workers
   pub words : plan.words.items ≡ words_of args.seed args.rounds
   pub meshers : plan.meshers ≡ args.meshers
+
+-- the book has no object, the job's own number of pages, an empty journal, and room in it for the job's own history
+pub record IsBookOf (job : Job) (book : Book) : Type 0 where
+  pub memory : memory_of_book book ≡ empty_memory
+  pub table : table_of_book book ≡ empty_table job.pages
+  pub entries : book.entries ≡ []
+  pub room : book.room ≡ job.history
 
 -- why a job gave no text of a run
 abbrev pub IsNoRun : Job → ThreadsError → Type 0

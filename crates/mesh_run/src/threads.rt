@@ -6,7 +6,7 @@ ghost use Rattle.mesh_model.specs.Commands.{IsInRange};
 ghost use Rattle.mesh_model.specs.Texts.{ended};
 ghost use Rattle.mesh_mutator.specs.Book.{memory_in};
 ghost use Rattle.mesh_run.specs.Runs.{HasTold};
-ghost use Rattle.mesh_run.specs.Threads.{HasFailedRun, HasRoom, HasStoppedRun, HasWrittenRun, IsNoRun, IsPlanOf, IsTextOfRun, command_count, threads_status, threads_text};
+ghost use Rattle.mesh_run.specs.Threads.{HasFailedRun, HasRoom, HasStoppedRun, HasWrittenRun, IsBookOf, IsNoRun, IsPlanOf, IsTextOfRun, command_count, threads_status, threads_text};
 ghost use Rattle.mesh_run.specs.declared.threads_error.ThreadsError.{ThreadsError};
 ghost use Rattle.mesh_shared.specs.Runs.{HasRun};
 ghost use Rattle.mesh_text.specs.Transfer.{AppendsBeginning};
@@ -114,10 +114,34 @@ fn run_scripts<R: Threads + Wait + Sync>(
     ensures none { HasRoom job.now → IfErr result (IsNoRun job.now) }
 {
     let plan = plan_of(alloc, args)?;
-    let book = Book::open(alloc, job.pages, job.history)?;
+    let book = book_of(alloc, job)?;
+    run_book(rt, alloc, job, args, &plan, book)
+}
+
+/// Runs a job's scripts on its book, while meshers do what the plan of the arguments says.
+fn run_book<R: Threads + Wait + Sync>(
+    rt: &R,
+    alloc: Global,
+    job: &Job,
+    args: &ThreadsArgs,
+    plan: &MeshPlan,
+    book: Book,
+) -> Result<Ended, ThreadsError>
+    requires plan { IsPlanOf args.now plan.now }
+    requires book { IsBookOf job.now book }
+    ensures ended { IfOk result (λ ended. HasRun job.now.scripts ended.history.items (memory_in ended.heap ended.roots)) }
+    ensures none { HasRoom job.now → IfErr result (IsNoRun job.now) }
+{
     let scripts = slices_of(alloc, &job.scripts)?;
-    let ended = run_threads(rt, alloc, book, scripts.as_slice(), &plan, &NoGate)?;
+    let ended = run_threads(rt, alloc, book, scripts.as_slice(), plan, &NoGate)?;
     Ok(ended)
+}
+
+/// A fresh book of a job.
+fn book_of(alloc: Global, job: &Job) -> Result<Book, AllocError>
+    ensures { IfOk result (IsBookOf job.now) }
+{
+    Book::open(alloc, job.pages, job.history)
 }
 
 /// What the meshers do.
