@@ -8,8 +8,8 @@ use arrayvec::ArrayVec;
 use mesh_class::class_of;
 use mesh_job::Script;
 use mesh_model::{Refusal, StepKind};
-use mesh_mutator::{Book, Command, Entry};
-use mesh_shared::{Ended, Gate, MeshPlan, RunError, run_abandoned, run_threads};
+use mesh_mutator::{Book, Command, Entry, Reply};
+use mesh_shared::{Ended, Gate, MeshPlan, NoGate, RunError, run_abandoned, run_threads};
 use mesh_steps::{Heap, Report};
 use std::alloc::{AllocError, Global};
 use std::ops::Range;
@@ -101,14 +101,21 @@ fn steps_left(heap: &mut Heap, size: u32) -> u32 {
     1000
 }
 
-// Whether an object has a zero at each of the addresses.
-fn are_zeros(heap: &Heap, addresses: Range<u32>) -> bool {
+// Whether the first of the addresses holds a byte, and each other one a zero.
+fn begins_with(heap: &Heap, addresses: Range<u32>, front: u8) -> bool {
+    let mut wanted = front;
     for address in addresses {
-        if heap.peek(address) != Ok(0) {
+        if heap.peek(address) != Ok(wanted) {
             return false;
         }
+        wanted = 0;
     }
     true
+}
+
+// Whether the objects of `STORER` have their bytes.
+fn keep_bytes(heap: &Heap) -> bool {
+    begins_with(heap, 0x1800..0x2000, 0xab) && begins_with(heap, 0x2000..0x2800, 0xcd)
 }
 
 // Two groups with one object each, and then four reads of the second object.
@@ -117,6 +124,22 @@ static READER: [Word; 10] = [
     Word::New(1, 2048),
     Word::New(2, 2048),
     Word::New(3, 2048),
+    Word::Free(0),
+    Word::Free(3),
+    Word::Get(2),
+    Word::Get(2),
+    Word::Get(2),
+    Word::Get(2),
+];
+
+// The same, with a byte stored in each object before.
+static STORER: [Word; 12] = [
+    Word::New(0, 2048),
+    Word::New(1, 2048),
+    Word::New(2, 2048),
+    Word::New(3, 2048),
+    Word::Put(1, 0xab),
+    Word::Put(2, 0xcd),
     Word::Free(0),
     Word::Free(3),
     Word::Get(2),
@@ -178,11 +201,14 @@ fn a_reader_runs_during_a_copy(rt: HostRuntime) -> Result<(), Fail> {
 #[test]
 fn a_search_runs_beside_a_script(rt: HostRuntime) -> Result<(), Fail> {
     let alloc = rt.alloc();
-    let reads = script_of(alloc, &[Word::Get(9), Word::Get(9), Word::Get(9)])?;
-    let marks = [Mark::of(Event::Searching), Mark::of(Event::Called(0, 1))];
+    let script = script_of(
+        alloc,
+        &[Word::Get(9), Word::Get(9), Word::New(0, 16), Word::Get(0)],
+    )?;
+    let marks = [Mark::of(Event::Searching), Mark::of(Event::Called(0, 2))];
     let holds = [
         Hold::new(Event::Called(0, 0), &[Event::Searching]),
-        Hold::new(Event::Searching, &[Event::Called(0, 1)]),
+        Hold::new(Event::Searching, &[Event::Called(0, 2)]),
     ];
     let gate = Holding::new(&rt, &marks, &holds, &[]);
     let book = Book::open(alloc, 16, 8)?;
@@ -193,12 +219,31 @@ fn a_search_runs_beside_a_script(rt: HostRuntime) -> Result<(), Fail> {
         words: Vec::new(alloc),
         meshers: 1,
     };
-    let ended = run_threads(&rt, alloc, book, &alone(&reads), &plan, &gate).expect(
+    let ended = run_threads(&rt, alloc, book, &alone(&script), &plan, &gate).expect(
         &rt,
         "a history",
     );
     assert!(rt; gate.went_well());
-    assert_eq!(rt; ended.history.len(), 3);
+    assert_eq!(rt; ended.history.len(), 4);
+    Ok(())
+}
+
+#[test]
+fn a_book_of_one_page_has_no_second(rt: HostRuntime) -> Result<(), Fail> {
+    let alloc = rt.alloc();
+    let script = script_of(
+        alloc,
+        &[Word::New(0, 2048), Word::New(1, 2048), Word::New(2, 2048)],
+    )?;
+    let book = Book::open(alloc, 1, 3)?;
+    let plan = plan_of(alloc, 1, 1);
+    let ended = run_threads(&rt, alloc, book, &alone(&script), &plan, &NoGate).expect(
+        &rt,
+        "a history",
+    );
+    let last = ended.history.last().expect(&rt, "an entry");
+    assert!(rt; last.reply == Reply::Refused(Refusal::NoPages));
+    assert_eq!(rt; ended.heap.report().taken, 1);
     Ok(())
 }
 
@@ -316,11 +361,11 @@ fn abandoned<R: Clock + Threads + Wait + Sync>(
     alloc: Global,
     calls: u32,
 ) -> Result<Option<Ended>, AllocError> {
-    let reader = script_of(alloc, &READER)?;
-    let marks = [Mark::of(Event::Called(0, 5)), Mark::of(Event::Begun(0))];
+    let reader = script_of(alloc, &STORER)?;
+    let marks = [Mark::of(Event::Called(0, 7)), Mark::of(Event::Begun(0))];
     let holds = [
-        Hold::new(Event::Searching, &[Event::Called(0, 5)]),
-        Hold::new(Event::Called(0, 5), &[Event::Begun(0)]),
+        Hold::new(Event::Searching, &[Event::Called(0, 7)]),
+        Hold::new(Event::Called(0, 7), &[Event::Begun(0)]),
     ];
     // A mesher that makes no call begins no mesh that one could wait for.
     let waits = if calls == 0 { 1 } else { 2 };
@@ -337,19 +382,20 @@ fn a_mesher_is_abandoned_after_each_call(rt: HostRuntime) -> Result<(), Fail> {
     for calls in 0..8 {
         let mut ended = abandoned(&rt, alloc, calls)?.expect(&rt, "a history");
         assert!(rt;
-            ended.history.len() == 10,
+            ended.history.len() == 12,
             "all commands are answered, after {calls} calls"
         );
-        let kept = are_zeros(&ended.heap, 0x1800..0x2000) && are_zeros(&ended.heap, 0x2000..0x2800);
-        assert!(rt; kept, "both objects keep their bytes, after {calls} calls");
+        assert!(rt;
+            keep_bytes(&ended.heap),
+            "both objects keep their bytes, after {calls} calls"
+        );
         let left = if calls == 0 { 0 } else { 7 - calls };
         assert!(rt;
             steps_left(&mut ended.heap, 2048) == left,
             "{left} steps are left after {calls} calls"
         );
-        let kept = are_zeros(&ended.heap, 0x1800..0x2000) && are_zeros(&ended.heap, 0x2000..0x2800);
         assert!(rt;
-            kept,
+            keep_bytes(&ended.heap),
             "both objects keep their bytes to the end, after {calls} calls"
         );
     }

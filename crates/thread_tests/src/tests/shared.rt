@@ -4,7 +4,7 @@ ghost use Rattle.mesh_model.specs.Commands.{IsInRange};
 
 use arrayvec::ArrayVec;
 use mesh_class::{Class, class_of};
-use mesh_model::StepKind;
+use mesh_model::{Refusal, StepKind};
 use mesh_mutator::{Attempt, Book, Command, Reply};
 use mesh_shared::{Ended, FinishError, Seat, Shared};
 use mesh_steps::{Report, StepDone};
@@ -294,6 +294,52 @@ fn a_mesher_takes_the_lock(rt: HostRuntime) -> Result<(), AllocError> {
         saved: 0,
     };
     assert!(&rt; ended.heap.report() == report, "one object is left");
+    Ok(())
+}
+
+#[test]
+fn a_call_tells_that_it_is_held_back(rt: HostRuntime) -> Result<(), AllocError> {
+    let alloc = rt.alloc();
+    let (shared, mut seats) = opened(alloc, &[16])?;
+    let (Some(mut seat), Ok(class)) = (seats.pop(), class_of(2048)) else {
+        return Err(AllocError);
+    };
+    set_up(&rt, &shared, &mut seat);
+    assert!(&rt; !shared.book.read(&rt).running(class), "no mesh runs");
+    let begun = shared.book.write(&rt).begin(1, 0);
+    let protected = shared.book.write(&rt).step(class);
+    assert!(&rt; begun.is_ok() && protected.is_ok(), "a page is read-only");
+    assert!(&rt; shared.book.read(&rt).running(class), "a mesh runs");
+    let mut bytes = ArrayVec::new();
+    bytes.push(0x68);
+    let stored = shared.call(&rt, &mut seat, &Command::Put(2, 0, bytes));
+    assert!(&rt; stored == Attempt::Blocked, "the store is held back");
+    assert!(&rt; seat.calls().len() == 6, "and isn't kept");
+    Ok(())
+}
+
+#[test]
+fn the_book_is_the_one_handed_in(rt: HostRuntime) -> Result<(), AllocError> {
+    let alloc = rt.alloc();
+    let book = Book::open(alloc, 1, 3)?;
+    let Ok((shared, mut seats)) = Shared::open(alloc, book, &[4]) else {
+        return Err(AllocError);
+    };
+    let Some(mut seat) = seats.pop() else {
+        return Err(AllocError);
+    };
+    shared.call(&rt, &mut seat, &new_object(0));
+    shared.call(&rt, &mut seat, &new_object(1));
+    let third = shared.call(&rt, &mut seat, &new_object(2));
+    assert!(&rt;
+        third == Attempt::Done(Reply::Refused(Refusal::NoPages)),
+        "it has one page"
+    );
+    let fourth = shared.call(&rt, &mut seat, &new_object(3));
+    assert!(&rt;
+        fourth == Attempt::HistoryFull,
+        "and room for three entries"
+    );
     Ok(())
 }
 
