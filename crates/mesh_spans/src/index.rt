@@ -28,7 +28,6 @@ use std::marker::Model;
 /// Spans and groups are numbered in the order of their making, and no number is used again.
 #[derive(Debug, Drop)]
 pub struct Spans {
-    alloc: Global,
     // By number.
     spans: Vec<Extent>,
     // By number; None where the number is no group any more.
@@ -62,7 +61,6 @@ impl Spans {
         let owners = Owners::new(alloc)?;
         let bins = new_bins(alloc)?;
         Ok(Spans {
-            alloc,
             spans: Vec::new(alloc),
             groups: Vec::new(alloc),
             owners,
@@ -80,8 +78,15 @@ impl Spans {
         let _spans = self.spans.len();
     }
 
-    /// Adds a span of these virtual and physical pages, with a group of its own. Nothing changes where memory is refused.
-    pub fn add_span(&mut self, class: Class, first: u32, pages: &[Page]) -> Result<Span, AllocError>
+    /// Adds a span of these virtual and physical pages, with a group of its own. It alone is handed an allocator: no other call on an index that
+    /// was made takes memory. Nothing changes where memory is refused.
+    pub fn add_span(
+        &mut self,
+        alloc: Global,
+        class: Class,
+        first: u32,
+        pages: &[Page],
+    ) -> Result<Span, AllocError>
         requires first { 1 ≤ first }
         requires last { first + pages_of class ≤ 65536 }
         requires unused { AreUnused self.old first }
@@ -96,7 +101,7 @@ impl Spans {
     {
         let number = self.spans.len() as u32;
         let span = Span::numbered(number);
-        let group = Group::new(self.alloc, class, span, pages)?;
+        let group = Group::new(alloc, class, span, pages)?;
         self.spans.reserve(1)?;
         self.groups.reserve(1)?;
         self.spans.push_reserved(Extent::new(first, class, number));
@@ -253,7 +258,8 @@ impl Spans {
         group.object_of(extent.first(), slot)
     }
 
-    /// The span, the slot and the offset in the slot of an address. None exactly where the address is in no member of a group.
+    /// The span, the slot and the offset in the slot of an address: a span of a group that there is now. None only where the address is in no
+    /// member of a group.
     pub fn find(&self, addr: u32) -> Option<(Span, Slot, u32)>
         ensures span { IfSome result (λ r. r.0 < length self.now.spans) }
         ensures sound { IfSome result (λ r. IsSpan (span_at self.now.spans r.0)) }

@@ -35,7 +35,7 @@ fn index_of(alloc: Global, class: Class, groups: &[u32]) -> Result<Spans, AllocE
     let mut spans = Spans::new(alloc)?;
     let mut next = 1;
     for _ in 0..groups.len() {
-        next = add(&mut spans, class, next)?;
+        next = add(alloc, &mut spans, class, next)?;
         fill(&mut spans, class);
     }
     for n in 0..groups.len() {
@@ -47,7 +47,7 @@ fn index_of(alloc: Global, class: Class, groups: &[u32]) -> Result<Spans, AllocE
 }
 
 // Adds a span at a virtual page, where there is room, and answers the page after it. All spans have one physical page.
-fn add(spans: &mut Spans, class: Class, next: u32) -> Result<u32, AllocError>
+fn add(alloc: Global, spans: &mut Spans, class: Class, next: u32) -> Result<u32, AllocError>
     requires some { 1 ≤ next }
     requires unused { AreUnused spans.old next }
     ensures some { IfOk result (λ end. 1 ≤ end) }
@@ -58,7 +58,7 @@ fn add(spans: &mut Spans, class: Class, next: u32) -> Result<u32, AllocError>
         return Ok(next);
     }
     let pages = [Page::default(); 3];
-    spans.add_span(class, next, &pages[..class.pages() as usize])?;
+    spans.add_span(alloc, class, next, &pages[..class.pages() as usize])?;
     Ok(end)
 }
 
