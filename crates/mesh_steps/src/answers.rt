@@ -1,6 +1,7 @@
 //! What the heap's calls answer.
 use mesh_model::{Refusal, StepKind};
 use mesh_spans::{Slot, Span};
+use thiserror::Error;
 
 /// A reference to an object: its serial and its address. It is stale once the record at that address hasn't that serial.
 #[derive(Clone, Copy, Debug, PartialEq, Eq)]
@@ -23,11 +24,13 @@ pub enum Stored {
 }
 
 /// Why no object was made. Nothing has changed.
-#[derive(Clone, Copy, Debug, PartialEq, Eq)]
+#[derive(Clone, Copy, Debug, PartialEq, Eq, Error)]
 pub enum NewFault {
     /// The call was refused.
+    #[error("{0}")]
     Refused(Refusal),
     /// The memory for a new span was refused.
+    #[error("out of memory")]
     Memory,
 }
 

@@ -1,5 +1,5 @@
 //! `Heap`: making, reading, writing, copying and freeing objects. The calls of a mesher stand in `meshes`, and what its search sees in `views`.
-ghost use Rattle.std.specs.Prelude.{◌≡◌, ℕ, ◌+◌, ◌-◌, ◌^◌, ◌<◌, ◌≤◌, Ok, Err, Some, [], ◌∷◌, length, List, Option, IfOk, IfErr, IfSome, IfNone, IsSomeAnd, is_ok};
+ghost use Rattle.std.specs.Prelude.{◌≡◌, ℕ, ◌+◌, ◌-◌, ◌^◌, ◌<◌, ◌≤◌, true, false, Ok, Err, Some, [], ◌∷◌, length, List, Option, IfOk, IfErr, IfSome, IfNone, IsSomeAnd, is_ok};
 ghost use Rattle.std.specs.Bool.{OnFalse, OnTrue};
 ghost use Rattle.mesh_model.specs.Mesh.{is_blocked};
 ghost use Rattle.mesh_model.specs.Places.{Record, IsIn, record_with};
@@ -58,7 +58,15 @@ impl Heap {
         })
     }
 
-    /// Makes an object of `len` zero bytes. The word picks the slot among the free ones of the group that takes it.
+    /// Whether as many objects were made as there are serials: then there is no other one.
+    pub fn is_full(&self) -> bool
+        ensures full { result ≡ true → 2 ^ 32 - 1 ≤ self.now.next_serial }
+        ensures left { result ≡ false → self.now.next_serial < 2 ^ 32 - 1 }
+    {
+        self.next_serial == u32::MAX
+    }
+
+    /// Makes an object of `len` zero bytes. `is_full` tells whether there is a serial for it. The word picks the slot among the free ones of the group that takes it.
     ///
     /// Refused with ZERO, TOO_LARGE, NO_PAGES or NO_ADDRESSES, the first that holds. Memory comes only where a new span is needed.
     pub fn new(&mut self, len: u32, word: u64) -> Result<Ref, NewFault>
