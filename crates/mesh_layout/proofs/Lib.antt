@@ -15,6 +15,7 @@ pub mod StepEffects
 pub mod Whole
 pub mod WholeSteps
 pub mod Covered
+mod SameEffects
 pub mod ReadOnly
 pub mod Meaning
 pub mod Changes

@@ -12,4 +12,5 @@ pub mod Meshes
 pub mod Indexes
 pub mod PageHeap
 pub mod Effects
+pub mod EffectLaws
 pub mod Progress
