@@ -9,7 +9,7 @@ use Rattle.mesh_model.specs.Plain.{Entry, PlainStep}
 use Rattle.mesh_model.specs.Sound.{IsTied}
 use Rattle.mesh_model.specs.declared.commands.Command.{Command}
 use Rattle.mesh_model.specs.declared.commands.Reply.{Reply}
-use Rattle.mesh_mutator.specs.Book.{AreRooted, Book, Cells, IsAttempt, IsBook, IsPerformed, memory_in, memory_of_book}
+use Rattle.mesh_mutator.specs.Book.{AddsEntry, AreRooted, Book, Cells, IsAttempt, IsBook, IsPerformed, memory_in, memory_of_book}
 use Rattle.mesh_mutator.specs.declared.attempts.Attempt.{Attempt}
 use Rattle.mesh_mutator.specs.declared.attempts.Attempt.TheVariants.{Blocked, Done, HistoryFull, OutOfMemory}
 use Rattle.mesh_steps.specs.Heap.{Heap, IsHeap, plain_of, table_of}
@@ -23,7 +23,7 @@ abbrev pub answered_book : Book → Heap → Cells → Entry → Book
 answered_book b h cells entry = record { heap = h; cells = cells; entries = b.entries ++ entry ∷ []; room = b.room }
 
 -- the memory is tied to the table with any roots
-IsTied_roots : (h : Heap) (cells : Cells) → IsTied (plain_of h) (table_of h) → IsTied (memory_in h cells) (table_of h)
+pub IsTied_roots : (h : Heap) (cells : Cells) → IsTied (plain_of h) (table_of h) → IsTied (memory_in h cells) (table_of h)
 IsTied_roots h cells tied = record {
   slots = λ number k group slot there filled. let live = tied.slots number k group slot there filled in
       record { object = live.object; live = live.live; address = live.address; len = live.len };
@@ -81,6 +81,14 @@ attempt_unrecorded b h cells worker command (Done reply) short not_done done = a
 attempt_unrecorded b h cells worker command Blocked short not_done done = (short, done.0, book_is b h cells done.1 done.2)
 attempt_unrecorded b h cells worker command HistoryFull short not_done done = absurd done
 attempt_unrecorded b h cells worker command OutOfMemory short not_done done = (short, done.0, book_is b h cells done.1 done.2)
+
+-- an attempt adds its entry where it is done, and else leaves the book
+pub adds_entry : (old new : Book) (worker : ℕ) (command : Command) (attempt : Attempt) → IsAttempt old new worker command attempt
+    → AddsEntry old new worker command attempt
+adds_entry old new worker command (Done reply) is = is.entries
+adds_entry old new worker command Blocked is = is.2
+adds_entry old new worker command HistoryFull is = is.1
+adds_entry old new worker command OutOfMemory is = is.2
 
 -- an attempt with room in the journal doesn't find it full
 pub not_full : (b : Book) (h : Heap) (cells : Cells) (command : Command) (attempt : Attempt) → IsPerformed b.heap h b.cells cells command attempt

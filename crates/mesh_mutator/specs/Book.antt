@@ -137,6 +137,14 @@ IsAttempt old new worker command Blocked =
 IsAttempt old new worker command HistoryFull = (old.room ≤ length old.entries) × (new ≡ old)
 IsAttempt old new worker command OutOfMemory = (length old.entries < old.room) × IsNewForSpan old.heap command × (new ≡ old)
 
+-- where the attempt is done this entry was added, and no other; else the book is as it was
+abbrev pub AddsEntry : Book → Book → ℕ → Command → Attempt → Type 0
+AddsEntry old new worker command (Done reply) =
+    new.entries ≡ old.entries ++ record { worker = worker; command = command; reply = reply } ∷ []
+AddsEntry old new worker command Blocked = new ≡ old
+AddsEntry old new worker command HistoryFull = new ≡ old
+AddsEntry old new worker command OutOfMemory = new ≡ old
+
 -- what a command is answered that changes nothing
 abbrev pub IsLooked : Heap → Cells → Command → Reply → Type 0
 IsLooked h cells command reply = Follows (plain (memory_in h cells) 0 command) (memory_in h cells) reply (memory_in h cells)

@@ -7,6 +7,7 @@ pub use Rattle.mesh_steps.specs.Heap
 pub mod Attempts
 pub mod Book
 pub mod Codes
+pub mod Headline
 pub mod Journal
 pub mod Mesher
 pub mod Packing

@@ -3,9 +3,11 @@ ghost use Rattle.std.specs.Prelude.{◌≡◌, ◌≤◌, ◌↔◌, [], IfOk, l
 ghost use Rattle.mesh_model.specs.Commands.{IsInRange};
 ghost use Rattle.mesh_model.specs.Memory.{empty_memory};
 ghost use Rattle.mesh_model.specs.Plain.{IsLegal};
+ghost use Rattle.mesh_model.specs.Sound.{IsSound, IsTied};
 ghost use Rattle.mesh_model.specs.Table.{empty_table};
 ghost use Rattle.mesh_mutator.specs.Attempts.{IsLook};
-ghost use Rattle.mesh_mutator.specs.Book.{IsAttempt, IsLooked, memory_in, memory_of_book, table_of_book};
+ghost use Rattle.mesh_mutator.specs.Book.{AddsEntry, IsAttempt, IsLooked, memory_in, memory_of_book, table_of_book};
+ghost use Rattle.mesh_mutator.specs.Headline.{EndsInMeaning, HasBytesApart, IsHistory};
 ghost use Rattle.mesh_mutator.specs.declared.attempts.Attempt.{Attempt};
 ghost use Rattle.mesh_steps.specs.Always.{HasHeldPagesTaken, HasObjectsApart, HasPlacesApart, HasReadOnlyOfMeshes, LiesAsMeshesHaveIt};
 ghost use Rattle.mesh_steps.specs.Heap.{arena_of};
@@ -83,6 +85,26 @@ impl Book {
         (self.heap, self.roots, self.journal)
     }
 
+    /// What holds of a book at any moment, whatever it was asked before and however mutators and mesher took turns.
+    ///
+    /// The journal is a legal history of the plain memory; its end is what heap and cells mean; two different bytes of live objects never
+    /// share a place; no free page holds a live object; the read-only pages are exactly those of the running meshes; the table is sound, and
+    /// names the live objects. So a `step` is refused only where no mesh of the class runs, and a `cancel` only there or once a page was
+    /// remapped (`mesh_model::mesh_laws`). `docs/PROOF.md` tells what to read to be sure of it.
+    pub fn headline(&self)
+        ensures legal { IsHistory self.now.entries }
+        ensures ends { EndsInMeaning self.now }
+        ensures apart { HasBytesApart self.now.heap }
+        ensures held { HasHeldPagesTaken self.now.heap }
+        ensures read_only { HasReadOnlyOfMeshes self.now.heap }
+        ensures sound { IsSound (table_of_book self.now) }
+        ensures tied { IsTied (memory_of_book self.now) (table_of_book self.now) }
+    {
+        legal_histories();
+        self.heap.always();
+        self.heap.sound();
+    }
+
     /// What always holds of its heap: two different bytes of live objects never share a place, no free page holds a live object, the
     /// read-only pages are exactly those of the running meshes, and groups, page map and arena lie as these meshes have them.
     pub fn always(&self)
@@ -98,10 +120,12 @@ impl Book {
     /// One attempt of a worker at a command.
     ///
     /// HistoryFull comes before all else, where the journal is at its reserved length; then come refusals, then Blocked of a `Put`, a `Poke`
-    /// or a `Copy` that writes to a read-only page, then OutOfMemory of a `New` that needs a new span. Only a Done attempt is recorded.
+    /// or a `Copy` that writes to a read-only page, then OutOfMemory of a `New` that needs a new span. Only a Done attempt is recorded: its
+    /// entry is added, and any other attempt leaves the book equal.
     pub fn act(&mut self, worker: u32, command: &Command) -> Attempt
         requires { IsInRange command.now }
         ensures attempt { IsAttempt self.old self.new worker command.now result }
+        ensures entry { AddsEntry self.old self.new worker command.now result }
         ensures full { (result ≡ Attempt.HistoryFull) ↔ (self.old.room ≤ length self.old.entries) }
     {
         if self.journal.is_full() {

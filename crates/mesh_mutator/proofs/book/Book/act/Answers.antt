@@ -1,5 +1,5 @@
 use Rattle.std.proofs.Common.{subst, sym, arith}
-use Rattle.mesh_mutator.proofs.Booking.{IsBook_answered, attempt_answered, attempt_unrecorded, not_full, unrecorded_same}
+use Rattle.mesh_mutator.proofs.Booking.{IsBook_answered, adds_entry, attempt_answered, attempt_unrecorded, not_full, unrecorded_same}
 use Rattle.mesh_mutator.specs.Book.{Book, Cells, IsBook}
 use Rattle.mesh_mutator.specs.Journal.{Journal}
 use Rattle.mesh_steps.specs.Heap.{Heap}
@@ -24,9 +24,11 @@ returns-in-Done c =
     let short = c.is_full.ensures.free c.if-is_full.false in
     let done = c.perform-attempt.ensures.performed in
     let book = book_of c.self.inside.heap c.self.inside.roots c.self.inside.journal in
+    let attempt = attempt_answered book c.perform-attempt.new.heap c.perform-attempt.new.roots c.args.worker c.args.command.now c.in-Done.reply
+    c.perform-attempt.result short c.in-Done.is done in
     rw (← c.self.view_is, c.push.ensures) (record {
-      attempt = attempt_answered book c.perform-attempt.new.heap c.perform-attempt.new.roots c.args.worker c.args.command.now c.in-Done.reply
-          c.perform-attempt.result short c.in-Done.is done;
+      attempt = attempt;
+      entry = adds_entry _ _ _ _ _ attempt;
       full = (
         λ full. absurd (not_full book c.perform-attempt.new.heap c.perform-attempt.new.roots c.args.command.now c.perform-attempt.result done full),
         λ past. absurd (omega (arith, short, past)),
@@ -44,9 +46,11 @@ returns-in_default c =
     let short = c.is_full.ensures.free c.if-is_full.false in
     let done = c.perform-attempt.ensures.performed in
     let book = book_of c.self.inside.heap c.self.inside.roots c.self.inside.journal in
+    let attempt = attempt_unrecorded book c.perform-attempt.new.heap c.perform-attempt.new.roots c.args.worker c.args.command.now c.perform-attempt.result
+    short c.in_default.not-Done done in
     rw (← c.self.view_is) (record {
-      attempt = attempt_unrecorded book c.perform-attempt.new.heap c.perform-attempt.new.roots c.args.worker c.args.command.now c.perform-attempt.result short
-          c.in_default.not-Done done;
+      attempt = attempt;
+      entry = adds_entry _ _ _ _ _ attempt;
       full = (
         λ full. absurd (not_full book c.perform-attempt.new.heap c.perform-attempt.new.roots c.args.command.now c.perform-attempt.result done full),
         λ past. absurd (omega (arith, short, past)),
