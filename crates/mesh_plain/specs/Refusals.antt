@@ -1,5 +1,9 @@
--- How a fault answers for the plain step.
+-- How a fault answers for the plain step, and which commands may want memory.
 use Rattle.std.specs.Prelude.{◌≡◌, Result, Err, IsOk}
+use Rattle.mesh_model.specs.declared.commands.Command.{Command}
+use Rattle.mesh_model.specs.declared.commands.Command.TheVariants.{New, Alias}
+use Rattle.mesh_model.specs.declared.commands.Reply.{Reply}
+use Rattle.mesh_model.specs.declared.commands.Reply.TheVariants.{Object}
 use Rattle.mesh_model.specs.declared.refusals.Refusal.{Refusal}
 use Rattle.mesh_model.specs.declared.refusals.Refusal.TheVariants.{Empty as IsEmpty, Freed as IsFreed, Outside as IsOutside, Stray as IsStray}
 use Rattle.mesh_plain.specs.declared.faults.PlainFault.{PlainFault}
@@ -17,3 +21,9 @@ IsRefusedAs OfMemory step = ⊥
 abbrev pub IsRefusedOrMemory : {X : Type 0} → PlainFault → Result X Refusal → Type 0
 IsRefusedOrMemory OfMemory step = IsOk step
 IsRefusedOrMemory fault step = IsRefusedAs fault step
+
+-- the command may take memory where it was answered so: a `new` that made an object, and an `alias`
+abbrev pub MayTakeMemory : Command → Reply → Type 0
+MayTakeMemory (New cell len word) (Object serial address) = Unit {0}
+MayTakeMemory (Alias to from) reply = Unit {0}
+MayTakeMemory command reply = ⊥

@@ -3,7 +3,7 @@ ghost use Rattle.std.specs.Prelude.{◌≡◌, ◌^◌, ◌+◌, ◌-◌, ◌≤
 ghost use Rattle.mesh_model.specs.Commands.{IsInRange};
 ghost use Rattle.mesh_model.specs.Memory.{Memory, next_serial};
 ghost use Rattle.mesh_model.specs.Reads.{is_read, left_by, read_reply, reply_in};
-ghost use Rattle.mesh_plain.specs.Refusals.{IsRefusedAs};
+ghost use Rattle.mesh_plain.specs.Refusals.{IsRefusedAs, MayTakeMemory};
 
 use crate::faults::PlainFault;
 use crate::plain::Plain;
@@ -35,11 +35,12 @@ impl Plain {
     }
 
     /// Does what an answered command did. For a `New` its reply tells the address; a reply that names no object changes nothing, nor does a command
-    /// that is refused. The error is want of memory.
+    /// that is refused. The error is want of memory, and comes of a `New` that made an object and of an `Alias` alone.
     pub fn apply(&mut self, command: &Command, reply: &Reply) -> Result<(), AllocError>
         requires few { next_serial self.old < 2 ^ 32 - 1 }
         ensures done { OnOk result (self.new ≡ left_by self.old command.now reply.now) }
         ensures unchanged { OnErr result (self.new ≡ self.old) }
+        ensures memory { OnErr result (MayTakeMemory command.now reply.now) }
         ensures serials { next_serial self.new ≤ next_serial self.old + 1 }
     {
         match command {
