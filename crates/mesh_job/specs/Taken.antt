@@ -1,5 +1,5 @@
 -- What of a file was taken by its reading.
-use Rattle.std.specs.Prelude.{◌≡◌, ℕ, ◌+◌, ◌≤◌, false, List, ◌++◌, Option, Some, None, Result, Err, IfSome, length}
+use Rattle.std.specs.Prelude.{◌≡◌, ℕ, ◌+◌, ◌≤◌, Bool, false, ◌||◌, List, ◌++◌, Option, Some, None, Result, Err, IfSome, is_some, length}
 use Rattle.mesh_model.specs.Files.{Draft as PlainDraft, blank_draft, has_ended, lines_in}
 use Rattle.mesh_model.specs.Jobs.{Job}
 use Rattle.mesh_model.specs.declared.faults.TextFault.{TextFault}
@@ -19,6 +19,10 @@ read_behind r more = reads_on r.fault r.number (draft_of r.draft) more
 -- how many bytes a reading has taken
 abbrev pub bytes_taken : Reading → ℕ
 bytes_taken r = r.taken
+
+-- a reading has found what ends it: a fault, or the file's last line
+abbrev pub is_over : Reading → Bool
+is_over r = is_some r.fault || has_ended (draft_of r.draft).section
 
 -- a reading of lines that are numbered from 1, each of a byte at least
 pub record IsReading (r : Reading) : Type 0 where

@@ -1,9 +1,9 @@
 //! The reader of job files.
-ghost use Rattle.std.specs.Prelude.{◌≡◌, ◌+◌, ◌-◌, ◌<◌, ◌≤◌, ◌↔◌, List, ℕ, Ok, [], ◌++◌, None, drop, length, take, IfOk, IfErr, IfSome, OnOk};
+ghost use Rattle.std.specs.Prelude.{◌≡◌, ◌+◌, ◌-◌, ◌<◌, ◌≤◌, ◌↔◌, List, ℕ, Ok, [], ◌++◌, None, drop, is_some, length, take, true, IfOk, IfErr, IfSome, OnOk};
 ghost use Rattle.mesh_model.specs.Files.{read_text};
 ghost use Rattle.mesh_job.specs.Draft.{IsDraft, draft_of};
 ghost use Rattle.mesh_job.specs.Faults.{IsReadFault};
-ghost use Rattle.mesh_job.specs.Taken.{HasTaken, IsLeft, IsReadTo, IsReading, bytes_taken};
+ghost use Rattle.mesh_job.specs.Taken.{HasTaken, IsLeft, IsReadTo, IsReading, bytes_taken, is_over};
 
 use crate::draft::Draft;
 use crate::faults::LineFault;
@@ -64,6 +64,7 @@ impl Reading {
         ensures taken { IfOk result (λ count. (text : List ℕ) → HasTaken self.old text → HasTaken self.new (text ++ take count bytes.now)) }
         ensures within { IfOk result (λ count. count ≤ length bytes.now) }
         ensures left { IfOk result (λ count. IsLeft self.new (drop count bytes.now)) }
+        ensures all { IfOk result (λ count. is_over self.new ≡ true → count ≡ length bytes.now) }
     {
         let left = match self.fault {
             Some(_) => &[],
@@ -81,6 +82,7 @@ impl Reading {
         requires most { bytes_taken self.old + length bytes.now ≤ 1048577 }
         ensures read { IfOk result (λ left. IsReadTo self.old bytes.now self.new left.now) }
         ensures left { IfOk result (λ left. IsLeft self.new left.now) }
+        ensures all { IfOk result (λ left. is_over self.new ≡ true → left.now ≡ []) }
         ensures draft { OnOk result (self.new.fault ≡ None → IsDraft self.new.draft) }
         ensures fault { OnOk result (IfSome self.new.fault (λ fault. 1 ≤ fault.line)) }
         ensures numbered { OnOk result (1 ≤ self.new.number) }
