@@ -2,6 +2,7 @@ pub mod Answers
 pub mod Devices
 pub mod Faults
 pub mod Histories
+pub mod HistoryRows
 pub mod Replay
 pub mod Transfer
 pub mod Turns

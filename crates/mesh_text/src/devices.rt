@@ -1,5 +1,5 @@
 //! What a job is read from, and what its answers are written to.
-ghost use Rattle.std.specs.Prelude.{◌≡◌, ◌||◌, ℕ, List, Option, Bool, length, false};
+ghost use Rattle.std.specs.Prelude.{◌≡◌, ◌||◌, ℕ, List, Option, Bool, length, false, true, is_err};
 ghost use Rattle.std.specs.Io.KnownBytes.{ReadConsumes, WriteAppends};
 ghost use Rattle.mesh_text.specs.Devices.{input_has_failed, input_reader, is_read_fault, is_write_fault, output_has_failed, output_writer};
 
@@ -41,7 +41,7 @@ pub trait Sink {
         ensures fails { has_failed self.new ≡ is_write_fault result (length bytes.now) || has_failed self.old };
 }
 
-/// A reader as a source: a file, or bytes in memory. Once a call has failed, so does each call behind it.
+/// A reader as a source: a file, or bytes in memory. Once a call has failed, so does each call behind it, and the reader isn't read again.
 #[derive(Drop)]
 pub struct Input<R> {
     reader: R,
@@ -66,7 +66,11 @@ impl<R: io::Read> Source for Input<R> {
 
     ghost has_failed = { input_has_failed };
 
-    fn read(&mut self, buf: &mut [u8]) -> Result<usize, DeviceFault> {
+    fn read(&mut self, buf: &mut [u8]) -> Result<usize, DeviceFault>
+        ensures bytes { ReadConsumes (R.remaining (input_reader self.old)) (R.remaining (input_reader self.new)) result buf.new }
+        ensures fails { input_has_failed self.new ≡ is_read_fault result (length buf.new) || input_has_failed self.old }
+        ensures again { input_has_failed self.old ≡ true → (is_err result ≡ true) × (self.new ≡ self.old) }
+    {
         if self.failed {
             return Err(DeviceFault);
         }
@@ -80,7 +84,8 @@ impl<R: io::Read> Source for Input<R> {
     }
 }
 
-/// A writer as a sink: standard output, a file, or bytes in memory. Once a call has failed, so does each call behind it.
+/// A writer as a sink: standard output, a file, or bytes in memory. Once a call has failed, so does each call behind it, and nothing more is
+/// handed to the writer.
 #[derive(Drop)]
 pub struct Output<W> {
     writer: W,
@@ -112,7 +117,11 @@ impl<W: io::Write> Sink for Output<W> {
 
     ghost has_failed = { output_has_failed };
 
-    fn write(&mut self, bytes: &[u8]) -> Result<usize, DeviceFault> {
+    fn write(&mut self, bytes: &[u8]) -> Result<usize, DeviceFault>
+        ensures bytes { WriteAppends (W.contents (output_writer self.old)) (W.contents (output_writer self.new)) result bytes.now }
+        ensures fails { output_has_failed self.new ≡ is_write_fault result (length bytes.now) || output_has_failed self.old }
+        ensures again { output_has_failed self.old ≡ true → (is_err result ≡ true) × (self.new ≡ self.old) }
+    {
         if self.failed {
             return Err(DeviceFault);
         }

@@ -11,6 +11,7 @@ mod answers;
 mod devices;
 mod faults;
 mod histories;
+pub mod history_rows;
 mod mesher;
 mod reading;
 mod run;
