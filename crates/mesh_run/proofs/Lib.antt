@@ -3,3 +3,4 @@ pub mod CommandsBuilt
 pub mod FirstWords
 pub mod NumbersRead
 pub mod Telling
+pub mod WordCounts

@@ -9,9 +9,11 @@ mod fault_line;
 mod runs;
 mod shuffle_words;
 mod status;
+pub mod status_laws;
 mod threads;
 mod threads_args;
 mod threads_error;
+pub mod word_laws;
 
 pub use command_line::{Args, Stop, arguments, unread_words};
 pub use mesh_text::{DeviceFault, Input, Output, Sink, Source};
