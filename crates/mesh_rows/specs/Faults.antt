@@ -129,6 +129,12 @@ copy_to_offset_65536_file = codes "mesh 2\npages 1\nhistory 1\nworkers 1\nworker
 abbrev pub copy_to_offset_65536_answer : Result (List ℕ) TextFault
 copy_to_offset_65536_answer = Err (record { line = 6; kind = Number })
 
+abbrev pub cut_hex_file : List ℕ
+cut_hex_file = codes "mesh 1\npages 4\nhistory 8\nworkers 1\nworker 0\nnew 0 64 0\nput 0 0 6"
+
+abbrev pub cut_hex_answer : Result (List ℕ) TextFault
+cut_hex_answer = Err (record { line = 7; kind = Cut })
+
 abbrev pub cut_line_file : List ℕ
 cut_line_file = codes "mesh 1\npages 4\nhistory 8\nworkers 1\nworker 0\nnew 0 64 0\nput 0 0 68"
 
@@ -141,6 +147,12 @@ cut_line_of_1024_bytes_file = replicate 1024 97
 abbrev pub cut_line_of_1024_bytes_answer : Result (List ℕ) TextFault
 cut_line_of_1024_bytes_answer = Err (record { line = 1; kind = Cut })
 
+abbrev pub cut_number_file : List ℕ
+cut_number_file = codes "mesh 1\npages 0"
+
+abbrev pub cut_number_answer : Result (List ℕ) TextFault
+cut_number_answer = Err (record { line = 2; kind = Cut })
+
 abbrev pub empty_line_file : List ℕ
 empty_line_file = codes "\n"
 
@@ -152,6 +164,18 @@ first_line_cut_file = codes "mesh 1"
 
 abbrev pub first_line_cut_answer : Result (List ℕ) TextFault
 first_line_cut_answer = Err (record { line = 1; kind = Cut })
+
+abbrev pub five_fields_with_a_wrong_number_file : List ℕ
+five_fields_with_a_wrong_number_file = codes "mesh 1\npages 4\nhistory 8\nworkers 1\nworker 0\nnew 0 64 0\nget 256 0 1 1\n"
+
+abbrev pub five_fields_with_a_wrong_number_answer : Result (List ℕ) TextFault
+five_fields_with_a_wrong_number_answer = Err (record { line = 7; kind = Word })
+
+abbrev pub five_fields_with_wrong_hex_file : List ℕ
+five_fields_with_wrong_hex_file = codes "mesh 1\npages 4\nhistory 8\nworkers 1\nworker 0\nnew 0 64 0\nput 0 0 6A 1\n"
+
+abbrev pub five_fields_with_wrong_hex_answer : Result (List ℕ) TextFault
+five_fields_with_wrong_hex_answer = Err (record { line = 7; kind = Word })
 
 abbrev pub free_of_no_cell_file : List ℕ
 free_of_no_cell_file = codes "mesh 1\npages 4\nhistory 8\nworkers 1\nworker 0\nnew 0 64 0\nfree\n"
@@ -231,11 +255,29 @@ line_of_1025_bytes_file = replicate 1025 97
 abbrev pub line_of_1025_bytes_answer : Result (List ℕ) TextFault
 line_of_1025_bytes_answer = Err (record { line = 1; kind = LongLine })
 
+abbrev pub long_hex_file : List ℕ
+long_hex_file = codes "mesh 1\npages 4\nhistory 8\nworkers 1\nworker 0\nnew 0 64 0\nput 0 0 AAAAAAAAAAAAAAAAAAAAAAAAAAAAAAAAAAAAAAAAAAAAAAAAAAAAAAAAAAAAAAAAAAAAAAAAAAAAAAAAAAAAAAAAAAAAAAAAAAAAAAAAAAAAAAAAAAAAAAAAAAAAAAAAAAAAAAAAAAAAAAAAAAAAAAAAAAAAAAAAAAAAAAAAAAAAAAAAAAAAAAAAAAAAAAAAAAAAAAAAAAAAAAAAAAAAAAAAAAAAAAAAAAAAAAAAAAAAAAAAAAAAAAAAAAAAAAAAAAAAAAAAAAAAAAAAAAAAAAAAAAAAAAAAAAAAAAAAAAAAAAAAAAAAAAAAAAAAAAAAAAAAAAAAAAAAAAAAAAAAAAAAAAAAAAAAAAAAAAAAAAAAAAAAAAAAAAAAAAAAAAAAAAAAAAAAAAAAAAAAAAAAAAAAAAAAAAAAAAAAAAAAAAAAAAAAAAAAAAAAAAAAAAAAAAAAAAAAAAAAAAAAAAAAAAAAAAAAAAAAAAAAAAAAAAAAAAAAAAAAAAAAAAAAAAAAAAAAAAAAAAAAAAAAAAAAAAAAAAAAAAAAAAAAAAAAAAAAAAAAAAAAAAAAAAAAAAAAAAAAAAAAAAAAAAAAAAAAAAAAAAAAAAAAAAAAAAAAAAAAAAAAAAAAAAAAAAAAAAAAAAAAAAAAAAAAAAAAAAAAAAAAAAAAAAAAAAAAAAAAAAAAAAAAAAAAAAAAAAAAAAAAAAAAAAAAAAAAAAAAAAAAAAAAAAAAAAAAAAAAAAAAAAAAAAAAAAAAAAAAAAAAAAAAAAAAAAAAAAAAAAAAAAAAAAAAAAAAAAAAAAAAAAAAAAAAAAAAAAAAAAAAAAAAAAAAAAAAAAAAAAAAAAAAAAAAAAAAAAAAAAAAAAAAAAAAAAAAAAAAAAAAAAAAAAAAAAAAAAAAAAAAAAAAAAAAAAAAAAAAAAAAAAAAAAAAAAAAAAAAAAAAAAAAAAAAAAAAAAAAAAAAAAAAAAAAAAAAAAAAAAAAAAAAAAAAAAAAAAAAAAAAAAAAAAAAAAAAA\n"
+
+abbrev pub long_hex_answer : Result (List ℕ) TextFault
+long_hex_answer = Err (record { line = 7; kind = LongLine })
+
+abbrev pub long_line_after_end_file : List ℕ
+long_line_after_end_file = codes "mesh 1\npages 4\nhistory 8\nworkers 1\nworker 0\nnew 0 64 0\nplan\nend\naaaaaaaaaaaaaaaaaaaaaaaaaaaaaaaaaaaaaaaaaaaaaaaaaaaaaaaaaaaaaaaaaaaaaaaaaaaaaaaaaaaaaaaaaaaaaaaaaaaaaaaaaaaaaaaaaaaaaaaaaaaaaaaaaaaaaaaaaaaaaaaaaaaaaaaaaaaaaaaaaaaaaaaaaaaaaaaaaaaaaaaaaaaaaaaaaaaaaaaaaaaaaaaaaaaaaaaaaaaaaaaaaaaaaaaaaaaaaaaaaaaaaaaaaaaaaaaaaaaaaaaaaaaaaaaaaaaaaaaaaaaaaaaaaaaaaaaaaaaaaaaaaaaaaaaaaaaaaaaaaaaaaaaaaaaaaaaaaaaaaaaaaaaaaaaaaaaaaaaaaaaaaaaaaaaaaaaaaaaaaaaaaaaaaaaaaaaaaaaaaaaaaaaaaaaaaaaaaaaaaaaaaaaaaaaaaaaaaaaaaaaaaaaaaaaaaaaaaaaaaaaaaaaaaaaaaaaaaaaaaaaaaaaaaaaaaaaaaaaaaaaaaaaaaaaaaaaaaaaaaaaaaaaaaaaaaaaaaaaaaaaaaaaaaaaaaaaaaaaaaaaaaaaaaaaaaaaaaaaaaaaaaaaaaaaaaaaaaaaaaaaaaaaaaaaaaaaaaaaaaaaaaaaaaaaaaaaaaaaaaaaaaaaaaaaaaaaaaaaaaaaaaaaaaaaaaaaaaaaaaaaaaaaaaaaaaaaaaaaaaaaaaaaaaaaaaaaaaaaaaaaaaaaaaaaaaaaaaaaaaaaaaaaaaaaaaaaaaaaaaaaaaaaaaaaaaaaaaaaaaaaaaaaaaaaaaaaaaaaaaaaaaaaaaaaaaaaaaaaaaaaaaaaaaaaaaaaaaaaaaaaaaaaaaaaaaaaaaaaaaaaaaaaaaaaaaaaaaaaaaaaaaaaaaaaaaaaaaaaaaaaaaaaaaaaaaaaaaaaaaaaaaaaaaaaaaaaaaaaaaaaaaaaaaaaaaaaaaaaaaaaaaaaaaaaaaaaaaaaaaaaaaaaaaaaaaaaaaaaaaaaaaaaaaaaaaaaaaaaaaaaaa\n"
+
+abbrev pub long_line_after_end_answer : Result (List ℕ) TextFault
+long_line_after_end_answer = Err (record { line = 9; kind = Trailing })
+
 abbrev pub long_line_of_tabs_file : List ℕ
 long_line_of_tabs_file = replicate 1025 9 ++ 10 ∷ []
 
 abbrev pub long_line_of_tabs_answer : Result (List ℕ) TextFault
 long_line_of_tabs_answer = Err (record { line = 1; kind = LongLine })
+
+abbrev pub long_number_file : List ℕ
+long_number_file = codes "mesh 1\npages 00000000000000000000000000000000000000000000000000000000000000000000000000000000000000000000000000000000000000000000000000000000000000000000000000000000000000000000000000000000000000000000000000000000000000000000000000000000000000000000000000000000000000000000000000000000000000000000000000000000000000000000000000000000000000000000000000000000000000000000000000000000000000000000000000000000000000000000000000000000000000000000000000000000000000000000000000000000000000000000000000000000000000000000000000000000000000000000000000000000000000000000000000000000000000000000000000000000000000000000000000000000000000000000000000000000000000000000000000000000000000000000000000000000000000000000000000000000000000000000000000000000000000000000000000000000000000000000000000000000000000000000000000000000000000000000000000000000000000000000000000000000000000000000000000000000000000000000000000000000000000000000000000000000000000000000000000000000000000000000000000000000000000000000000000000000000000000000000000000000000\n"
+
+abbrev pub long_number_answer : Result (List ℕ) TextFault
+long_number_answer = Err (record { line = 2; kind = LongLine })
 
 abbrev pub missing_end_file : List ℕ
 missing_end_file = codes "mesh 1\npages 16\nhistory 64\nworkers 1\nworker 0\nnew 0 2048 0\nput 0 0 6869\nget 0 0 2\nplan\nrun 0\nrun 0\nrun 0\n"
@@ -368,6 +410,18 @@ sweep_of_group_65536_file = codes "mesh 1\npages 4\nhistory 8\nworkers 1\nworker
 
 abbrev pub sweep_of_group_65536_answer : Result (List ℕ) TextFault
 sweep_of_group_65536_answer = Err (record { line = 9; kind = Number })
+
+abbrev pub tab_after_end_file : List ℕ
+tab_after_end_file = codes "mesh 1\npages 4\nhistory 8\nworkers 1\nworker 0\nnew 0 64 0\nplan\nend\n" ++ 9 ∷ codes "\n"
+
+abbrev pub tab_after_end_answer : Result (List ℕ) TextFault
+tab_after_end_answer = Err (record { line = 9; kind = Trailing })
+
+abbrev pub tab_in_hex_file : List ℕ
+tab_in_hex_file = codes "mesh 1\npages 4\nhistory 8\nworkers 1\nworker 0\nnew 0 64 0\nput 0 0 6" ++ 9 ∷ codes "\n"
+
+abbrev pub tab_in_hex_answer : Result (List ℕ) TextFault
+tab_in_hex_answer = Err (record { line = 7; kind = Byte })
 
 abbrev pub tab_in_the_plan_file : List ℕ
 tab_in_the_plan_file = codes "mesh 1\npages 4\nhistory 8\nworkers 1\nworker 0\nnew 0 64 0\nplan\nrun 0\nstep" ++ 9 ∷ codes "\n"

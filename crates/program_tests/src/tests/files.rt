@@ -440,7 +440,7 @@ pub(crate) static WHOLE_MESHES: [(&str, &str, &str); 8] = [
 ];
 
 /// For each short file that is no job its name, its bytes and the line of its fault.
-pub(crate) static FAULTS: [(&str, &str, &str); 71] = [
+pub(crate) static FAULTS: [(&str, &str, &str); 77] = [
     (
         "faults/addr_of_two_cells",
         "mesh 1\npages 4\nhistory 8\nworkers 1\nworker 0\nnew 0 64 0\naddr 0 0\n",
@@ -527,12 +527,28 @@ pub(crate) static FAULTS: [(&str, &str, &str); 71] = [
         "line 6: NUMBER\n",
     ),
     (
+        "faults/cut_hex",
+        "mesh 1\npages 4\nhistory 8\nworkers 1\nworker 0\nnew 0 64 0\nput 0 0 6",
+        "line 7: CUT\n",
+    ),
+    (
         "faults/cut_line",
         "mesh 1\npages 4\nhistory 8\nworkers 1\nworker 0\nnew 0 64 0\nput 0 0 68",
         "line 7: CUT\n",
     ),
+    ("faults/cut_number", "mesh 1\npages 0", "line 2: CUT\n"),
     ("faults/empty_line", "\n", "line 1: WORD\n"),
     ("faults/first_line_cut", "mesh 1", "line 1: CUT\n"),
+    (
+        "faults/five_fields_with_a_wrong_number",
+        "mesh 1\npages 4\nhistory 8\nworkers 1\nworker 0\nnew 0 64 0\nget 256 0 1 1\n",
+        "line 7: WORD\n",
+    ),
+    (
+        "faults/five_fields_with_wrong_hex",
+        "mesh 1\npages 4\nhistory 8\nworkers 1\nworker 0\nnew 0 64 0\nput 0 0 6A 1\n",
+        "line 7: WORD\n",
+    ),
     (
         "faults/free_of_no_cell",
         "mesh 1\npages 4\nhistory 8\nworkers 1\nworker 0\nnew 0 64 0\nfree\n",
@@ -690,6 +706,16 @@ pub(crate) static FAULTS: [(&str, &str, &str); 71] = [
         "faults/sweep_of_group_65536",
         "mesh 1\npages 4\nhistory 8\nworkers 1\nworker 0\nnew 0 64 0\nplan\nrun 0\nsweep 65536\n",
         "line 9: NUMBER\n",
+    ),
+    (
+        "faults/tab_after_end",
+        "mesh 1\npages 4\nhistory 8\nworkers 1\nworker 0\nnew 0 64 0\nplan\nend\n\x09\n",
+        "line 9: TRAILING\n",
+    ),
+    (
+        "faults/tab_in_hex",
+        "mesh 1\npages 4\nhistory 8\nworkers 1\nworker 0\nnew 0 64 0\nput 0 0 6\x09\n",
+        "line 7: BYTE\n",
     ),
     (
         "faults/tab_in_the_plan",

@@ -87,6 +87,10 @@ pub returns-clause-copy_to_offset_65536 : goal.returns-clause-copy_to_offset_655
 unfolding pages_of slots_of digits
 returns-clause-copy_to_offset_65536 c = refl
 
+pub returns-clause-cut_hex : goal.returns-clause-cut_hex
+unfolding pages_of slots_of digits
+returns-clause-cut_hex c = refl
+
 pub returns-clause-cut_line : goal.returns-clause-cut_line
 unfolding pages_of slots_of digits
 returns-clause-cut_line c = refl
@@ -95,6 +99,10 @@ pub returns-clause-cut_line_of_1024_bytes : goal.returns-clause-cut_line_of_1024
 unfolding pages_of slots_of digits
 returns-clause-cut_line_of_1024_bytes c = refl
 
+pub returns-clause-cut_number : goal.returns-clause-cut_number
+unfolding pages_of slots_of digits
+returns-clause-cut_number c = refl
+
 pub returns-clause-empty_line : goal.returns-clause-empty_line
 unfolding pages_of slots_of digits
 returns-clause-empty_line c = refl
@@ -102,6 +110,14 @@ returns-clause-empty_line c = refl
 pub returns-clause-first_line_cut : goal.returns-clause-first_line_cut
 unfolding pages_of slots_of digits
 returns-clause-first_line_cut c = refl
+
+pub returns-clause-five_fields_with_a_wrong_number : goal.returns-clause-five_fields_with_a_wrong_number
+unfolding pages_of slots_of digits
+returns-clause-five_fields_with_a_wrong_number c = refl
+
+pub returns-clause-five_fields_with_wrong_hex : goal.returns-clause-five_fields_with_wrong_hex
+unfolding pages_of slots_of digits
+returns-clause-five_fields_with_wrong_hex c = refl
 
 pub returns-clause-free_of_no_cell : goal.returns-clause-free_of_no_cell
 unfolding pages_of slots_of digits
@@ -155,9 +171,21 @@ pub returns-clause-line_of_1025_bytes : goal.returns-clause-line_of_1025_bytes
 unfolding pages_of slots_of digits
 returns-clause-line_of_1025_bytes c = refl
 
+pub returns-clause-long_hex : goal.returns-clause-long_hex
+unfolding pages_of slots_of digits
+returns-clause-long_hex c = refl
+
+pub returns-clause-long_line_after_end : goal.returns-clause-long_line_after_end
+unfolding pages_of slots_of digits
+returns-clause-long_line_after_end c = refl
+
 pub returns-clause-long_line_of_tabs : goal.returns-clause-long_line_of_tabs
 unfolding pages_of slots_of digits
 returns-clause-long_line_of_tabs c = refl
+
+pub returns-clause-long_number : goal.returns-clause-long_number
+unfolding pages_of slots_of digits
+returns-clause-long_number c = refl
 
 pub returns-clause-missing_end : goal.returns-clause-missing_end
 unfolding pages_of slots_of digits
@@ -246,6 +274,14 @@ returns-clause-step_without_class c = refl
 pub returns-clause-sweep_of_group_65536 : goal.returns-clause-sweep_of_group_65536
 unfolding pages_of slots_of digits
 returns-clause-sweep_of_group_65536 c = refl
+
+pub returns-clause-tab_after_end : goal.returns-clause-tab_after_end
+unfolding pages_of slots_of digits
+returns-clause-tab_after_end c = refl
+
+pub returns-clause-tab_in_hex : goal.returns-clause-tab_in_hex
+unfolding pages_of slots_of digits
+returns-clause-tab_in_hex c = refl
 
 pub returns-clause-tab_in_the_plan : goal.returns-clause-tab_in_the_plan
 unfolding pages_of slots_of digits
