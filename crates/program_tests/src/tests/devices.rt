@@ -4,6 +4,7 @@ ghost use Rattle.std.specs.Prelude.{◌≡◌, None, false};
 use crate::tests::files::{MESH_ANSWERS, MESH_FILE};
 use mesh_run::{DeviceFault, Input, Output, Sink, Source, replay_run};
 use std::alloc::Global;
+use std::io;
 
 /// More calls than any run makes.
 const ENOUGH: usize = 1000;
@@ -183,4 +184,75 @@ fn fails_at_each_write(rt: HostRuntime) {
             assert_eq!(rt; status, 1, "after {calls}");
         }
     }
+}
+
+/// A reader that fails at its first call, and gives one byte at each later one; a writer that fails at its first call, and takes one byte then.
+#[derive(Drop)]
+struct FailsFirst<'a> {
+    bytes: &'a [u8],
+    fails: bool,
+}
+
+impl io::Read for FailsFirst<'_> {
+    fn read(&mut self, buf: &mut [u8]) -> io::Result<usize> {
+        if self.fails {
+            self.fails = false;
+            return Err(io::ErrorKind::Interrupted.into());
+        }
+        if buf.is_empty() {
+            return Ok(0);
+        }
+        let Some((first, rest)) = self.bytes.split_first() else {
+            return Ok(0);
+        };
+        buf[0] = *first;
+        self.bytes = rest;
+        Ok(1)
+    }
+}
+
+impl io::Write for FailsFirst<'_> {
+    fn write(&mut self, bytes: &[u8]) -> io::Result<usize> {
+        if self.fails {
+            self.fails = false;
+            return Err(io::ErrorKind::Interrupted.into());
+        }
+        Ok(bytes.len().min(1))
+    }
+
+    fn flush(&mut self) -> io::Result<()> {
+        Ok(())
+    }
+}
+
+#[test]
+fn a_failed_call_is_not_tried_again(rt: HostRuntime) {
+    let mut input = Input::new(FailsFirst {
+        bytes: MESH_FILE.as_bytes(),
+        fails: true,
+    });
+    let mut byte = [0];
+    assert!(rt; input.read(&mut byte).is_err());
+    assert!(rt; input.read(&mut byte).is_err());
+    let mut output = Output::new(FailsFirst {
+        bytes: b"",
+        fails: true,
+    });
+    assert!(rt; output.write(b"m").is_err());
+    assert!(rt; output.write(b"m").is_err());
+}
+
+#[test]
+fn one_byte_a_call_is_no_failure(rt: HostRuntime) {
+    let alloc = rt.alloc();
+    let mut input = Input::new(FailsFirst {
+        bytes: MESH_FILE.as_bytes(),
+        fails: false,
+    });
+    let mut output = Output::new(Vec::new(alloc));
+    let mut errors = Output::new(Vec::new(alloc));
+    let status = replay_run(alloc, &mut input, &mut output, &mut errors);
+    let written = output.into_inner();
+    assert_eq!(rt; written.as_slice(), MESH_ANSWERS.as_bytes());
+    assert_eq!(rt; status, 0);
 }

@@ -58,6 +58,20 @@ fn tells_a_history_that_is_too_short(rt: HostRuntime) {
     assert_eq!(rt; run.status, 2);
 }
 
+/// A worker that makes three objects of half a page on a heap of one page, and what it is answered.
+const ONE_PAGE_FILE: &str =
+    "mesh 1\npages 1\nhistory 3\nworkers 1\nworker 0\nnew 0 2048 0\nnew 1 2048 0\nnew 2 2048 0\nplan\nend\n";
+
+const ONE_PAGE_LINES: &str = "worker 0\nobject\nobject\nrefused 3 NO_PAGES\nhistory 3\n";
+
+#[test]
+fn has_no_more_pages_than_its_file_says(rt: HostRuntime) {
+    let run = ran(&rt, &mut Input::new(ONE_PAGE_FILE.as_bytes()), &FEWEST);
+    assert_eq!(rt; run.output.as_slice(), ONE_PAGE_LINES.as_bytes());
+    assert_eq!(rt; run.errors.as_slice(), b"".as_slice());
+    assert_eq!(rt; run.status, 0);
+}
+
 #[test]
 fn tells_a_failing_read_before_all_else(rt: HostRuntime) {
     for calls in 0..SHORT_FILE.len() + 1 {
