@@ -9,8 +9,8 @@ use rand_xoshiro::Xoshiro256PlusPlus;
 use std::alloc::{AllocError, Global};
 use std::rt::Clock;
 use std::sync::Wait;
-use std::sync::atomic::AtomicBool;
 use std::sync::atomic::Ordering::SeqCst;
+use std::sync::atomic::{AtomicBool, AtomicU64};
 use std::test::Fail;
 use std::thread;
 use std::thread::Threads;
@@ -67,13 +67,18 @@ fn words_of(
     Ok(words)
 }
 
-// The views of up to 31 groups of 16 slots, with few or with many objects.
+// How many words each list of a comparison has, and up to how many groups are searched: so that the parts of a round have several tries.
+const WORDS_OF_A_LIST: u32 = 256;
+
+const MOST_GROUPS: u32 = 160;
+
+// The views of groups of 16 slots, with few or with many objects: of up to so many.
 fn random_views(
     alloc: Global,
     random: &mut Xoshiro256PlusPlus,
 ) -> Result<Vec<ClassView>, AllocError> {
     let mut groups = Vec::new(alloc);
-    for _ in 0..random.next_u32() % 32 {
+    for _ in 0..random.next_u32() % (MOST_GROUPS + 1) {
         let few = random.next_u32() & random.next_u32() & random.next_u32();
         let many = random.next_u32() & random.next_u32();
         groups.push(if random.next_u32() % 2 == 0 {
@@ -89,17 +94,96 @@ fn random_views(
 fn workers_find_what_one_thread_finds(rt: HostRuntime) -> Result<(), Fail> {
     let alloc = rt.alloc();
     let mut random = Xoshiro256PlusPlus::seed_from_u64(14);
+    let mut most = 0;
     for list in 0..100 {
         let views = random_views(alloc, &mut random)?;
-        let count = random.next_u32() % 32;
-        let words = words_of(alloc, &mut random, count)?;
+        let words = words_of(alloc, &mut random, WORDS_OF_A_LIST)?;
         let t = random.next_u32() % 5;
         let one = views.as_slice().get(4..5).expect(&rt, "a class");
+        most = one[0].len().max(most);
         for workers in 1..17 {
             let same = agrees(&rt, alloc, one, words.as_slice(), t, workers).expect(&rt, "search");
             assert!(rt; same, "list {list} by {workers} workers");
         }
     }
+    assert!(rt; most > 64, "no list of more than {most} candidates");
+    Ok(())
+}
+
+// How many searchers are counted, and the bits of one count: a count for each searcher and class.
+const COUNTED: u32 = 2;
+
+const COUNT_BITS: u32 = 3;
+
+// A gate that counts how often each of two searchers arrives at each class.
+#[derive(Drop)]
+struct Arrivals {
+    counts: AtomicU64,
+    // Whether somebody arrived elsewhere, or told a size that is none.
+    strange: AtomicBool,
+}
+
+// The place of a class of a size, by size.
+fn place_of(size: u32) -> Option<u32> {
+    [16, 32, 64, 128, 256, 384, 512, 1024, 1536, 2048]
+        .iter()
+        .position(|each| *each == size)
+        .map(|place| place as u32)
+}
+
+impl Gate for Arrivals {
+    fn arrive(&self, actor: Actor, point: Point) {
+        let (Actor::Searcher(k), Point::Class(size)) = (actor, point) else {
+            self.strange.store(true, SeqCst);
+            return;
+        };
+        match place_of(size) {
+            Some(place) if k < COUNTED && place < 10 => {
+                self.counts
+                    .fetch_add(1u64 << (COUNT_BITS * (COUNTED * place + k)), SeqCst);
+            }
+            _ => self.strange.store(true, SeqCst),
+        }
+    }
+}
+
+// One arrival of each of two searchers at each of these places.
+fn once_each(places: &[u32]) -> u64 {
+    let mut counts = 0u64;
+    for place in places.iter() {
+        let pair = 1 + (1u64 << COUNT_BITS);
+        counts = counts.wrapping_add(pair.wrapping_shl(
+            COUNT_BITS.wrapping_mul(COUNTED).wrapping_mul(*place),
+        ));
+    }
+    counts
+}
+
+#[test]
+fn each_searcher_arrives_once_at_each_class(rt: HostRuntime) -> Result<(), Fail> {
+    let alloc = rt.alloc();
+    let views = views_of(alloc, 2048, &WORKED)?;
+    for t in 0..4 {
+        let gate = Arrivals {
+            counts: AtomicU64::new(0),
+            strange: AtomicBool::new(false),
+        };
+        search(&rt, alloc, views.as_slice(), &WORDS, t, 2, &gate).expect(&rt, "search");
+        assert!(rt; !gate.strange.load(SeqCst), "in {t} rounds");
+        assert_eq!(rt;
+            gate.counts.load(SeqCst),
+            once_each(&[0, 1, 2, 3, 4, 5, 6, 7, 8, 9]),
+            "in {t} rounds"
+        );
+    }
+    let own = views.as_slice().get(9..10).expect(&rt, "a class");
+    let gate = Arrivals {
+        counts: AtomicU64::new(0),
+        strange: AtomicBool::new(false),
+    };
+    search(&rt, alloc, own, &WORDS, 2, 2, &gate).expect(&rt, "search");
+    assert!(rt; !gate.strange.load(SeqCst));
+    assert_eq!(rt; gate.counts.load(SeqCst), once_each(&[9]));
     Ok(())
 }
 
