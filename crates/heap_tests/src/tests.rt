@@ -1,6 +1,8 @@
 //! Each expected answer was worked out by hand from the rules, and none was copied from a run.
 
+mod books;
 mod calls;
 mod memory;
 mod meshes;
 mod plain;
+mod searches;

@@ -1,6 +1,7 @@
-//! Calls of a heap, each with the answer that it must be given.
-ghost use Rattle.std.specs.Prelude.{◌≡◌, ◌≤◌, length};
+//! Calls of a heap and of a book, each with the answer that it must be given.
+ghost use Rattle.std.specs.Prelude.{◌≤◌};
 
+use crate::tests::books::TriedBook;
 use arrayvec::ArrayVec;
 use mesh_class::class_of;
 use mesh_model::{MAX_BYTES, Refusal, StepKind};
@@ -56,15 +57,24 @@ pub(crate) enum Answer {
     Unmade,
 }
 
-/// A heap with the addresses of its objects, by serial.
+/// A heap and a book, which are asked the same.
 #[derive(Drop)]
 pub(crate) struct Tried {
-    heap: Heap,
-    addresses: ArrayVec<u32, 32>,
-    ghost numbered: { heap.next_serial ≡ length addresses.items },
+    heap: TriedHeap,
+    book: TriedBook,
 }
 
-impl Tried {
+/// How many objects are made at most.
+pub(crate) const MOST_OBJECTS: usize = 32;
+
+// A heap with the addresses of its objects, by serial.
+#[derive(Drop)]
+struct TriedHeap {
+    heap: Heap,
+    addresses: ArrayVec<u32, MOST_OBJECTS>,
+}
+
+impl TriedHeap {
     // Makes a call.
     fn answer(&mut self, call: Call) -> Answer {
         match call {
@@ -106,7 +116,7 @@ impl Tried {
     }
 
     fn make(&mut self, len: u32, word: u64) -> Answer {
-        if self.addresses.is_full() {
+        if self.heap.is_full() || self.addresses.is_full() {
             return Answer::Unmade;
         }
         match self.heap.new(len, word) {
@@ -206,7 +216,7 @@ fn told(stored: Stored) -> Answer {
 }
 
 // What an answer with the steps to come is.
-fn left(steps: Result<u32, Refusal>) -> Answer {
+pub(crate) fn left(steps: Result<u32, Refusal>) -> Answer {
     match steps {
         Ok(steps) => Answer::Left(steps),
         Err(refusal) => Answer::Refused(refusal),
@@ -214,7 +224,7 @@ fn left(steps: Result<u32, Refusal>) -> Answer {
 }
 
 // What an answer with the pages that came free is.
-fn freed(pages: Result<u32, Refusal>) -> Answer {
+pub(crate) fn freed(pages: Result<u32, Refusal>) -> Answer {
     match pages {
         Ok(pages) => Answer::Pages(pages),
         Err(refusal) => Answer::Refused(refusal),
@@ -222,7 +232,7 @@ fn freed(pages: Result<u32, Refusal>) -> Answer {
 }
 
 // The number whose last eight digits of base 256 are the last bytes.
-fn number(bytes: &[u8]) -> u64 {
+pub(crate) fn number(bytes: &[u8]) -> u64 {
     let mut number = 0;
     for byte in bytes {
         number = (number << 8) | u64::from(*byte);
@@ -230,20 +240,24 @@ fn number(bytes: &[u8]) -> u64 {
     number
 }
 
-/// A heap with no object.
+/// A heap and a book with no object.
 pub(crate) fn opened(rt: &(impl Abort + AllocGlobal), pages: u32) -> Tried
     requires some { 1 ≤ pages }
     requires most { pages ≤ 4096 }
 {
     Tried {
-        heap: Heap::open(rt.alloc(), pages).expect(rt, "memory"),
-        addresses: ArrayVec::new(),
+        heap: TriedHeap {
+            heap: Heap::open(rt.alloc(), pages).expect(rt, "memory"),
+            addresses: ArrayVec::new(),
+        },
+        book: TriedBook::open(rt.alloc(), pages).expect(rt, "memory"),
     }
 }
 
-/// Asserts that a call is answered so.
+/// Asserts that a call is answered so, by the heap and by the book.
 pub(crate) fn check(rt: &impl Abort, tried: &mut Tried, call: Call, answer: Answer) {
-    assert_eq!(rt; tried.answer(call), answer, "of {call:?}");
+    assert_eq!(rt; tried.heap.answer(call), answer, "of {call:?} on a heap");
+    assert_eq!(rt; tried.book.answer(call), answer, "of {call:?} on a book");
 }
 
 /// Asserts that calls are answered so, one after another.
@@ -253,7 +267,7 @@ pub(crate) fn play(rt: &impl Abort, tried: &mut Tried, calls: &[(Call, Answer)])
     }
 }
 
-/// Asserts that calls are answered so on a heap of 16 pages, those that come before and then the others.
+/// Asserts that calls are answered so on a heap and a book of 16 pages, those that come before and then the others.
 pub(crate) fn row(
     rt: &(impl Abort + AllocGlobal),
     before: &[(Call, Answer)],
