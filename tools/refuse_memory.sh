@@ -5,10 +5,11 @@
 #
 # CRATES is the folder that holds the crates, whose programs stand in CRATES/NAME/out/NAME: `rt ci` leaves them there. A library that
 # `tools/refuse_memory/refuse.c` is compiled to is loaded into each run; it refuses the first allocation of one run, the second of the next, and
-# so on until a run meets no refusal. Each run must end by itself in time, as its case may, with as many bytes given back as were taken. The case
-# of the threads is run twice: the second time the first thread's allocations alone are refused, and what other threads free is held for a while,
-# so that a thread which nobody joined is seen. A line of the output says how many runs a case took, and the last line counts the cases. The
-# status is 1 where one failed, 2 where there are no programs or no C compiler.
+# so on until a run meets no refusal. Each run must end by itself in time, as its case may, with as many bytes given back as were taken; and where
+# an allocation of the program itself was refused, it must tell so. The case of the threads is run twice: the second time the first thread's
+# allocations alone are refused, and what other threads free is held for a while, so that a thread which nobody joined is seen. A case in which
+# nothing is allocated, or of whose refusals none is told, has failed. A line of the output says how many runs a case took, and the last line
+# counts the cases. The status is 1 where one failed, 2 where there are no programs or no C compiler.
 
 crates=${1:-$(dirname "$0")/../crates}
 case $crates in
@@ -30,9 +31,6 @@ trap 'rm -rf "$room"' EXIT
 library=$room/refuse.so
 "${CC:-cc}" -O1 -Wall -shared -fPIC -o "$library" tools/refuse_memory/refuse.c || exit 2
 
-# Up to this allocation each one is refused, and then every STRIDE-th. How many a run in threads makes depends on how the threads fall.
-bound=300
-stride=3
 # How long a run may take, in seconds; and past this allocation a case is given up.
 limit=20
 most=20000
@@ -41,7 +39,8 @@ failed=0
 # HOLD=1 where the first thread's allocations alone are refused, and what other threads free is held for a while.
 held=
 
-# run N WORD..: a program with its words, whose N-th allocation is refused. Sets status, and refused, allocations, bytes, freed, stretches, within.
+# run N WORD..: a program with its words, whose N-th allocation is refused. Sets status, and refused, own, allocations, bytes, freed, stretches,
+# within and threads.
 run() {
     number=$1
     shift
@@ -49,7 +48,7 @@ run() {
     timeout "$limit" env $held REFUSE="$number" REFUSE_FILE="$room/counts" LD_PRELOAD="$library" "$@" >"$room/output" 2>"$room/errors" </dev/null
     status=$?
     refused=none
-    [ ! -f "$room/counts" ] || read -r _ refused _ allocations _ bytes _ freed _ stretches _ within <"$room/counts"
+    [ ! -f "$room/counts" ] || read -r _ refused _ own _ allocations _ bytes _ freed _ stretches _ within _ threads <"$room/counts"
 }
 
 # is_line FILE TEXT: whether a file is this one line.
@@ -61,6 +60,18 @@ is_line() {
 begins() {
     size=$(wc -c <"$room/output")
     head -c "$size" "$1" | cmp -s - "$room/output" && { [ "$size" -eq 0 ] || [ -z "$(tail -c 1 "$room/output")" ]; }
+}
+
+# Whether a run told of a refusal.
+is_told() {
+    grep -q 'out of memory\|thread fault\|: done, [0-9]* refused' "$room/output" "$room/errors"
+}
+
+# spare WORD..: a program with its words, which asks for nothing but to read them. Where the list of the words can't grow by as much as it asks
+# for, std asks for less, and nobody is told: so up to this allocation that is no fault.
+spare() {
+    run 0 "$@"
+    spared=$allocations
 }
 
 # How a run of a case of the small program may end, as a fault or nothing.
@@ -77,17 +88,19 @@ case_fault() {
     [ "$refused" -eq 1 ] || [ "$last" = "$name: done" ] || echo " $last though nothing was refused"
     case $name in
         mesh) [ "$last" != "mesh: done" ] || [ "$stretches/$within" = 1/0 ] || echo " $within allocations in $stretches stretches" ;;
+        # Two searchers a round: the nine classes without candidates open one, the tenth makes two.
+        search) [ "$last" != "search: done" ] || [ "$threads" -eq 22 ] || echo " $threads threads" ;;
     esac
 }
 
-# How a run of the replay may end.
+# How a run of the replay may end, whose whole output is the file $wanted.
 replay_fault() {
     if [ "$status" -eq 0 ]; then
-        cmp -s "$room/output" jobs/mesh.out && [ ! -s "$room/errors" ] || echo " another output"
+        cmp -s "$room/output" "$wanted" && [ ! -s "$room/errors" ] || echo " another output"
     else
         [ "$status" -eq 1 ] || echo " status $status"
         is_line "$room/errors" "out of memory" || echo " another line of fault"
-        begins jobs/mesh.out || echo " an output that isn't whole lines of the beginning"
+        begins "$wanted" || echo " an output that isn't whole lines of the beginning"
     fi
     [ "$refused" -eq 1 ] || [ "$status" -eq 0 ] || echo " a fault though nothing was refused"
 }
@@ -112,6 +125,7 @@ refuse_each() {
     runs=0
     wrong=0
     stopped=0
+    begun=0
     n=1
     while :; do
         run "$n" "$@"
@@ -120,6 +134,12 @@ refuse_each() {
             0 | 1)
                 found=$($judge | tr -d '\n')
                 [ "$bytes" -eq "$freed" ] || found="$found $bytes bytes taken and $freed given back"
+                if is_told; then
+                    stopped=$((stopped + 1))
+                    [ ! -s "$room/output" ] || begun=$((begun + 1))
+                elif [ "$own" -eq 1 ] && [ "$n" -gt "$spared" ]; then
+                    found="$found a refusal that nobody was told of"
+                fi
                 ;;
             *) found=" ended by status $status, with no counts" ;;
         esac
@@ -129,15 +149,14 @@ refuse_each() {
             case $refused in 0 | 1) ;; *) break ;; esac
         fi
         [ "$refused" -eq 1 ] || break
-        [ "$(cat "$room/output" "$room/errors" | grep -c 'out of memory\|thread fault\|refused')" -eq 0 ] || stopped=$((stopped + 1))
-        if [ "$n" -lt "$bound" ]; then n=$((n + 1)); else n=$((n + stride)); fi
+        n=$((n + 1))
         if [ "$n" -gt "$most" ]; then
             fault="$fault no end after $most allocations;"
             break
         fi
     done
     told="$runs runs, $stopped told of a refusal, $allocations allocations and $bytes bytes with none refused"
-    [ "$n" -le "$bound" ] || told="$told; every ${stride}rd past $bound"
+    [ "$stopped" -gt 0 ] && [ "$allocations" -gt 0 ] && [ "$bytes" -gt 0 ] || fault="$fault nothing was refused or allocated;"
     [ -z "$held" ] || told="$told; of the first thread's alone, with the others' frees held"
     if [ -z "$fault" ]; then
         passed=$((passed + 1))
@@ -148,14 +167,41 @@ refuse_each() {
     fi
 }
 
+spare "$small" "no case"
 for name in heap book mesh views seats search threads; do
     refuse_each "$name" case_fault "$small" "$name"
 done
 held=HOLD=1
 refuse_each threads case_fault "$small" threads
 held=
+spare "$meshrun" replay "$room/no file"
+wanted=jobs/mesh.out
 refuse_each "meshrun replay" replay_fault "$meshrun" replay jobs/mesh.job
-refuse_each "meshrun threads" threads_fault "$meshrun" threads jobs/threads.job --probe 8 --rounds 3 --workers 2 --seed 1 --meshers 2
+# More answers than are written at once, and then searches, which take memory: so some of these runs have written a beginning.
+loads=200
+searches=20
+{
+    printf 'mesh 1\npages 4\nhistory 1000\nworkers 1\nworker 0\nnew 0 64 0\n'
+    yes 'get 0 0 32' | head -n $loads
+    echo plan
+    yes 'run 0' | head -n $((loads + 1))
+    yes 'pair 64 1 0' | head -n $searches
+    echo end
+} >"$room/long.job"
+{
+    echo 'object 0 at 1000'
+    yes "bytes $(printf '%064d' 0)" | head -n $loads
+    yes 'found 0 probes 0' | head -n $searches
+} >"$room/long.out"
+wanted=$room/long.out
+refuse_each "meshrun replay of $loads loads" replay_fault "$meshrun" replay "$room/long.job"
+if [ "$begun" -eq 0 ]; then
+    failed=$((failed + 1))
+    echo "FAILED: no run had written a beginning when memory was refused"
+fi
+numbers="--probe 8 --rounds 3 --workers 2 --seed 1 --meshers 2"
+spare "$meshrun" threads "$room/no file" $numbers
+refuse_each "meshrun threads" threads_fault "$meshrun" threads jobs/threads.job $numbers
 
 echo "$passed passed, $failed failed"
 [ "$failed" -eq 0 ]

@@ -26,7 +26,7 @@ pub(crate) fn mesh<R: Print>(rt: &R, alloc: Global) -> End {
     Ok(0)
 }
 
-/// Two groups that can be meshed of each of two classes, groups 0 to 3, and an empty group 4.
+/// Two groups that can be meshed of each of two classes, groups 0 to 3, an empty group 4, and group 5 of one object.
 fn set_up(book: &mut Book) -> Result<(), Fault> {
     for cell in 0..4u8 {
         make(book, cell, 2048)?;
@@ -35,6 +35,7 @@ fn set_up(book: &mut Book) -> Result<(), Fault> {
         make(book, cell, 1024)?;
     }
     make(book, 20, 16)?;
+    make(book, 21, 64)?;
     for cell in [0u8, 3, 10, 11, 16, 17, 20].iter() {
         done(book.act(0, &Command::Free(*cell)))?;
     }
@@ -58,12 +59,14 @@ fn done(attempt: Attempt) -> Result<(), Fault> {
     )
 }
 
-/// The stretch: one mesh is made and the other one cancelled, both step by step; then that one is made whole, and the empty group is swept.
+/// The stretch: one mesh is made and the other one cancelled, both step by step, an object of its source is freed meanwhile; then that one is
+/// made whole, and the empty group is swept.
 fn go_through(book: &mut Book, large: Class, small: Class) -> Result<(), Fault> {
     done(book.act(0, &put(2, b'm')))?;
     expect(book.begin(1, 0) == Ok(6), "another mesh of the class 2048")?;
     expect(book.begin(3, 2).is_ok(), "no mesh of the class 1024")?;
     expect(book.step(small).is_ok(), "no step of the class 1024")?;
+    done(book.act(0, &Command::Free(15)))?;
     let mut left = 6u32;
     for _ in 0..6u32 {
         left = step(book, large, left)?;
@@ -77,9 +80,9 @@ fn go_through(book: &mut Book, large: Class, small: Class) -> Result<(), Fault> 
     expect(book.sweep(4) == Ok(1), "another sweep")?;
     let report = Report {
         objects: 6,
-        bytes: 2 * 2048 + 4 * 1024,
-        mapped: 4,
-        taken: 2,
+        bytes: 2 * 2048 + 3 * 1024 + 64,
+        mapped: 5,
+        taken: 3,
         saved: 2,
     };
     expect(book.report() == report, "another report")
@@ -117,7 +120,7 @@ fn put(cell: u8, byte: u8) -> Command
     Command::Put(cell, 0, bytes)
 }
 
-/// Each command but a New that needs a span, and a report. A store may be blocked.
+/// Each command, a New in an open group, and a report. A store may be blocked.
 fn attempt_all(book: &mut Book) -> Result<(), Fault> {
     let mut bytes = ArrayVec::new();
     bytes.push(b'm');
@@ -142,6 +145,8 @@ fn attempt_all(book: &mut Book) -> Result<(), Fault> {
         book.act(0, &Command::Free(0)) != Attempt::Done(Reply::Done),
         "an object freed twice",
     )?;
+    make(book, 22, 64)?;
+    done(book.act(0, &Command::Free(22)))?;
     expect(book.sweep(2).is_err(), "a sweep of a group with objects")?;
     expect(book.report().objects == 6, "another count of objects")
 }
