@@ -105,9 +105,12 @@ done
 
 sed 's/^history 400$/history 65536/' "$threads" >"$room/long.job"
 sed 's/^history 400$/history 399/' "$threads" >"$room/short.job"
+printf 'mesh 1\npages 1\nhistory 3\nworkers 1\nworker 0\nnew 0 2048 0\nnew 1 2048 0\nnew 2 2048 0\nplan\nend\n' >"$room/one_page.job"
+printf 'worker 0\nobject\nobject\nrefused 3 NO_PAGES\nhistory 3\n' >"$room/one_page.out"
 # shellcheck disable=SC2086
 {
     check "threads: more history than commands" 0 jobs/threads.out "$room/nothing" threads "$room/long.job" $small
+    check "threads: one page" 0 "$room/one_page.out" "$room/nothing" threads "$room/one_page.job" $small
     check "threads: a history too short" 2 "$room/nothing" "$(line 'history too short')" threads "$room/short.job" $small
     check "threads: a file with a fault" 2 "$room/nothing" "$(line 'line 7: HEX')" threads jobs/rows/faults/half_byte.job $small
     check "threads: a missing file" 1 "$room/nothing" "$(line 'read fault')" threads "$room/missing.job" $small
