@@ -2,7 +2,7 @@
 use Rattle.std.proofs.Common.{◌≡◌, ℕ, ◌*◌, Bool, true, false, cond, ◌&&◌, nat_le, nat_eq, List, [], ◌∷◌, find, Option, Some, ap, subst, refl, arith, rules}
 use Rattle.std.proofs.lemmas.Bool.Decides.{nat_tests}
 use Rattle.std.specs.Option.{option_map_or}
-use Rattle.mesh_model.specs.Classes.{Row, row, table, row_of, pages_of, slots_of, IsClass}
+use Rattle.model_words.specs.Classes.{Row, row, table, row_of, pages_of, slots_of, IsClass}
 
 -- whether a row has what every class has
 abbrev is_sound : Row → Bool

@@ -2,7 +2,7 @@
 use Rattle.std.specs.Prelude.{◌≡◌, ℕ, Some, Option}
 use Rattle.std.proofs.Common.{ap, ◌∙◌}
 use Rattle.std.specs.Option.{option_map_or}
-use Rattle.mesh_model.specs.Classes.{Row, row, row_of, pages_of, slots_of}
+use Rattle.model_words.specs.Classes.{Row, row, row_of, pages_of, slots_of}
 use Rattle.mesh_class.specs.declared.classes.Class.TheInside.{Inside}
 
 -- the fields are a row of the table

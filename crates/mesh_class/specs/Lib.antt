@@ -1,3 +1,3 @@
-pub use Rattle.mesh_model.specs.Classes
-pub use Rattle.mesh_model.specs.Refusals
+pub use Rattle.model_words.specs.Classes
+pub use Rattle.model_words.specs.Refusals
 pub mod Class

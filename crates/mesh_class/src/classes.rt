@@ -1,8 +1,8 @@
 //! `Class`, and the class of a request.
 ghost use Rattle.std.specs.Prelude.{◌≡◌, ◌<◌, ◌≤◌, ◌↔◌, ◌⊎◌, Err, Some, map, IfOk, OnOk, IfErr};
-ghost use Rattle.mesh_model.specs.Classes.{row, row_of, pages_of, slots_of, class_for, table, IsClass};
+ghost use Rattle.model_words.specs.Classes.{row, row_of, pages_of, slots_of, class_for, table, IsClass};
 
-use mesh_model::Refusal;
+use model_words::Refusal;
 use std::marker::Model;
 
 /// A size class: its slots have one size, and its spans one number of pages and of slots.

@@ -6,4 +6,4 @@
 mod classes;
 
 pub use classes::{Class, all_classes, class_of};
-pub use mesh_model::Refusal;
+pub use model_words::Refusal;

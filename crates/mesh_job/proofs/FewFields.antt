@@ -7,7 +7,7 @@ use Rattle.std.proofs.lemmas.List.{get_or-drop, length-drop, length-take, take_m
 use Rattle.std.proofs.lemmas.List.Elements.{All-cons, All-nil}
 use Rattle.std.proofs.lemmas.List.Folds.{list_all-append, list_any-append}
 use Rattle.std.proofs.lemmas.List.Splits.{slice_split_at, slice_split_none}
-use Rattle.mesh_model.specs.Files.{is_empty, is_printable}
+use Rattle.model_jobs.specs.JobFiles.{is_empty, is_printable}
 use Rattle.mesh_job.specs.Reading.{IsSplit, is_field_byte, line_fields, text_lines}
 use Rattle.mesh_job.proofs.Sames.{between_by_test}
 use Rattle.mesh_job.proofs.Splits.{line_at}

@@ -2,8 +2,8 @@
 use Rattle.std.proofs.Common.{◌≡◌, ℕ, ◌≤◌, Bool, true, false, cond, nat_eq, List, [], ◌∷◌, Ok, Err, length, ap, refl, ◌∙◌, arith}
 use Rattle.std.specs.List.{onto_first}
 use Rattle.std.proofs.lemmas.Bool.{lt-leb}
-use Rattle.mesh_model.specs.Files.{Draft, fault_at, has_ended, job_of, lines_in}
-use Rattle.mesh_model.specs.declared.faults.FaultKind.TheVariants.{Cut, Trailing}
+use Rattle.model_jobs.specs.JobFiles.{Draft, fault_at, has_ended, job_of, lines_in}
+use Rattle.model_words.specs.declared.faults.FaultKind.TheVariants.{Cut, Trailing}
 use Rattle.mesh_job.specs.Reading.{IsPartOfLine, text_lines}
 use Rattle.mesh_job.proofs.Splits.{Parts, some_part}
 

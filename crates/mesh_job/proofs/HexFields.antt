@@ -9,11 +9,11 @@ use Rattle.std.proofs.lemmas.List.Folds.{list_all-append}
 use Rattle.std.proofs.lemmas.List.Sums.{fold-append}
 use Rattle.std.proofs.lemmas.List.{take-append-drop}
 use Rattle.std.proofs.Math.Nat.{pow-suc}
-use Rattle.mesh_model.specs.Files.{are_same, is_between, hex_value, with_hex, hex_number, address_in, byte_from, bytes_from, bytes_in}
-use Rattle.mesh_model.specs.Texts.{hex_digit, hex_from, address_text}
-use Rattle.mesh_model.specs.Words.{◌>>=◌, or_refuse}
-use Rattle.mesh_model.specs.declared.faults.FaultKind.{FaultKind}
-use Rattle.mesh_model.specs.declared.faults.FaultKind.TheVariants.{Number, Hex}
+use Rattle.model_jobs.specs.JobFiles.{are_same, is_between, hex_value, with_hex, hex_number, address_in, byte_from, bytes_from, bytes_in}
+use Rattle.model_jobs.specs.Texts.{hex_digit, hex_from, address_text}
+use Rattle.model_words.specs.Words.{◌>>=◌, or_refuse}
+use Rattle.model_words.specs.declared.faults.FaultKind.{FaultKind}
+use Rattle.model_words.specs.declared.faults.FaultKind.TheVariants.{Number, Hex}
 use Rattle.mesh_job.specs.Reading.{is_hex_digit}
 use Rattle.mesh_job.proofs.Sames.{fails, same_bytes, same_by_test, between_by_test}
 

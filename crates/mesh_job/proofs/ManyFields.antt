@@ -3,13 +3,13 @@ use Rattle.std.proofs.Common.{◌≡◌, ℕ, ◌+◌, ◌<◌, ◌≤◌, Bool,
 use Rattle.std.specs.Prelude.{◌⊎◌, codes}
 use Rattle.std.specs.List.{list_any}
 use Rattle.std.proofs.lemmas.Bool.{le-leb, true≢false}
-use Rattle.mesh_model.specs.Files.{Section, Draft, AtVersion, AtPages, AtHistory, AtWorkers, AtFirstWorker, InScript, InPlan, AtEnd, are_same, command_in, header_in, has_ended, is_empty, is_second, line_in, of_mesh_in, take_fields, take_in}
-use Rattle.mesh_model.specs.Jobs.{Line, StepMesh, CancelMesh, StepClass, CancelClass}
-use Rattle.mesh_model.specs.Words.{◌>>=◌, refuse_if}
-use Rattle.mesh_model.specs.declared.faults.FaultKind.{FaultKind}
-use Rattle.mesh_model.specs.declared.faults.FaultKind.TheVariants.{Word}
-use Rattle.mesh_model.specs.declared.versions.Version.{Version}
-use Rattle.mesh_model.specs.declared.versions.Version.TheVariants.{One, Two}
+use Rattle.model_jobs.specs.JobFiles.{Section, Draft, AtVersion, AtPages, AtHistory, AtWorkers, AtFirstWorker, InScript, InPlan, AtEnd, are_same, command_in, header_in, has_ended, is_empty, is_second, line_in, of_mesh_in, take_fields, take_in}
+use Rattle.model_jobs.specs.Jobs.{Line, StepMesh, CancelMesh, StepClass, CancelClass}
+use Rattle.model_words.specs.Words.{◌>>=◌, refuse_if}
+use Rattle.model_words.specs.declared.faults.FaultKind.{FaultKind}
+use Rattle.model_words.specs.declared.faults.FaultKind.TheVariants.{Word}
+use Rattle.model_words.specs.declared.versions.Version.{Version}
+use Rattle.model_words.specs.declared.versions.Version.TheVariants.{One, Two}
 
 -- a choice of which both ways are refused, and a test before a step that is refused
 both : {A : Type 0} (t : Bool) (x y : Result A FaultKind) → x ≡ Err Word → y ≡ Err Word → (if t then x else y) ≡ Err Word

@@ -6,13 +6,13 @@ use Rattle.std.proofs.lemmas.Bool.Decides.{eqb_tells, leb_tells}
 use Rattle.std.proofs.lemmas.Bool.{true≢false}
 use Rattle.std.proofs.lemmas.List.{map-append}
 use Rattle.std.proofs.lemmas.List.Elements.{All-append, All-cons, All-nil}
-use Rattle.mesh_model.specs.Classes.{Row, class_for, row_of, table}
-use Rattle.mesh_model.specs.Files.{IsValidLine, are_same, line_in, pair_in}
-use Rattle.mesh_model.specs.Jobs.{Line}
-use Rattle.mesh_model.specs.Words.{◌>>=◌}
-use Rattle.mesh_model.specs.declared.faults.FaultKind.{FaultKind}
-use Rattle.mesh_model.specs.declared.versions.Version.{Version}
-use Rattle.mesh_model.proofs.LineReadings.{line_in_range}
+use Rattle.model_words.specs.Classes.{Row, class_for, row_of, table}
+use Rattle.model_jobs.specs.JobFiles.{IsValidLine, are_same, line_in, pair_in}
+use Rattle.model_jobs.specs.Jobs.{Line}
+use Rattle.model_words.specs.Words.{◌>>=◌}
+use Rattle.model_words.specs.declared.faults.FaultKind.{FaultKind}
+use Rattle.model_words.specs.declared.versions.Version.{Version}
+use Rattle.model_jobs.proofs.LineReadings.{line_in_range}
 use Rattle.mesh_job.specs.Plan.{line_of}
 use Rattle.mesh_job.specs.declared.plan.PlanLine.{PlanLine}
 use Rattle.mesh_job.proofs.Sames.{same_by_test}

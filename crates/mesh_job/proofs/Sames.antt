@@ -3,7 +3,7 @@ use Rattle.std.proofs.Common.{◌≡◌, ℕ, ◌≤◌, Bool, true, false, nat_
 use Rattle.std.specs.Str.{bytes_eq}
 use Rattle.std.proofs.lemmas.Bool.Decides.{eqb_tells}
 use Rattle.std.proofs.lemmas.Bool.{and_parts, eq-eqb, leb-true, true≢false}
-use Rattle.mesh_model.specs.Files.{are_same, is_between}
+use Rattle.model_jobs.specs.JobFiles.{are_same, is_between}
 
 -- a test that can't hold fails
 pub fails : (b : Bool) → (b ≡ true → ⊥) → b ≡ false

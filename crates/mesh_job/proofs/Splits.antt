@@ -5,7 +5,7 @@ use Rattle.std.proofs.lemmas.Bool.Decides.{eqb_tells, leb_tells}
 use Rattle.std.specs.List.{list_all}
 use Rattle.std.proofs.lemmas.Bool.{and_parts, eq-eqb, ne_eqb}
 use Rattle.std.proofs.lemmas.List.Splits.{join_with_byte-slice_split, slice_split_first, slice_split-cons_yes, slice_split-cons_no}
-use Rattle.mesh_model.specs.Files.{is_printable}
+use Rattle.model_jobs.specs.JobFiles.{is_printable}
 use Rattle.mesh_job.proofs.Sames.{between_by_test}
 
 -- the place of the first byte at which a list is cut, where there is one

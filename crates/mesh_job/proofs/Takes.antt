@@ -4,9 +4,9 @@ use Rattle.std.proofs.Math.Seq.{drop-append_seam, take-append_seam}
 use Rattle.std.proofs.lemmas.Bool.{lt-leb, true≢false}
 use Rattle.std.proofs.lemmas.Bool.Decides.{leb_tells}
 use Rattle.std.proofs.lemmas.List.{length-append, take-append-drop}
-use Rattle.mesh_model.specs.Files.{blank_draft, fault_at, has_ended, job_of, lines_in, read_text}
-use Rattle.mesh_model.specs.declared.faults.FaultKind.TheVariants.{Cut}
-use Rattle.mesh_model.specs.declared.faults.TextFault.{TextFault}
+use Rattle.model_jobs.specs.JobFiles.{blank_draft, fault_at, has_ended, job_of, lines_in, read_text}
+use Rattle.model_words.specs.declared.faults.FaultKind.TheVariants.{Cut}
+use Rattle.model_words.specs.declared.faults.TextFault.{TextFault}
 use Rattle.mesh_job.specs.Draft.{draft_of}
 use Rattle.mesh_job.specs.Reading.{IsReadOn, text_lines}
 use Rattle.mesh_job.specs.Taken.{HasTaken, IsLeft, IsReadTo, IsReading, read_behind, reads_on}

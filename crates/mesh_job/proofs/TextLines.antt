@@ -3,12 +3,12 @@ use Rattle.std.proofs.Common.{◌≡◌, ℕ, ◌+◌, ◌<◌, ◌≤◌, true,
 use Rattle.std.specs.List.{list_all}
 use Rattle.std.proofs.lemmas.Bool.{le-leb, lt-leb}
 use Rattle.std.proofs.lemmas.List.{length-append}
-use Rattle.mesh_model.specs.Files.{Draft, fault_at, has_ended, is_printable, lines_in, or_fault, take_fields, take_line}
-use Rattle.mesh_model.specs.Jobs.{Job}
-use Rattle.mesh_model.specs.Words.{◌>>=◌}
-use Rattle.mesh_model.specs.declared.faults.FaultKind.{FaultKind}
-use Rattle.mesh_model.specs.declared.faults.FaultKind.TheVariants.{Byte, LongLine}
-use Rattle.mesh_model.specs.declared.faults.TextFault.{TextFault}
+use Rattle.model_jobs.specs.JobFiles.{Draft, fault_at, has_ended, is_printable, lines_in, or_fault, take_fields, take_line}
+use Rattle.model_jobs.specs.Jobs.{Job}
+use Rattle.model_words.specs.Words.{◌>>=◌}
+use Rattle.model_words.specs.declared.faults.FaultKind.{FaultKind}
+use Rattle.model_words.specs.declared.faults.FaultKind.TheVariants.{Byte, LongLine}
+use Rattle.model_words.specs.declared.faults.TextFault.{TextFault}
 use Rattle.mesh_job.specs.Reading.{IsFaultOfLine, IsFaultOfStep, IsFaultyLine, IsReadOn, IsSplit, line_fields, text_lines}
 use Rattle.mesh_job.specs.declared.faults.LineFault.{LineFault}
 use Rattle.mesh_job.specs.declared.faults.LineFault.TheVariants.{Kind as LineKind, Memory as LineMemory}

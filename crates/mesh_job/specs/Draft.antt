@@ -1,7 +1,7 @@
 -- What is known of a job that is being read.
 use Rattle.std.specs.Prelude.{◌≡◌, ◌<◌, ◌≤◌, Bool, true, false, [], length, map}
 use Rattle.std.specs.List.{All}
-use Rattle.mesh_model.specs.Files.{Section as PlainSection, Draft as PlainDraft, AtVersion, AtPages, AtHistory, AtWorkers, AtFirstWorker, InScript, InPlan, AtEnd, IsValidLine}
+use Rattle.model_jobs.specs.JobFiles.{Section as PlainSection, Draft as PlainDraft, AtVersion, AtPages, AtHistory, AtWorkers, AtFirstWorker, InScript, InPlan, AtEnd, IsValidLine}
 use Rattle.mesh_job.specs.Plan.{line_of}
 use Rattle.mesh_job.specs.declared.draft.Section.{Section}
 use Rattle.mesh_job.specs.declared.draft.Section.TheVariants.{Version, Pages, History, Workers, FirstWorker, Worker, Plan, Ended}

@@ -1,6 +1,6 @@
 -- Why a file can't be read.
 use Rattle.std.specs.Prelude.{◌≡◌, ℕ, List, Err}
-use Rattle.mesh_model.specs.Files.{read_text}
+use Rattle.model_jobs.specs.JobFiles.{read_text}
 use Rattle.mesh_job.specs.declared.faults.ReadFault.{ReadFault}
 use Rattle.mesh_job.specs.declared.faults.ReadFault.TheVariants.{Text as ReadText, Memory as ReadMemory}
 

@@ -1,9 +1,9 @@
 -- Which jobs there are.
 use Rattle.std.specs.Prelude.{ℕ, ◌≤◌, List}
 use Rattle.std.specs.List.{All}
-use Rattle.mesh_model.specs.Files.{IsValidLine}
-use Rattle.mesh_model.specs.Jobs.{Line}
-use Rattle.mesh_model.specs.declared.versions.Version.{Version}
+use Rattle.model_jobs.specs.JobFiles.{IsValidLine}
+use Rattle.model_jobs.specs.Jobs.{Line}
+use Rattle.model_words.specs.declared.versions.Version.{Version}
 
 -- a job within its limits, whose plan has the lines of its version and runs only workers that there are
 pub record IsJob (version : Version) (pages history workers : ℕ) (plan : List Line) : Type 0 where

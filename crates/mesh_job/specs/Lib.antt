@@ -4,6 +4,6 @@ pub mod Job
 pub mod Plan
 pub mod Reading
 pub mod Taken
-pub use Rattle.mesh_model.specs.Commands
-pub use Rattle.mesh_model.specs.Files
-pub use Rattle.mesh_model.specs.Jobs
+pub use Rattle.model_words.specs.Commands
+pub use Rattle.model_jobs.specs.JobFiles
+pub use Rattle.model_jobs.specs.Jobs

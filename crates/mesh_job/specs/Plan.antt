@@ -1,6 +1,6 @@
 -- The lines of a plan as the definitions have them.
 use Rattle.std.specs.Prelude.{Result, Ok, Err}
-use Rattle.mesh_model.specs.Jobs.{Line, RunWorker, PairClass, BeginMesh, StepMesh, CancelMesh, StepClass as StepsClass, CancelClass as CancelsClass, WholeMesh, SweepGroup, MakeReport}
+use Rattle.model_jobs.specs.Jobs.{Line, RunWorker, PairClass, BeginMesh, StepMesh, CancelMesh, StepClass as StepsClass, CancelClass as CancelsClass, WholeMesh, SweepGroup, MakeReport}
 use Rattle.mesh_job.specs.declared.plan.PlanLine.{PlanLine}
 use Rattle.mesh_job.specs.declared.plan.PlanLine.TheVariants.{Run, Pair, Begin, Step, Cancel, StepClass, CancelClass, Whole, Sweep, Report}
 

@@ -1,8 +1,8 @@
 -- The lines and fields of a text, and what the reader tells of a text that it can't read.
 use Rattle.std.specs.Prelude.{◌≡◌, ℕ, ◌+◌, ◌≤◌, Bool, true, false, nat_eq, List, [], ◌∷◌, ◌++◌, Result, Err, is_some, length, map}
 use Rattle.std.specs.List.{list_all, slice_split}
-use Rattle.mesh_model.specs.Files.{Draft, fault_at, has_ended, hex_value, is_between, is_printable, lines_in}
-use Rattle.mesh_model.specs.declared.faults.FaultKind.{FaultKind}
+use Rattle.model_jobs.specs.JobFiles.{Draft, fault_at, has_ended, hex_value, is_between, is_printable, lines_in}
+use Rattle.model_words.specs.declared.faults.FaultKind.{FaultKind}
 use Rattle.mesh_job.specs.declared.faults.LineFault.{LineFault}
 use Rattle.mesh_job.specs.declared.faults.LineFault.TheVariants.{Kind as LineKind, Memory as LineMemory}
 use denote.Ref.{Bor}

@@ -1,8 +1,8 @@
 -- What of a file was taken by its reading.
 use Rattle.std.specs.Prelude.{◌≡◌, ℕ, ◌+◌, ◌≤◌, Bool, false, ◌||◌, List, ◌++◌, Option, Some, None, Result, Err, IfSome, is_some, length}
-use Rattle.mesh_model.specs.Files.{Draft as PlainDraft, blank_draft, has_ended, lines_in}
-use Rattle.mesh_model.specs.Jobs.{Job}
-use Rattle.mesh_model.specs.declared.faults.TextFault.{TextFault}
+use Rattle.model_jobs.specs.JobFiles.{Draft as PlainDraft, blank_draft, has_ended, lines_in}
+use Rattle.model_jobs.specs.Jobs.{Job}
+use Rattle.model_words.specs.declared.faults.TextFault.{TextFault}
 use Rattle.mesh_job.specs.Draft.{IsDraft, draft_of}
 use Rattle.mesh_job.specs.Reading.{IsPartOfLine, text_lines}
 use Rattle.mesh_job.specs.declared.reader.Reading.{Reading}

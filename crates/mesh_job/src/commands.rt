@@ -1,13 +1,13 @@
 //! The command lines: the fields of each, from left to right.
 ghost use Rattle.std.specs.Prelude.{◌≡◌, IfOk};
-ghost use Rattle.mesh_model.specs.Commands.{IsInRange};
-ghost use Rattle.mesh_model.specs.Files.{addr_in, alias_in, command_in, copy_in, free_in, get_in, is_second, new_in, peek_in, poke_in, put_in};
+ghost use Rattle.model_words.specs.Commands.{IsInRange};
+ghost use Rattle.model_jobs.specs.JobFiles.{addr_in, alias_in, command_in, copy_in, free_in, get_in, is_second, new_in, peek_in, poke_in, put_in};
 ghost use Rattle.mesh_job.specs.Reading.{texts};
 
 use crate::hex::{address, byte, bytes};
 use crate::lines::{five_fields, is_word, one_field, three_fields, two_fields};
 use crate::numbers::{cell, number, number32};
-use mesh_model::{Command, FaultKind, Version};
+use model_words::{Command, FaultKind, Version};
 
 /// The greatest length that a `new` may ask for, and the greatest offset of a `put`, a `get` or a `copy`.
 const MOST_LENGTH: u32 = 65_535;

@@ -1,7 +1,7 @@
 //! The job as far as its file was read, line by line.
 ghost use Rattle.std.specs.Prelude.{◌≡◌, ◌<◌, true, false, [], ◌∷◌, ◌++◌, Ok, Err, length, OnOk, IfOk, IfErr, IfSome, IsNone};
 ghost use Rattle.std.specs.List.{list_any};
-ghost use Rattle.mesh_model.specs.Files.{blank_draft, has_ended, is_empty, job_of, plan_line, script_line, take_fields, take_in, version_of};
+ghost use Rattle.model_jobs.specs.JobFiles.{blank_draft, has_ended, is_empty, job_of, plan_line, script_line, take_fields, take_in, version_of};
 ghost use Rattle.mesh_job.specs.Draft.{IsDraft, draft_of, is_in_header, section_of};
 ghost use Rattle.mesh_job.specs.Reading.{IsFaultOfLine, IsFaultOfStep, IsPartOfLine, IsReadOn, texts};
 
@@ -13,7 +13,7 @@ use crate::lines::{
 use crate::numbers::number32;
 use crate::plan_lines::plan_line;
 use crate::{Job, Plan, PlanLine, Script, Scripts};
-use mesh_model::{FaultKind, Version};
+use model_words::{FaultKind, Version};
 use std::alloc::Global;
 use std::mem;
 

@@ -3,7 +3,7 @@ ghost use Rattle.std.specs.Prelude.{◌≡◌};
 ghost use Rattle.mesh_job.specs.declared.faults.LineFault.{LineFault};
 ghost use Rattle.mesh_job.specs.declared.faults.ReadFault.{ReadFault};
 
-use mesh_model::{FaultKind, TextFault};
+use model_words::{FaultKind, TextFault};
 use std::alloc::{AllocError, AllocFailed};
 use thiserror::Error;
 

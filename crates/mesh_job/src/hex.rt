@@ -2,11 +2,11 @@
 ghost use Rattle.std.specs.Prelude.{◌≡◌, ◌<◌, ◌≤◌, ◌^◌, ◌⊎◌, ◌↔◌, Ok, Err, true, false, IfSome, IfOk, IfErr, IsNone, IsTrue, length, slice_index};
 ghost use Rattle.std.specs.List.{list_all};
 ghost use Rattle.arrayvec.specs.ArrayVec.{array_vec_len};
-ghost use Rattle.mesh_model.specs.Files.{address_in, byte_from, byte_in, bytes_in, hex_number, hex_value};
+ghost use Rattle.model_jobs.specs.JobFiles.{address_in, byte_from, byte_in, bytes_in, hex_number, hex_value};
 ghost use Rattle.mesh_job.specs.Reading.{is_hex_digit};
 
 use arrayvec::ArrayVec;
-use mesh_model::{FaultKind, MAX_BYTES};
+use model_words::{FaultKind, MAX_BYTES};
 
 /// The greatest address, the last byte of the last virtual page.
 const MOST_ADDRESS: u32 = 0xfff_ffff;

@@ -2,7 +2,7 @@
 ghost use Rattle.std.specs.Prelude.{◌≡◌, ◌<◌, ◌≤◌, length, slice_index_or};
 
 use crate::{Plan, Script};
-use mesh_model::Version;
+use model_words::Version;
 use std::marker::Model;
 
 /// The scripts of a job's workers, 1 to 64 of them. Worker `w` has the script at place `w`.
@@ -13,7 +13,7 @@ pub struct Scripts {
 
 impl Model for Scripts {
     ghost use Rattle.std.specs.Prelude.{◌≤◌, List, length};
-    ghost use Rattle.mesh_model.specs.declared.commands.Command.{Command};
+    ghost use Rattle.model_words.specs.declared.commands.Command.{Command};
 
     ghost Value = { List (List Command) };
 
@@ -70,7 +70,7 @@ pub struct Job {
 
 impl Model for Job {
     ghost use Rattle.std.specs.Prelude.{length};
-    ghost use Rattle.mesh_model.specs.Jobs.{Job as PlainJob};
+    ghost use Rattle.model_jobs.specs.Jobs.{Job as PlainJob};
     ghost use Rattle.mesh_job.specs.Job.{IsJob};
 
     ghost Value = { PlainJob };

@@ -21,7 +21,7 @@ mod script;
 
 pub use faults::ReadFault;
 pub use job::{Job, Scripts};
-pub use mesh_model::{Command, FaultKind, TextFault, Version};
+pub use model_words::{Command, FaultKind, TextFault, Version};
 pub use plan::{Plan, PlanLine, Search};
 pub use reader::{MOST_FILE_BYTES, Reading, read_file};
 pub use script::Script;

@@ -1,12 +1,12 @@
 //! A text cut into lines, and a line cut into its fields.
 ghost use Rattle.std.specs.Prelude.{◌≡◌, ◌-◌, ◌<◌, ◌≤◌, ◌⊎◌, ◌∷◌, [], Ok, Err, true, false, ◌++◌, length, take, drop, nat_eq, IfSome, IfOk, IfErr, IsNone, OnOk, OnErr};
 ghost use Rattle.std.specs.List.{list_all, list_any, slice_split};
-ghost use Rattle.mesh_model.specs.Files.{are_same, five_fields, header_in, is_empty, is_printable, no_field, one_field, three_fields, two_fields};
+ghost use Rattle.model_jobs.specs.JobFiles.{are_same, five_fields, header_in, is_empty, is_printable, no_field, one_field, three_fields, two_fields};
 ghost use Rattle.mesh_job.specs.Reading.{IsFaultyLine, IsPartOfLine, IsSplit, is_field_byte, line_fields, text_lines, texts};
 
 use crate::numbers::number32;
 use arrayvec::ArrayVec;
-use mesh_model::FaultKind;
+use model_words::FaultKind;
 
 /// The most bytes of a line, without its end.
 const MOST_LINE_BYTES: usize = 1024;

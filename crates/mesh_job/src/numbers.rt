@@ -1,11 +1,11 @@
 //! Decimal fields.
 ghost use Rattle.std.specs.Prelude.{◌≡◌, ◌≢◌, ◌+◌, ◌<◌, ◌≤◌, ◌^◌, ◌⊎◌, ℕ, true, false, decimal, IfSome, IfOk, IsNone};
 ghost use Rattle.std.specs.List.{list_all};
-ghost use Rattle.mesh_model.specs.Files.{cell_in, decimal_value, number_in};
+ghost use Rattle.model_jobs.specs.JobFiles.{cell_in, decimal_value, number_in};
 ghost use Rattle.mesh_job.specs.Reading.{is_decimal_digit};
 
 use crate::hex::has_leading_zero;
-use mesh_model::FaultKind;
+use model_words::FaultKind;
 
 /// The number whose decimal spelling the field is: digits without a leading zero, at most 18446744073709551615.
 fn decimal_of(field: &[u8]) -> Option<u64>

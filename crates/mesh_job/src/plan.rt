@@ -59,7 +59,7 @@ pub struct Plan {
 
 impl Model for Plan {
     ghost use Rattle.std.specs.Prelude.{List, map};
-    ghost use Rattle.mesh_model.specs.Jobs.{Line};
+    ghost use Rattle.model_jobs.specs.Jobs.{Line};
     ghost use Rattle.mesh_job.specs.Plan.{line_of};
 
     ghost Value = { List Line };

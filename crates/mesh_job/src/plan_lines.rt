@@ -1,8 +1,8 @@
 //! The lines of a plan: the fields of each, from left to right.
 ghost use Rattle.std.specs.Prelude.{◌≡◌, ◌≤◌, ◌↔◌, ℕ, false, codes, Ok, Err, IfOk, IfErr, IsTrue, IsSome};
-ghost use Rattle.mesh_model.specs.Classes.{row_of};
-ghost use Rattle.mesh_model.specs.Files.{are_same, begin_in, class_in, line_in, of_class_in, of_mesh_in, pair_in, run_in, sweep_in, whole_in, words_in};
-ghost use Rattle.mesh_model.specs.Jobs.{Line, CancelMesh, CancelClass, StepMesh, StepClass};
+ghost use Rattle.model_words.specs.Classes.{row_of};
+ghost use Rattle.model_jobs.specs.JobFiles.{are_same, begin_in, class_in, line_in, of_class_in, of_mesh_in, pair_in, run_in, sweep_in, whole_in, words_in};
+ghost use Rattle.model_jobs.specs.Jobs.{Line, CancelMesh, CancelClass, StepMesh, StepClass};
 ghost use Rattle.mesh_job.specs.Plan.{line_of, read_line};
 ghost use Rattle.mesh_job.specs.Reading.{IsFaultOfStep, texts};
 
@@ -11,7 +11,7 @@ use crate::lines::{is_word, no_field, one_field, two_fields};
 use crate::numbers::{number, number32};
 use crate::{PlanLine, Search};
 use mesh_class::{Class, class_of};
-use mesh_model::{FaultKind, Version};
+use model_words::{FaultKind, Version};
 use std::alloc::Global;
 
 /// The greatest number of a group.

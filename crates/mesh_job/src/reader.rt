@@ -1,6 +1,6 @@
 //! The reader of job files.
 ghost use Rattle.std.specs.Prelude.{◌≡◌, ◌+◌, ◌-◌, ◌<◌, ◌≤◌, ◌↔◌, List, ℕ, Ok, [], ◌++◌, None, drop, is_some, length, take, true, IfOk, IfErr, IfSome, OnOk};
-ghost use Rattle.mesh_model.specs.Files.{read_text};
+ghost use Rattle.model_jobs.specs.JobFiles.{read_text};
 ghost use Rattle.mesh_job.specs.Draft.{IsDraft, draft_of};
 ghost use Rattle.mesh_job.specs.Faults.{IsReadFault};
 ghost use Rattle.mesh_job.specs.Taken.{HasTaken, IsLeft, IsReadTo, IsReading, bytes_taken, is_over};
@@ -8,7 +8,7 @@ ghost use Rattle.mesh_job.specs.Taken.{HasTaken, IsLeft, IsReadTo, IsReading, by
 use crate::draft::Draft;
 use crate::faults::LineFault;
 use crate::{Job, ReadFault};
-use mesh_model::{FaultKind, TextFault};
+use model_words::{FaultKind, TextFault};
 use std::alloc::{AllocError, Global};
 
 /// The most bytes of a job file.

@@ -2,9 +2,9 @@
 ghost use Rattle.std.specs.Prelude.{◌≡◌, ◌<◌, ◌^◌, [], ◌∷◌, ◌++◌, length, slice_get, OnOk, OnErr, IfSome};
 ghost use Rattle.std.specs.List.{All};
 ghost use Rattle.std.specs.Option.{option_copied};
-ghost use Rattle.mesh_model.specs.Commands.{IsInRange};
+ghost use Rattle.model_words.specs.Commands.{IsInRange};
 
-use mesh_model::Command;
+use model_words::Command;
 use std::alloc::{AllocError, Global};
 use std::marker::Model;
 
@@ -19,8 +19,8 @@ pub struct Script {
 impl Model for Script {
     ghost use Rattle.std.specs.Prelude.{List};
     ghost use Rattle.std.specs.List.{All};
-    ghost use Rattle.mesh_model.specs.declared.commands.Command.{Command};
-    ghost use Rattle.mesh_model.specs.Commands.{IsInRange};
+    ghost use Rattle.model_words.specs.declared.commands.Command.{Command};
+    ghost use Rattle.model_words.specs.Commands.{IsInRange};
 
     ghost Value = { List Command };
 

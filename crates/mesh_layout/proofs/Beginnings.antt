@@ -4,15 +4,15 @@ use Rattle.std.specs.Option.{option_map}
 use Rattle.std.proofs.lemmas.Bool.Decides.{eqb_tells, leb_tells}
 use Rattle.std.proofs.lemmas.List.{get_or-set_other, get_or-set_same, get_or_past}
 use Rattle.mesh_arena.specs.Pages.{Pages}
-use Rattle.mesh_model.specs.Classes.{Row, row_of}
-use Rattle.mesh_model.specs.Mesh.{Pair, begin, do_overlap, may_begin, mesh_whole, step_count}
-use Rattle.mesh_model.specs.Sound.{AreSoundMeshes, IsSound, IsSoundMesh, meshes_of}
-use Rattle.mesh_model.specs.Table.{Counted, Group, Made, Mesh, Slot, Table, group_of, has_number}
-use Rattle.mesh_model.specs.TableLaws.{IsBusyTest}
-use Rattle.mesh_model.specs.declared.refusals.Refusal.{Refusal}
-use Rattle.mesh_model.specs.declared.refusals.Refusal.TheVariants.{Busy, Class, Members, NoGroup, Overlap, Same}
-use Rattle.mesh_model.proofs.GroupPages.{found_sound}
-use Rattle.mesh_model.proofs.TableChanges.{begin_sound}
+use Rattle.model_words.specs.Classes.{Row, row_of}
+use Rattle.model_heap.specs.Mesh.{Pair, begin, do_overlap, may_begin, mesh_whole, step_count}
+use Rattle.model_heap.specs.Sound.{AreSoundMeshes, IsSound, IsSoundMesh, meshes_of}
+use Rattle.model_heap.specs.Table.{Counted, Group, Made, Mesh, Slot, Table, group_of, has_number}
+use Rattle.model_heap.specs.TableLaws.{IsBusyTest}
+use Rattle.model_words.specs.declared.refusals.Refusal.{Refusal}
+use Rattle.model_words.specs.declared.refusals.Refusal.TheVariants.{Busy, Class, Members, NoGroup, Overlap, Same}
+use Rattle.model_heap.proofs.GroupPages.{found_sound}
+use Rattle.model_heap.proofs.TableChanges.{begin_sound}
 use Rattle.mesh_pagemap.specs.Entries.{Entries}
 use Rattle.mesh_spans.specs.Changes.{with_flag, with_mesh}
 use Rattle.mesh_spans.specs.Groups.{groups_of, is_closed}

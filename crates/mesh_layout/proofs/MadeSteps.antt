@@ -5,13 +5,13 @@ use Rattle.std.proofs.lemmas.List.{length-map}
 use Rattle.std.proofs.lemmas.Nat.{mul-le}
 use Rattle.mesh_arena.specs.Pages.{Pages, free_count}
 use Rattle.mesh_class.specs.Classes.{pages_of, slots_of}
-use Rattle.mesh_model.specs.Mesh.{Stepped, do_overlap, kind_after, page_count, step, merged, step_count, table_after, with_progress, without_mesh}
-use Rattle.mesh_model.specs.Sound.{IsWithinSteps}
-use Rattle.mesh_model.specs.Table.{Group, Made, Mesh, Progress, Slot, Table, group_of}
-use Rattle.mesh_model.specs.declared.commands.StepKind.{StepKind}
-use Rattle.mesh_model.specs.declared.commands.StepKind.TheVariants.{Copy, Protect, Release, Remap, Unprotect}
-use Rattle.mesh_model.specs.declared.refusals.Refusal.{Refusal}
-use Rattle.mesh_model.proofs.TableChanges.{step_sound}
+use Rattle.model_heap.specs.Mesh.{Stepped, do_overlap, kind_after, page_count, step, merged, step_count, table_after, with_progress, without_mesh}
+use Rattle.model_heap.specs.Sound.{IsWithinSteps}
+use Rattle.model_heap.specs.Table.{Group, Made, Mesh, Progress, Slot, Table, group_of}
+use Rattle.model_words.specs.declared.commands.StepKind.{StepKind}
+use Rattle.model_words.specs.declared.commands.StepKind.TheVariants.{Copy, Protect, Release, Remap, Unprotect}
+use Rattle.model_words.specs.declared.refusals.Refusal.{Refusal}
+use Rattle.model_heap.proofs.TableChanges.{step_sound}
 use Rattle.mesh_pagemap.specs.Entries.{Entries, Protects, is_mapped, prot_of}
 use Rattle.mesh_spans.specs.Groups.{first_of, groups_of, is_closed, table_group}
 use Rattle.mesh_spans.specs.Index.{GroupEntry, Index, IsIndex, group_at, span_at}

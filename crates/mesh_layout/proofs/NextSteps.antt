@@ -2,10 +2,10 @@
 use Rattle.std.proofs.Common.{◌≡◌, ◌≢◌, ℕ, suc, ◌+◌, ◌*◌, ◌<◌, ◌≤◌, true, false, nat_le, nat_lt, refl, arith, inl, inr}
 use Rattle.std.proofs.lemmas.Bool.Decides.{leb_tells}
 use Rattle.mesh_class.specs.Classes.{pages_of, slots_of}
-use Rattle.mesh_model.specs.Mesh.{free_after, kind_after, merged, page_count, step_count, table_after, with_progress, without_mesh}
-use Rattle.mesh_model.specs.Table.{Group, Made, Mesh, Table}
-use Rattle.mesh_model.specs.declared.commands.StepKind.{StepKind}
-use Rattle.mesh_model.specs.declared.commands.StepKind.TheVariants.{Copy, Protect, Release, Remap, Unprotect}
+use Rattle.model_heap.specs.Mesh.{free_after, kind_after, merged, page_count, step_count, table_after, with_progress, without_mesh}
+use Rattle.model_heap.specs.Table.{Group, Made, Mesh, Table}
+use Rattle.model_words.specs.declared.commands.StepKind.{StepKind}
+use Rattle.model_words.specs.declared.commands.StepKind.TheVariants.{Copy, Protect, Release, Remap, Unprotect}
 
 is_below : (a b : ℕ) → a < b → nat_lt a b ≡ true
 is_below a b h = elim (leb_tells (suc a) b) [ inl yes_ ↦ yes_.0 | inr no_ ↦ absurd (let n = no_.1 in omega (arith, n, h)) ]

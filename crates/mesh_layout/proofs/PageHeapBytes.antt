@@ -2,9 +2,9 @@
 use Rattle.std.proofs.Common.{◌≡◌, ℕ, ◌+◌, ◌*◌, ◌/◌, ◌%◌, ◌<◌, ◌≤◌, false, List, [], Option, Some, None, length, slice_index, ap, subst, refl, arith, mod-lt}
 use Rattle.mesh_arena.specs.Pages.{Pages, free_count}
 use Rattle.mesh_class.specs.Classes.{pages_of}
-use Rattle.mesh_model.proofs.TableChanges.{empty_sound}
-use Rattle.mesh_model.specs.Sound.{IsSound}
-use Rattle.mesh_model.specs.Table.{Mesh, Table, slot_address}
+use Rattle.model_heap.proofs.TableChanges.{empty_sound}
+use Rattle.model_heap.specs.Sound.{IsSound}
+use Rattle.model_heap.specs.Table.{Mesh, Table, slot_address}
 use Rattle.mesh_pagemap.specs.Entries.{AreInRange, Entries, is_mapped}
 use Rattle.mesh_spans.specs.Groups.{groups_of}
 use Rattle.mesh_spans.specs.Index.{GroupEntry, Index, IsIndex, SpanEntry, group_at, span_at}

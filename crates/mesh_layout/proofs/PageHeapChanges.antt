@@ -8,9 +8,9 @@ use Rattle.std.proofs.lemmas.Bool.Decides.{eqb_tells, leb_tells}
 use Rattle.std.proofs.lemmas.List.{get_or-set_other, get_or-set_same, get_or_past}
 use Rattle.mesh_arena.specs.Pages.{Pages, free_count}
 use Rattle.mesh_class.specs.Classes.{pages_of, slots_of}
-use Rattle.mesh_model.proofs.GroupPages.{found_sound}
-use Rattle.mesh_model.specs.Sound.{AreSoundMeshes, IsSound, meshes_of}
-use Rattle.mesh_model.specs.Table.{Made, Mesh, Slot, Table, group_of, has_number, takes_part}
+use Rattle.model_heap.proofs.GroupPages.{found_sound}
+use Rattle.model_heap.specs.Sound.{AreSoundMeshes, IsSound, meshes_of}
+use Rattle.model_heap.specs.Table.{Made, Mesh, Slot, Table, group_of, has_number, takes_part}
 use Rattle.mesh_pagemap.specs.Entries.{Entries, is_mapped}
 use Rattle.mesh_spans.specs.Groups.{groups_of, is_closed, is_in_mesh}
 use Rattle.mesh_spans.specs.Index.{AreUnused, GroupEntry, Index, IsIndex, SpanEntry, group_at, new_group, new_span, span_at, with_entry, with_slot}

@@ -5,10 +5,10 @@ use Rattle.std.specs.List.{list_any}
 use Rattle.std.proofs.lemmas.Bool.Decides.{eqb_tells}
 use Rattle.mesh_arena.specs.Pages.{Gives, Pages}
 use Rattle.mesh_class.specs.Classes.{pages_of, slots_of}
-use Rattle.mesh_model.proofs.TableChanges.{step_sound}
-use Rattle.mesh_model.specs.Mesh.{Stepped, is_mesh, step, with_progress, without_mesh}
-use Rattle.mesh_model.specs.Sound.{AreSoundMeshes, IsSound, IsSoundMesh, meshes_of}
-use Rattle.mesh_model.specs.Table.{Group, Made, Mesh, Table, group_of, takes_part}
+use Rattle.model_heap.proofs.TableChanges.{step_sound}
+use Rattle.model_heap.specs.Mesh.{Stepped, is_mesh, step, with_progress, without_mesh}
+use Rattle.model_heap.specs.Sound.{AreSoundMeshes, IsSound, IsSoundMesh, meshes_of}
+use Rattle.model_heap.specs.Table.{Group, Made, Mesh, Table, group_of, takes_part}
 use Rattle.mesh_pagemap.specs.Entries.{Entries, Protects, prot_of}
 use Rattle.mesh_spans.specs.Groups.{is_closed}
 use Rattle.mesh_spans.specs.Index.{AreUnused, Index, IsIndex}

@@ -4,9 +4,9 @@ use Rattle.mesh_arena.specs.Pages.{IsTaken, Pages, is_taken}
 use Rattle.mesh_layout.specs.EffectLaws.{AreSame}
 use Rattle.mesh_layout.specs.Effects.{AreSides, HasEffect, IsUnder, under_of}
 use Rattle.mesh_layout.specs.PageHeap.{bytes_in, targets_of}
-use Rattle.mesh_model.specs.Places.{Place, Target}
-use Rattle.mesh_model.specs.StepEffects.{Sides, Under, step_effect}
-use Rattle.mesh_model.specs.Table.{Group, Mesh, has_number}
+use Rattle.model_heap.specs.Places.{Place, Target}
+use Rattle.model_heap.specs.StepEffects.{Sides, Under, step_effect}
+use Rattle.model_heap.specs.Table.{Group, Mesh, has_number}
 use Rattle.mesh_pagemap.specs.Entries.{Entries}
 use Rattle.mesh_spans.specs.Groups.{groups_of}
 use Rattle.mesh_spans.specs.Index.{Index}

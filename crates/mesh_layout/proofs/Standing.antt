@@ -4,9 +4,9 @@ use Rattle.std.proofs.Common.{◌≡◌, ◌≢◌, ℕ, zero, suc, ◌+◌, ◌
 use Rattle.std.specs.List.{list_any, range_with_len}
 use Rattle.std.proofs.lemmas.Bool.Decides.{eqb_tells}
 use Rattle.mesh_arena.specs.Pages.{Pages, IsTaken}
-use Rattle.mesh_model.specs.Mesh.{is_blocked, read_only_pages}
-use Rattle.mesh_model.specs.Places.{Place, Record, place_of, records_of, IsIn, record_with}
-use Rattle.mesh_model.specs.Table.{Mesh, Table, slot_address}
+use Rattle.model_heap.specs.Mesh.{is_blocked, read_only_pages}
+use Rattle.model_heap.specs.Places.{Place, Record, place_of, records_of, IsIn, record_with}
+use Rattle.model_heap.specs.Table.{Mesh, Table, slot_address}
 use Rattle.mesh_pagemap.specs.Entries.{Entries, is_read_only, page_of}
 use Rattle.mesh_spans.specs.Index.{Index, IsIndex}
 use Rattle.mesh_store.specs.Places.{IsBlocked, IsOpen}

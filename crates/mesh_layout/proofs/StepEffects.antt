@@ -5,12 +5,12 @@ use Rattle.std.proofs.lemmas.Bool.Decides.{eqb_tells}
 use Rattle.std.proofs.lemmas.List.{get_or-map, length-map}
 use Rattle.mesh_arena.specs.Pages.{Pages, byte_at, is_taken}
 use Rattle.mesh_class.specs.Classes.{pages_of, slots_of}
-use Rattle.mesh_model.specs.Mesh.{kind_after, page_count, virtual_pages}
-use Rattle.mesh_model.specs.Places.{Place, Target, with_protection}
-use Rattle.mesh_model.specs.StepEffects.{Sides, effect, place_at, source_page, step_effect, steps_before, with_copied, with_free, with_page, with_slot_copied}
-use Rattle.mesh_model.specs.Table.{Group, Made, Mesh, Progress, Slot, Unwinding}
-use Rattle.mesh_model.specs.declared.commands.StepKind.{StepKind}
-use Rattle.mesh_model.specs.declared.commands.StepKind.TheVariants.{Copy, Protect, Release, Remap, Unprotect}
+use Rattle.model_heap.specs.Mesh.{kind_after, page_count, virtual_pages}
+use Rattle.model_heap.specs.Places.{Place, Target, with_protection}
+use Rattle.model_heap.specs.StepEffects.{Sides, effect, place_at, source_page, step_effect, steps_before, with_copied, with_free, with_page, with_slot_copied}
+use Rattle.model_heap.specs.Table.{Group, Made, Mesh, Progress, Slot, Unwinding}
+use Rattle.model_words.specs.declared.commands.StepKind.{StepKind}
+use Rattle.model_words.specs.declared.commands.StepKind.TheVariants.{Copy, Protect, Release, Remap, Unprotect}
 use Rattle.mesh_pagemap.specs.Entries.{Entries, Protects, Remaps, is_read_only, page_of, prot_of, reads_only}
 use Rattle.mesh_spans.specs.Groups.{first_of, table_group}
 use Rattle.mesh_spans.specs.Index.{GroupEntry, Index, group_at}

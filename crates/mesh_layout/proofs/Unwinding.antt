@@ -3,12 +3,12 @@ use Rattle.std.proofs.Common.{◌≡◌, ◌≢◌, ℕ, suc, ◌+◌, ◌-◌, 
 use Rattle.std.proofs.lemmas.Bool.Decides.{eqb_tells, leb_tells}
 use Rattle.mesh_arena.specs.Pages.{Pages}
 use Rattle.mesh_class.specs.Classes.{slots_of}
-use Rattle.mesh_model.specs.Mesh.{cancel, cancelled, page_count, step, table_unwound, with_progress, without_mesh}
-use Rattle.mesh_model.specs.Sound.{IsWithinSteps}
-use Rattle.mesh_model.specs.Table.{Group, Made, Mesh, Progress, Slot, Table, Unwinding, group_of}
-use Rattle.mesh_model.specs.declared.commands.StepKind.TheVariants.{Unprotect}
-use Rattle.mesh_model.specs.declared.refusals.Refusal.TheVariants.{TooLate}
-use Rattle.mesh_model.proofs.TableChanges.{cancel_sound, step_sound}
+use Rattle.model_heap.specs.Mesh.{cancel, cancelled, page_count, step, table_unwound, with_progress, without_mesh}
+use Rattle.model_heap.specs.Sound.{IsWithinSteps}
+use Rattle.model_heap.specs.Table.{Group, Made, Mesh, Progress, Slot, Table, Unwinding, group_of}
+use Rattle.model_words.specs.declared.commands.StepKind.TheVariants.{Unprotect}
+use Rattle.model_words.specs.declared.refusals.Refusal.TheVariants.{TooLate}
+use Rattle.model_heap.proofs.TableChanges.{cancel_sound, step_sound}
 use Rattle.mesh_pagemap.specs.Entries.{Entries, Protects, prot_of}
 use Rattle.mesh_spans.specs.Groups.{groups_of, is_closed, table_group}
 use Rattle.mesh_spans.specs.Index.{Index, IsIndex, group_at}

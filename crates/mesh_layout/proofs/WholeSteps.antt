@@ -4,17 +4,17 @@ use Rattle.std.proofs.lemmas.Bool.Decides.{eqb_tells, leb_tells}
 use Rattle.std.proofs.lemmas.List.{map-append}
 use Rattle.std.proofs.lemmas.List.Elements.{filter-append}
 use Rattle.mesh_class.specs.Classes.{pages_of, slots_of}
-use Rattle.mesh_model.proofs.Chains.{may_begin_gives}
-use Rattle.mesh_model.proofs.GroupPages.{found_sound}
-use Rattle.mesh_model.proofs.TableChanges.{class_paged}
-use Rattle.mesh_model.proofs.WholeMeshes.{free_next}
-use Rattle.mesh_model.specs.Mesh.{Pair, Stepped, begin, do_overlap, free_after, is_mesh, kind_after, may_begin, merged, mesh_at, mesh_in, mesh_whole, page_count, step, step_count, stepped, table_after, with_progress, without_mesh}
-use Rattle.mesh_model.specs.MeshLaws.{steps_of_class}
-use Rattle.mesh_model.specs.Sound.{IsSound, IsSoundMesh, meshes_of}
-use Rattle.mesh_model.specs.Table.{Counted, Group, Made, Mesh, Progress, Table, group_of, has_number}
-use Rattle.mesh_model.specs.TableLaws.{IsBusyTest}
-use Rattle.mesh_model.specs.Words.{◌>>=◌}
-use Rattle.mesh_model.specs.declared.refusals.Refusal.{Refusal}
+use Rattle.model_heap.proofs.MayBegin.{may_begin_gives}
+use Rattle.model_heap.proofs.GroupPages.{found_sound}
+use Rattle.model_heap.proofs.TableChanges.{class_paged}
+use Rattle.model_heap.proofs.WholeMeshes.{free_next}
+use Rattle.model_heap.specs.Mesh.{Pair, Stepped, begin, do_overlap, free_after, is_mesh, kind_after, may_begin, merged, mesh_at, mesh_in, mesh_whole, page_count, step, step_count, stepped, table_after, with_progress, without_mesh}
+use Rattle.model_heap.specs.MeshLaws.{steps_of_class}
+use Rattle.model_heap.specs.Sound.{IsSound, IsSoundMesh, meshes_of}
+use Rattle.model_heap.specs.Table.{Counted, Group, Made, Mesh, Progress, Table, group_of, has_number}
+use Rattle.model_heap.specs.TableLaws.{IsBusyTest}
+use Rattle.model_words.specs.Words.{◌>>=◌}
+use Rattle.model_words.specs.declared.refusals.Refusal.{Refusal}
 use Rattle.mesh_layout.proofs.MeshList.{same_mesh}
 use Rattle.mesh_layout.proofs.MeshPlaces.{progress_none, without_none}
 

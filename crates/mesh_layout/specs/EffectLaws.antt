@@ -3,8 +3,8 @@ use Rattle.std.specs.Prelude.{◌≡◌, ℕ}
 use Rattle.mesh_arena.specs.Pages.{IsTaken, Pages, is_taken}
 use Rattle.mesh_layout.specs.Effects.{HasEffect}
 use Rattle.mesh_layout.specs.PageHeap.{bytes_in, targets_of}
-use Rattle.mesh_model.specs.Places.{Place}
-use Rattle.mesh_model.specs.Table.{Mesh}
+use Rattle.model_heap.specs.Places.{Place}
+use Rattle.model_heap.specs.Table.{Mesh}
 use Rattle.mesh_pagemap.specs.Entries.{Entries}
 use Rattle.mesh_spans.specs.Index.{Index}
 

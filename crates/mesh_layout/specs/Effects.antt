@@ -1,9 +1,9 @@
 -- Arena and page map as what lies under a table, and what the steps of a mesh change of them.
 use Rattle.std.specs.Prelude.{◌≡◌, ℕ, not, find, Some}
 use Rattle.mesh_arena.specs.Pages.{IsTaken, Pages, is_taken}
-use Rattle.mesh_model.specs.Places.{Place}
-use Rattle.mesh_model.specs.StepEffects.{Sides, Under, step_effect}
-use Rattle.mesh_model.specs.Table.{Mesh, has_number}
+use Rattle.model_heap.specs.Places.{Place}
+use Rattle.model_heap.specs.StepEffects.{Sides, Under, step_effect}
+use Rattle.model_heap.specs.Table.{Mesh, has_number}
 use Rattle.mesh_pagemap.specs.Entries.{Entries}
 use Rattle.mesh_spans.specs.Groups.{groups_of}
 use Rattle.mesh_spans.specs.Index.{Index, group_at}

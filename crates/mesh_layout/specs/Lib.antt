@@ -1,4 +1,4 @@
-pub use Rattle.mesh_model.specs.MeaningLaws
+pub use Rattle.model_heap.specs.MeaningLaws
 pub use Rattle.mesh_class.specs.Classes
 pub use Rattle.mesh_arena.specs.Pages
 pub use Rattle.mesh_pagemap.specs.Entries

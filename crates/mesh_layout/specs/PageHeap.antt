@@ -2,9 +2,9 @@
 use Rattle.std.specs.Prelude.{◌≡◌, ℕ, ◌≤◌, false, List}
 use Rattle.std.specs.List.{list_any}
 use Rattle.mesh_arena.specs.Pages.{Pages, byte_at}
-use Rattle.mesh_model.specs.Places.{Place, Target}
-use Rattle.mesh_model.specs.Sound.{IsSound}
-use Rattle.mesh_model.specs.Table.{Mesh, takes_part}
+use Rattle.model_heap.specs.Places.{Place, Target}
+use Rattle.model_heap.specs.Sound.{IsSound}
+use Rattle.model_heap.specs.Table.{Mesh, takes_part}
 use Rattle.mesh_pagemap.specs.Entries.{Entries, is_mapped, is_read_only, page_of}
 use Rattle.mesh_spans.specs.Groups.{is_closed}
 use Rattle.mesh_spans.specs.Index.{AreUnused, Index}

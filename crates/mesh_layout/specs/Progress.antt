@@ -1,7 +1,7 @@
 -- How far a mesh has come after each number of its steps, on two small sources.
 use Rattle.std.specs.Prelude.{◌≡◌, ℕ, List, [], ◌∷◌, map}
 use Rattle.std.specs.List.{range_with_len}
-use Rattle.mesh_model.specs.Table.{Made, Unwinding}
+use Rattle.model_heap.specs.Table.{Made, Unwinding}
 use Rattle.mesh_layout.specs.Layout.{Stage}
 use Rattle.mesh_layout.specs.Meshes.{stage_at}
 

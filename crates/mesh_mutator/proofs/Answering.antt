@@ -5,20 +5,21 @@ use Rattle.std.proofs.Math.ListN.{get_or-append, get_or-map, length-append, leng
 use Rattle.std.proofs.Math.Seq.{get_or-append_seam}
 use Rattle.std.proofs.lemmas.List.{get_or-set_other, get_or-set_same, get_or_past, map-set}
 use Rattle.std.proofs.lemmas.Bool.Decides.{eqb_tells, leb_tells}
-use Rattle.mesh_model.proofs.AnsweredCommands.{new_has_length}
-use Rattle.mesh_model.proofs.Meanings.{meaning_next}
-use Rattle.mesh_model.specs.Jobs.{Outcome, answered, is_refusal, new_answered, new_at, others_answered, put_blocked, table_freed, touches_read_only, is_held_back}
-use Rattle.mesh_model.specs.Memory.{Memory, Object, holder_of, next_serial, object_of, overwritten, root_of, with_object, with_root, with_new}
-use Rattle.mesh_model.specs.Mesh.{is_blocked}
-use Rattle.mesh_model.specs.Plain.{Named, Follows, ends_outside, holding, made, named_by, plain, stored}
-use Rattle.mesh_model.specs.Table.{Placed, Table, place_new, without_object}
-use Rattle.mesh_model.specs.Words.{◌>>=◌, refuse_if}
-use Rattle.mesh_model.specs.declared.commands.Command.{Command}
-use Rattle.mesh_model.specs.declared.commands.Command.TheVariants.{New, Put, Get, Free, Alias, Addr, Peek, Poke, Copy}
-use Rattle.mesh_model.specs.declared.commands.Reply.{Reply}
-use Rattle.mesh_model.specs.declared.commands.Reply.TheVariants.{Object as Made, Done as ReplyDone, Bytes, At, Byte, Refused as ReplyRefused}
-use Rattle.mesh_model.specs.declared.refusals.Refusal.{Refusal}
-use Rattle.mesh_model.specs.declared.refusals.Refusal.TheVariants.{Empty, Freed, Outside, Stray}
+use Rattle.model_heap.proofs.NewLengths.{new_has_length}
+use Rattle.model_heap.proofs.Meanings.{meaning_next}
+use Rattle.model_jobs.specs.Jobs.{Outcome, answered, new_answered, new_at, others_answered, put_blocked, table_freed, touches_read_only, is_held_back}
+use Rattle.model_words.specs.Replies.{is_refusal}
+use Rattle.model_memory.specs.Memory.{Memory, Object, holder_of, next_serial, object_of, overwritten, root_of, with_object, with_root, with_new}
+use Rattle.model_heap.specs.Mesh.{is_blocked}
+use Rattle.model_memory.specs.Plain.{Named, Follows, ends_outside, holding, made, named_by, plain, stored}
+use Rattle.model_heap.specs.Table.{Placed, Table, place_new, without_object}
+use Rattle.model_words.specs.Words.{◌>>=◌, refuse_if}
+use Rattle.model_words.specs.declared.commands.Command.{Command}
+use Rattle.model_words.specs.declared.commands.Command.TheVariants.{New, Put, Get, Free, Alias, Addr, Peek, Poke, Copy}
+use Rattle.model_words.specs.declared.commands.Reply.{Reply}
+use Rattle.model_words.specs.declared.commands.Reply.TheVariants.{Object as Made, Done as ReplyDone, Bytes, At, Byte, Refused as ReplyRefused}
+use Rattle.model_words.specs.declared.refusals.Refusal.{Refusal}
+use Rattle.model_words.specs.declared.refusals.Refusal.TheVariants.{Empty, Freed, Outside, Stray}
 use Rattle.mesh_mutator.proofs.Chains.{GoAlike, after_same, refused_too, test_same, went_on}
 use Rattle.mesh_mutator.specs.Book.{AreRooted, Cells, IsAnswered, IsLooked, IsNamedBy, IsOutcome, IsPerformed, KeepsHeap, attempt_of, cell_at, memory_in, serial_of, serials_of}
 use Rattle.mesh_mutator.specs.declared.attempts.Attempt.TheVariants.{Done}

@@ -1,14 +1,14 @@
 -- What an attempt leaves of a book.
 use Rattle.std.proofs.Common.{◌≡◌, ℕ, ◌+◌, ◌<◌, ◌≤◌, [], ◌∷◌, ◌++◌, length, subst, refl, sym, arith}
 use Rattle.std.proofs.Math.ListN.{length-append}
-use Rattle.mesh_model.specs.HistoryLaws.{AnsweredIsStep}
-use Rattle.mesh_model.specs.Jobs.{answered}
-use Rattle.mesh_model.specs.Laws.{LegalGoesOn}
-use Rattle.mesh_model.specs.Memory.{Memory}
-use Rattle.mesh_model.specs.Plain.{Entry, PlainStep}
-use Rattle.mesh_model.specs.Sound.{IsTied}
-use Rattle.mesh_model.specs.declared.commands.Command.{Command}
-use Rattle.mesh_model.specs.declared.commands.Reply.{Reply}
+use Rattle.model_jobs.specs.JobLaws.{AnsweredIsStep}
+use Rattle.model_jobs.specs.Jobs.{answered}
+use Rattle.model_memory.specs.HistoryLaws.{LegalGoesOn}
+use Rattle.model_memory.specs.Memory.{Memory}
+use Rattle.model_memory.specs.Plain.{Entry, PlainStep}
+use Rattle.model_heap.specs.Sound.{IsTied}
+use Rattle.model_words.specs.declared.commands.Command.{Command}
+use Rattle.model_words.specs.declared.commands.Reply.{Reply}
 use Rattle.mesh_mutator.specs.Book.{AddsEntry, AreRooted, Book, Cells, IsAttempt, IsBook, IsPerformed, memory_in, memory_of_book}
 use Rattle.mesh_mutator.specs.declared.attempts.Attempt.{Attempt}
 use Rattle.mesh_mutator.specs.declared.attempts.Attempt.TheVariants.{Blocked, Done, HistoryFull, OutOfMemory}

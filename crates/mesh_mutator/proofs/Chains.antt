@@ -1,7 +1,7 @@
 -- Two chains of refusals that go on alike.
 use Rattle.std.proofs.Common.{◌≡◌, Bool, true, false, Result, Ok, Err, ap, subst, refl, sym, ◌∙◌}
-use Rattle.mesh_model.specs.Words.{◌>>=◌, refuse_if}
-use Rattle.mesh_model.specs.declared.refusals.Refusal.{Refusal}
+use Rattle.model_words.specs.Words.{◌>>=◌, refuse_if}
+use Rattle.model_words.specs.declared.refusals.Refusal.{Refusal}
 
 -- both are refused alike, or both go on to related values
 abbrev pub GoAlike : {A B : Type 0} → (A → B → Type 0) → Result A Refusal → Result B Refusal → Type 0

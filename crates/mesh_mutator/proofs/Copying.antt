@@ -1,16 +1,16 @@
 -- What the heap answers a copy between the references of two cells, and what the plain memory answers it.
 use Rattle.std.proofs.Common.{◌≡◌, ℕ, ◌+◌, Bool, true, false, ◌||◌, slice_range, Option, Some, None, Result, Ok, Err, IsOk, ap, subst, refl, sym, ◌∙◌}
 use Rattle.std.specs.Option.{option_map}
-use Rattle.mesh_model.specs.Jobs.{copy_blocked}
-use Rattle.mesh_model.specs.Memory.{Memory, Object, object_of, root_of}
-use Rattle.mesh_model.specs.Mesh.{is_blocked}
-use Rattle.mesh_model.specs.Plain.{Named, both_named, copied, ends_outside, named_by, plain}
-use Rattle.mesh_model.specs.Words.{◌>>=◌, or_refuse, refuse_if}
-use Rattle.mesh_model.specs.declared.commands.Command.TheVariants.{Copy}
-use Rattle.mesh_model.specs.declared.commands.Reply.{Reply}
-use Rattle.mesh_model.specs.declared.commands.Reply.TheVariants.{Done as ReplyDone}
-use Rattle.mesh_model.specs.declared.refusals.Refusal.{Refusal}
-use Rattle.mesh_model.specs.declared.refusals.Refusal.TheVariants.{Freed, Outside}
+use Rattle.model_jobs.specs.Jobs.{copy_blocked}
+use Rattle.model_memory.specs.Memory.{Memory, Object, object_of, root_of}
+use Rattle.model_heap.specs.Mesh.{is_blocked}
+use Rattle.model_memory.specs.Plain.{Named, both_named, copied, ends_outside, named_by, plain}
+use Rattle.model_words.specs.Words.{◌>>=◌, or_refuse, refuse_if}
+use Rattle.model_words.specs.declared.commands.Command.TheVariants.{Copy}
+use Rattle.model_words.specs.declared.commands.Reply.{Reply}
+use Rattle.model_words.specs.declared.commands.Reply.TheVariants.{Done as ReplyDone}
+use Rattle.model_words.specs.declared.refusals.Refusal.{Refusal}
+use Rattle.model_words.specs.declared.refusals.Refusal.TheVariants.{Freed, Outside}
 use Rattle.mesh_mutator.proofs.Answering.{KeepAddresses, named_is, referred_address, referred_live, root_is, stored_keeps, with_roots}
 use Rattle.mesh_mutator.proofs.Chains.{GoAlike}
 use Rattle.mesh_mutator.specs.Book.{AreRooted, Cells, cell_at, memory_in, serial_of, serials_of}

@@ -1,7 +1,7 @@
 -- What the headline says of a heap's bytes.
 use Rattle.std.proofs.Common.{◌≡◌, ℕ, subst, sym, inl, inr}
 use Rattle.std.proofs.lemmas.Bool.Decides.{eqb_tells}
-use Rattle.mesh_model.specs.Places.{IsIn}
+use Rattle.model_heap.specs.Places.{IsIn}
 use Rattle.mesh_mutator.specs.Headline.{HasBytesApart}
 use Rattle.mesh_steps.specs.Always.{HasObjectsApart, HasPlacesApart}
 use Rattle.mesh_steps.specs.Heap.{Heap}

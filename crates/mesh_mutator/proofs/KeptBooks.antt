@@ -1,8 +1,8 @@
 -- A book whose heap was meshed, and means what it meant.
 use Rattle.std.proofs.Common.{◌≡◌, ℕ, [], List, Result, Ok, Err, IfOk, IfErr, ap, subst, refl, sym, ◌∙◌, arith}
-use Rattle.mesh_model.specs.Memory.{Memory, object_of}
-use Rattle.mesh_model.specs.Plain.{Entry, IsLegal}
-use Rattle.mesh_model.specs.declared.refusals.Refusal.{Refusal}
+use Rattle.model_memory.specs.Memory.{Memory, object_of}
+use Rattle.model_memory.specs.Plain.{Entry, IsLegal}
+use Rattle.model_words.specs.declared.refusals.Refusal.{Refusal}
 use Rattle.mesh_mutator.specs.Book.{Cells, IsBook, serials_of}
 use Rattle.mesh_steps.specs.Heap.{HasAsManyPages, Heap}
 use Rattle.mesh_steps.specs.HeapMeshes.{MeansTheSame}

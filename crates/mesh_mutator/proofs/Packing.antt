@@ -4,8 +4,8 @@ use Rattle.std.proofs.Math.ListN.{get_or-append, length-append}
 use Rattle.std.proofs.lemmas.List.{map-append}
 use Rattle.std.proofs.lemmas.List.Elements.{All-append, All-cons, All-nil, All-tail}
 use Rattle.std.specs.List.{All}
-use Rattle.mesh_model.specs.declared.commands.Command.{Command}
-use Rattle.mesh_model.specs.declared.commands.Reply.{Reply}
+use Rattle.model_words.specs.declared.commands.Command.{Command}
+use Rattle.model_words.specs.declared.commands.Reply.{Reply}
 use Rattle.mesh_mutator.specs.Packing.{IsCommandWithin, IsReplyWithin, IsWithin, Kept, KeepsMore, bytes_at, command_in, entries_in, entry_in, reply_in}
 use Rattle.mesh_mutator.specs.declared.packed.PackedCommand.{PackedCommand}
 use Rattle.mesh_mutator.specs.declared.packed.PackedCommand.TheVariants.{New, Put, Get, Free, Alias, Addr, Peek, Poke, Copy}

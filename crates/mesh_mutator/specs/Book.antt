@@ -2,14 +2,15 @@
 use Rattle.std.specs.Prelude.{◌≡◌, ◌≢◌, ℕ, ◌<◌, ◌≤◌, true, false, List, [], ◌∷◌, ◌++◌, length, map, slice_index_or, Option, Some, None, Ok, refl}
 use Rattle.std.specs.Option.{option_map}
 use Rattle.std.specs.Coded.{Coded, code_by, coded×, coded_list, coded_option, coded_ℕ}
-use Rattle.mesh_model.specs.Jobs.{Outcome, answered, is_held_back, is_refusal}
-use Rattle.mesh_model.specs.Memory.{Memory, Object, object_of}
-use Rattle.mesh_model.specs.Plain.{Entry, Follows, IsLegal, named_by, plain}
-use Rattle.mesh_model.specs.Table.{Table}
-use Rattle.mesh_model.specs.declared.commands.Command.{Command}
-use Rattle.mesh_model.specs.declared.commands.Command.TheVariants.{Addr, Alias, Copy, Free, Get, New, Peek, Poke, Put}
-use Rattle.mesh_model.specs.declared.commands.Reply.{Reply}
-use Rattle.mesh_model.specs.declared.commands.Reply.TheVariants.{Done as ReplyDone, Refused as ReplyRefused}
+use Rattle.model_jobs.specs.Jobs.{Outcome, answered, is_held_back}
+use Rattle.model_words.specs.Replies.{is_refusal}
+use Rattle.model_memory.specs.Memory.{Memory, Object, object_of}
+use Rattle.model_memory.specs.Plain.{Entry, Follows, IsLegal, named_by, plain}
+use Rattle.model_heap.specs.Table.{Table}
+use Rattle.model_words.specs.declared.commands.Command.{Command}
+use Rattle.model_words.specs.declared.commands.Command.TheVariants.{Addr, Alias, Copy, Free, Get, New, Peek, Poke, Put}
+use Rattle.model_words.specs.declared.commands.Reply.{Reply}
+use Rattle.model_words.specs.declared.commands.Reply.TheVariants.{Done as ReplyDone, Refused as ReplyRefused}
 use Rattle.mesh_mutator.specs.Codes.{entry_code, ref_code}
 use Rattle.mesh_steps.specs.declared.answers.Stored.{Stored}
 use Rattle.mesh_steps.specs.declared.answers.Stored.TheVariants.{Blocked as StoreBlocked, Done as StoreDone, Refused as StoreRefused}

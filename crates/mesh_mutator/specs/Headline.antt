@@ -1,9 +1,9 @@
 -- The headline: what holds of a book at any moment, whatever was asked of it before.
 use Rattle.std.specs.Prelude.{◌≡◌, ℕ, List, Some}
 use Rattle.mesh_layout.specs.PageHeap.{targets_of}
-use Rattle.mesh_model.specs.Memory.{Memory}
-use Rattle.mesh_model.specs.Places.{Record, place_of, IsIn, record_with}
-use Rattle.mesh_model.specs.Plain.{Entry, IsLegal}
+use Rattle.model_memory.specs.Memory.{Memory}
+use Rattle.model_heap.specs.Places.{Record, place_of, IsIn, record_with}
+use Rattle.model_memory.specs.Plain.{Entry, IsLegal}
 use Rattle.mesh_mutator.specs.Book.{Book, memory_of_book}
 use Rattle.mesh_steps.specs.Heap.{Heap, live_records, map_of}
 

@@ -1,7 +1,7 @@
 -- The journal: the answered commands in their order of effect, and how many there is room for.
 use Rattle.std.specs.Prelude.{ℕ, List, refl}
 use Rattle.std.specs.Coded.{Coded, code_by, coded×, coded_list, coded_ℕ}
-use Rattle.mesh_model.specs.Plain.{Entry}
+use Rattle.model_memory.specs.Plain.{Entry}
 use Rattle.mesh_mutator.specs.Codes.{entry_code}
 
 pub record Journal : Type 0 where

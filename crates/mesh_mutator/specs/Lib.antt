@@ -1,7 +1,7 @@
-pub use Rattle.mesh_model.specs.Commands
-pub use Rattle.mesh_model.specs.Jobs
-pub use Rattle.mesh_model.specs.Plain
-pub use Rattle.mesh_model.specs.Refusals
+pub use Rattle.model_words.specs.Commands
+pub use Rattle.model_jobs.specs.Jobs
+pub use Rattle.model_memory.specs.Plain
+pub use Rattle.model_words.specs.Refusals
 pub use Rattle.mesh_steps.specs.PageHeap
 pub use Rattle.mesh_steps.specs.Heap
 pub mod Attempts

@@ -1,11 +1,11 @@
 -- How a journal keeps its entries: packed, with the bytes of commands and replies beside them, each at a place of its own.
 use Rattle.std.specs.Prelude.{◌≡◌, ℕ, ◌<◌, List, [], ◌++◌, length, map, slice_index_or}
 use Rattle.arrayvec.specs.ArrayVec.{ArrayVec}
-use Rattle.mesh_model.specs.Plain.{Entry}
-use Rattle.mesh_model.specs.declared.commands.Command.{Command}
-use Rattle.mesh_model.specs.declared.commands.Command.TheVariants as command
-use Rattle.mesh_model.specs.declared.commands.Reply.{Reply}
-use Rattle.mesh_model.specs.declared.commands.Reply.TheVariants as reply
+use Rattle.model_memory.specs.Plain.{Entry}
+use Rattle.model_words.specs.declared.commands.Command.{Command}
+use Rattle.model_words.specs.declared.commands.Command.TheVariants as command
+use Rattle.model_words.specs.declared.commands.Reply.{Reply}
+use Rattle.model_words.specs.declared.commands.Reply.TheVariants as reply
 use Rattle.mesh_mutator.specs.declared.packed.PackedCommand.{PackedCommand}
 use Rattle.mesh_mutator.specs.declared.packed.PackedCommand.TheVariants.{New, Put, Get, Free, Alias, Addr, Peek, Poke, Copy}
 use Rattle.mesh_mutator.specs.declared.packed.PackedEntry.{PackedEntry}

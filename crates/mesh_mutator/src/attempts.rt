@@ -1,7 +1,7 @@
 //! What each command does to heap and roots, and what it is answered.
 ghost use Rattle.std.specs.Prelude.{◌≡◌, ◌+◌, ◌-◌, ◌^◌, ◌<◌, ◌≤◌, Err, length, IfOk, IfErr};
-ghost use Rattle.mesh_model.specs.Commands.{IsInRange};
-ghost use Rattle.mesh_model.specs.Plain.{named_by};
+ghost use Rattle.model_words.specs.Commands.{IsInRange};
+ghost use Rattle.model_memory.specs.Plain.{named_by};
 ghost use Rattle.mesh_mutator.specs.Book.{AreRooted, IsLooked, IsNamedBy, IsPerformed, attempt_of, memory_in};
 
 use crate::roots::Roots;

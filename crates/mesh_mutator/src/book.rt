@@ -1,10 +1,10 @@
 //! `Book`: a heap with its roots, driven by commands, and the journal of the answers.
 ghost use Rattle.std.specs.Prelude.{◌≡◌, ◌≤◌, ◌↔◌, [], IfOk, length};
-ghost use Rattle.mesh_model.specs.Commands.{IsInRange};
-ghost use Rattle.mesh_model.specs.Memory.{empty_memory};
-ghost use Rattle.mesh_model.specs.Plain.{IsLegal};
-ghost use Rattle.mesh_model.specs.Sound.{IsSound, IsTied};
-ghost use Rattle.mesh_model.specs.Table.{empty_table};
+ghost use Rattle.model_words.specs.Commands.{IsInRange};
+ghost use Rattle.model_memory.specs.Memory.{empty_memory};
+ghost use Rattle.model_memory.specs.Plain.{IsLegal};
+ghost use Rattle.model_heap.specs.Sound.{IsSound, IsTied};
+ghost use Rattle.model_heap.specs.Table.{empty_table};
 ghost use Rattle.mesh_mutator.specs.Attempts.{IsLook};
 ghost use Rattle.mesh_mutator.specs.Book.{AddsEntry, IsAttempt, IsLooked, memory_in, memory_of_book, table_of_book};
 ghost use Rattle.mesh_mutator.specs.Headline.{EndsInMeaning, HasBytesApart, IsHistory};
@@ -18,8 +18,8 @@ use crate::attempts::{address, get, peek, perform};
 use crate::journal::Journal;
 use crate::roots::Roots;
 use crate::{Attempt, Command, Reply};
-use mesh_model::history_laws::answered_is_step;
-use mesh_model::laws::legal_histories;
+use model_jobs::job_laws::answered_is_step;
+use model_memory::history_laws::legal_histories;
 use mesh_steps::Heap;
 use std::alloc::{AllocError, Global};
 use std::marker::Model;

@@ -3,7 +3,7 @@ ghost use Rattle.std.specs.Prelude.{◌≡◌};
 
 use crate::{Command, Reply};
 use arrayvec::ArrayVec;
-use mesh_model::MAX_BYTES;
+use model_words::MAX_BYTES;
 use std::marker::Model;
 
 /// One answered command: who gave it, what it was, and what it was answered.
@@ -18,7 +18,7 @@ pub struct Entry {
 }
 
 impl Model for Entry {
-    ghost use Rattle.mesh_model.specs.Plain.{Entry as PlainEntry};
+    ghost use Rattle.model_memory.specs.Plain.{Entry as PlainEntry};
 
     ghost Value = { PlainEntry };
 

@@ -1,6 +1,6 @@
 //! `Journal`: all answered commands, in their order of effect.
 ghost use Rattle.std.specs.Prelude.{◌≡◌, ◌<◌, ◌≤◌, ◌↔◌, ◌∷◌, [], ◌++◌, IfOk, IsTrue, false, length, slice_index_or, true};
-ghost use Rattle.mesh_model.specs.Plain.{Entry as PlainEntry};
+ghost use Rattle.model_memory.specs.Plain.{Entry as PlainEntry};
 
 use crate::packed::{Bytes, PackedEntry, pack_command, pack_reply, unpack_command, unpack_reply};
 use crate::{Command, Entry, Reply};

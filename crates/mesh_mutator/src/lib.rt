@@ -14,5 +14,5 @@ pub use attempts::Attempt;
 pub use book::Book;
 pub use entry::{Entry, command_again, reply_again};
 pub use journal::Journal;
-pub use mesh_model::{Command, Refusal, Reply};
+pub use model_words::{Command, Refusal, Reply};
 pub use roots::Roots;

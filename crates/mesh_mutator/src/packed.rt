@@ -5,7 +5,7 @@ ghost use Rattle.mesh_mutator.specs.Packing.{IsCommandWithin, IsReplyWithin, Kee
 use crate::entry::bytes_again;
 use crate::{Command, Refusal, Reply};
 use arrayvec::ArrayVec;
-use mesh_model::MAX_BYTES;
+use model_words::MAX_BYTES;
 
 /// What a command stores or a reply loads.
 pub(crate) type Bytes = ArrayVec<u8, MAX_BYTES>;

@@ -1,8 +1,8 @@
 -- The object that has an address, by the function from serials to objects.
 use Rattle.std.proofs.Common.{◌≡◌, Less, ℕ, zero, suc, ◌+◌, ◌<◌, ◌≤◌, Bool, true, false, cond, if◌then◌else◌, List, [], ◌∷◌, ap, subst, refl, sym, ◌∙◌, arith, Option, Some, None, Ok, Err}
-use Rattle.mesh_model.specs.Memory.{Object, has_address, holder_from, holder_of, object_of}
-use Rattle.mesh_model.specs.Plain.{holding}
-use Rattle.mesh_model.specs.declared.refusals.Refusal.TheVariants.{Stray}
+use Rattle.model_memory.specs.Memory.{Object, has_address, holder_from, holder_of, object_of}
+use Rattle.model_memory.specs.Plain.{holding}
+use Rattle.model_words.specs.declared.refusals.Refusal.TheVariants.{Stray}
 use Rattle.std.specs.List.{AllByRecursion}
 use Rattle.std.specs.List.Sorted.{IsStrictlySortedBy}
 use Rattle.std.specs.Map.{keys_of, lookup}

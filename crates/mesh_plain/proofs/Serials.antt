@@ -1,16 +1,16 @@
 -- How many serials there are after a command.
 use Rattle.std.proofs.Common.{◌≡◌, ℕ, ◌+◌, ◌≤◌, ◌||◌, length, arith, Option, None, Result, Ok, Err, refl}
 use Rattle.std.proofs.Math.ListN.{length-set, length-append}
-use Rattle.mesh_model.specs.Memory.{Memory, Object, next_serial, with_object}
-use Rattle.mesh_model.specs.Plain.{both_named, ends_outside, holding, named_by}
-use Rattle.mesh_model.specs.Reads.{left_by, made_by, memory_or}
-use Rattle.mesh_model.specs.Words.{◌>>=◌, refuse_if}
-use Rattle.mesh_model.specs.declared.commands.Command.{Command}
-use Rattle.mesh_model.specs.declared.commands.Command.TheVariants.{New, Put, Get, Free, Alias, Addr, Peek, Poke, Copy as CopyBytes}
-use Rattle.mesh_model.specs.declared.commands.Reply.{Reply}
-use Rattle.mesh_model.specs.declared.commands.Reply.TheVariants.{Object as Made, Done, Bytes, At, Byte, Refused}
-use Rattle.mesh_model.specs.declared.refusals.Refusal.{Refusal}
-use Rattle.mesh_model.specs.declared.refusals.Refusal.TheVariants.{Outside}
+use Rattle.model_memory.specs.Memory.{Memory, Object, next_serial, with_object}
+use Rattle.model_memory.specs.Plain.{both_named, ends_outside, holding, named_by}
+use Rattle.model_memory.specs.Reads.{left_by, made_by, memory_or}
+use Rattle.model_words.specs.Words.{◌>>=◌, refuse_if}
+use Rattle.model_words.specs.declared.commands.Command.{Command}
+use Rattle.model_words.specs.declared.commands.Command.TheVariants.{New, Put, Get, Free, Alias, Addr, Peek, Poke, Copy as CopyBytes}
+use Rattle.model_words.specs.declared.commands.Reply.{Reply}
+use Rattle.model_words.specs.declared.commands.Reply.TheVariants.{Object as Made, Done, Bytes, At, Byte, Refused}
+use Rattle.model_words.specs.declared.refusals.Refusal.{Refusal}
+use Rattle.model_words.specs.declared.refusals.Refusal.TheVariants.{Outside}
 
 -- a refusal leaves as many, so a chain does where its end does
 chained : {A : Type 0} (m : Memory) (r : Result A Refusal) (next : A → Result (Reply × Memory) Refusal)

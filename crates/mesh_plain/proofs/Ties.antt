@@ -5,8 +5,8 @@ use Rattle.std.specs.BTreeMap.{BTreeMap, Updates, get, is_at}
 use Rattle.std.proofs.lemmas.Bool.Decides.{eqb_tells, leb_tells}
 use Rattle.std.proofs.lemmas.Grind.{common_steps}
 use Rattle.std.proofs.lemmas.List.{get_or_past}
-use Rattle.mesh_model.specs.Memory.{Object, next_serial, object_of, root_of, with_object, with_root}
-use Rattle.mesh_model.specs.Plain.{made}
+use Rattle.model_memory.specs.Memory.{Object, next_serial, object_of, root_of, with_object, with_root}
+use Rattle.model_memory.specs.Plain.{made}
 use Rattle.mesh_plain.specs.Maps.{AreBelow, IsSameAt, IsSetAt, memory_of_maps, values_from}
 
 values_length : {X : Type 0} (f : ℕ → X) (k n : ℕ) → length (values_from f k n) ≡ n

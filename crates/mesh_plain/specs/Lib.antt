@@ -1,7 +1,7 @@
-pub use Rattle.mesh_model.specs.Commands
-pub use Rattle.mesh_model.specs.Memory
-pub use Rattle.mesh_model.specs.Plain
-pub use Rattle.mesh_model.specs.Reads
+pub use Rattle.model_words.specs.Commands
+pub use Rattle.model_memory.specs.Memory
+pub use Rattle.model_memory.specs.Plain
+pub use Rattle.model_memory.specs.Reads
 pub mod Maps
 pub mod Refusals
 pub mod Stores

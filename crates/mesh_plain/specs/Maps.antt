@@ -1,7 +1,7 @@
 -- The plain memory as two finite maps: from serial to object, and from cell to serial.
 use Rattle.std.specs.Prelude.{◌≡◌, ◌≢◌, ℕ, zero, suc, ◌+◌, ◌<◌, ◌≤◌, ◌⊎◌, Bool, true, false, if◌then◌else◌, List, [], ◌∷◌, Option, Some, None, Result, Ok, Err, refl, length, slice_range}
 use Rattle.std.specs.Coded.{Coded, code_by, coded×, coded_list, coded_option, coded_ℕ}
-use Rattle.mesh_model.specs.Memory.{Memory, Object, has_address, overwritten}
+use Rattle.model_memory.specs.Memory.{Memory, Object, has_address, overwritten}
 use Rattle.mesh_plain.specs.declared.faults.PlainFault.{PlainFault}
 use Rattle.mesh_plain.specs.declared.faults.PlainFault.TheVariants.{Freed, Outside}
 

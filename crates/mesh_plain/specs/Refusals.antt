@@ -1,11 +1,11 @@
 -- How a fault answers for the plain step, and which commands may want memory.
 use Rattle.std.specs.Prelude.{◌≡◌, Result, Err, IsOk}
-use Rattle.mesh_model.specs.declared.commands.Command.{Command}
-use Rattle.mesh_model.specs.declared.commands.Command.TheVariants.{New, Alias}
-use Rattle.mesh_model.specs.declared.commands.Reply.{Reply}
-use Rattle.mesh_model.specs.declared.commands.Reply.TheVariants.{Object}
-use Rattle.mesh_model.specs.declared.refusals.Refusal.{Refusal}
-use Rattle.mesh_model.specs.declared.refusals.Refusal.TheVariants.{Empty as IsEmpty, Freed as IsFreed, Outside as IsOutside, Stray as IsStray}
+use Rattle.model_words.specs.declared.commands.Command.{Command}
+use Rattle.model_words.specs.declared.commands.Command.TheVariants.{New, Alias}
+use Rattle.model_words.specs.declared.commands.Reply.{Reply}
+use Rattle.model_words.specs.declared.commands.Reply.TheVariants.{Object}
+use Rattle.model_words.specs.declared.refusals.Refusal.{Refusal}
+use Rattle.model_words.specs.declared.refusals.Refusal.TheVariants.{Empty as IsEmpty, Freed as IsFreed, Outside as IsOutside, Stray as IsStray}
 use Rattle.mesh_plain.specs.declared.faults.PlainFault.{PlainFault}
 use Rattle.mesh_plain.specs.declared.faults.PlainFault.TheVariants.{Empty, Freed, Outside, Stray, Memory as OfMemory}
 

@@ -1,9 +1,9 @@
 //! The bytes of one object: made, loaded, stored and copied.
 ghost use Rattle.std.specs.Prelude.{◌≡◌, ◌+◌, ◌≤◌, IfOk, length, replicate, slice_range};
-ghost use Rattle.mesh_model.specs.Memory.{overwritten};
+ghost use Rattle.model_memory.specs.Memory.{overwritten};
 
 use arrayvec::ArrayVec;
-use mesh_model::MAX_BYTES;
+use model_words::MAX_BYTES;
 use std::alloc::{AllocError, Global};
 
 // So many zeros.

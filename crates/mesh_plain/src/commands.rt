@@ -1,13 +1,13 @@
 //! What the commands of a journal do to the plain memory, and what it answers to a read.
 ghost use Rattle.std.specs.Prelude.{◌≡◌, ◌^◌, ◌+◌, ◌-◌, ◌≤◌, ◌<◌, true, Result, Err, IfErr, IsErr, OnOk, OnErr};
-ghost use Rattle.mesh_model.specs.Commands.{IsInRange};
-ghost use Rattle.mesh_model.specs.Memory.{Memory, next_serial};
-ghost use Rattle.mesh_model.specs.Reads.{is_read, left_by, read_reply, reply_in};
+ghost use Rattle.model_words.specs.Commands.{IsInRange};
+ghost use Rattle.model_memory.specs.Memory.{Memory, next_serial};
+ghost use Rattle.model_memory.specs.Reads.{is_read, left_by, read_reply, reply_in};
 ghost use Rattle.mesh_plain.specs.Refusals.{IsRefusedAs, MayTakeMemory};
 
 use crate::faults::PlainFault;
 use crate::plain::Plain;
-use mesh_model::{Command, Refusal, Reply};
+use model_words::{Command, Refusal, Reply};
 use std::alloc::AllocError;
 
 impl Plain {

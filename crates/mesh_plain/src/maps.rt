@@ -2,7 +2,7 @@
 ghost use Rattle.std.specs.Prelude.{◌≡◌, ◌≢◌, ◌+◌, Some, None, [], OnOk, OnErr, slice_range};
 ghost use Rattle.std.specs.Ordering.{nat_cmp};
 ghost use Rattle.std.specs.BTreeMap.{IsOrdered, Updates, get};
-ghost use Rattle.mesh_model.specs.Memory.{Object, has_address, overwritten};
+ghost use Rattle.model_memory.specs.Memory.{Object, has_address, overwritten};
 ghost use Rattle.mesh_plain.specs.Maps.{HasRange, IsCopied, IsHolder, IsOverwritten, IsSameAt, IsSetAt, first_holder};
 
 use crate::bytes::{copy_within, store_at};

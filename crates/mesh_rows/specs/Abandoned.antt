@@ -1,6 +1,6 @@
 -- Worked rows: abandoned. Written by tools/write_rows.py from jobs/rows/abandoned.
 use Rattle.std.specs.Prelude.{ℕ, List, Result, Ok, codes}
-use Rattle.mesh_model.specs.declared.faults.TextFault.{TextFault}
+use Rattle.model_words.specs.declared.faults.TextFault.{TextFault}
 
 abbrev pub abandoned_after_00_file : List ℕ
 abandoned_after_00_file = codes "mesh 1\npages 16\nhistory 64\nworkers 3\nworker 0\nnew 0 1500 0\nnew 1 1500 0\nnew 2 1500 0\nnew 3 1500 0\nnew 4 1500 0\nnew 5 1500 0\nnew 6 1500 0\nnew 7 1500 0\nnew 8 1500 0\nnew 9 1500 0\nnew 10 1500 0\nput 10 1020 0102030405060708\nfree 2\nfree 8\nfree 9\nget 10 1020 8\nworker 1\nput 10 0 ff\nworker 2\nput 10 1020 0102030405060708\nplan\nrun 0\nrun 0\nrun 0\nrun 0\nrun 0\nrun 0\nrun 0\nrun 0\nrun 0\nrun 0\nrun 0\nrun 0\nrun 0\nrun 0\nrun 0\nbegin 1 0\nrun 0\nrun 1\nrun 2\ncancel\nend\n"

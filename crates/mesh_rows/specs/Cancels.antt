@@ -1,6 +1,6 @@
 -- Worked rows: cancels. Written by tools/write_rows.py from jobs/rows/cancels.
 use Rattle.std.specs.Prelude.{ℕ, List, Result, Ok, codes}
-use Rattle.mesh_model.specs.declared.faults.TextFault.{TextFault}
+use Rattle.model_words.specs.declared.faults.TextFault.{TextFault}
 
 abbrev pub cancel_after_three_protects_file : List ℕ
 cancel_after_three_protects_file = codes "mesh 1\npages 16\nhistory 64\nworkers 3\nworker 0\nnew 0 1500 0\nnew 1 1500 0\nnew 2 1500 0\nnew 3 1500 0\nnew 4 1500 0\nnew 5 1500 0\nnew 6 1500 0\nnew 7 1500 0\nnew 8 1500 2\nnew 9 1500 4\nfree 2\nfree 5\nput 8 0 c1\nput 8 1 c2\nget 9 0 1\nget 9 512 1\nget 8 0 2\nworker 1\nput 9 0 a1\nput 9 0 a2\nworker 2\nput 9 512 b1\nput 9 512 b2\nput 9 512 b3\nplan\nrun 0\nrun 0\nrun 0\nrun 0\nrun 0\nrun 0\nrun 0\nrun 0\nrun 0\nrun 0\nrun 0\nrun 0\nbegin 1 0\nstep\nrun 1\nrun 2\nstep\nrun 1\nrun 2\nstep\nrun 2\ncancel\nrun 0\nrun 1\nstep\nrun 0\nrun 1\nrun 2\ncancel\nrun 0\nrun 1\nstep\nrun 1\nrun 2\nstep\nrun 2\ncancel\nrun 0\nwhole 1 0\nrun 0\nrun 0\nreport\nend\n"

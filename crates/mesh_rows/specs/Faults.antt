@@ -1,7 +1,7 @@
 -- Worked rows: faults. Written by tools/write_rows.py from jobs/rows/faults.
 use Rattle.std.specs.Prelude.{ℕ, List, Result, Err, codes, [], ◌∷◌, ◌++◌, replicate}
-use Rattle.mesh_model.specs.declared.faults.TextFault.{TextFault}
-use Rattle.mesh_model.specs.declared.faults.FaultKind.TheVariants.{Byte, Cut, Hex, LongLine, Number, Trailing, Word}
+use Rattle.model_words.specs.declared.faults.TextFault.{TextFault}
+use Rattle.model_words.specs.declared.faults.FaultKind.TheVariants.{Byte, Cut, Hex, LongLine, Number, Trailing, Word}
 
 abbrev pub addr_of_two_cells_file : List ℕ
 addr_of_two_cells_file = codes "mesh 1\npages 4\nhistory 8\nworkers 1\nworker 0\nnew 0 64 0\naddr 0 0\n"

@@ -1,6 +1,6 @@
 -- Worked rows: interleavings. Written by tools/write_rows.py from jobs/rows/interleavings.
 use Rattle.std.specs.Prelude.{ℕ, List, Result, Ok, codes}
-use Rattle.mesh_model.specs.declared.faults.TextFault.{TextFault}
+use Rattle.model_words.specs.declared.faults.TextFault.{TextFault}
 
 abbrev pub begun_file : List ℕ
 begun_file = codes "mesh 2\npages 16\nhistory 64\nworkers 19\nworker 0\nnew 0 1500 0\nnew 1 1500 0\nnew 2 1500 0\nnew 3 1500 0\nnew 4 1500 0\nnew 5 1500 0\nnew 6 1500 0\nnew 7 1500 0\nnew 8 1500 0\nnew 9 1500 0\nnew 10 1500 0\nnew 11 1500 0\nnew 12 1500 0\nnew 13 1500 0\nnew 14 1500 0\nnew 15 1500 0\nnew 16 1500 0\nput 10 1020 0102030405060708\nfree 2\nfree 8\nfree 9\nfree 11\nfree 12\nfree 13\nfree 14\nfree 15\nfree 7\nworker 1\nput 10 0 a1\nworker 2\nput 10 1024 a2\nworker 3\nput 10 1020 0102030405060708\nworker 4\nput 0 0 b1\nworker 5\nput 16 0 c1\nworker 6\npoke 4c00 a3\nworker 7\npoke 5000 a4\nworker 8\npoke 1000 b2\nworker 9\npoke 7000 c2\nworker 10\ncopy 10 8 0 0 4\nworker 11\ncopy 10 1032 0 0 4\nworker 12\ncopy 0 8 10 0 4\nworker 13\ncopy 16 8 10 0 4\nworker 14\nget 10 0 1\nget 10 1024 1\nget 0 0 1\nget 16 0 1\nworker 15\npeek 4c00\npeek 5000\npeek 1000\npeek 7000\nworker 16\naddr 10\naddr 0\naddr 16\nalias 20 10\nalias 21 0\nalias 22 16\nworker 17\nnew 23 1500 0\nworker 18\nfree 10\nfree 0\nfree 16\nplan\nrun 0\nrun 0\nrun 0\nrun 0\nrun 0\nrun 0\nrun 0\nrun 0\nrun 0\nrun 0\nrun 0\nrun 0\nrun 0\nrun 0\nrun 0\nrun 0\nrun 0\nrun 0\nrun 0\nrun 0\nrun 0\nrun 0\nrun 0\nrun 0\nrun 0\nrun 0\nrun 0\nbegin 1 0\nbegin 1 2\nbegin 2 0\nwhole 2 0\nsweep 1\nsweep 0\nsweep 2\npair 1536 1\nreport\nrun 1\nrun 2\nrun 3\nrun 4\nrun 5\nrun 6\nrun 7\nrun 8\nrun 9\nrun 10\nrun 11\nrun 12\nrun 13\nrun 14\nrun 14\nrun 14\nrun 14\nrun 15\nrun 15\nrun 15\nrun 15\nrun 16\nrun 16\nrun 16\nrun 16\nrun 16\nrun 16\nrun 17\nrun 18\nrun 18\nrun 18\nreport\ncancel 1536\nstep 1536\nend\n"

@@ -1,4 +1,4 @@
-pub use Rattle.mesh_model.specs.Files
+pub use Rattle.model_jobs.specs.JobFiles
 pub mod Abandoned
 pub mod Cancels
 pub mod Faults

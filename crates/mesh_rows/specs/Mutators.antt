@@ -1,6 +1,6 @@
 -- Worked rows: mutators. Written by tools/write_rows.py from jobs/rows/mutators.
 use Rattle.std.specs.Prelude.{ℕ, List, Result, Ok, codes}
-use Rattle.mesh_model.specs.declared.faults.TextFault.{TextFault}
+use Rattle.model_words.specs.declared.faults.TextFault.{TextFault}
 
 abbrev pub first_bytes_file : List ℕ
 first_bytes_file = codes "mesh 1\npages 16\nhistory 64\nworkers 1\nworker 0\nnew 0 2048 0\nput 0 0 6869\nget 0 0 2\nplan\nrun 0\nrun 0\nrun 0\nend\n"

@@ -1,6 +1,6 @@
 -- Worked rows: searches. Written by tools/write_rows.py from jobs/rows/searches.
 use Rattle.std.specs.Prelude.{ℕ, List, Result, Ok, codes}
-use Rattle.mesh_model.specs.declared.faults.TextFault.{TextFault}
+use Rattle.model_words.specs.declared.faults.TextFault.{TextFault}
 
 abbrev pub fewer_objects_is_source_file : List ℕ
 fewer_objects_is_source_file = codes "mesh 1\npages 16\nhistory 64\nworkers 1\nworker 0\nnew 0 1024 0\nnew 1 1024 0\nnew 2 1024 0\nnew 3 1024 0\nnew 4 1024 0\nnew 5 1024 0\nnew 6 1024 0\nnew 7 1024 0\nfree 0\nfree 1\nfree 2\nfree 7\nplan\nrun 0\nrun 0\nrun 0\nrun 0\nrun 0\nrun 0\nrun 0\nrun 0\nrun 0\nrun 0\nrun 0\nrun 0\npair 1024 1\nend\n"

@@ -1,6 +1,6 @@
 -- Worked rows: small steps. Written by tools/write_rows.py from jobs/rows/small_steps.
 use Rattle.std.specs.Prelude.{ℕ, List, Result, Ok, codes}
-use Rattle.mesh_model.specs.declared.faults.TextFault.{TextFault}
+use Rattle.model_words.specs.declared.faults.TextFault.{TextFault}
 
 abbrev pub addresses_after_meshing_file : List ℕ
 addresses_after_meshing_file = codes "mesh 1\npages 16\nhistory 64\nworkers 1\nworker 0\nnew 0 2048 0\nnew 1 2048 0\nnew 2 2048 0\nnew 3 2048 0\nfree 0\nfree 3\nput 2 0 ab\nget 2 0 1\naddr 2\nget 2 0 1\naddr 2\nget 2 0 1\naddr 2\nget 2 0 1\naddr 2\nget 2 0 1\naddr 2\nget 2 0 1\naddr 2\npeek 1000\npeek 2800\npeek 2000\nplan\nrun 0\nrun 0\nrun 0\nrun 0\nrun 0\nrun 0\nrun 0\nbegin 1 0\nstep\nrun 0\nrun 0\nstep\nrun 0\nrun 0\nstep\nrun 0\nrun 0\nstep\nrun 0\nrun 0\nstep\nrun 0\nrun 0\nstep\nrun 0\nrun 0\nrun 0\nrun 0\nrun 0\nend\n"

@@ -1,6 +1,6 @@
 -- Worked rows: version 2. Written by tools/write_rows.py from jobs/rows/version_2.
 use Rattle.std.specs.Prelude.{ℕ, List, Result, Ok, codes}
-use Rattle.mesh_model.specs.declared.faults.TextFault.{TextFault}
+use Rattle.model_words.specs.declared.faults.TextFault.{TextFault}
 
 abbrev pub cancels_of_classes_file : List ℕ
 cancels_of_classes_file = codes "mesh 2\npages 16\nhistory 64\nworkers 1\nworker 0\nnew 0 2048 0\nnew 1 2048 0\nnew 2 2048 0\nnew 3 2048 0\nfree 0\nfree 3\nnew 4 1024 0\nnew 5 1024 0\nnew 6 1024 0\nnew 7 1024 0\nnew 8 1024 0\nnew 9 1024 0\nnew 10 1024 0\nnew 11 1024 0\nfree 4\nfree 9\nfree 10\nfree 11\nplan\nrun 0\nrun 0\nrun 0\nrun 0\nrun 0\nrun 0\nrun 0\nrun 0\nrun 0\nrun 0\nrun 0\nrun 0\nrun 0\nrun 0\nrun 0\nrun 0\nrun 0\nrun 0\nbegin 3 2\nbegin 1 0\nstep 1024\nstep 2048\nstep 2048\ncancel 1024\ncancel 2048\nstep 1024\nstep 2048\ncancel 1024\nstep 16\nbegin 3 2\nstep 1024\nstep 1024\nstep 1024\nstep 1024\nstep 1024\nstep 1024\ncancel 1024\nstep 1024\nstep 1024\nstep 1024\nreport\nend\n"

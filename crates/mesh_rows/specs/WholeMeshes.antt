@@ -1,6 +1,6 @@
 -- Worked rows: whole meshes. Written by tools/write_rows.py from jobs/rows/whole_meshes.
 use Rattle.std.specs.Prelude.{ℕ, List, Result, Ok, codes}
-use Rattle.mesh_model.specs.declared.faults.TextFault.{TextFault}
+use Rattle.model_words.specs.declared.faults.TextFault.{TextFault}
 
 abbrev pub bytes_of_three_pages_file : List ℕ
 bytes_of_three_pages_file = codes "mesh 1\npages 16\nhistory 64\nworkers 1\nworker 0\nnew 0 1500 0\nnew 1 1500 0\nnew 2 1500 0\nnew 3 1500 0\nnew 4 1500 0\nnew 5 1500 0\nnew 6 1500 0\nnew 7 1500 0\nnew 8 1500 2\nnew 9 1500 4\nput 0 0 01\nput 4 0 02\nput 7 1499 03\nput 8 1020 0102030405060708\nput 9 510 11121314\nfree 2\nfree 5\nget 8 1020 8\nget 9 510 4\nnew 10 2048 0\nnew 11 2048 0\nput 10 0 ff\nget 0 0 1\nget 4 0 1\nget 7 1499 1\nfree 8\nnew 8 1536 0\nget 8 1020 8\nplan\nrun 0\nrun 0\nrun 0\nrun 0\nrun 0\nrun 0\nrun 0\nrun 0\nrun 0\nrun 0\nrun 0\nrun 0\nrun 0\nrun 0\nrun 0\nrun 0\nrun 0\nwhole 1 0\nrun 0\nrun 0\nrun 0\nrun 0\nrun 0\nrun 0\nrun 0\nrun 0\nrun 0\nrun 0\nrun 0\nreport\nend\n"

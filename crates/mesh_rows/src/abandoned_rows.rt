@@ -1,6 +1,6 @@
 //! Worked rows: abandoned. Written by `tools/write_rows.py`.
 ghost use Rattle.std.specs.Prelude.{◌≡◌};
-ghost use Rattle.mesh_model.specs.Files.{replayed};
+ghost use Rattle.model_jobs.specs.JobFiles.{replayed};
 ghost use Rattle.mesh_rows.specs.Abandoned.{abandoned_after_00_file, abandoned_after_00_answer, abandoned_after_01_file, abandoned_after_01_answer, abandoned_after_02_file, abandoned_after_02_answer, abandoned_after_03_file, abandoned_after_03_answer, abandoned_after_04_file, abandoned_after_04_answer, abandoned_after_05_file, abandoned_after_05_answer, abandoned_after_06_file, abandoned_after_06_answer, abandoned_after_07_file, abandoned_after_07_answer, abandoned_after_08_file, abandoned_after_08_answer, abandoned_after_09_file, abandoned_after_09_answer, abandoned_after_10_file, abandoned_after_10_answer, abandoned_after_11_file, abandoned_after_11_answer, abandoned_after_12_file, abandoned_after_12_answer, abandoned_after_13_file, abandoned_after_13_answer, abandoned_after_14_file, abandoned_after_14_answer, abandoned_after_15_file, abandoned_after_15_answer, abandoned_after_16_file, abandoned_after_16_answer, abandoned_after_17_file, abandoned_after_17_answer, abandoned_after_18_file, abandoned_after_18_answer, abandoned_after_19_file, abandoned_after_19_answer, abandoned_after_20_file, abandoned_after_20_answer};
 
 /// Worked rows: abandoned.

@@ -1,6 +1,6 @@
 //! Worked rows: interleavings. Written by `tools/write_rows.py`.
 ghost use Rattle.std.specs.Prelude.{◌≡◌};
-ghost use Rattle.mesh_model.specs.Files.{replayed};
+ghost use Rattle.model_jobs.specs.JobFiles.{replayed};
 ghost use Rattle.mesh_rows.specs.Interleavings.{begun_file, begun_answer, cancelled_file, cancelled_answer, copied_file, copied_answer, one_page_protected_file, one_page_protected_answer, one_page_released_file, one_page_released_answer, one_page_remapped_file, one_page_remapped_answer, one_page_unwound_file, one_page_unwound_answer, one_page_writable_file, one_page_writable_answer, over_file, over_answer, protected_file, protected_answer, remapped_file, remapped_answer, writable_file, writable_answer};
 
 /// Worked rows: interleavings.

@@ -1,6 +1,6 @@
 //! Worked rows: mutators. Written by `tools/write_rows.py`.
 ghost use Rattle.std.specs.Prelude.{◌≡◌};
-ghost use Rattle.mesh_model.specs.Files.{replayed};
+ghost use Rattle.model_jobs.specs.JobFiles.{replayed};
 ghost use Rattle.mesh_rows.specs.Mutators.{first_bytes_file, first_bytes_answer, history_full_file, history_full_answer, largest_numbers_file, largest_numbers_answer, last_bytes_file, last_bytes_answer, lengths_and_words_file, lengths_and_words_answer, load_across_pages_file, load_across_pages_answer, many_workers_and_no_history_file, many_workers_and_no_history_answer, one_page_file, one_page_answer, refusals_take_room_in_history_file, refusals_take_room_in_history_answer, refused_commands_change_nothing_file, refused_commands_change_nothing_answer, script_over_file, script_over_answer, stale_cells_file, stale_cells_answer, store_across_pages_file, store_across_pages_answer, words_pick_free_slots_file, words_pick_free_slots_answer};
 
 /// Worked rows: mutators.

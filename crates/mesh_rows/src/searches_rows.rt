@@ -1,6 +1,6 @@
 //! Worked rows: searches. Written by `tools/write_rows.py`.
 ghost use Rattle.std.specs.Prelude.{◌≡◌};
-ghost use Rattle.mesh_model.specs.Files.{replayed};
+ghost use Rattle.model_jobs.specs.JobFiles.{replayed};
 ghost use Rattle.mesh_rows.specs.Searches.{fewer_objects_is_source_file, fewer_objects_is_source_answer, groups_that_are_no_candidates_file, groups_that_are_no_candidates_answer, pair_overtaken_file, pair_overtaken_answer, rounds_on_shorter_lists_file, rounds_on_shorter_lists_answer, search_in_order_file, search_in_order_answer, split_search_file, split_search_answer, words_of_a_search_file, words_of_a_search_answer};
 
 /// Worked rows: searches.

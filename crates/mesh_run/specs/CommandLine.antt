@@ -8,7 +8,7 @@ use Rattle.clap.specs.Words.{App, IsAmong, Kinds, Row, Rule, Text, fault_of, fir
 use Rattle.clap.specs.declared.builder.value_parser.ValueParser.TheVariants.{Unsigned}
 use Rattle.clap.specs.declared.error.kind.ErrorKind.{ErrorKind}
 use Rattle.clap.specs.declared.error.kind.ErrorKind.TheVariants.{DisplayHelp, DisplayVersion, MissingSubcommand, OutOfMemory}
-use Rattle.mesh_model.specs.Texts.{ended}
+use Rattle.model_jobs.specs.Texts.{ended}
 use Rattle.mesh_run.specs.declared.command_line.Args.{Args}
 use Rattle.mesh_run.specs.declared.command_line.Args.TheVariants.{Replay, Threads}
 use Rattle.mesh_run.specs.declared.command_line.Stop.{Stop}

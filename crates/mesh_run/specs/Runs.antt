@@ -1,9 +1,9 @@
 -- What a run tells a person, and which device has failed where a replay stops.
 use Rattle.std.specs.Prelude.{◌≡◌, ℕ, Bool, true, false, List, ◌++◌, Option, codes}
 use Rattle.std.specs.Io.KnownBytes.{Appends}
-use Rattle.mesh_model.specs.Faults.{kind_name_of}
-use Rattle.mesh_model.specs.Texts.{number_field}
-use Rattle.mesh_model.specs.declared.faults.TextFault.{TextFault}
+use Rattle.model_words.specs.Faults.{kind_name_of}
+use Rattle.model_jobs.specs.Texts.{number_field}
+use Rattle.model_words.specs.declared.faults.TextFault.{TextFault}
 use Rattle.mesh_text.specs.Transfer.{AppendsBeginning}
 use Rattle.mesh_text.specs.declared.faults.ReplayError.{ReplayError}
 use Rattle.mesh_text.specs.declared.faults.ReplayError.TheVariants.{Read, Write, Memory, Text}

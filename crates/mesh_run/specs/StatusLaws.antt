@@ -1,7 +1,7 @@
 -- Which status and which text an error has: what the definitions must not say.
 use Rattle.std.specs.Prelude.{◌≡◌, ◌↔◌, ◌⊎◌, codes}
-use Rattle.mesh_model.specs.declared.faults.TextFault.{TextFault}
-use Rattle.mesh_model.specs.declared.faults.FaultKind.TheVariants.{Cut, TooLong}
+use Rattle.model_words.specs.declared.faults.TextFault.{TextFault}
+use Rattle.model_words.specs.declared.faults.FaultKind.TheVariants.{Cut, TooLong}
 use Rattle.mesh_run.specs.Runs.{error_text}
 use Rattle.mesh_run.specs.Status.{status_of_error}
 use Rattle.mesh_run.specs.Threads.{stop_of, threads_status, threads_text}

@@ -2,11 +2,11 @@
 use Rattle.std.specs.Prelude.{◌≡◌, ℕ, ◌<◌, ◌≤◌, Bool, false, List, [], Option, codes, length}
 use Rattle.std.specs.Io.KnownBytes.{Appends, Keeps}
 use Rattle.std.specs.List.{sum_by}
-use Rattle.mesh_model.specs.Jobs.{Job}
-use Rattle.mesh_model.specs.Memory.{Memory, empty_memory}
-use Rattle.mesh_model.specs.Plain.{Entry}
-use Rattle.mesh_model.specs.Table.{empty_table}
-use Rattle.mesh_model.specs.declared.commands.Command.{Command}
+use Rattle.model_jobs.specs.Jobs.{Job}
+use Rattle.model_memory.specs.Memory.{Memory, empty_memory}
+use Rattle.model_memory.specs.Plain.{Entry}
+use Rattle.model_heap.specs.Table.{empty_table}
+use Rattle.model_words.specs.declared.commands.Command.{Command}
 use Rattle.mesh_mutator.specs.Book.{Book, memory_of_book, table_of_book}
 use Rattle.mesh_run.specs.Runs.{HasFailed, error_text}
 use Rattle.mesh_run.specs.Status.{status_of_error}

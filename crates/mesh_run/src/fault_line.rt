@@ -1,6 +1,6 @@
 //! The line that tells why a replay or a run in threads stopped.
 ghost use Rattle.std.specs.Prelude.{◌≡◌, ◌+◌, ◌≤◌, [], ◌++◌, length};
-ghost use Rattle.mesh_model.specs.Texts.{ended};
+ghost use Rattle.model_jobs.specs.Texts.{ended};
 ghost use Rattle.mesh_run.specs.Runs.{error_text, fault_text};
 ghost use Rattle.mesh_run.specs.Threads.{threads_text};
 

@@ -2,7 +2,7 @@
 ghost use Rattle.std.specs.Prelude.{◌≡◌, ◌<◌, ◌≤◌, ◌||◌, false, is_err};
 ghost use Rattle.std.specs.Cow.{cow_str_bytes};
 ghost use Rattle.std.specs.Io.KnownBytes.{Keeps};
-ghost use Rattle.mesh_model.specs.Texts.{ended};
+ghost use Rattle.model_jobs.specs.Texts.{ended};
 ghost use Rattle.mesh_run.specs.Runs.{HasFailed, HasTold, error_text};
 ghost use Rattle.mesh_run.specs.Status.{status_of_error};
 ghost use Rattle.mesh_text.specs.Replay.{HasReplayed, HasStopped};

@@ -4,11 +4,11 @@ use Rattle.std.specs.declared.alloc.AllocError.{AllocError}
 use Rattle.std.specs.List.{Contains}
 use Rattle.std.proofs.lemmas.Bool.Decides.{eqb_tells}
 use Rattle.std.proofs.lemmas.List.Elements.{All-cons, All-contains, All-head, All-nil, All-tail}
-use Rattle.mesh_model.proofs.Searches.{search_meshable, search_once, search_probes}
-use Rattle.mesh_model.proofs.Shuffles.{shuffle_keeps, shuffle_picks}
-use Rattle.mesh_model.specs.Laws.{IsMeshableIn, times_paired}
-use Rattle.mesh_model.specs.Search.{Candidate, Found, Pairing, View, search, shuffle, split_search}
-use Rattle.mesh_model.specs.Sound.{times_in}
+use Rattle.model_search.proofs.Searches.{search_meshable, search_once, search_probes}
+use Rattle.model_search.proofs.Shuffles.{shuffle_keeps, shuffle_picks}
+use Rattle.model_search.specs.SearchLaws.{IsMeshableIn, times_paired}
+use Rattle.model_search.specs.Search.{Candidate, Found, Pairing, View, search, shuffle, split_search}
+use Rattle.model_heap.specs.Sound.{times_in}
 use Rattle.mesh_search.proofs.Shuffled.{length-shuffle, map-shuffle}
 use Rattle.mesh_search.specs.Views.{IsView, no_candidate}
 

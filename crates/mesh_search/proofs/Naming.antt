@@ -4,16 +4,16 @@ use Rattle.std.specs.Option.{unwrap_or}
 use Rattle.std.specs.List.Sorted.{IsPartitionPoint, IsPartitionedBy}
 use Rattle.std.proofs.lemmas.Bool.{true≢false}
 use Rattle.std.proofs.lemmas.Bool.Decides.{eqb_tells, leb_tells}
-use Rattle.mesh_model.specs.Search.{Candidate, Found, View, split_search}
-use Rattle.mesh_model.specs.Laws.{IsMeshableIn, times_paired}
-use Rattle.mesh_model.proofs.Searches.{search_meshable, search_once, search_probes}
+use Rattle.model_search.specs.Search.{Candidate, Found, View, split_search}
+use Rattle.model_search.specs.SearchLaws.{IsMeshableIn, times_paired}
+use Rattle.model_search.proofs.Searches.{search_meshable, search_once, search_probes}
 use Rattle.mesh_search.proofs.Shuffled.{index_any}
 use Rattle.std.specs.List.{AllByRecursion, IsDistinct, list_any}
 use Rattle.std.proofs.lemmas.List.{length-map}
 use Rattle.std.proofs.lemmas.List.Elements.{All-head, All-tail}
 use Rattle.std.proofs.lemmas.Map.Steps.{length-le_from_distinct_below}
 use Rattle.std.specs.declared.alloc.AllocError.{AllocError}
-use Rattle.mesh_model.specs.Sound.{times_in}
+use Rattle.model_heap.specs.Sound.{times_in}
 use Rattle.mesh_search.specs.Views.{AreNamed, IsView, named, candidate_at, candidate_named, is_numbered, no_candidate}
 
 -- the place of an element that a test passes

@@ -6,9 +6,9 @@ use Rattle.std.proofs.lemmas.List.{append_assoc, length-map, length-append}
 use Rattle.std.proofs.lemmas.List.Sums.{sum_by-cons}
 use Rattle.std.proofs.lemmas.List.Elements.{All-append, All-cons, All-nil}
 use Rattle.mesh_bits.specs.Bits.{member_count}
-use Rattle.mesh_model.specs.Classes.{slots_of}
-use Rattle.mesh_model.specs.Search.{Candidate, candidate_of, may_be_paired}
-use Rattle.mesh_model.specs.Table.{Group, Slot}
+use Rattle.model_words.specs.Classes.{slots_of}
+use Rattle.model_search.specs.Search.{Candidate, candidate_of, may_be_paired}
+use Rattle.model_heap.specs.Table.{Group, Slot}
 use Rattle.mesh_search.specs.Views.{IsCandidate, IsView, no_candidate}
 use Rattle.mesh_spans.specs.Filing.{candidate_from, is_partial}
 use Rattle.mesh_spans.specs.Index.{GroupEntry, IsGroup}

@@ -1,6 +1,6 @@
 //! The view of a class, from the index.
 ghost use Rattle.std.specs.Prelude.{◌≡◌, filter, IfOk};
-ghost use Rattle.mesh_model.specs.Search.{may_be_paired, viewed};
+ghost use Rattle.model_search.specs.Search.{may_be_paired, viewed};
 ghost use Rattle.mesh_spans.specs.Groups.{groups_of, is_closed};
 
 use crate::candidate::Candidate;

@@ -1,5 +1,5 @@
 //! The gate: where a test may hold a thread.
-use mesh_model::StepKind;
+use model_words::StepKind;
 
 /// Who arrives at a gate.
 #[derive(Clone, Copy, Debug, PartialEq, Eq)]

@@ -21,7 +21,7 @@ pub use candidate::{Candidate, Pair};
 pub use faults::SearchError;
 pub use from_index::class_view;
 pub use gate::{Actor, Gate, NoGate, Point};
-pub use mesh_model::StepKind;
+pub use model_words::StepKind;
 pub use parts::part;
 pub use picking::shuffle;
 pub use rounds::Found;

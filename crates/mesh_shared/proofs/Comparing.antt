@@ -3,12 +3,12 @@ use Rattle.std.proofs.Common.{◌≡◌, ◌≢◌, ℕ, zero, suc, ◌+◌, ◌
 use Rattle.std.proofs.lemmas.Bool.Decides.{eqb_tells}
 use Rattle.std.proofs.lemmas.List.{length-append}
 use Rattle.std.proofs.Math.Seq.{drop-cons}
-use Rattle.mesh_model.specs.Plain.{Entry}
-use Rattle.mesh_model.specs.Reads.{Kept, call_of, recorded}
-use Rattle.mesh_model.specs.Seats.{Call, DifferFirstAt, calls_of}
-use Rattle.mesh_model.specs.declared.commands.Command.TheVariants.{Free}
-use Rattle.mesh_model.specs.declared.commands.Reply.TheVariants.{Done}
-use Rattle.mesh_model.proofs.WovenCalls.{entry_call}
+use Rattle.model_memory.specs.Plain.{Entry}
+use Rattle.model_memory.specs.Reads.{Kept, call_of, recorded}
+use Rattle.model_memory.specs.Seats.{Call, DifferFirstAt, calls_of}
+use Rattle.model_words.specs.declared.commands.Command.TheVariants.{Free}
+use Rattle.model_words.specs.declared.commands.Reply.TheVariants.{Done}
+use Rattle.model_memory.proofs.WovenCalls.{entry_call}
 use Rattle.mesh_shared.specs.Differing.{IsRecordedFirst}
 use Rattle.mesh_shared.specs.Seat.{Seat}
 use Rattle.mesh_shared.specs.Settle.{recorded_of}

@@ -2,8 +2,8 @@
 use Rattle.std.proofs.Common.{◌≡◌, ℕ, zero, suc, ◌<◌, List, [], ◌∷◌, ◌++◌, ◌+◌, Option, None, Result, Ok, Err, IfOk, OnOk, length, map, slice_index_or, ap, subst, refl, sym, ◌∙◌, arith}
 use Rattle.std.proofs.lemmas.List.{length-map}
 use Rattle.std.specs.declared.thread.PromisedHandle.{PromisedHandle}
-use Rattle.mesh_model.specs.Reads.{Kept, kept_by}
-use Rattle.mesh_model.specs.declared.commands.Command.{Command}
+use Rattle.model_memory.specs.Reads.{Kept, kept_by}
+use Rattle.model_words.specs.declared.commands.Command.{Command}
 use Rattle.mesh_shared.specs.Joined.{HaveMeshed, HaveServed}
 use Rattle.mesh_shared.specs.Meshing.{AreMeshed, HasMeshed}
 use Rattle.mesh_shared.specs.Runs.{AreServed, HasWorked, script_of}

@@ -1,10 +1,10 @@
 -- Where the walk stands in the calls of all seats that are looked at, and what was told.
 use Rattle.std.proofs.Common.{◌≡◌, ℕ, zero, suc, ◌+◌, ◌-◌, ◌<◌, ◌≤◌, Bool, true, false, List, [], ◌∷◌, length, nat_eq, take, drop, slice_get, ap, subst, refl, sym, ◌∙◌, arith, inl, inr, Option, Some, None}
 use Rattle.std.proofs.lemmas.Bool.Decides.{eqb_tells, leb_tells}
-use Rattle.mesh_model.specs.Memory.{Memory, empty_memory}
-use Rattle.mesh_model.specs.Plain.{Entry}
-use Rattle.mesh_model.specs.Reads.{AreRight, IsRight, Kept, ReadDiffers, kept_by, memory_after, recorded}
-use Rattle.mesh_model.specs.Seats.{calls_of}
+use Rattle.model_memory.specs.Memory.{Memory, empty_memory}
+use Rattle.model_memory.specs.Plain.{Entry}
+use Rattle.model_memory.specs.Reads.{AreRight, IsRight, Kept, ReadDiffers, kept_by, memory_after, recorded}
+use Rattle.model_memory.specs.Seats.{calls_of}
 use Rattle.mesh_shared.specs.Walk.{AreLeft, IsFirstLeft, IsLeft, IsStep, StopsAt, Tells, left_of}
 use Rattle.mesh_shared.proofs.Standing.{Stands, Wrong, all_right, held_wrong, left_is_wrong, places_of, stands_first, stands_past, stands_reads, stands_step, stopped_wrong, wrong_here}
 use Rattle.mesh_shared.proofs.Walking.{stepped_other, stepped_same}

@@ -3,11 +3,11 @@ use Rattle.std.proofs.Common.{◌≡◌, ℕ, zero, suc, ◌+◌, ◌<◌, ◌�
 use Rattle.std.specs.List.{list_any}
 use Rattle.std.proofs.lemmas.Bool.Decides.{leb_tells}
 use Rattle.std.proofs.lemmas.List.{length-append}
-use Rattle.mesh_model.specs.Plain.{Entry}
-use Rattle.mesh_model.specs.Seats.{Call}
-use Rattle.mesh_model.specs.Reads.{Kept, call_of, is_out_of_place, is_passed, lengths_seen, places_from, recorded}
-use Rattle.mesh_model.proofs.FittingCalls.{drop_at, recorded_append, seen_append}
-use Rattle.mesh_model.proofs.WovenCalls.{first_or}
+use Rattle.model_memory.specs.Plain.{Entry}
+use Rattle.model_memory.specs.Seats.{Call}
+use Rattle.model_memory.specs.Reads.{Kept, call_of, is_out_of_place, is_passed, lengths_seen, places_from, recorded}
+use Rattle.model_memory.proofs.FittingCalls.{drop_at, recorded_append, seen_append}
+use Rattle.model_memory.proofs.WovenCalls.{first_or}
 use Rattle.mesh_shared.proofs.Taking.{tells}
 
 -- the places ascend, and end below the total

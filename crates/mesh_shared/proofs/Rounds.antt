@@ -1,9 +1,9 @@
 -- One round of the walk, and its end.
 use Rattle.std.proofs.Common.{◌≡◌, ℕ, zero, suc, ◌+◌, ◌<◌, ◌≤◌, List, [], ◌∷◌, ◌++◌, length, take, drop, slice_index_or, ap, subst, refl, sym, ◌∙◌, arith, Option, Some, None}
 use Rattle.std.proofs.Math.Seq.{drop-cons, take-append_seam}
-use Rattle.mesh_model.specs.Memory.{Memory, empty_memory}
-use Rattle.mesh_model.specs.Plain.{Entry}
-use Rattle.mesh_model.specs.Reads.{Kept, left_by, memory_after}
+use Rattle.model_memory.specs.Memory.{Memory, empty_memory}
+use Rattle.model_memory.specs.Plain.{Entry}
+use Rattle.model_memory.specs.Reads.{Kept, left_by, memory_after}
 use Rattle.mesh_shared.specs.Walk.{AreLeft, AreTaken, IsFirstLeft, IsStep, IsStepped, Tells, Walks, left_of}
 use Rattle.mesh_shared.proofs.Looking.{Looks, looks_last, looks_stepped, looks_taken}
 use Rattle.mesh_shared.proofs.Walking.{ComesTo, comes_more, comes_to_end, drop_all}

@@ -1,7 +1,7 @@
 -- What is a run of two scripts, and what isn't.
 use Rattle.std.proofs.Common.{◌≡◌, ℕ, zero, suc, ◌<◌, slice_index_or, refl, arith}
-use Rattle.mesh_model.specs.Memory.{empty_memory}
-use Rattle.mesh_model.specs.Plain.{Entry}
+use Rattle.model_memory.specs.Memory.{empty_memory}
+use Rattle.model_memory.specs.Plain.{Entry}
 use Rattle.mesh_shared.specs.Runs.{IsBeginning, commands_by, script_of}
 use Rattle.mesh_shared.specs.RunLaws.{ExchangedIsNoBeginning, ExchangedIsNoRun, FirstAloneIsNoRun, StrangerIsNoBeginning, StrangerIsNoRun, WholeIsRun, WithoutLastIsBegun, WithoutLastIsNoRun, refused_new, two_scripts, whole_run, without_last}
 

@@ -3,12 +3,12 @@ use Rattle.std.proofs.Common.{◌≡◌, ℕ, zero, suc, ◌+◌, ◌<◌, ◌�
 use Rattle.std.specs.List.{All}
 use Rattle.std.proofs.lemmas.List.Elements.{All-cons}
 use Rattle.std.proofs.lemmas.List.{map-append, take_all, take_more}
-use Rattle.mesh_model.specs.Memory.{Memory}
-use Rattle.mesh_model.specs.Plain.{Entry}
-use Rattle.mesh_model.specs.Reads.{Kept, call_of, kept_by}
-use Rattle.mesh_model.specs.Seats.{Call, calls_of}
-use Rattle.mesh_model.specs.declared.commands.Command.{Command}
-use Rattle.mesh_model.specs.declared.commands.Reply.{Reply}
+use Rattle.model_memory.specs.Memory.{Memory}
+use Rattle.model_memory.specs.Plain.{Entry}
+use Rattle.model_memory.specs.Reads.{Kept, call_of, kept_by}
+use Rattle.model_memory.specs.Seats.{Call, calls_of}
+use Rattle.model_words.specs.declared.commands.Command.{Command}
+use Rattle.model_words.specs.declared.commands.Reply.{Reply}
 use Rattle.mesh_shared.specs.Runs.{AreServed, HasBegun, HasRun, HasWorked, IsBeginning, commands_by, commands_in, script_of}
 use Rattle.mesh_shared.specs.Seat.{Keeps, Seat, calls_of_seats, empty_seats}
 use Rattle.mesh_shared.specs.Settle.{IsEnd}

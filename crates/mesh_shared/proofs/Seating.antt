@@ -5,9 +5,9 @@ use Rattle.std.specs.List.{All}
 use Rattle.std.proofs.lemmas.List.{length-append}
 use Rattle.std.proofs.lemmas.List.Elements.{All-append, All-cons}
 use Rattle.std.proofs.lemmas.Option.{slice_get_within, get_or_from_slice_get}
-use Rattle.mesh_model.specs.Plain.{Entry}
-use Rattle.mesh_model.specs.SeatLaws.{HasStranger}
-use Rattle.mesh_model.specs.Reads.{Kept, is_marked, kept_by}
+use Rattle.model_memory.specs.Plain.{Entry}
+use Rattle.model_memory.specs.SeatLaws.{HasStranger}
+use Rattle.model_memory.specs.Reads.{Kept, is_marked, kept_by}
 use Rattle.mesh_shared.specs.Seat.{IsKept, IsSeat, Seat, calls_of_seats, empty_seats, numbers_of}
 
 -- one seat more

@@ -2,12 +2,12 @@
 use Rattle.std.proofs.Common.{◌≡◌, ℕ, zero, suc, ◌<◌, ◌≤◌, List, [], ◌∷◌, length, slice_index_or, map, ap, subst, refl, sym, ◌∙◌, arith, None}
 use Rattle.std.specs.List.{All}
 use Rattle.std.proofs.lemmas.Option.{slice_get_within}
-use Rattle.mesh_model.specs.Memory.{Memory, empty_memory}
-use Rattle.mesh_model.specs.Plain.{Entry, IsLegal}
-use Rattle.mesh_model.specs.ReadLaws.{BuiltHasCalls, BuiltHasNoOther, BuiltIsLegal, IsTold}
-use Rattle.mesh_model.specs.Reads.{AreRight, Kept, built, kept_by, recorded}
-use Rattle.mesh_model.specs.SeatLaws.{AreSeatedBelow}
-use Rattle.mesh_model.specs.Seats.{AreSettled, calls_of, missing_seat}
+use Rattle.model_memory.specs.Memory.{Memory, empty_memory}
+use Rattle.model_memory.specs.Plain.{Entry, IsLegal}
+use Rattle.model_memory.specs.ReadLaws.{BuiltHasCalls, BuiltHasNoOther, BuiltIsLegal, IsTold}
+use Rattle.model_memory.specs.Reads.{AreRight, Kept, built, kept_by, recorded}
+use Rattle.model_memory.specs.SeatLaws.{AreSeatedBelow}
+use Rattle.model_memory.specs.Seats.{AreSettled, calls_of, missing_seat}
 use Rattle.mesh_shared.specs.Seat.{IsKept, Seat, calls_of_seats, numbers_of}
 use Rattle.mesh_shared.specs.Settle.{IsEnd, recorded_of}
 use Rattle.mesh_shared.specs.Walk.{Walks}

@@ -5,12 +5,12 @@ use Rattle.std.proofs.lemmas.Bool.Decides.{eqb_tells, leb_tells}
 use Rattle.std.proofs.lemmas.List.{length-append}
 use Rattle.std.proofs.lemmas.Option.{slice_get_within}
 use Rattle.std.proofs.Math.Seq.{take-append_seam}
-use Rattle.mesh_model.specs.Memory.{Memory, empty_memory}
-use Rattle.mesh_model.specs.Plain.{Entry}
-use Rattle.mesh_model.specs.Reads.{IsRight, Kept, call_of, is_out_of_place, memory_after, places_from, read_reply, recorded}
-use Rattle.mesh_model.specs.Seats.{calls_of}
-use Rattle.mesh_model.proofs.FittingCalls.{drop_at, get_seam}
-use Rattle.mesh_model.proofs.WovenCalls.{AtLeast, entry_call, first_or, looks, places_least}
+use Rattle.model_memory.specs.Memory.{Memory, empty_memory}
+use Rattle.model_memory.specs.Plain.{Entry}
+use Rattle.model_memory.specs.Reads.{IsRight, Kept, call_of, is_out_of_place, memory_after, places_from, read_reply, recorded}
+use Rattle.model_memory.specs.Seats.{calls_of}
+use Rattle.model_memory.proofs.FittingCalls.{drop_at, get_seam}
+use Rattle.model_memory.proofs.WovenCalls.{AtLeast, entry_call, first_or, looks, places_least}
 use Rattle.mesh_shared.specs.Walk.{IsAnswered, StopsAt}
 use Rattle.mesh_shared.proofs.Righting.{Ascend, Leaves, in_place, leaves_none, leaves_read, leaves_recorded, places_ascend, wrong_after_read, wrong_after_recorded, wrong_before_recorded, wrong_past_end}
 

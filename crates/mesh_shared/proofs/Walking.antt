@@ -4,9 +4,9 @@ use Rattle.std.specs.List.{All}
 use Rattle.std.proofs.lemmas.Bool.Decides.{eqb_tells, leb_tells}
 use Rattle.std.proofs.lemmas.List.{get_or-set_same, get_or-set_other, get_or_past, drop-set, length-set}
 use Rattle.std.proofs.Math.Seq.{drop-cons}
-use Rattle.mesh_model.specs.Memory.{Memory, empty_memory}
-use Rattle.mesh_model.specs.Plain.{Entry}
-use Rattle.mesh_model.specs.Reads.{Kept, all_reads_at, built_from, is_length, left_by, reads_at}
+use Rattle.model_memory.specs.Memory.{Memory, empty_memory}
+use Rattle.model_memory.specs.Plain.{Entry}
+use Rattle.model_memory.specs.Reads.{Kept, all_reads_at, built_from, is_length, left_by, reads_at}
 use Rattle.mesh_shared.specs.Walk.{AreTaken, IsAnswered, IsStepped, IsTakenTo, Walks}
 use Rattle.mesh_shared.proofs.Taking.{reads_append, tells}
 

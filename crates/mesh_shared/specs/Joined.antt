@@ -1,7 +1,7 @@
 -- What is known of threads that were joined, by the promises that their handles carry.
 use Rattle.std.specs.Prelude.{◌≡◌, ℕ, ◌<◌, List, None, length, slice_index_or}
 use Rattle.std.specs.declared.thread.PromisedHandle.{PromisedHandle}
-use Rattle.mesh_model.specs.Reads.{kept_by}
+use Rattle.model_memory.specs.Reads.{kept_by}
 use Rattle.mesh_shared.specs.Meshing.{HasMeshed}
 use Rattle.mesh_shared.specs.Runs.{HasWorked}
 use Rattle.mesh_shared.specs.Seat.{Seat, calls_of_seats}

@@ -1,6 +1,6 @@
-pub use Rattle.mesh_model.specs.Plain
-pub use Rattle.mesh_model.specs.Reads
-pub use Rattle.mesh_model.specs.Seats
+pub use Rattle.model_memory.specs.Plain
+pub use Rattle.model_memory.specs.Reads
+pub use Rattle.model_memory.specs.Seats
 pub mod Differing
 pub mod Joined
 pub mod Meshing

@@ -1,7 +1,7 @@
 -- What meshers do in a run, and what they tell of it.
 use Rattle.std.specs.Prelude.{◌≡◌, ℕ, suc, ◌*◌, ◌%◌, ◌<◌, ◌≤◌, ◌==◌, if◌then◌else◌, List, [], ◌∷◌, Option, Some, None, drop, length, map, slice_index_or, take}
-use Rattle.mesh_model.specs.Search.{Found, View, search, views}
-use Rattle.mesh_model.specs.Table.{Table}
+use Rattle.model_search.specs.Search.{Found, View, search, views}
+use Rattle.model_heap.specs.Table.{Table}
 use Rattle.mesh_shared.specs.declared.calls.Calls.{Calls}
 use Rattle.mesh_shared.specs.declared.mesher.Meshed.{Meshed}
 use Rattle.mesh_shared.specs.declared.plan.MeshPlan.{MeshPlan}

@@ -1,11 +1,11 @@
 -- What no run of scripts leaves, and which of several stops is told.
 use Rattle.std.specs.Prelude.{◌≡◌, ℕ, ◌≤◌, List, [], ◌∷◌, Option, Some, None, slice_get}
-use Rattle.mesh_model.specs.Memory.{Memory, empty_memory}
-use Rattle.mesh_model.specs.Plain.{Entry}
-use Rattle.mesh_model.specs.declared.commands.Command.{Command}
-use Rattle.mesh_model.specs.declared.commands.Command.TheVariants.{New}
-use Rattle.mesh_model.specs.declared.commands.Reply.TheVariants.{Refused}
-use Rattle.mesh_model.specs.declared.refusals.Refusal.TheVariants.{Zero}
+use Rattle.model_memory.specs.Memory.{Memory, empty_memory}
+use Rattle.model_memory.specs.Plain.{Entry}
+use Rattle.model_words.specs.declared.commands.Command.{Command}
+use Rattle.model_words.specs.declared.commands.Command.TheVariants.{New}
+use Rattle.model_words.specs.declared.commands.Reply.TheVariants.{Refused}
+use Rattle.model_words.specs.declared.refusals.Refusal.TheVariants.{Zero}
 use Rattle.mesh_shared.specs.Runs.{HasBegun, HasRun}
 use Rattle.mesh_shared.specs.Stops.{first_stop}
 use Rattle.mesh_shared.specs.declared.stops.Stop.{Stop}

@@ -1,11 +1,11 @@
 -- What a run of scripts in threads leaves.
 use Rattle.std.specs.Prelude.{◌≡◌, ℕ, ◌<◌, List, [], Option, None, length, map, slice_index_or, take}
 use Rattle.std.specs.List.{All}
-use Rattle.mesh_model.specs.Memory.{Memory}
-use Rattle.mesh_model.specs.Plain.{Entry, IsLegal}
-use Rattle.mesh_model.specs.Reads.{Kept, kept_by}
-use Rattle.mesh_model.specs.Seats.{calls_of}
-use Rattle.mesh_model.specs.declared.commands.Command.{Command}
+use Rattle.model_memory.specs.Memory.{Memory}
+use Rattle.model_memory.specs.Plain.{Entry, IsLegal}
+use Rattle.model_memory.specs.Reads.{Kept, kept_by}
+use Rattle.model_memory.specs.Seats.{calls_of}
+use Rattle.model_words.specs.declared.commands.Command.{Command}
 use Rattle.mesh_shared.specs.Seat.{Seat, calls_of_seats}
 use Rattle.mesh_shared.specs.declared.stops.Stop.{Stop}
 

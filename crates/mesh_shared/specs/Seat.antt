@@ -2,14 +2,14 @@
 use Rattle.std.specs.Prelude.{◌≡◌, ℕ, suc, ◌<◌, ◌≤◌, List, [], ◌∷◌, ◌++◌, Option, None, is_some, length, map, refl}
 use Rattle.std.specs.Coded.{Coded, code_by, coded×, coded_list, coded_option, coded_ℕ}
 use Rattle.std.specs.List.{All}
-use Rattle.mesh_model.specs.Commands.{IsInRange}
-use Rattle.mesh_model.specs.declared.commands.Command.{Command}
-use Rattle.mesh_model.specs.declared.commands.Command.TheVariants.{New, Put, Get, Free, Alias, Addr, Peek, Poke, Copy}
-use Rattle.mesh_model.specs.declared.commands.Reply.{Reply}
+use Rattle.model_words.specs.Commands.{IsInRange}
+use Rattle.model_words.specs.declared.commands.Command.{Command}
+use Rattle.model_words.specs.declared.commands.Command.TheVariants.{New, Put, Get, Free, Alias, Addr, Peek, Poke, Copy}
+use Rattle.model_words.specs.declared.commands.Reply.{Reply}
 use Rattle.mesh_mutator.specs.Codes.{command_code, reply_code}
 use Rattle.mesh_mutator.specs.declared.attempts.Attempt.{Attempt}
 use Rattle.mesh_mutator.specs.declared.attempts.Attempt.TheVariants.{Blocked, Done, HistoryFull, OutOfMemory}
-use Rattle.mesh_model.specs.Reads.{Kept, is_read}
+use Rattle.model_memory.specs.Reads.{Kept, is_read}
 
 -- a seat: its number, its calls, and how many there is room for
 pub record Seat : Type 0 where

@@ -1,10 +1,10 @@
 -- What is handed out at the end, and what stands against it.
 use Rattle.std.specs.Prelude.{◌≡◌, ℕ, ◌<◌, List, None, Some, map}
 use Rattle.std.specs.List.{All}
-use Rattle.mesh_model.specs.Memory.{Memory}
-use Rattle.mesh_model.specs.Plain.{Entry, IsLegal}
-use Rattle.mesh_model.specs.Reads.{AreRight, ReadDiffers, built, call_of, kept_by, recorded}
-use Rattle.mesh_model.specs.Seats.{AreSettled, Call, SeatDiffers, calls_of, missing_seat}
+use Rattle.model_memory.specs.Memory.{Memory}
+use Rattle.model_memory.specs.Plain.{Entry, IsLegal}
+use Rattle.model_memory.specs.Reads.{AreRight, ReadDiffers, built, call_of, kept_by, recorded}
+use Rattle.model_memory.specs.Seats.{AreSettled, Call, SeatDiffers, calls_of, missing_seat}
 use Rattle.mesh_shared.specs.Seat.{Seat, calls_of_seats, numbers_of}
 use Rattle.mesh_shared.specs.declared.faults.FinishError.{FinishError}
 use Rattle.mesh_shared.specs.declared.faults.FinishError.TheVariants.{Memory as NoMemory, ReadDiffers as ReadError, SeatDiffers as SeatError, SeatMissing}

@@ -1,9 +1,9 @@
 -- The walk of a journal that builds the history of its seats, or tells the first read that is wrong.
 use Rattle.std.specs.Prelude.{◌≡◌, ℕ, suc, ◌-◌, slice_index_or, slice_set, ◌<◌, ◌≤◌, Bool, true, false, List, [], ◌∷◌, ◌++◌, Option, Some, None, length, take}
 use Rattle.std.specs.List.{All}
-use Rattle.mesh_model.specs.Memory.{Memory}
-use Rattle.mesh_model.specs.Plain.{Entry}
-use Rattle.mesh_model.specs.Reads.{Kept, ReadDiffers, kept_by, left_by, read_reply, reads_at}
+use Rattle.model_memory.specs.Memory.{Memory}
+use Rattle.model_memory.specs.Plain.{Entry}
+use Rattle.model_memory.specs.Reads.{Kept, ReadDiffers, kept_by, left_by, read_reply, reads_at}
 use Rattle.mesh_shared.specs.declared.faults.FinishError.{FinishError}
 use Rattle.mesh_shared.specs.declared.faults.FinishError.TheVariants.{Memory as NoMemory, ReadDiffers as ReadError, SeatDiffers as SeatError, SeatMissing}
 

@@ -1,7 +1,7 @@
 //! The calls of a seat's mutator, past a gate.
 ghost use Rattle.std.specs.Prelude.{◌≡◌, ◌↔◌, ◌≤◌, length, None, IsTrue, true};
-ghost use Rattle.mesh_model.specs.Commands.{IsInRange};
-ghost use Rattle.mesh_model.specs.Reads.{is_read};
+ghost use Rattle.model_words.specs.Commands.{IsInRange};
+ghost use Rattle.model_memory.specs.Reads.{is_read};
 ghost use Rattle.mesh_mutator.specs.declared.attempts.Attempt.{Attempt};
 ghost use Rattle.mesh_shared.specs.Seat.{IsNew, IsStore, IsTaken};
 

@@ -1,8 +1,8 @@
 //! Where a seat's recorded calls differ from its worker's entries. Takes no memory.
 ghost use Rattle.std.specs.Prelude.{◌≡◌, ◌↔◌, ℕ, ◌^◌, ◌<◌, ◌≤◌, ◌∷◌, IsTrue, IfSome, None, length};
 ghost use Rattle.std.specs.List.{All};
-ghost use Rattle.mesh_model.specs.Reads.{call_of, kept_by, recorded};
-ghost use Rattle.mesh_model.specs.Seats.{AreSettled, DifferFirstAt, SeatDiffers, calls_of};
+ghost use Rattle.model_memory.specs.Reads.{call_of, kept_by, recorded};
+ghost use Rattle.model_memory.specs.Seats.{AreSettled, DifferFirstAt, SeatDiffers, calls_of};
 ghost use Rattle.mesh_shared.specs.Seat.{calls_of_seats};
 ghost use Rattle.mesh_shared.specs.Settle.{recorded_of};
 ghost use Rattle.mesh_shared.specs.Differing.{IsRecordedFirst};

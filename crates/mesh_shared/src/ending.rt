@@ -8,7 +8,7 @@ use crate::faults::FinishError;
 use crate::missing::missing;
 use crate::seat::Seat;
 use crate::walk::weave;
-use mesh_model::read_laws::{built_has_calls, built_is_legal};
+use model_memory::read_laws::{built_has_calls, built_is_legal};
 use mesh_mutator::{Book, Entry, Roots};
 use mesh_steps::Heap;
 use std::alloc::Global;

@@ -3,9 +3,9 @@
 //! The book under the lock isn't known to who takes it. So what is done with it stands here, over the book itself, and a call is a taking of the
 //! lock and one of these.
 ghost use Rattle.std.specs.Prelude.{◌≡◌, ◌↔◌, ◌<◌, ◌≤◌, Err, IfErr, IfOk, OnErr, OnOk, Some, false, length, true};
-ghost use Rattle.mesh_model.specs.Commands.{IsInRange};
-ghost use Rattle.mesh_model.specs.Mesh.{begin, mesh_in, mesh_of_class, step};
-ghost use Rattle.mesh_model.specs.Reads.{is_read};
+ghost use Rattle.model_words.specs.Commands.{IsInRange};
+ghost use Rattle.model_heap.specs.Mesh.{begin, mesh_in, mesh_of_class, step};
+ghost use Rattle.model_memory.specs.Reads.{is_read};
 ghost use Rattle.mesh_mutator.specs.Book.{IsAttempt, IsLooked, table_of_book};
 ghost use Rattle.mesh_mutator.specs.Mesher.{KeepsBook};
 ghost use Rattle.mesh_mutator.specs.declared.attempts.Attempt.{Attempt};

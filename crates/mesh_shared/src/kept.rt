@@ -1,6 +1,6 @@
 //! `Kept`, one call of a seat.
 ghost use Rattle.std.specs.Prelude.{◌≡◌};
-ghost use Rattle.mesh_model.specs.Reads.{is_read};
+ghost use Rattle.model_memory.specs.Reads.{is_read};
 
 use mesh_mutator::{Command, Reply, command_again, reply_again};
 use std::marker::Model;
@@ -17,7 +17,7 @@ pub struct Kept {
 }
 
 impl Model for Kept {
-    ghost use Rattle.mesh_model.specs.Reads.{Kept as PlainKept};
+    ghost use Rattle.model_memory.specs.Reads.{Kept as PlainKept};
 
     ghost Value = { PlainKept };
 

@@ -1,6 +1,6 @@
 //! A mesher of a run.
 ghost use Rattle.std.specs.Prelude.{◌≡◌, ◌+◌, ◌↔◌, ◌≤◌, IfOk, IsTrue, None, length, map};
-ghost use Rattle.mesh_model.specs.Search.{search, views};
+ghost use Rattle.model_search.specs.Search.{search, views};
 ghost use Rattle.mesh_shared.specs.Meshing.{AreOwn, HasMeshed, HasSearched, IsOver, own_views, words_in};
 
 use crate::calls::Calls;
@@ -9,7 +9,7 @@ use crate::plan::MeshPlan;
 use crate::shared::Shared;
 use crate::stops::Stop;
 use mesh_class::Class;
-use mesh_model::Refusal;
+use model_words::Refusal;
 use mesh_search::{Actor, ClassView, Found, Gate, Pair, Point, search};
 use mesh_steps::StepDone;
 use std::alloc::{AllocError, Global};

@@ -1,12 +1,12 @@
 //! Which seat is missing.
 ghost use Rattle.std.specs.Prelude.{◌≡◌, ◌↔◌, ℕ, ◌<◌, ◌≤◌, IsTrue, Some, None, true, false, length, slice_get};
 ghost use Rattle.std.specs.List.{All};
-ghost use Rattle.mesh_model.specs.Plain.{Entry};
-ghost use Rattle.mesh_model.specs.Seats.{missing_seat};
+ghost use Rattle.model_memory.specs.Plain.{Entry};
+ghost use Rattle.model_memory.specs.Seats.{missing_seat};
 ghost use Rattle.mesh_shared.specs.Seat.{numbers_of};
 
 use crate::seat::Seat;
-use mesh_model::seat_laws::missing_seat_is_least;
+use model_memory::seat_laws::missing_seat_is_least;
 use mesh_mutator::Journal;
 
 // The seat that is missing: the least place whose seat hasn't the place's number; or the count, where there are more seats or an entry of a

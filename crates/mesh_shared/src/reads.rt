@@ -1,8 +1,8 @@
 //! Reads that the walk takes.
 ghost use Rattle.std.specs.Prelude.{◌≡◌, ◌↔◌, ℕ, ◌^◌, ◌<◌, ◌≤◌, IfOk, IsTrue, true, None, length};
 ghost use Rattle.std.specs.List.{All};
-ghost use Rattle.mesh_model.specs.Commands.{IsInRange};
-ghost use Rattle.mesh_model.specs.Reads.{is_read, read_reply};
+ghost use Rattle.model_words.specs.Commands.{IsInRange};
+ghost use Rattle.model_memory.specs.Reads.{is_read, read_reply};
 ghost use Rattle.mesh_shared.specs.Seat.{IsKept};
 ghost use Rattle.mesh_shared.specs.Walk.{AreLeft, AreTaken, IsTakenTo, StopsAt};
 

@@ -16,7 +16,7 @@ impl<'a> Model for Rest<'a> {
     ghost use Rattle.std.specs.List.{All};
     ghost use Rattle.std.specs.Prelude.{List};
     ghost use Rattle.std.specs.Coded.{coded_list};
-    ghost use Rattle.mesh_model.specs.Reads.{Kept as PlainKept};
+    ghost use Rattle.model_memory.specs.Reads.{Kept as PlainKept};
     ghost use Rattle.mesh_shared.specs.Seat.{IsKept, kept_code};
 
     ghost Value = { List PlainKept };

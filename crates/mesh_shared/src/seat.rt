@@ -1,8 +1,8 @@
 //! `Seat`: what one mutator was answered.
 ghost use Rattle.std.specs.Prelude.{◌≡◌, ◌<◌, ◌≤◌, ◌++◌, [], ◌∷◌, IsTrue, ◌↔◌, IfOk, is_some, length};
 ghost use Rattle.std.specs.List.{All};
-ghost use Rattle.mesh_model.specs.Commands.{IsInRange};
-ghost use Rattle.mesh_model.specs.Reads.{is_read};
+ghost use Rattle.model_words.specs.Commands.{IsInRange};
+ghost use Rattle.model_memory.specs.Reads.{is_read};
 ghost use Rattle.mesh_shared.specs.Seat.{IsKept};
 
 use crate::kept::Kept;

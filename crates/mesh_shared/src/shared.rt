@@ -1,9 +1,9 @@
 //! `Shared`: a book under a lock, and what mutators and their threads do with it.
 ghost use Rattle.std.specs.Prelude.{◌≡◌, ℕ, ◌↔◌, ◌<◌, ◌≤◌, List, [], length, IsTrue, IfOk, IfErr, true};
-ghost use Rattle.mesh_model.specs.Commands.{IsInRange};
-ghost use Rattle.mesh_model.specs.Reads.{is_read};
+ghost use Rattle.model_words.specs.Commands.{IsInRange};
+ghost use Rattle.model_memory.specs.Reads.{is_read};
 ghost use Rattle.mesh_mutator.specs.declared.attempts.Attempt.{Attempt};
-ghost use Rattle.mesh_model.specs.Plain.{Entry};
+ghost use Rattle.model_memory.specs.Plain.{Entry};
 ghost use Rattle.mesh_mutator.specs.Book.{memory_in};
 ghost use Rattle.mesh_shared.specs.Seat.{IsEmptySeats, IsTaken};
 ghost use Rattle.mesh_shared.specs.Settle.{IsEnd, IsFault};

@@ -1,7 +1,7 @@
 //! Scripts on threads, with meshers at work between their commands.
 ghost use Rattle.std.specs.Prelude.{◌≡◌, ◌≤◌, ◌++◌, ◌∷◌, [], None, length, map, vec_len, IfOk, OnOk};
 ghost use Rattle.std.specs.List.{All};
-ghost use Rattle.mesh_model.specs.Commands.{IsInRange};
+ghost use Rattle.model_words.specs.Commands.{IsInRange};
 ghost use Rattle.mesh_mutator.specs.Book.{memory_in};
 ghost use Rattle.mesh_shared.specs.Joined.{HaveMeshed, HaveServed};
 ghost use Rattle.mesh_shared.specs.Meshing.{AreMeshed, HasMeshed};

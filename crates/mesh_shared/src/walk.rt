@@ -1,9 +1,9 @@
 //! The walk of the journal that builds the history.
 ghost use Rattle.std.specs.Prelude.{◌≡◌, ℕ, ◌^◌, ◌<◌, ◌≤◌, [], IfErr, IfOk, IfSome, OnOk, length};
 ghost use Rattle.std.specs.List.{All};
-ghost use Rattle.mesh_model.specs.Memory.{empty_memory};
-ghost use Rattle.mesh_model.specs.Reads.{AreRight, kept_by, recorded};
-ghost use Rattle.mesh_model.specs.Seats.{calls_of};
+ghost use Rattle.model_memory.specs.Memory.{empty_memory};
+ghost use Rattle.model_memory.specs.Reads.{AreRight, kept_by, recorded};
+ghost use Rattle.model_memory.specs.Seats.{calls_of};
 ghost use Rattle.mesh_shared.specs.Seat.{IsKept, calls_of_seats};
 ghost use Rattle.mesh_shared.specs.Walk.{IsFirstLeft, IsStep, IsWalkFault, Tells, Walks};
 
@@ -11,7 +11,7 @@ use crate::faults::FinishError;
 use crate::reads::take_all;
 use crate::rest::Rest;
 use crate::seat::Seat;
-use mesh_model::read_laws::few_are_made;
+use model_memory::read_laws::few_are_made;
 use mesh_mutator::{Entry, Journal};
 use mesh_plain::Plain;
 use std::alloc::{AllocError, Global};

@@ -1,7 +1,7 @@
 //! A worker of a run: it has a script and a seat.
 ghost use Rattle.std.specs.Prelude.{◌≡◌, [], None};
 ghost use Rattle.std.specs.List.{All};
-ghost use Rattle.mesh_model.specs.Commands.{IsInRange};
+ghost use Rattle.model_words.specs.Commands.{IsInRange};
 ghost use Rattle.mesh_shared.specs.Runs.{HasWorked};
 
 use crate::calling::counted;

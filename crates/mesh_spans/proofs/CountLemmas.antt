@@ -8,8 +8,8 @@ use Rattle.std.proofs.lemmas.List.{get_or-set_same, get_or_default, length-map}
 use Rattle.std.proofs.lemmas.List.Folds.{sum_by-replicate}
 use Rattle.std.proofs.lemmas.List.Sums.{count_by-le-length, get_or-le-sum_by, sum_by-cons, sum_by-set, sum_by_push}
 use Rattle.mesh_class.specs.Classes.{pages_of}
-use Rattle.mesh_model.specs.Mesh.{do_overlap, page_count, united}
-use Rattle.mesh_model.specs.Table.{Group, Slot, len_in, object_count}
+use Rattle.model_heap.specs.Mesh.{do_overlap, page_count, united}
+use Rattle.model_heap.specs.Table.{Group, Slot, len_in, object_count}
 use Rattle.mesh_spans.specs.Counts.{IsCounted, IsPart, IsWithin, byte_count, bytes_in, counts_of, mapped_in, objects_in, recounted, with_object, without_object}
 use Rattle.mesh_spans.specs.declared.totals.Totals.{Totals}
 use Rattle.mesh_spans.specs.Groups.{first_of, groups_from, groups_of, table_group}

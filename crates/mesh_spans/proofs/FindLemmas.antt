@@ -4,7 +4,7 @@ use Rattle.std.specs.Option.{option_map}
 use Rattle.std.proofs.lemmas.Bool.Decides.{eqb_tells, leb_tells}
 use Rattle.mesh_bins.specs.Words.{IsLeast}
 use Rattle.mesh_class.specs.Classes.{slots_of}
-use Rattle.mesh_model.specs.Table.{Group}
+use Rattle.model_heap.specs.Table.{Group}
 use Rattle.std.specs.Prelude.{IfNone, IfSome, IsSomeAnd}
 use Rattle.mesh_spans.specs.Filing.{candidate_from, candidates_from, is_partial}
 use Rattle.mesh_spans.specs.Groups.{groups_from, groups_of, is_closed, table_group}

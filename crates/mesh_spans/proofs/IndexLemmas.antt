@@ -8,7 +8,7 @@ use Rattle.std.proofs.Math.Nat.{mul-le-mul_right}
 use Rattle.std.proofs.lemmas.Bool.Decides.{eqb_tells, leb_tells}
 use Rattle.std.proofs.lemmas.Option.{get_or_from_slice_get, slice_get-get_or, slice_get_within}
 use Rattle.mesh_class.specs.Classes.{pages_of, slots_of}
-use Rattle.mesh_model.specs.Table.{Slot, slot_address}
+use Rattle.model_heap.specs.Table.{Slot, slot_address}
 use Rattle.mesh_spans.specs.Index.{SpanEntry, GroupEntry, Index, span_at, group_at, no_span, with_entry, with_slot, new_span, new_group, address_in, IsGroup, IsSpan, IsIndex, IsMember, IsObject, IsOwned, IsVacant, IsFoundAt, IsRecorded, AreUnused, named_in, record_at, span_record, slot_in}
 use Rattle.mesh_spans.proofs.SlotLemmas.{IsGroup_new, IsGroup_put}
 

@@ -5,8 +5,8 @@ use Rattle.std.proofs.Math.ListN.{length-set}
 use Rattle.std.proofs.lemmas.Bool.Decides.{eqb_tells}
 use Rattle.std.specs.Option.{option_map}
 use Rattle.std.proofs.lemmas.List.{get_or-set_other, get_or-set_same}
-use Rattle.mesh_model.specs.Mesh.{do_overlap, merged}
-use Rattle.mesh_model.specs.Table.{Group, has_number}
+use Rattle.model_heap.specs.Mesh.{do_overlap, merged}
+use Rattle.model_heap.specs.Table.{Group, has_number}
 use Rattle.mesh_spans.specs.Changes.{IsMergeable, Merges, Regroups, merged_entry, merged_groups}
 use Rattle.mesh_spans.specs.Groups.{is_in_mesh, groups_from, table_group}
 use Rattle.mesh_spans.specs.Index.{GroupEntry, Index, IsIndex, IsOwned, SpanEntry, group_at}

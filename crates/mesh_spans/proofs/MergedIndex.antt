@@ -8,8 +8,8 @@ use Rattle.std.proofs.lemmas.List.{ext_get_or}
 use Rattle.std.proofs.Math.Seq.{take-append_seam}
 use Rattle.mesh_bits.specs.Bits.{union_of}
 use Rattle.mesh_class.specs.Classes.{IsClass, pages_of, slots_of}
-use Rattle.mesh_model.specs.Mesh.{either_slot, united}
-use Rattle.mesh_model.specs.Table.{Slot}
+use Rattle.model_heap.specs.Mesh.{either_slot, united}
+use Rattle.model_heap.specs.Table.{Slot}
 use Rattle.mesh_spans.specs.Index.{GroupEntry, IsGroup, IsIndex, IsMember, IsObject, IsOwned, SpanEntry, group_at, span_at}
 use Rattle.mesh_spans.specs.Changes.{merged_entry, merged_groups, Regroups}
 

@@ -1,8 +1,8 @@
 -- The groups of an index whose two groups were merged are the table's.
 use Rattle.std.proofs.Common.{◌≡◌, ◌≢◌, ℕ, zero, suc, ◌+◌, ◌<◌, Bool, not, find, filter, map, List, [], ◌∷◌, ◌++◌, Option, Some, None, length, slice_set, ap, refl, sym, ◌∙◌, arith, inl, inr}
 use Rattle.std.proofs.lemmas.Bool.Decides.{eqb_tells}
-use Rattle.mesh_model.specs.Mesh.{merged, merged_into, united}
-use Rattle.mesh_model.specs.Table.{Group, changed_at, has_number}
+use Rattle.model_heap.specs.Mesh.{merged, merged_into, united}
+use Rattle.model_heap.specs.Table.{Group, changed_at, has_number}
 use Rattle.mesh_spans.specs.Groups.{first_of, groups_from, table_group}
 use Rattle.mesh_spans.specs.Index.{GroupEntry, SpanEntry, group_at}
 use Rattle.mesh_spans.specs.Changes.{merged_entry, merged_groups, with_flag}

@@ -5,7 +5,7 @@ use Rattle.std.proofs.Math.ListN.{length-set}
 use Rattle.std.proofs.lemmas.Bool.Decides.{eqb_tells, leb_tells}
 use Rattle.std.proofs.lemmas.List.{get_or_default, get_or_past, get_or-set_other, get_or-set_same}
 use Rattle.std.specs.Option.{option_map}
-use Rattle.mesh_model.specs.Table.{Slot}
+use Rattle.model_heap.specs.Table.{Slot}
 use Rattle.mesh_spans.specs.Groups.{is_in_mesh}
 use Rattle.mesh_spans.specs.Index.{GroupEntry, Index, IsIndex, IsObject, SpanEntry, group_at, no_span, span_at, with_entry, with_slot}
 use Rattle.mesh_spans.proofs.IndexLemmas.{group_below}

@@ -4,7 +4,7 @@ use Rattle.std.proofs.lemmas.List.{length-map}
 use Rattle.std.proofs.lemmas.List.Sums.{sum_by-cons}
 use Rattle.std.proofs.lemmas.Bool.Decides.{eqb_tells, leb_tells}
 use Rattle.mesh_bits.specs.Bits.{is_member, member_count, clear_count}
-use Rattle.mesh_model.specs.Table.{Slot, free_from}
+use Rattle.model_heap.specs.Table.{Slot, free_from}
 use Rattle.std.proofs.lemmas.List.{get_or-set_other, get_or-set_same, length-set}
 use Rattle.mesh_class.specs.Classes.{IsClass, pages_of, slots_of}
 use Rattle.std.proofs.Math.ListN.{length-replicate}

@@ -9,7 +9,7 @@ use Rattle.std.proofs.Math.ListN.{length-append}
 use Rattle.std.proofs.Math.Seq.{get_or-append_seam}
 use Rattle.mesh_class.specs.Classes.{slots_of}
 use Rattle.mesh_spans.proofs.SlotLemmas.{none_got}
-use Rattle.mesh_model.specs.Table.{Group, Slot, changed_at, free_from, fresh_group, takes_objects}
+use Rattle.model_heap.specs.Table.{Group, Slot, changed_at, free_from, fresh_group, takes_objects}
 use Rattle.mesh_spans.specs.Groups.{first_of, groups_from, groups_of, is_closed, is_in_mesh, IsPicked, table_group}
 use Rattle.mesh_spans.specs.Index.{GroupEntry, Index, IsIndex, IsVacant, SpanEntry, group_at, has_room, is_open, new_group, new_span, with_entry, with_slot}
 use Rattle.mesh_spans.proofs.IndexLemmas.{span_new, span_old}

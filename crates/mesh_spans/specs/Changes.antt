@@ -1,7 +1,7 @@
 -- How groups are closed, merged and taken out.
 use Rattle.std.specs.Prelude.{◌≡◌, ◌≢◌, ℕ, ◌+◌, ◌<◌, ◌≤◌, ◌⊎◌, Bool, false, List, ◌++◌, Option, Some, None, length, slice_index, slice_set}
 use Rattle.std.specs.Option.{option_map}
-use Rattle.mesh_model.specs.Mesh.{do_overlap, united}
+use Rattle.model_heap.specs.Mesh.{do_overlap, united}
 use Rattle.mesh_spans.specs.Index.{GroupEntry, Index, SpanEntry, group_at, span_at}
 
 -- a span of another group

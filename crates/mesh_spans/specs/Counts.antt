@@ -1,7 +1,7 @@
 -- What groups count: their objects, the bytes of these, and the virtual pages of their members.
 use Rattle.std.specs.Prelude.{◌≡◌, ℕ, ◌+◌, ◌-◌, ◌*◌, ◌≤◌, List, Option, Some, None, count_by, is_some, length, sum_by}
 use Rattle.mesh_class.specs.Classes.{pages_of}
-use Rattle.mesh_model.specs.Table.{Group, len_in}
+use Rattle.model_heap.specs.Table.{Group, len_in}
 use Rattle.mesh_spans.specs.Index.{GroupEntry}
 use Rattle.mesh_spans.specs.declared.totals.Totals.{Totals}
 

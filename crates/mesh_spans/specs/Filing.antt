@@ -2,8 +2,8 @@
 use Rattle.std.specs.Prelude.{◌≡◌, ◌⊎◌, ℕ, ◌+◌, ◌*◌, ◌<◌, Bool, false, not, ◌&&◌, if◌then◌else◌, nat_eq, nat_le, nat_lt, count_by, is_some, filter, List, Option, Some, None, length, slice_index_or, slice_set}
 use Rattle.std.specs.Ordering.{nat_cmp}
 use Rattle.std.specs.FinSet as set
-use Rattle.mesh_model.specs.Search.{may_be_paired}
-use Rattle.mesh_model.specs.Table.{Group}
+use Rattle.model_search.specs.Search.{may_be_paired}
+use Rattle.model_heap.specs.Table.{Group}
 use Rattle.mesh_spans.specs.Groups.{groups_of, is_closed}
 use Rattle.mesh_spans.specs.Index.{GroupEntry, Index, group_at}
 

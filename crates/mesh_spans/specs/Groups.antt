@@ -1,6 +1,6 @@
 -- The groups of the index as the table has them, and where a new object goes.
 use Rattle.std.specs.Prelude.{◌≡◌, ℕ, ◌+◌, Bool, false, List, [], ◌∷◌, Option, Some, None, map}
-use Rattle.mesh_model.specs.Table.{Group, first_member, picked_slot}
+use Rattle.model_heap.specs.Table.{Group, first_member, picked_slot}
 use Rattle.mesh_spans.specs.Index.{Index, SpanEntry, GroupEntry, span_at, group_at}
 
 -- the first virtual page of a span

@@ -3,7 +3,7 @@ use Rattle.std.specs.Prelude.{◌≡◌, ℕ, ◌+◌, ◌<◌, ◌≤◌, Bool,
 use Rattle.std.specs.Option.{option_map}
 use Rattle.std.specs.Coded.{Coded, code_by, coded×, coded_ℕ, coded_bool, coded_list, coded_option}
 use Rattle.mesh_class.specs.Classes.{pages_of, slots_of, IsClass}
-use Rattle.mesh_model.specs.Table.{Slot, slot_address}
+use Rattle.model_heap.specs.Table.{Slot, slot_address}
 
 -- a span: its first virtual page, its class by its size, and the number of its group
 pub record SpanEntry : Type 0 where

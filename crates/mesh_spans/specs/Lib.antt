@@ -1,6 +1,6 @@
 pub use Rattle.mesh_class.specs.Classes
 pub use Rattle.mesh_bits.specs.Bits
-pub use Rattle.mesh_model.specs.Table
+pub use Rattle.model_heap.specs.Table
 pub mod Changes
 pub mod Counts
 pub mod Filing

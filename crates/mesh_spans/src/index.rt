@@ -2,12 +2,12 @@
 ghost use Rattle.std.specs.Prelude.{◌≡◌, ℕ, ◌+◌, true, false, not, nat_eq, ◌&&◌, ◌||◌, filter, slice_set, ◌<◌, ◌≤◌, Some, None, [], ◌∷◌, ◌++◌, find, length, map, slice_index, slice_index_or, ◌/◌, IfOk, IfSome, IfNone, IsSome, IsSomeAnd, OnErr, position, option_copied, sum_by};
 ghost use Rattle.std.specs.Option.{option_map};
 ghost use Rattle.mesh_class.specs.Classes.{pages_of, slots_of};
-ghost use Rattle.mesh_model.specs.Table.{changed_at, fresh_group, len_in, object_count, slot_address, with_object_in, emptied_at, takes_objects};
+ghost use Rattle.model_heap.specs.Table.{changed_at, fresh_group, len_in, object_count, slot_address, with_object_in, emptied_at, takes_objects};
 ghost use Rattle.mesh_spans.specs.Counts.{IsPart, IsWithin, byte_count};
 ghost use Rattle.mesh_spans.specs.Groups.{IsPicked, groups_of, is_closed, table_group};
 ghost use Rattle.mesh_spans.specs.Index.{AreUnused, GroupEntry, IsFoundAt, IsIndex, IsObject, IsRecorded, IsSpan, IsVacant, address_in, group_at, has_room, is_open, new_group, new_span, record_at, slot_in, span_at, with_entry};
-ghost use Rattle.mesh_model.specs.Mesh.{do_overlap, merged, page_count};
-ghost use Rattle.mesh_model.specs.Table.{Group as TableGroup, has_number};
+ghost use Rattle.model_heap.specs.Mesh.{do_overlap, merged, page_count};
+ghost use Rattle.model_heap.specs.Table.{Group as TableGroup, has_number};
 ghost use Rattle.mesh_bins.specs.Words.{IsLeast};
 ghost use Rattle.mesh_spans.specs.Filing.{candidate_from, candidates_from, is_partial};
 ghost use Rattle.mesh_spans.specs.Changes.{IsMergeable, Merges, Regroups, merged_entry, merged_groups, with_flag};

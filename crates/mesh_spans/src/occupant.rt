@@ -10,7 +10,7 @@ pub(crate) struct Occupant {
 }
 
 impl Model for Occupant {
-    ghost use Rattle.mesh_model.specs.Table.{Slot};
+    ghost use Rattle.model_heap.specs.Table.{Slot};
 
     ghost Value = { Slot };
 

@@ -9,16 +9,16 @@ use Rattle.mesh_layout.proofs.Groups.{IsEntry, entry_in_table, none_in_table, ta
 use Rattle.mesh_layout.proofs.MadeSteps.{pages_counted}
 use Rattle.mesh_layout.specs.Indexes.{class_in, layout_of}
 use Rattle.mesh_layout.specs.PageHeap.{IsPageHeap}
-use Rattle.mesh_model.proofs.Chains.{may_begin_gives}
-use Rattle.mesh_model.proofs.GroupPages.{found_sound}
-use Rattle.mesh_model.proofs.MeshLists.{any_tells, class_tells}
-use Rattle.mesh_model.proofs.Searches.{overlap_by_sets}
-use Rattle.mesh_model.specs.Mesh.{Pair, do_overlap, may_begin, step_count}
-use Rattle.mesh_model.specs.Table.{Group, Made, Table, group_of, has_number}
-use Rattle.mesh_model.specs.Classes.{row_of}
-use Rattle.mesh_model.specs.Sound.{meshes_of}
-use Rattle.mesh_model.specs.TableLaws.{IsBusyTest}
-use Rattle.mesh_model.specs.declared.refusals.Refusal.TheVariants.{Busy as BusyClass, Class, Members, NoGroup, Overlap, Same}
+use Rattle.model_heap.proofs.MayBegin.{may_begin_gives}
+use Rattle.model_heap.proofs.GroupPages.{found_sound}
+use Rattle.model_heap.proofs.MeshLists.{any_tells, class_tells}
+use Rattle.model_search.proofs.Searches.{overlap_by_sets}
+use Rattle.model_heap.specs.Mesh.{Pair, do_overlap, may_begin, step_count}
+use Rattle.model_heap.specs.Table.{Group, Made, Table, group_of, has_number}
+use Rattle.model_words.specs.Classes.{row_of}
+use Rattle.model_heap.specs.Sound.{meshes_of}
+use Rattle.model_heap.specs.TableLaws.{IsBusyTest}
+use Rattle.model_words.specs.declared.refusals.Refusal.TheVariants.{Busy as BusyClass, Class, Members, NoGroup, Overlap, Same}
 use Rattle.mesh_spans.specs.Groups.{first_of, table_group}
 use Rattle.mesh_spans.specs.Index.{GroupEntry, Index, IsIndex, group_at}
 use Rattle.mesh_steps.specs.Meshes.{IsPair, busy_by}

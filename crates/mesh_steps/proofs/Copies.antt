@@ -1,11 +1,11 @@
 -- What a copy does to the plain memory that a heap stands for.
 use Rattle.std.proofs.Common.{◌≡◌, ℕ, ◌+◌, ◌<◌, ◌≤◌, List, length, slice_range, Result, Ok, Err, ap, subst, refl, sym, ◌∙◌, ◌⊎◌, inl, inr, arith}
 use Rattle.std.proofs.lemmas.Bool.Decides.{leb_tells}
-use Rattle.mesh_model.specs.Memory.{Memory}
-use Rattle.mesh_model.specs.Mesh.{is_blocked}
-use Rattle.mesh_model.specs.Plain.{stored}
-use Rattle.mesh_model.specs.declared.refusals.Refusal.{Refusal}
-use Rattle.mesh_model.specs.declared.refusals.Refusal.TheVariants.{Outside}
+use Rattle.model_memory.specs.Memory.{Memory}
+use Rattle.model_heap.specs.Mesh.{is_blocked}
+use Rattle.model_memory.specs.Plain.{stored}
+use Rattle.model_words.specs.declared.refusals.Refusal.{Refusal}
+use Rattle.model_words.specs.declared.refusals.Refusal.TheVariants.{Outside}
 use Rattle.mesh_steps.proofs.Objects.{ends_past, ends_within}
 use Rattle.mesh_steps.proofs.Stores.{stored_in_is}
 use Rattle.mesh_steps.specs.Heap.{Heap, IsHeap, IsReferred, IsStore, bytes_at, copied_at, live_record, object_in, plain_of, stored_in, table_of}

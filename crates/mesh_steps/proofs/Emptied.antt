@@ -16,10 +16,10 @@ use Rattle.mesh_layout.specs.Layout.{IsHeldBy, IsOrderly, Stage}
 use Rattle.mesh_layout.specs.Meshes.{stage_of}
 use Rattle.mesh_layout.specs.PageHeap.{IsPageHeap}
 use Rattle.mesh_layout.specs.Steps.{UnmapsGroup}
-use Rattle.mesh_model.proofs.TableChanges.{sweep_sound}
-use Rattle.mesh_model.proofs.TiedTables.{filled_counted}
-use Rattle.mesh_model.specs.Table.{Counted, Slot, group_of, has_number, is_meshing, sweep}
-use Rattle.mesh_model.specs.declared.refusals.Refusal.TheVariants.{Busy, NoGroup, NotEmpty}
+use Rattle.model_heap.proofs.TableChanges.{sweep_sound}
+use Rattle.model_heap.proofs.TiedTables.{filled_counted}
+use Rattle.model_heap.specs.Table.{Counted, Slot, group_of, has_number, is_meshing, sweep}
+use Rattle.model_words.specs.declared.refusals.Refusal.TheVariants.{Busy, NoGroup, NotEmpty}
 use Rattle.mesh_pagemap.specs.Entries.{Entries}
 use Rattle.mesh_spans.specs.Groups.{groups_of, is_in_mesh, table_group}
 use Rattle.mesh_spans.specs.Index.{GroupEntry, Index, IsIndex, SpanEntry, group_at}

@@ -7,26 +7,26 @@ use Rattle.mesh_arena.specs.Pages.{Pages}
 use Rattle.mesh_layout.proofs.Groups.{entry_in_table}
 use Rattle.mesh_layout.proofs.Meaning.{live_at, record_live}
 use Rattle.mesh_layout.specs.PageHeap.{bytes_in, targets_of}
-use Rattle.mesh_model.proofs.FreedObjects.{free_means}
-use Rattle.mesh_model.proofs.MadeObjects.{new_means}
-use Rattle.mesh_model.proofs.Meanings.{meaning_next}
-use Rattle.mesh_model.proofs.NewApart.{new_apart}
-use Rattle.mesh_model.proofs.NewObjects.{new_sound}
-use Rattle.mesh_model.proofs.OneSlot.{one_slot}
-use Rattle.mesh_model.proofs.Records.{record_slot, tied_below}
-use Rattle.mesh_model.proofs.TableChanges.{free_sound}
-use Rattle.mesh_model.proofs.TiedMemories.{free_tied}
-use Rattle.mesh_model.proofs.TiedNewObjects.{new_tied}
-use Rattle.mesh_model.specs.Classes.{class_for}
-use Rattle.mesh_model.specs.Memory.{Memory, next_serial, with_object, with_new}
-use Rattle.mesh_model.specs.Places.{Record, byte_of, meaning, records_of, AreBelow, IsIn, record_with}
-use Rattle.mesh_model.specs.Plain.{Named}
-use Rattle.mesh_model.specs.Sound.{IsSound, IsTied}
-use Rattle.mesh_model.specs.Table.{Group, Placed, Table, first_member, fresh_group, picked_slot, place_in, place_new, placed_in, room_for_span, slot_address, with_group, with_object_in, with_span, without_object}
-use Rattle.mesh_model.specs.TableLaws.{AreApart}
-use Rattle.mesh_model.specs.Words.{◌>>=◌, or_refuse, refuse_if}
-use Rattle.mesh_model.specs.declared.refusals.Refusal.{Refusal}
-use Rattle.mesh_model.specs.declared.refusals.Refusal.TheVariants.{TooLarge, Zero}
+use Rattle.model_heap.proofs.FreedObjects.{free_means}
+use Rattle.model_heap.proofs.MadeObjects.{new_means}
+use Rattle.model_heap.proofs.Meanings.{meaning_next}
+use Rattle.model_heap.proofs.NewApart.{new_apart}
+use Rattle.model_heap.proofs.NewObjects.{new_sound}
+use Rattle.model_heap.proofs.OneSlot.{one_slot}
+use Rattle.model_heap.proofs.Records.{record_slot, tied_below}
+use Rattle.model_heap.proofs.TableChanges.{free_sound}
+use Rattle.model_heap.proofs.TiedMemories.{free_tied}
+use Rattle.model_heap.proofs.TiedNewObjects.{new_tied}
+use Rattle.model_words.specs.Classes.{class_for}
+use Rattle.model_memory.specs.Memory.{Memory, next_serial, with_object, with_new}
+use Rattle.model_heap.specs.Places.{Record, byte_of, meaning, records_of, AreBelow, IsIn, record_with}
+use Rattle.model_memory.specs.Plain.{Named}
+use Rattle.model_heap.specs.Sound.{IsSound, IsTied}
+use Rattle.model_heap.specs.Table.{Group, Placed, Table, first_member, fresh_group, picked_slot, place_in, place_new, placed_in, room_for_span, slot_address, with_group, with_object_in, with_span, without_object}
+use Rattle.model_heap.specs.TableLaws.{AreApart}
+use Rattle.model_words.specs.Words.{◌>>=◌, or_refuse, refuse_if}
+use Rattle.model_words.specs.declared.refusals.Refusal.{Refusal}
+use Rattle.model_words.specs.declared.refusals.Refusal.TheVariants.{TooLarge, Zero}
 use Rattle.mesh_pagemap.specs.Entries.{Entries}
 use Rattle.mesh_spans.specs.Index.{address_in, span_at}
 use Rattle.mesh_store.specs.Places.{Saves, byte_of as byte_in}

@@ -15,10 +15,10 @@ use Rattle.mesh_layout.proofs.MadeSteps.{Unites, page_heap_ends, page_heap_goes}
 use Rattle.mesh_layout.proofs.MeshPlaces.{progress_set, without_at}
 use Rattle.mesh_layout.proofs.StepEffects.{step_has_effect, unwinding_has_effect}
 use Rattle.mesh_layout.proofs.Unwinding.{Holds, Reopens, cancel_holds, cancel_stops, unwind_ends, unwind_goes}
-use Rattle.mesh_model.specs.Mesh.{merged, with_progress, without_mesh}
-use Rattle.mesh_model.specs.Table.{Made, Mesh, Unwinding}
-use Rattle.mesh_model.specs.declared.commands.StepKind.{StepKind}
-use Rattle.mesh_model.specs.declared.commands.StepKind.TheVariants.{Unprotect}
+use Rattle.model_heap.specs.Mesh.{merged, with_progress, without_mesh}
+use Rattle.model_heap.specs.Table.{Made, Mesh, Unwinding}
+use Rattle.model_words.specs.declared.commands.StepKind.{StepKind}
+use Rattle.model_words.specs.declared.commands.StepKind.TheVariants.{Unprotect}
 use Rattle.mesh_pagemap.specs.Entries.{Entries, Protects, prot_of}
 use Rattle.mesh_spans.specs.Changes.{Merges, merged_entry, with_mesh}
 use Rattle.mesh_spans.specs.Groups.{groups_of, is_closed, table_group}

@@ -10,14 +10,14 @@ use Rattle.mesh_layout.specs.Layout.{page_total, virtual_page}
 use Rattle.mesh_layout.proofs.Heaps.{transition_means, transition_tied}
 use Rattle.mesh_layout.specs.Indexes.{layout_of}
 use Rattle.mesh_layout.specs.Steps.{Keeps}
-use Rattle.mesh_model.proofs.TableChanges.{begin_sound, cancel_sound, step_sound, sweep_sound}
-use Rattle.mesh_model.proofs.TiedTables.{begin_tied, cancel_tied, step_tied, sweep_tied}
-use Rattle.mesh_model.specs.Mesh.{Stepped, mesh_in, page_count, step, virtual_pages}
-use Rattle.mesh_model.specs.MeshLaws.{steps_of_class}
-use Rattle.mesh_model.specs.Words.{◌>>=◌}
-use Rattle.mesh_model.specs.Sound.{IsSound, IsTied}
-use Rattle.mesh_model.specs.Table.{Counted, Group, Table, group_of, has_number}
-use Rattle.mesh_model.specs.declared.refusals.Refusal.{Refusal}
+use Rattle.model_heap.proofs.TableChanges.{begin_sound, cancel_sound, step_sound, sweep_sound}
+use Rattle.model_heap.proofs.TiedTables.{begin_tied, cancel_tied, step_tied, sweep_tied}
+use Rattle.model_heap.specs.Mesh.{Stepped, mesh_in, page_count, step, virtual_pages}
+use Rattle.model_heap.specs.MeshLaws.{steps_of_class}
+use Rattle.model_words.specs.Words.{◌>>=◌}
+use Rattle.model_heap.specs.Sound.{IsSound, IsTied}
+use Rattle.model_heap.specs.Table.{Counted, Group, Table, group_of, has_number}
+use Rattle.model_words.specs.declared.refusals.Refusal.{Refusal}
 use Rattle.mesh_pagemap.specs.Entries.{Entries, is_mapped}
 use Rattle.mesh_spans.specs.Index.{IsIndex}
 use Rattle.mesh_arena.specs.Pages.{Pages}

@@ -14,12 +14,12 @@ use Rattle.mesh_layout.proofs.MeshList.{from_found}
 use Rattle.mesh_layout.proofs.MeshPlaces.{position_finds, position_none}
 use Rattle.mesh_layout.proofs.PageHeapSteps.{page_heap_orderly}
 use Rattle.mesh_layout.proofs.Unwinding.{cancel_late, unwinding_cancelled}
-use Rattle.mesh_model.specs.Mesh.{cancel, mesh_in}
-use Rattle.mesh_model.specs.Sound.{IsWithinSteps}
-use Rattle.mesh_model.specs.Table.{Made, Mesh, Progress, Unwinding}
-use Rattle.mesh_model.specs.declared.commands.StepKind.{StepKind}
-use Rattle.mesh_model.specs.declared.commands.StepKind.TheVariants.{Copy, Protect, Release, Remap, Unprotect}
-use Rattle.mesh_model.specs.declared.refusals.Refusal.TheVariants.{TooLate}
+use Rattle.model_heap.specs.Mesh.{cancel, mesh_in}
+use Rattle.model_heap.specs.Sound.{IsWithinSteps}
+use Rattle.model_heap.specs.Table.{Made, Mesh, Progress, Unwinding}
+use Rattle.model_words.specs.declared.commands.StepKind.{StepKind}
+use Rattle.model_words.specs.declared.commands.StepKind.TheVariants.{Copy, Protect, Release, Remap, Unprotect}
+use Rattle.model_words.specs.declared.refusals.Refusal.TheVariants.{TooLate}
 use Rattle.mesh_spans.specs.Changes.{IsMergeable}
 use Rattle.mesh_spans.specs.Groups.{table_group}
 use Rattle.mesh_spans.specs.Index.{GroupEntry, IsIndex, group_at}

@@ -13,18 +13,18 @@ use Rattle.mesh_layout.proofs.Meaning.{record_live}
 use Rattle.mesh_layout.specs.Indexes.{layout_of}
 use Rattle.mesh_layout.specs.Layout.{AreInObject}
 use Rattle.mesh_layout.specs.PageHeap.{bytes_in, targets_of}
-use Rattle.mesh_model.proofs.GroupPages.{found_sound}
-use Rattle.mesh_model.proofs.Holders.{no_holder, one_holder}
-use Rattle.mesh_model.proofs.Meanings.{bytes_read, meaning_objects}
-use Rattle.mesh_model.proofs.Records.{record_slot, slot_record, tied_below}
-use Rattle.mesh_model.specs.Memory.{Object, has_address, object_of}
-use Rattle.mesh_model.specs.Places.{Record, object_at, place_of, IsIn, record_in, record_with}
-use Rattle.mesh_model.specs.Plain.{Named, ends_outside, holding}
-use Rattle.mesh_model.specs.Sound.{IsSound, times_in}
-use Rattle.mesh_model.specs.Table.{Group, Slot, group_of, has_number, slot_address}
-use Rattle.mesh_model.specs.Words.{◌>>=◌, refuse_if}
-use Rattle.mesh_model.specs.declared.refusals.Refusal.{Refusal}
-use Rattle.mesh_model.specs.declared.refusals.Refusal.TheVariants.{Freed, Outside, Stray}
+use Rattle.model_heap.proofs.GroupPages.{found_sound}
+use Rattle.model_heap.proofs.Holders.{no_holder, one_holder}
+use Rattle.model_heap.proofs.Meanings.{bytes_read, meaning_objects}
+use Rattle.model_heap.proofs.Records.{record_slot, slot_record, tied_below}
+use Rattle.model_memory.specs.Memory.{Object, has_address, object_of}
+use Rattle.model_heap.specs.Places.{Record, object_at, place_of, IsIn, record_in, record_with}
+use Rattle.model_memory.specs.Plain.{Named, ends_outside, holding}
+use Rattle.model_heap.specs.Sound.{IsSound, times_in}
+use Rattle.model_heap.specs.Table.{Group, Slot, group_of, has_number, slot_address}
+use Rattle.model_words.specs.Words.{◌>>=◌, refuse_if}
+use Rattle.model_words.specs.declared.refusals.Refusal.{Refusal}
+use Rattle.model_words.specs.declared.refusals.Refusal.TheVariants.{Freed, Outside, Stray}
 use Rattle.mesh_spans.specs.Groups.{first_of, table_group}
 use Rattle.mesh_spans.specs.Index.{GroupEntry, Index, IsIndex, SpanEntry, group_at, span_at}
 use Rattle.mesh_store.specs.Places.{byte_of}

@@ -16,13 +16,13 @@ use Rattle.mesh_layout.specs.Indexes.{class_in, layout_of, members_in, slots_in,
 use Rattle.mesh_layout.specs.Layout.{IsLiveAt}
 use Rattle.mesh_layout.specs.PageHeap.{IsPageHeap}
 use Rattle.mesh_layout.specs.Steps.{Keeps}
-use Rattle.mesh_model.proofs.NewObjects.{span_sound}
-use Rattle.mesh_model.proofs.OpenGroups.{found_open, open_tests}
-use Rattle.mesh_model.specs.Classes.{Row, row_of}
-use Rattle.mesh_model.specs.Sound.{IsSound}
-use Rattle.mesh_model.specs.Table.{Group, Mesh, Slot, Table, free_from, fresh_group, is_open, object_count, picked_slot, place_in, placed_in, room_for_span, slot_address, takes_objects, takes_part, with_span}
-use Rattle.mesh_model.specs.Words.{◌>>=◌}
-use Rattle.mesh_model.specs.declared.refusals.Refusal.{Refusal}
+use Rattle.model_heap.proofs.NewObjects.{span_sound}
+use Rattle.model_heap.proofs.OpenGroups.{found_open, open_tests}
+use Rattle.model_words.specs.Classes.{Row, row_of}
+use Rattle.model_heap.specs.Sound.{IsSound}
+use Rattle.model_heap.specs.Table.{Group, Mesh, Slot, Table, free_from, fresh_group, is_open, object_count, picked_slot, place_in, placed_in, room_for_span, slot_address, takes_objects, takes_part, with_span}
+use Rattle.model_words.specs.Words.{◌>>=◌}
+use Rattle.model_words.specs.declared.refusals.Refusal.{Refusal}
 use Rattle.mesh_pagemap.specs.Entries.{Entries}
 use Rattle.mesh_spans.specs.Groups.{IsPicked, groups_of, is_closed, is_in_mesh}
 use Rattle.mesh_spans.specs.Index.{AreUnused, GroupEntry, Index, IsFoundAt, IsIndex, IsVacant, SpanEntry, group_at, new_group, new_span, no_span, record_at, span_at}

@@ -16,8 +16,8 @@ use Rattle.mesh_layout.specs.Indexes.{class_in, layout_of, members_in, slots_in,
 use Rattle.mesh_layout.specs.Layout.{IsCovered}
 use Rattle.mesh_layout.specs.Meshes.{stage_of}
 use Rattle.mesh_layout.specs.PageHeap.{IsPageHeap}
-use Rattle.mesh_model.specs.Sound.{IsSound}
-use Rattle.mesh_model.specs.Table.{Slot, Table, changed_at, emptied_at, slot_address, with_object_in}
+use Rattle.model_heap.specs.Sound.{IsSound}
+use Rattle.model_heap.specs.Table.{Slot, Table, changed_at, emptied_at, slot_address, with_object_in}
 use Rattle.mesh_spans.specs.Groups.{groups_of, is_closed}
 use Rattle.mesh_spans.specs.Index.{GroupEntry, Index, IsIndex, address_in, group_at, span_at, with_entry, with_slot}
 use Rattle.mesh_store.specs.Places.{IsOpen, Saves}

@@ -5,8 +5,8 @@ use Rattle.std.proofs.lemmas.Bool.Decides.{eqb_tells}
 use Rattle.mesh_arena.specs.Pages.{IsTaken}
 use Rattle.mesh_layout.proofs.Standing.{page_taken}
 use Rattle.mesh_layout.specs.PageHeap.{IsPageHeap, targets_of}
-use Rattle.mesh_model.proofs.Holders.{objects_apart}
-use Rattle.mesh_model.specs.Places.{place_of}
+use Rattle.model_heap.proofs.Holders.{objects_apart}
+use Rattle.model_heap.specs.Places.{place_of}
 use Rattle.mesh_pagemap.specs.Entries.{Entries, page_of}
 use Rattle.mesh_spans.specs.Index.{IsIndex}
 use Rattle.mesh_steps.proofs.Objects.{has_in, live_found}

@@ -8,17 +8,17 @@ use Rattle.mesh_layout.specs.Indexes.{layout_of}
 use Rattle.mesh_layout.specs.Layout.{AreInObject}
 use Rattle.mesh_layout.specs.Meshes.{stage_of}
 use Rattle.mesh_layout.specs.PageHeap.{IsPageHeap, bytes_in, targets_of}
-use Rattle.mesh_model.proofs.Meanings.{byte_read}
-use Rattle.mesh_model.proofs.TiedMemories.{stored_tied}
-use Rattle.mesh_model.specs.Memory.{Memory}
-use Rattle.mesh_model.specs.Mesh.{is_blocked}
-use Rattle.mesh_model.specs.Places.{Record, meaning, record_with}
-use Rattle.mesh_model.specs.Plain.{Named, ends_outside, holding, stored}
-use Rattle.mesh_model.specs.Sound.{IsSound, IsTied}
-use Rattle.mesh_model.specs.Table.{Table}
-use Rattle.mesh_model.specs.Words.{◌>>=◌, refuse_if}
-use Rattle.mesh_model.specs.declared.refusals.Refusal.{Refusal}
-use Rattle.mesh_model.specs.declared.refusals.Refusal.TheVariants.{Freed, Outside, Stray}
+use Rattle.model_heap.proofs.Meanings.{byte_read}
+use Rattle.model_heap.proofs.TiedMemories.{stored_tied}
+use Rattle.model_memory.specs.Memory.{Memory}
+use Rattle.model_heap.specs.Mesh.{is_blocked}
+use Rattle.model_heap.specs.Places.{Record, meaning, record_with}
+use Rattle.model_memory.specs.Plain.{Named, ends_outside, holding, stored}
+use Rattle.model_heap.specs.Sound.{IsSound, IsTied}
+use Rattle.model_heap.specs.Table.{Table}
+use Rattle.model_words.specs.Words.{◌>>=◌, refuse_if}
+use Rattle.model_words.specs.declared.refusals.Refusal.{Refusal}
+use Rattle.model_words.specs.declared.refusals.Refusal.TheVariants.{Freed, Outside, Stray}
 use Rattle.mesh_spans.specs.Index.{IsIndex}
 use Rattle.mesh_store.specs.Places.{IsBlocked, IsOpen, Saves, byte_of}
 use Rattle.mesh_steps.proofs.Objects.{ends_past, ends_within, live_ends, live_found, live_in_object, object_len, reference_names}

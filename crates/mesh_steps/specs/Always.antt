@@ -2,8 +2,8 @@
 use Rattle.std.specs.Prelude.{◌≡◌, ◌≢◌, ℕ, true, nat_eq, Some}
 use Rattle.std.specs.List.{list_any}
 use Rattle.mesh_arena.specs.Pages.{IsTaken}
-use Rattle.mesh_model.specs.Mesh.{read_only_pages}
-use Rattle.mesh_model.specs.Places.{Record, holds, place_of, IsIn, record_with}
+use Rattle.model_heap.specs.Mesh.{read_only_pages}
+use Rattle.model_heap.specs.Places.{Record, holds, place_of, IsIn, record_with}
 use Rattle.mesh_pagemap.specs.Entries.{is_read_only}
 use Rattle.mesh_layout.specs.Indexes.{layout_of}
 use Rattle.mesh_layout.specs.Layout.{IsLaidOut}

@@ -3,15 +3,15 @@ use Rattle.std.specs.Prelude.{◌≡◌, ℕ, ◌+◌, ◌-◌, ◌<◌, ◌≤�
 use Rattle.std.specs.Coded.{Coded, code_by, coded×, coded_ℕ}
 use Rattle.mesh_arena.specs.Pages.{Pages}
 use Rattle.mesh_layout.specs.PageHeap.{bytes_in, targets_of}
-use Rattle.mesh_model.specs.Classes.{class_for}
-use Rattle.mesh_model.specs.Memory.{Memory, Object, object_of, with_object, with_new}
-use Rattle.mesh_model.specs.Places.{Record, meaning, object_at, records_of, record_with}
-use Rattle.mesh_model.specs.Plain.{Named, copied, ends_outside, holding, stored}
-use Rattle.mesh_model.specs.Sound.{IsSound, IsTied}
-use Rattle.mesh_model.specs.Table.{Placed, Table, place_new, without_object}
-use Rattle.mesh_model.specs.Words.{◌>>=◌, or_refuse, refuse_if}
-use Rattle.mesh_model.specs.declared.refusals.Refusal.{Refusal}
-use Rattle.mesh_model.specs.declared.refusals.Refusal.TheVariants.{Freed, Outside}
+use Rattle.model_words.specs.Classes.{class_for}
+use Rattle.model_memory.specs.Memory.{Memory, Object, object_of, with_object, with_new}
+use Rattle.model_heap.specs.Places.{Record, meaning, object_at, records_of, record_with}
+use Rattle.model_memory.specs.Plain.{Named, copied, ends_outside, holding, stored}
+use Rattle.model_heap.specs.Sound.{IsSound, IsTied}
+use Rattle.model_heap.specs.Table.{Placed, Table, place_new, without_object}
+use Rattle.model_words.specs.Words.{◌>>=◌, or_refuse, refuse_if}
+use Rattle.model_words.specs.declared.refusals.Refusal.{Refusal}
+use Rattle.model_words.specs.declared.refusals.Refusal.TheVariants.{Freed, Outside}
 use Rattle.mesh_pagemap.specs.Entries.{Entries}
 use Rattle.mesh_spans.specs.Index.{Index}
 use Rattle.mesh_steps.specs.PageHeap.{IsInSlotOf, PageHeap, open_group, page_heap_code, table_in}

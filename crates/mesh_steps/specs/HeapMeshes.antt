@@ -1,9 +1,9 @@
 -- What a mesher's calls do to a heap: it means what it meant, and its table is the definition's.
 use Rattle.std.specs.Prelude.{◌≡◌, ℕ, ◌-◌, ◌<◌, ◌≤◌, Bool, false, slice_index, List, Option, Some, Ok}
 use Rattle.mesh_layout.specs.Effects.{HasEffect}
-use Rattle.mesh_model.specs.Mesh.{begin, cancel, mesh_in, mesh_whole, page_count, step, virtual_pages}
-use Rattle.mesh_model.specs.MeshLaws.{steps_of_class}
-use Rattle.mesh_model.specs.Table.{Group, Mesh, Table, group_of, sweep}
+use Rattle.model_heap.specs.Mesh.{begin, cancel, mesh_in, mesh_whole, page_count, step, virtual_pages}
+use Rattle.model_heap.specs.MeshLaws.{steps_of_class}
+use Rattle.model_heap.specs.Table.{Group, Mesh, Table, group_of, sweep}
 use Rattle.mesh_pagemap.specs.Entries.{is_mapped}
 use Rattle.mesh_steps.specs.Heap.{HasAsManyPages, Heap, arena_of, index_of, map_of, memory_of, table_of}
 use Rattle.mesh_steps.specs.declared.answers.StepDone.{StepDone}

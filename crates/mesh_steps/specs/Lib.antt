@@ -1,5 +1,5 @@
-pub use Rattle.mesh_model.specs.MeaningLaws
-pub use Rattle.mesh_model.specs.Refusals
+pub use Rattle.model_heap.specs.MeaningLaws
+pub use Rattle.model_words.specs.Refusals
 pub use Rattle.mesh_class.specs.Classes
 pub use Rattle.mesh_arena.specs.Pages
 pub use Rattle.mesh_pagemap.specs.Entries

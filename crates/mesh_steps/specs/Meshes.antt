@@ -3,8 +3,8 @@ use Rattle.std.specs.Prelude.{◌≡◌, ◌≢◌, ℕ, Bool, false, Ok, Some, 
 use Rattle.mesh_layout.specs.Effects.{HasEffect}
 use Rattle.mesh_layout.specs.Indexes.{class_in, layout_of, members_in, pages_in, slots_in}
 use Rattle.mesh_layout.specs.Steps.{Keeps}
-use Rattle.mesh_model.specs.Mesh.{Pair, any_mesh, begin, cancel, may_begin, mesh_in, mesh_of_class, step}
-use Rattle.mesh_model.specs.Table.{Mesh, Table}
+use Rattle.model_heap.specs.Mesh.{Pair, any_mesh, begin, cancel, may_begin, mesh_in, mesh_of_class, step}
+use Rattle.model_heap.specs.Table.{Mesh, Table}
 use Rattle.mesh_spans.specs.Groups.{groups_of, is_closed}
 use Rattle.mesh_spans.specs.Index.{Index, group_at}
 use Rattle.mesh_steps.specs.PageHeap.{PageHeap, table_in}

@@ -7,8 +7,8 @@ use Rattle.mesh_class.specs.Classes.{slots_of}
 use Rattle.mesh_layout.specs.Indexes.{layout_of, table_with}
 use Rattle.mesh_layout.specs.Layout.{IsLiveAt}
 use Rattle.mesh_layout.specs.Steps.{Keeps}
-use Rattle.mesh_model.specs.Table.{Group, Mesh, Slot, Report as PlainReport, Table, emptied_at, is_open, place_in, placed_in, room_for_span, with_group, with_object_in, with_span}
-use Rattle.mesh_model.specs.declared.refusals.Refusal.{Refusal}
+use Rattle.model_heap.specs.Table.{Group, Mesh, Slot, Report as PlainReport, Table, emptied_at, is_open, place_in, placed_in, room_for_span, with_group, with_object_in, with_span}
+use Rattle.model_words.specs.declared.refusals.Refusal.{Refusal}
 use Rattle.mesh_pagemap.specs.Entries.{Entries, entry_code, page_of}
 use Rattle.mesh_spans.specs.Groups.{IsPicked, is_closed}
 use Rattle.mesh_spans.specs.Index.{Index, IsRecorded, IsSpan, IsVacant, address_in, index_code, span_at}

@@ -2,8 +2,8 @@
 use Rattle.std.specs.Prelude.{◌≡◌, ◌≢◌, ℕ, ◌<◌}
 use Rattle.mesh_arena.specs.Pages.{IsTaken, Pages}
 use Rattle.mesh_class.specs.Classes.{IsClass, pages_of, slots_of}
-use Rattle.mesh_model.specs.declared.commands.StepKind.{StepKind}
-use Rattle.mesh_model.specs.declared.commands.StepKind.TheVariants.{Copy, Protect, Release, Remap, Unprotect}
+use Rattle.model_words.specs.declared.commands.StepKind.{StepKind}
+use Rattle.model_words.specs.declared.commands.StepKind.TheVariants.{Copy, Protect, Release, Remap, Unprotect}
 use Rattle.mesh_pagemap.specs.Entries.{Entries, IsMapped}
 use Rattle.mesh_layout.specs.Layout.{Layout, page_total, virtual_page}
 

@@ -3,7 +3,7 @@ use Rattle.std.specs.Prelude.{◌≡◌, ℕ, ◌<◌, false, Ok}
 use Rattle.mesh_layout.specs.Indexes.{layout_of}
 use Rattle.mesh_layout.specs.Layout.{IsPageOf, Layout}
 use Rattle.mesh_layout.specs.Steps.{Keeps}
-use Rattle.mesh_model.specs.Table.{sweep}
+use Rattle.model_heap.specs.Table.{sweep}
 use Rattle.mesh_pagemap.specs.Entries.{Entries, IsMapped, is_mapped}
 use Rattle.mesh_steps.specs.PageHeap.{PageHeap, table_in}
 

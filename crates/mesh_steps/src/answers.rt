@@ -1,5 +1,5 @@
 //! What the heap's calls answer.
-use mesh_model::{Refusal, StepKind};
+use model_words::{Refusal, StepKind};
 use mesh_spans::{Slot, Span};
 use thiserror::Error;
 

@@ -1,10 +1,10 @@
 //! `Heap`: making, reading, writing, copying and freeing objects. The calls of a mesher stand in `meshes`, and what its search sees in `views`.
 ghost use Rattle.std.specs.Prelude.{◌≡◌, ℕ, ◌+◌, ◌-◌, ◌^◌, ◌<◌, ◌≤◌, true, false, Ok, Err, Some, [], ◌∷◌, length, List, Option, IfOk, IfErr, IfSome, IfNone, IsSomeAnd, is_ok};
 ghost use Rattle.std.specs.Bool.{OnFalse, OnTrue};
-ghost use Rattle.mesh_model.specs.Mesh.{is_blocked};
-ghost use Rattle.mesh_model.specs.Places.{Record, IsIn, record_with};
-ghost use Rattle.mesh_model.specs.Plain.{holding};
-ghost use Rattle.mesh_model.specs.Table.{empty_table, report_of};
+ghost use Rattle.model_heap.specs.Mesh.{is_blocked};
+ghost use Rattle.model_heap.specs.Places.{Record, IsIn, record_with};
+ghost use Rattle.model_memory.specs.Plain.{holding};
+ghost use Rattle.model_heap.specs.Table.{empty_table, report_of};
 ghost use Rattle.mesh_steps.specs.Always.{HasHeldPagesTaken, HasObjectsApart, HasPlacesApart, HasReadOnlyOfMeshes, LiesAsMeshesHaveIt};
 ghost use Rattle.mesh_steps.specs.PageHeap.{counts_told};
 ghost use Rattle.mesh_steps.specs.Heap.{IsFree, IsHeap, IsHeld, IsHeldBack, IsLiveFor, IsMade, IsNotMade, IsObjectAt, IsReferred, IsRefused, IsStore, IsStored, arena_of, byte_at_address, bytes_at, copied_at, freed_at, live_records, memory_of, plain_of, referred, stored_at, stored_at_address, stored_in, table_of};
@@ -17,7 +17,7 @@ use crate::page_heap::PageHeap;
 use crate::{NewFault, Ref, Report, Stored};
 use arrayvec::ArrayVec;
 use mesh_class::class_of;
-use mesh_model::{MAX_BYTES, Refusal};
+use model_words::{MAX_BYTES, Refusal};
 use std::alloc::{AllocError, Global};
 use std::marker::Model;
 

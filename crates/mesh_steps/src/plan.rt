@@ -5,7 +5,7 @@ ghost use Rattle.mesh_layout.specs.Steps.{IsStepAt};
 ghost use Rattle.mesh_spans.specs.Index.{group_at};
 ghost use Rattle.mesh_steps.specs.Plans.{IsPlan, IsPlanOf, plan_steps};
 
-use mesh_model::StepKind;
+use model_words::StepKind;
 use mesh_spans::Spans;
 
 /// How many steps of each kind a mesh makes.

@@ -1,6 +1,6 @@
 //! `Running`, a running mesh.
 ghost use Rattle.std.specs.Prelude.{◌≡◌, nat_eq, position, slice_set, length, ◌<◌};
-ghost use Rattle.mesh_model.specs.Table.{Made};
+ghost use Rattle.model_heap.specs.Table.{Made};
 ghost use Rattle.mesh_steps.specs.Phases.{progress_of};
 
 use crate::phase::Phase;
@@ -21,7 +21,7 @@ pub(crate) struct Running {
 }
 
 impl Model for Running {
-    ghost use Rattle.mesh_model.specs.Table.{Mesh};
+    ghost use Rattle.model_heap.specs.Table.{Mesh};
     ghost use Rattle.mesh_steps.specs.Phases.{mesh_code, phase_of, progress_of};
     ghost use Rattle.mesh_steps.specs.Running.{inside_of-view};
 

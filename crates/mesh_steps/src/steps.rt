@@ -8,7 +8,7 @@ ghost use Rattle.mesh_layout.specs.Steps.{Copies, CopiesSlot, Makes};
 ghost use Rattle.mesh_steps.specs.Steps.{CanCopy, HaveBothPages, IsReady};
 
 use mesh_arena::{Arena, Page};
-use mesh_model::StepKind;
+use model_words::StepKind;
 use mesh_pagemap::Prot;
 use mesh_spans::{Slot, Spans};
 use mesh_store::Store;

@@ -1,7 +1,7 @@
 -- Hexadecimal digits, as the text of answers has them and as a table gives them.
 use Rattle.std.proofs.Common.{◌≡◌, ℕ, zero, suc, ◌<◌, ◌/◌, ◌%◌, List, [], ◌∷◌, slice_index, slice_index_or, refl, arith}
 use Rattle.hex.specs.Hex.{encode_lower, encode_with, lower_digits}
-use Rattle.mesh_model.specs.Texts.{bytes_text, hex_digit}
+use Rattle.model_jobs.specs.Texts.{bytes_text, hex_digit}
 
 -- the table has the digit of each value below 16
 table_digit : (n : ℕ) → n < 16 → slice_index lower_digits n ≡ hex_digit n

@@ -4,8 +4,8 @@ use Rattle.std.proofs.KnownBytes.{Appends-trans}
 use Rattle.std.proofs.Math.Seq.{take-append_seam}
 use Rattle.std.proofs.lemmas.Grind.{flat_map-append}
 use Rattle.std.specs.Io.KnownBytes.{Appends}
-use Rattle.mesh_model.specs.Jobs.{Answer, Job, Line, State, answer, answers_from, opening, state_after}
-use Rattle.mesh_model.specs.Texts.{answer_text, ended, output}
+use Rattle.model_jobs.specs.Jobs.{Answer, Job, Line, State, answer, answers_from, opening, state_after}
+use Rattle.model_jobs.specs.Texts.{answer_text, ended, output}
 use Rattle.mesh_mutator.specs.Book.{Book}
 use Rattle.mesh_text.specs.Transfer.{AppendsBeginning}
 use Rattle.mesh_text.specs.Turns.{HasGathered, IsAt, IsTold, lines_of, lines_up_to, state_up_to}

@@ -8,10 +8,10 @@ use Rattle.std.proofs.lemmas.List.{get_or-map, get_or-set_other, length-map, map
 use Rattle.std.proofs.lemmas.List.Concat.{flat_map-append}
 use Rattle.std.proofs.lemmas.List.Folds.{flat_map-map}
 use Rattle.std.proofs.lemmas.List.FromFn.{fill_by_all, get_or-map-range_with_len, length-map-range_with_len, map-range_with_len_more}
-use Rattle.mesh_model.specs.Plain.{Entry}
-use Rattle.mesh_model.specs.Seats.{Call, calls_of}
-use Rattle.mesh_model.specs.Texts.{ended}
-use Rattle.mesh_model.proofs.WovenCalls.{calls_append}
+use Rattle.model_memory.specs.Plain.{Entry}
+use Rattle.model_memory.specs.Seats.{Call, calls_of}
+use Rattle.model_jobs.specs.Texts.{ended}
+use Rattle.model_memory.proofs.WovenCalls.{calls_append}
 use Rattle.mesh_text.specs.Histories.{call_line, count_line, history_text, told_text, worker_line, worker_text}
 
 -- one more part is begun

@@ -4,11 +4,11 @@ use Rattle.std.specs.Prelude.{IfErr, IfOk, find, nat_eq, true}
 use Rattle.std.specs.Option.{option_map}
 use Rattle.std.proofs.lemmas.Bool.Decides.{eqb_tells}
 use Rattle.std.proofs.lemmas.Result.{IfOk-weaker}
-use Rattle.mesh_model.specs.Jobs.{Answer, Job, State, MesherRefused, PagesMeshed, PagesSwept, Reported, StepMade, StepsLeft, counted, step_answered, told}
-use Rattle.mesh_model.specs.Mesh.{begin, cancel, first_mesh, mesh_in, mesh_whole, step}
-use Rattle.mesh_model.specs.Table.{Counted, Mesh, Table, report_of, sweep}
-use Rattle.mesh_model.specs.declared.refusals.Refusal.{Refusal}
-use Rattle.mesh_model.specs.declared.refusals.Refusal.TheVariants.{NoMesh}
+use Rattle.model_jobs.specs.Jobs.{Answer, Job, State, MesherRefused, PagesMeshed, PagesSwept, Reported, StepMade, StepsLeft, counted, step_answered, told}
+use Rattle.model_heap.specs.Mesh.{begin, cancel, first_mesh, mesh_in, mesh_whole, step}
+use Rattle.model_heap.specs.Table.{Counted, Mesh, Table, report_of, sweep}
+use Rattle.model_words.specs.declared.refusals.Refusal.{Refusal}
+use Rattle.model_words.specs.declared.refusals.Refusal.TheVariants.{NoMesh}
 use Rattle.mesh_mutator.specs.Book.{Book, table_of_book}
 use Rattle.mesh_mutator.specs.Mesher.{KeepsBook}
 use Rattle.mesh_steps.specs.HeapMeshes.{IsMeshBegun, IsMeshCancelled, IsMeshed, IsStepMade, IsSwept}

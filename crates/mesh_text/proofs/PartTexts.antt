@@ -4,8 +4,8 @@ use Rattle.std.specs.Prelude.{codes, decimal}
 use Rattle.std.specs.List.{flat_map}
 use Rattle.std.proofs.lemmas.List.{take_more}
 use Rattle.std.proofs.lemmas.List.Concat.{flat_map-append}
-use Rattle.mesh_model.specs.Table.{Report}
-use Rattle.mesh_model.specs.Texts.{number_field, report_text}
+use Rattle.model_heap.specs.Table.{Report}
+use Rattle.model_jobs.specs.Texts.{number_field, report_text}
 
 -- one more of some things is written
 pub wrote_one : {A : Type 0} (write : A → List ℕ) (xs : List A) (d : A) (i : ℕ) (before now after : List ℕ) → i < length xs

@@ -6,8 +6,8 @@ use Rattle.std.proofs.Math.Seq.{drop-append_seam, take-add, take-append_seam}
 use Rattle.std.proofs.lemmas.List.Edits.{take-paste}
 use Rattle.std.specs.Io.KnownBytes.{Consumes}
 use Rattle.std.specs.List.{copy_within}
-use Rattle.mesh_model.specs.Files.{read_text}
-use Rattle.mesh_model.specs.Jobs.{Job}
+use Rattle.model_jobs.specs.JobFiles.{read_text}
+use Rattle.model_jobs.specs.Jobs.{Job}
 use Rattle.std.proofs.lemmas.Bool.Decides.{leb_tells}
 use Rattle.mesh_job.specs.Taken.{HasTaken}
 use Rattle.mesh_job.specs.declared.reader.Reading.{Reading}

@@ -3,9 +3,9 @@ use Rattle.std.proofs.Common.{◌≡◌, ℕ, ◌+◌, ◌<◌, ◌≤◌, List,
 use Rattle.std.specs.List.{All}
 use Rattle.std.proofs.lemmas.List.{get_or-map, length-map, take_all, take_more}
 use Rattle.std.proofs.lemmas.List.Elements.{All-get_or}
-use Rattle.mesh_model.specs.Files.{IsValidLine}
-use Rattle.mesh_model.specs.Jobs.{Line}
-use Rattle.mesh_model.specs.declared.versions.Version.{Version}
+use Rattle.model_jobs.specs.JobFiles.{IsValidLine}
+use Rattle.model_jobs.specs.Jobs.{Line}
+use Rattle.model_words.specs.declared.versions.Version.{Version}
 use Rattle.mesh_job.specs.declared.plan.PlanLine.{PlanLine}
 use Rattle.mesh_job.specs.Plan.{line_of}
 

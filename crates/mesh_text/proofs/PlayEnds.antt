@@ -3,7 +3,7 @@ use Rattle.std.proofs.Common.{◌≡◌, ℕ, Bool, true, false, List, [], Optio
 use Rattle.std.specs.Prelude.{is_err, OnOk, IfErr}
 use Rattle.std.specs.Result.{IsErr, IsErrAnd}
 use Rattle.std.specs.Io.KnownBytes.{Appends}
-use Rattle.mesh_model.specs.Jobs.{Job}
+use Rattle.model_jobs.specs.Jobs.{Job}
 use Rattle.mesh_text.specs.Turns.{HasGathered}
 use Rattle.mesh_text.specs.declared.faults.ReplayError.{ReplayError}
 use Rattle.mesh_text.specs.declared.faults.ReplayError.TheVariants.{Memory, Write}

@@ -1,9 +1,9 @@
 -- The text that a line of a plan adds.
 use Rattle.std.proofs.Common.{◌≡◌, ℕ, List, ◌++◌, Result, Ok, Err, ap, refl, sym, ◌∙◌}
 use Rattle.std.specs.Prelude.{OnOk, decimal, if◌then◌else◌, is_ok}
-use Rattle.mesh_model.specs.Jobs.{Answer, Job, Next}
-use Rattle.mesh_model.specs.Texts.{answer_text}
-use Rattle.mesh_model.specs.declared.refusals.Refusal.{Refusal}
+use Rattle.model_jobs.specs.Jobs.{Answer, Job, Next}
+use Rattle.model_jobs.specs.Texts.{answer_text}
+use Rattle.model_words.specs.declared.refusals.Refusal.{Refusal}
 use Rattle.mesh_mutator.specs.Book.{Book}
 use Rattle.mesh_text.specs.Answers.{count_told, counted_text}
 use Rattle.mesh_text.specs.Turns.{IsNextAt, IsTold}

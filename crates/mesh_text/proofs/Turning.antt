@@ -3,12 +3,12 @@ use Rattle.std.proofs.Common.{◌≡◌, ℕ, zero, suc, ◌+◌, ◌<◌, ◌�
 use Rattle.std.proofs.lemmas.Bool.Decides.{eqb_tells, leb_tells}
 use Rattle.std.proofs.lemmas.List.{get_or-set_other, get_or-set_same, get_or_default}
 use Rattle.std.proofs.Math.ListN.{length-set}
-use Rattle.mesh_model.specs.Jobs.{Answer, Job, Outcome, Replied, RunWorker, State, JournalFull, ScriptOver, StoreBlocked, answer, answered, attempted, later_commands, run_next, is_held_back}
-use Rattle.mesh_model.specs.Memory.{Memory}
-use Rattle.mesh_model.specs.Plain.{Entry}
-use Rattle.mesh_model.specs.Table.{Table}
-use Rattle.mesh_model.specs.declared.commands.Command.{Command}
-use Rattle.mesh_model.specs.declared.commands.Reply.{Reply}
+use Rattle.model_jobs.specs.Jobs.{Answer, Job, Outcome, Replied, RunWorker, State, JournalFull, ScriptOver, StoreBlocked, answer, answered, attempted, later_commands, run_next, is_held_back}
+use Rattle.model_memory.specs.Memory.{Memory}
+use Rattle.model_memory.specs.Plain.{Entry}
+use Rattle.model_heap.specs.Table.{Table}
+use Rattle.model_words.specs.declared.commands.Command.{Command}
+use Rattle.model_words.specs.declared.commands.Reply.{Reply}
 use Rattle.mesh_mutator.specs.Book.{Book, IsAttempt, memory_of_book, table_of_book}
 use Rattle.mesh_mutator.specs.declared.attempts.Attempt.{Attempt}
 use Rattle.mesh_mutator.specs.declared.attempts.Attempt.TheVariants.{Blocked as HeldBack, Done, HistoryFull as NoRoom, OutOfMemory}

@@ -1,8 +1,8 @@
 -- What calls of the mesher are answered, as the answers of a job, and the text of a count.
 use Rattle.std.specs.Prelude.{ℕ, List, ◌++◌, Result, Ok, Err, decimal}
-use Rattle.mesh_model.specs.Jobs.{Answer, StepMade, MesherRefused}
-use Rattle.mesh_model.specs.Texts.{refusal_text}
-use Rattle.mesh_model.specs.declared.refusals.Refusal.{Refusal}
+use Rattle.model_jobs.specs.Jobs.{Answer, StepMade, MesherRefused}
+use Rattle.model_jobs.specs.Texts.{refusal_text}
+use Rattle.model_words.specs.declared.refusals.Refusal.{Refusal}
 use Rattle.mesh_steps.specs.declared.answers.StepDone.{StepDone}
 
 -- the answer to a call of the mesher that counts

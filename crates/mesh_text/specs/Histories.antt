@@ -1,11 +1,11 @@
 -- The text of a history: the answers of each worker, and how many entries there are. This project's own choice.
 use Rattle.std.specs.Prelude.{ℕ, List, ◌++◌, codes, length}
 use Rattle.std.specs.List.{flat_map, range_with_len}
-use Rattle.mesh_model.specs.Plain.{Entry}
-use Rattle.mesh_model.specs.Seats.{Call, calls_of}
-use Rattle.mesh_model.specs.Texts.{ended, number_field, reply_text}
-use Rattle.mesh_model.specs.declared.commands.Reply.{Reply}
-use Rattle.mesh_model.specs.declared.commands.Reply.TheVariants.{Object as Made, Done, Bytes, At, Byte, Refused}
+use Rattle.model_memory.specs.Plain.{Entry}
+use Rattle.model_memory.specs.Seats.{Call, calls_of}
+use Rattle.model_jobs.specs.Texts.{ended, number_field, reply_text}
+use Rattle.model_words.specs.declared.commands.Reply.{Reply}
+use Rattle.model_words.specs.declared.commands.Reply.TheVariants.{Object as Made, Done, Bytes, At, Byte, Refused}
 
 -- what is told of a reply: neither serial nor address, which depend on how the threads fall
 abbrev pub told_text : Reply → List ℕ

@@ -6,7 +6,7 @@ pub mod HistoryRows
 pub mod Replay
 pub mod Transfer
 pub mod Turns
-pub use Rattle.mesh_model.specs.Commands
+pub use Rattle.model_words.specs.Commands
 pub use Rattle.mesh_job.specs.Job
 pub use Rattle.mesh_job.specs.Reading
 pub use Rattle.mesh_job.specs.Taken

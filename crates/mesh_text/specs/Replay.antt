@@ -1,9 +1,9 @@
 -- What a replay has read and written when it ends, and when it stops.
 use Rattle.std.specs.Prelude.{◌≡◌, ◌⊎◌, ℕ, List, ◌++◌, Option, Ok, Err, length}
 use Rattle.std.specs.Io.KnownBytes.{Appends, Consumes, IsAtEnd, Keeps}
-use Rattle.mesh_model.specs.Files.{read_text, replayed}
-use Rattle.mesh_model.specs.Jobs.{Job}
-use Rattle.mesh_model.specs.declared.faults.TextFault.{TextFault}
+use Rattle.model_jobs.specs.JobFiles.{read_text, replayed}
+use Rattle.model_jobs.specs.Jobs.{Job}
+use Rattle.model_words.specs.declared.faults.TextFault.{TextFault}
 use Rattle.mesh_job.specs.Taken.{HasTaken}
 use Rattle.mesh_job.specs.declared.reader.Reading.{Reading}
 use Rattle.mesh_text.specs.Transfer.{AppendsBeginning}

@@ -2,9 +2,9 @@
 use Rattle.std.specs.Prelude.{◌≡◌, ℕ, List, [], ◌++◌, Option, drop, length, slice_index, slice_index_or, take}
 use Rattle.std.specs.Io.KnownBytes.{Appends}
 use Rattle.std.specs.List.{flat_map}
-use Rattle.mesh_model.specs.Jobs.{Answer, Job, Next, State, answers_from, opening, state_after, Reported, told}
-use Rattle.mesh_model.specs.Texts.{answer_text, ended}
-use Rattle.mesh_model.specs.Table.{report_of}
+use Rattle.model_jobs.specs.Jobs.{Answer, Job, Next, State, answers_from, opening, state_after, Reported, told}
+use Rattle.model_jobs.specs.Texts.{answer_text, ended}
+use Rattle.model_heap.specs.Table.{report_of}
 use Rattle.mesh_mutator.specs.Book.{Book, memory_of_book, table_of_book}
 use Rattle.mesh_steps.specs.Heap.{arena_of}
 

@@ -1,12 +1,12 @@
 //! The answer lines, without their ends.
 ghost use Rattle.std.specs.Prelude.{◌≡◌, ◌+◌, ◌<◌, ◌≤◌, ◌++◌, decimal, length, vec_capacity, vec_len, OnOk};
-ghost use Rattle.mesh_model.specs.Texts.{address_text, byte_text, bytes_text, hex_digit, refusal_text, reply_text};
+ghost use Rattle.model_jobs.specs.Texts.{address_text, byte_text, bytes_text, hex_digit, refusal_text, reply_text};
 
 mod mesher;
 
 use hex::encode_to_slice;
 use itoa::Buffer;
-use mesh_model::{MAX_BYTES, Refusal, Reply};
+use model_words::{MAX_BYTES, Refusal, Reply};
 pub(crate) use mesher::{add_counted, add_found, add_report, add_step};
 use std::alloc::AllocError;
 

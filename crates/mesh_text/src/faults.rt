@@ -4,7 +4,7 @@ ghost use Rattle.mesh_text.specs.Faults.{replay_error_of};
 ghost use Rattle.mesh_text.specs.declared.faults.ReplayError.{ReplayError};
 
 use mesh_job::ReadFault;
-use mesh_model::TextFault;
+use model_words::TextFault;
 use std::alloc::AllocError;
 use thiserror::Error;
 

@@ -2,11 +2,11 @@
 ghost use Rattle.std.specs.Prelude.{◌≡◌, ◌<◌, ◌++◌, length, map, IfOk, OnOk};
 ghost use Rattle.std.specs.List.{All, flat_map, range_with_len};
 ghost use Rattle.std.specs.Vec.{vec_items};
-ghost use Rattle.mesh_model.specs.Texts.{ended};
+ghost use Rattle.model_jobs.specs.Texts.{ended};
 ghost use Rattle.mesh_text.specs.Histories.{count_line, history_text, told_text, worker_line, worker_text};
 
 use crate::answers::{add_decimal, add_reply};
-use mesh_model::Reply;
+use model_words::Reply;
 use mesh_mutator::Entry;
 use std::alloc::{AllocError, Global};
 

@@ -1,16 +1,16 @@
 //! A mesher's calls of a book, as the lines of a plan ask for them.
 ghost use Rattle.std.specs.Prelude.{◌≡◌, IfOk};
-ghost use Rattle.mesh_model.specs.Jobs.{PagesMeshed, PagesSwept, PairsFound, Reported, StepsLeft, busy_in, counted, step_answered, told};
-ghost use Rattle.mesh_model.specs.Mesh.{begin, cancel, first_mesh, mesh_in, mesh_whole, step};
-ghost use Rattle.mesh_model.specs.Search.{search, view_of};
-ghost use Rattle.mesh_model.specs.Table.{sweep};
+ghost use Rattle.model_jobs.specs.Jobs.{PagesMeshed, PagesSwept, PairsFound, Reported, StepsLeft, busy_in, counted, step_answered, told};
+ghost use Rattle.model_heap.specs.Mesh.{begin, cancel, first_mesh, mesh_in, mesh_whole, step};
+ghost use Rattle.model_search.specs.Search.{search, view_of};
+ghost use Rattle.model_heap.specs.Table.{sweep};
 ghost use Rattle.mesh_steps.specs.PageHeap.{counts_told};
 ghost use Rattle.mesh_text.specs.Answers.{count_told, step_told};
 ghost use Rattle.mesh_text.specs.Turns.{IsCall, IsReport};
 
 use mesh_class::Class;
 use mesh_job::Search;
-use mesh_model::{Refusal, Version};
+use model_words::{Refusal, Version};
 use mesh_mutator::Book;
 use mesh_search::{Found, search_one};
 use mesh_steps::{Report, StepDone};

@@ -1,9 +1,9 @@
 //! The replay of a job.
 ghost use Rattle.std.specs.Prelude.{◌≡◌, ◌<◌, ◌⊎◌, [], slice_index_or, false, true, length, vec_len, is_err, IfOk, IfErr, OnOk, OnErr};
 ghost use Rattle.std.specs.Io.KnownBytes.{Appends, Keeps};
-ghost use Rattle.mesh_model.specs.Files.{IsValidLine};
-ghost use Rattle.mesh_model.specs.Jobs.{Job as PlainJob, RunWorker, State, answer, opening};
-ghost use Rattle.mesh_model.specs.Texts.{output as output_of};
+ghost use Rattle.model_jobs.specs.JobFiles.{IsValidLine};
+ghost use Rattle.model_jobs.specs.Jobs.{Job as PlainJob, RunWorker, State, answer, opening};
+ghost use Rattle.model_jobs.specs.Texts.{output as output_of};
 ghost use Rattle.mesh_job.specs.Plan.{line_of};
 ghost use Rattle.mesh_text.specs.Replay.{HasReplayed, HasStopped};
 ghost use Rattle.mesh_text.specs.Transfer.{AppendsBeginning};

@@ -2,9 +2,9 @@
 use Rattle.std.proofs.Common.{◌≡◌, ℕ, zero, suc, ◌<◌, ◌≤◌, true, false, nat_eq, List, [], ◌∷◌, IsSome, find, replicate, slice_index_or, slice_set, refl, arith, inl, inr}
 use Rattle.std.proofs.lemmas.Bool.Decides.{eqb_tells}
 use Rattle.std.proofs.lemmas.List.Elements.{All-cons, All-nil}
-use Rattle.mesh_model.specs.Classes.{slots_of}
-use Rattle.mesh_model.specs.Search.{Candidate}
-use Rattle.mesh_model.specs.Sound.{times_in}
+use Rattle.model_words.specs.Classes.{slots_of}
+use Rattle.model_search.specs.Search.{Candidate}
+use Rattle.model_heap.specs.Sound.{times_in}
 use Rattle.mesh_search.specs.Views.{AreNamed, IsCandidate, IsView, is_numbered, no_candidate}
 
 -- a group with one object in two slots

@@ -1,6 +1,6 @@
 //! Objects of a book, each made again where memory was refused.
 ghost use Rattle.std.specs.Prelude.{◌≡◌, ◌≤◌};
-ghost use Rattle.mesh_model.specs.Commands.{IsInRange};
+ghost use Rattle.model_words.specs.Commands.{IsInRange};
 
 use crate::ends::{End, Fault, expect};
 use crate::orders::{ORDERS, PAGES};

@@ -1,5 +1,5 @@
 //! Meshes that run, between whose steps nothing takes memory.
-ghost use Rattle.mesh_model.specs.Commands.{IsInRange};
+ghost use Rattle.model_words.specs.Commands.{IsInRange};
 
 use crate::ends::{End, Fault, expect};
 use arrayvec::ArrayVec;

@@ -1,5 +1,5 @@
 //! A book that two seats share.
-ghost use Rattle.mesh_model.specs.Commands.{IsInRange};
+ghost use Rattle.model_words.specs.Commands.{IsInRange};
 
 use crate::ends::{End, Fault, expect};
 use arrayvec::ArrayVec;

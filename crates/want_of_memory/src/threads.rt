@@ -1,7 +1,7 @@
 //! Scripts in threads, with meshers at work.
 ghost use Rattle.std.specs.Prelude.{◌≡◌, ◌≤◌};
 ghost use Rattle.std.specs.List.{All};
-ghost use Rattle.mesh_model.specs.Commands.{IsInRange};
+ghost use Rattle.model_words.specs.Commands.{IsInRange};
 
 use crate::ends::{End, Fault, expect};
 use arrayvec::ArrayVec;

@@ -1,11 +1,11 @@
 //! The calls of a heap, made of a book: an object is named by the cell of its serial's number.
 ghost use Rattle.std.specs.Prelude.{◌≤◌};
-ghost use Rattle.mesh_model.specs.Commands.{IsInRange};
+ghost use Rattle.model_words.specs.Commands.{IsInRange};
 
 use crate::tests::calls::{Answer, Call, MOST_OBJECTS, freed, left, number};
 use arrayvec::ArrayVec;
 use mesh_class::class_of;
-use mesh_model::{Command, MAX_BYTES, Reply};
+use model_words::{Command, MAX_BYTES, Reply};
 use mesh_mutator::{Attempt, Book};
 use std::alloc::{AllocError, Global};
 

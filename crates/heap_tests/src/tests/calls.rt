@@ -4,7 +4,7 @@ ghost use Rattle.std.specs.Prelude.{◌≤◌};
 use crate::tests::books::TriedBook;
 use arrayvec::ArrayVec;
 use mesh_class::class_of;
-use mesh_model::{MAX_BYTES, Refusal, StepKind};
+use model_words::{MAX_BYTES, Refusal, StepKind};
 use mesh_steps::{Heap, NewFault, Ref, Stored};
 use std::process::Abort;
 

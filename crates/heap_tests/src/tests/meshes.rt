@@ -1,7 +1,7 @@
 //! The worked meshes and copies, by calls of a heap.
 
 use crate::tests::calls::{Answer, Call, Tried, check, opened, play, row};
-use mesh_model::{Refusal, StepKind};
+use model_words::{Refusal, StepKind};
 use std::process::Abort;
 
 // Two groups with one object each: the first has slot 1, the second slot 0.

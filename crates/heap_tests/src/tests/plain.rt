@@ -2,7 +2,7 @@
 ghost use Rattle.std.specs.Prelude.{◌≤◌, length};
 
 use arrayvec::ArrayVec;
-use mesh_model::{Command, Refusal, Reply};
+use model_words::{Command, Refusal, Reply};
 use mesh_plain::{Plain, PlainFault};
 use std::process::Abort;
 

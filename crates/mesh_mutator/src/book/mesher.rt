@@ -1,9 +1,9 @@
 //! What a mesher asks of a book: its heap's own calls. None of them is recorded, and the journal still ends in what heap and roots stand for.
 ghost use Rattle.std.specs.Prelude.{◌≡◌, length, Err, IfErr, IfOk};
 ghost use Rattle.std.specs.Option.{option_map};
-ghost use Rattle.mesh_model.specs.Mesh.{any_mesh, begin, cancel, first_mesh, mesh_in, mesh_of_class, mesh_whole, step};
-ghost use Rattle.mesh_model.specs.Search.{view_of, views};
-ghost use Rattle.mesh_model.specs.Table.{report_of, sweep};
+ghost use Rattle.model_heap.specs.Mesh.{any_mesh, begin, cancel, first_mesh, mesh_in, mesh_of_class, mesh_whole, step};
+ghost use Rattle.model_search.specs.Search.{view_of, views};
+ghost use Rattle.model_heap.specs.Table.{report_of, sweep};
 ghost use Rattle.mesh_mutator.specs.Book.{table_of_book};
 ghost use Rattle.mesh_mutator.specs.Mesher.{KeepsBook};
 ghost use Rattle.mesh_steps.specs.Heap.{arena_of};
@@ -12,7 +12,7 @@ ghost use Rattle.mesh_steps.specs.PageHeap.{counts_told};
 
 use super::Book;
 use mesh_class::Class;
-use mesh_model::Refusal;
+use model_words::Refusal;
 use mesh_search::ClassView;
 use mesh_steps::{Report, StepDone};
 use std::alloc::{AllocError, Global};

@@ -1,9 +1,9 @@
 //! The meshes of a heap: what a mesher asks of it.
 ghost use Rattle.std.specs.Prelude.{◌≡◌, Err, Ok, IfErr, IfOk, IsOk};
 ghost use Rattle.std.specs.Option.{option_map};
-ghost use Rattle.mesh_model.specs.Mesh.{any_mesh, begin, cancel, first_mesh, mesh_in, mesh_of_class, mesh_whole, step};
-ghost use Rattle.mesh_model.specs.MeshLaws.{steps_of_class};
-ghost use Rattle.mesh_model.specs.Table.{sweep};
+ghost use Rattle.model_heap.specs.Mesh.{any_mesh, begin, cancel, first_mesh, mesh_in, mesh_of_class, mesh_whole, step};
+ghost use Rattle.model_heap.specs.MeshLaws.{steps_of_class};
+ghost use Rattle.model_heap.specs.Table.{sweep};
 ghost use Rattle.mesh_steps.specs.Heap.{HasAsManyPages, table_of};
 ghost use Rattle.mesh_steps.specs.HeapMeshes.{IsMeshBegun, IsMeshCancelled, IsMeshed, IsStepMade, IsSwept, MeansTheSame};
 ghost use Rattle.mesh_steps.specs.Meshes.{busy_by};
@@ -12,7 +12,7 @@ use super::Heap;
 use crate::StepDone;
 use crate::busy::Busy;
 use mesh_class::Class;
-use mesh_model::Refusal;
+use model_words::Refusal;
 
 impl Heap {
     /// Begins a mesh of the group `source` into the group `destination`, and answers how many steps are to come. Both groups are closed to

@@ -1,6 +1,6 @@
 //! What a mesher's search sees of a heap.
 ghost use Rattle.std.specs.Prelude.{◌≡◌, IfOk};
-ghost use Rattle.mesh_model.specs.Search.{view_of, views};
+ghost use Rattle.model_search.specs.Search.{view_of, views};
 ghost use Rattle.mesh_steps.specs.Heap.{table_of};
 
 use super::Heap;

@@ -2,7 +2,7 @@
 ghost use Rattle.std.specs.Prelude.{◌≡◌, Err, IfErr, IfOk};
 ghost use Rattle.mesh_layout.specs.Indexes.{layout_of};
 ghost use Rattle.mesh_layout.specs.Steps.{UnmapsGroup};
-ghost use Rattle.mesh_model.specs.Table.{sweep};
+ghost use Rattle.model_heap.specs.Table.{sweep};
 ghost use Rattle.mesh_steps.specs.PageHeap.{table_in};
 ghost use Rattle.mesh_steps.specs.Sweeping.{CanUnmap, HasGone};
 
@@ -10,7 +10,7 @@ use super::PageHeap;
 use crate::growth::give_pages;
 use crate::plan::Plan;
 use crate::steps::virtual_page;
-use mesh_model::Refusal;
+use model_words::Refusal;
 use mesh_pagemap::PageMap;
 use mesh_spans::Spans;
 

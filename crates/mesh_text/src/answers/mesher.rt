@@ -1,12 +1,12 @@
 //! The answer lines of a mesher's calls.
 ghost use Rattle.std.specs.Prelude.{◌≡◌, ◌++◌, decimal, OnOk};
 ghost use Rattle.std.specs.List.{flat_map};
-ghost use Rattle.mesh_model.specs.Texts.{answer_text, field, found_text, kind_text, left_text, pair_text, report_text};
+ghost use Rattle.model_jobs.specs.Texts.{answer_text, field, found_text, kind_text, left_text, pair_text, report_text};
 ghost use Rattle.mesh_steps.specs.PageHeap.{counts_told};
 ghost use Rattle.mesh_text.specs.Answers.{counted_text, step_told};
 
 use super::{add_decimal, add_refusal};
-use mesh_model::{Refusal, StepKind};
+use model_words::{Refusal, StepKind};
 use mesh_search::{Found, Pair};
 use mesh_steps::{Report, StepDone};
 use std::alloc::AllocError;

@@ -1,6 +1,6 @@
 //! A gate that holds threads at points of a run.
 
-use mesh_model::StepKind;
+use model_words::StepKind;
 use mesh_shared::{Actor, Gate, Point};
 use std::rt::Clock;
 use std::sync::atomic::AtomicBool;

@@ -1,9 +1,9 @@
 //! The journal of a book, entry by entry.
 ghost use Rattle.std.specs.Prelude.{◌≡◌, length};
-ghost use Rattle.mesh_model.specs.Commands.{IsInRange};
+ghost use Rattle.model_words.specs.Commands.{IsInRange};
 
 use arrayvec::ArrayVec;
-use mesh_model::Refusal;
+use model_words::Refusal;
 use mesh_mutator::{Attempt, Book, Command, Entry, Reply, reply_again};
 use std::alloc::AllocError;
 

@@ -1,13 +1,13 @@
 //! Scripts on threads with meshers at work, held at points by a gate.
 ghost use Rattle.std.specs.Prelude.{◌≡◌, ◌≤◌};
 ghost use Rattle.std.specs.List.{All};
-ghost use Rattle.mesh_model.specs.Commands.{IsInRange};
+ghost use Rattle.model_words.specs.Commands.{IsInRange};
 
 use crate::tests::gates::{Event, Hold, Holding, Mark};
 use arrayvec::ArrayVec;
 use mesh_class::class_of;
 use mesh_job::Script;
-use mesh_model::{Refusal, StepKind};
+use model_words::{Refusal, StepKind};
 use mesh_mutator::{Book, Command, Entry, Reply};
 use mesh_shared::{Ended, Gate, MeshPlan, NoGate, RunError, run_abandoned, run_threads};
 use mesh_steps::{Heap, Report};

@@ -1,10 +1,10 @@
 //! Seats, settled histories and threads that share a book.
 ghost use Rattle.std.specs.Prelude.{◌≡◌, ◌≤◌, length};
-ghost use Rattle.mesh_model.specs.Commands.{IsInRange};
+ghost use Rattle.model_words.specs.Commands.{IsInRange};
 
 use arrayvec::ArrayVec;
 use mesh_class::{Class, class_of};
-use mesh_model::{Refusal, StepKind};
+use model_words::{Refusal, StepKind};
 use mesh_mutator::{Attempt, Book, Command, Reply};
 use mesh_shared::{Ended, FinishError, Seat, Shared};
 use mesh_steps::{Report, StepDone};

@@ -1,6 +1,6 @@
 use Rattle.std.proofs.Common.{◌≡◌, ◌≤◌, [], ◌∷◌, ◌++◌, length, sym, ◌∙◌, ap, rules}
 use Rattle.std.proofs.lemmas.List.{take_rest}
-use Rattle.mesh_model.specs.Files.{bytes_from}
+use Rattle.model_jobs.specs.JobFiles.{bytes_from}
 use Rattle.mesh_job.proofs.HexFields.{behind_bytes, byte_read, too_many_bytes, bytes_read}
 use Rattle.mesh_job.proofs.hex.bytes.Goals as goal
 

@@ -1,5 +1,5 @@
 use Rattle.std.proofs.Common.{◌≡◌, ◌≤◌, length}
-use Rattle.mesh_model.specs.Files.{bytes_from}
+use Rattle.model_jobs.specs.JobFiles.{bytes_from}
 use Rattle.mesh_job.proofs.HexFields.{behind_bytes}
 use Rattle.mesh_job.proofs.hex.bytes.Given as goal
 

@@ -1,6 +1,6 @@
 use Rattle.std.proofs.Common.{◌≡◌, true, take}
 use Rattle.std.specs.List.{list_all}
-use Rattle.mesh_model.specs.Files.{hex_number}
+use Rattle.model_jobs.specs.JobFiles.{hex_number}
 use Rattle.mesh_job.specs.Reading.{is_hex_digit}
 use Rattle.mesh_job.proofs.hex.digits_value.Given as goal
 

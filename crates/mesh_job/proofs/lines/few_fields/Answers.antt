@@ -1,7 +1,7 @@
 use Rattle.std.proofs.Common.{arith, rules, false, ◌-◌, ◌+◌, sym, subst, ◌≡◌, ◌≤◌, ◌<◌, length, take, drop}
 use Rattle.std.proofs.lemmas.List.{take_rest}
 use Rattle.std.specs.List.{list_any}
-use Rattle.mesh_model.specs.Files.{is_empty}
+use Rattle.model_jobs.specs.JobFiles.{is_empty}
 use Rattle.mesh_job.specs.Reading.{IsSplit, texts}
 use Rattle.mesh_job.proofs.FewFields.{IsBegun, field_begun, filled_more, line_split}
 use Rattle.mesh_job.proofs.lines.few_fields.Goals as goal

@@ -1,6 +1,6 @@
 use Rattle.std.proofs.Common.{◌≡◌, ◌-◌, ◌≤◌, false, take}
 use Rattle.std.specs.List.{list_any}
-use Rattle.mesh_model.specs.Files.{is_empty}
+use Rattle.model_jobs.specs.JobFiles.{is_empty}
 use Rattle.mesh_job.specs.Reading.{texts}
 use Rattle.mesh_job.proofs.FewFields.{IsBegun}
 use Rattle.mesh_job.proofs.lines.few_fields.Given as goal

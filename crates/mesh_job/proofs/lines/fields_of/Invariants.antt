@@ -1,6 +1,6 @@
 use Rattle.std.proofs.Common.{◌≡◌, ◌++◌, false, length}
 use Rattle.std.specs.List.{list_any}
-use Rattle.mesh_model.specs.Files.{is_empty}
+use Rattle.model_jobs.specs.JobFiles.{is_empty}
 use Rattle.mesh_job.specs.Reading.{line_fields, texts}
 use Rattle.mesh_job.proofs.lines.fields_of.Given as goal
 

@@ -2,7 +2,7 @@ use Rattle.std.proofs.Common.{◌≡◌, [], ◌∷◌, sym, ◌∙◌, rules, t
 use Rattle.std.specs.List.{list_all}
 use Rattle.std.proofs.lemmas.Iterator.{YieldsList-from_slice}
 use Rattle.std.proofs.lemmas.Iterator.Search.{all_from_yields_List}
-use Rattle.mesh_model.specs.Files.{is_printable}
+use Rattle.model_jobs.specs.JobFiles.{is_printable}
 use Rattle.mesh_job.specs.Reading.{text_lines}
 use Rattle.mesh_job.proofs.TextLines.{byte_fault, long_fault, unended_fault}
 use Rattle.mesh_job.proofs.lines.next_line.Goals as goal

@@ -1,6 +1,6 @@
 use Rattle.std.proofs.Common.{◌≡◌, true, take}
 use Rattle.std.specs.List.{list_all}
-use Rattle.mesh_model.specs.Files.{decimal_value}
+use Rattle.model_jobs.specs.JobFiles.{decimal_value}
 use Rattle.mesh_job.specs.Reading.{is_decimal_digit}
 use Rattle.mesh_job.proofs.numbers.digits_value.Given as goal
 

@@ -1,5 +1,5 @@
 use Rattle.std.proofs.Common.{rules, ◌≡◌, Ok, IfOk, IfErr, true, codes, subst, sym}
-use Rattle.mesh_model.specs.Files.{are_same}
+use Rattle.model_jobs.specs.JobFiles.{are_same}
 use Rattle.mesh_job.specs.Plan.{line_of}
 use Rattle.mesh_job.specs.Reading.{IsFaultOfStep, texts}
 use Rattle.mesh_job.proofs.PlanReadings.{pair_chosen}

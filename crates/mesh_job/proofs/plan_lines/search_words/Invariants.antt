@@ -1,6 +1,6 @@
 use Rattle.std.proofs.Common.{◌≡◌, ◌++◌, Ok, length}
-use Rattle.mesh_model.specs.Files.{words_in}
-use Rattle.mesh_model.specs.Words.{◌>>=◌}
+use Rattle.model_jobs.specs.JobFiles.{words_in}
+use Rattle.model_words.specs.Words.{◌>>=◌}
 use Rattle.mesh_job.specs.Reading.{texts}
 use Rattle.mesh_job.proofs.plan_lines.search_words.Given as goal
 

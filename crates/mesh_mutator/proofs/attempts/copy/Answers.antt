@@ -1,6 +1,6 @@
 use Rattle.std.proofs.Common.{◌≡◌, ◌+◌, Some, refl, sym}
-use Rattle.mesh_model.specs.Mesh.{is_blocked}
-use Rattle.mesh_model.specs.declared.commands.Command.TheVariants.{Copy}
+use Rattle.model_heap.specs.Mesh.{is_blocked}
+use Rattle.model_words.specs.declared.commands.Command.TheVariants.{Copy}
 use Rattle.mesh_mutator.proofs.Answering.{rooted_stored, store_performed, stored_serial}
 use Rattle.mesh_mutator.proofs.Copying.{copied_at_keeps, copy_alike, copy_touches}
 use Rattle.mesh_mutator.specs.Book.{cell_at}

@@ -1,7 +1,7 @@
 use Rattle.std.proofs.Common.{refl}
-use Rattle.mesh_model.specs.declared.commands.Command.TheVariants.{Poke}
+use Rattle.model_words.specs.declared.commands.Command.TheVariants.{Poke}
 use Rattle.mesh_mutator.proofs.Answering.{poke_alike, rooted_stored, store_performed, stored_at_address_keeps, stored_serial}
-use Rattle.mesh_model.specs.Mesh.{is_blocked}
+use Rattle.model_heap.specs.Mesh.{is_blocked}
 use Rattle.mesh_steps.specs.Heap.{IsStore, plain_of, stored_at_address, table_of}
 use Rattle.mesh_mutator.proofs.attempts.poke.Goals.{After-stored}
 use Rattle.mesh_mutator.proofs.attempts.poke.Goals as goal

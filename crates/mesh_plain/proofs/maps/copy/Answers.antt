@@ -1,7 +1,7 @@
 use Rattle.std.proofs.Common.{◌≡◌, ℕ, ◌∙◌, sym, subst, ap, length, Some, arith}
 use Rattle.std.specs.Ordering.{nat_cmp}
 use Rattle.std.specs.BTreeMap.{get}
-use Rattle.mesh_model.specs.Memory.{Object}
+use Rattle.model_memory.specs.Memory.{Object}
 use Rattle.mesh_plain.proofs.maps.copy.Goals as goal
 
 pub returns-then-to-from : goal.returns-then-to-from

@@ -1,6 +1,6 @@
 use Rattle.std.proofs.Common.{refl}
 use Rattle.std.specs.Fmt.{digits}
-use Rattle.mesh_model.specs.Classes.{pages_of, slots_of}
+use Rattle.model_words.specs.Classes.{pages_of, slots_of}
 use Rattle.mesh_rows.proofs.mutators_rows.mutators.Goals as goal
 
 pub returns-clause-first_bytes : goal.returns-clause-first_bytes

@@ -1,6 +1,6 @@
 use Rattle.std.proofs.Common.{refl}
 use Rattle.std.specs.Fmt.{digits}
-use Rattle.mesh_model.specs.Classes.{pages_of, slots_of}
+use Rattle.model_words.specs.Classes.{pages_of, slots_of}
 use Rattle.mesh_rows.proofs.whole_meshes_rows.whole_meshes.Goals as goal
 
 pub returns-clause-bytes_of_three_pages : goal.returns-clause-bytes_of_three_pages

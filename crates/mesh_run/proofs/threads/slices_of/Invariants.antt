@@ -1,7 +1,7 @@
 use Rattle.std.proofs.Common.{◌≡◌, List, Bor, map, take}
 use Rattle.std.specs.List.{All}
-use Rattle.mesh_model.specs.Commands.{IsInRange}
-use Rattle.mesh_model.specs.declared.commands.Command.{Command}
+use Rattle.model_words.specs.Commands.{IsInRange}
+use Rattle.model_words.specs.declared.commands.Command.{Command}
 use Rattle.mesh_run.proofs.threads.slices_of.Given as goal
 
 abbrev pub invariant-loop-worker : goal.invariant-loop-worker

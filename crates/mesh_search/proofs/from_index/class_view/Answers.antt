@@ -1,7 +1,7 @@
 use Rattle.std.proofs.Common.{◌≡◌, ℕ, ◌<◌, ◌≤◌, ◌++◌, ◌∷◌, [], List, Option, Some, IsSomeAnd, option_copied, ◌+◌, length, map, is_some, ap, sym, ◌∙◌, arith, subst, refl}
 use Rattle.std.proofs.lemmas.List.{append-nil, length-append}
-use Rattle.mesh_model.specs.Search.{Candidate, candidate_of, viewed}
-use Rattle.mesh_model.specs.Table.{Group}
+use Rattle.model_search.specs.Search.{Candidate, candidate_of, viewed}
+use Rattle.model_heap.specs.Table.{Group}
 use Rattle.mesh_search.specs.Views.{IsCandidate}
 use Rattle.mesh_search.proofs.Viewing.{AreBelow, all_more, below_more, candidate_is, from_zero, no_view, partial_is, view_more}
 use Rattle.mesh_spans.specs.Filing.{candidates_from, is_partial}

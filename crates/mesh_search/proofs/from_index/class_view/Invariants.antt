@@ -1,5 +1,5 @@
 use Rattle.std.proofs.Common.{◌≡◌, ◌-◌, ◌≤◌, ◌++◌, length, map}
-use Rattle.mesh_model.specs.Search.{candidate_of}
+use Rattle.model_search.specs.Search.{candidate_of}
 use Rattle.mesh_search.specs.Views.{IsView}
 use Rattle.mesh_search.proofs.Viewing.{AreBelow}
 use Rattle.mesh_spans.specs.Filing.{candidates_from}

@@ -1,5 +1,5 @@
 use Rattle.std.proofs.Common.{◌≡◌, ℕ, List, IfOk, ap, ◌∙◌, subst}
-use Rattle.mesh_model.specs.Search.{Candidate, split_search}
+use Rattle.model_search.specs.Search.{Candidate, split_search}
 use Rattle.mesh_search.specs.Views.{chosen, named}
 use Rattle.mesh_search.proofs.Naming.{found_named}
 use Rattle.mesh_search.proofs.split.split_mesh.Goals as goal

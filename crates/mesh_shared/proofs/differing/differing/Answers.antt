@@ -1,7 +1,7 @@
 use Rattle.std.proofs.Common.{◌≡◌, ◌<◌, ℕ, List, [], length, slice_index_or, refl, sym, ◌∙◌, ap, subst, arith, inl, inr}
 use Rattle.std.proofs.lemmas.Bool.Decides.{eqb_tells}
-use Rattle.mesh_model.specs.Reads.{Kept, recorded}
-use Rattle.mesh_model.specs.Seats.{Call, DifferFirstAt, calls_of}
+use Rattle.model_memory.specs.Reads.{Kept, recorded}
+use Rattle.model_memory.specs.Seats.{Call, DifferFirstAt, calls_of}
 use Rattle.mesh_shared.specs.Seat.{Seat}
 use Rattle.mesh_shared.specs.Settle.{recorded_of}
 use Rattle.mesh_shared.proofs.Comparing.{recorded_at}

@@ -1,5 +1,5 @@
 use Rattle.std.proofs.Common.{◌≡◌, ◌<◌, ℕ, [], slice_index_or}
-use Rattle.mesh_model.specs.Seats.{calls_of}
+use Rattle.model_memory.specs.Seats.{calls_of}
 use Rattle.mesh_shared.specs.Settle.{recorded_of}
 use Rattle.mesh_shared.proofs.differing.differing.Given as goal
 

@@ -1,7 +1,7 @@
 use Rattle.std.proofs.Common.{◌≡◌, ◌<◌, ◌≤◌, ◌+◌, ℕ, true, false, length, slice_index_or, refl, sym, ◌∙◌, ap, arith, subst, List, [], ◌∷◌}
-use Rattle.mesh_model.specs.Plain.{Entry}
-use Rattle.mesh_model.specs.Reads.{Kept, call_of}
-use Rattle.mesh_model.proofs.WovenCalls.{entry_call}
+use Rattle.model_memory.specs.Plain.{Entry}
+use Rattle.model_memory.specs.Reads.{Kept, call_of}
+use Rattle.model_memory.proofs.WovenCalls.{entry_call}
 use Rattle.mesh_shared.specs.Differing.{IsRecordedFirst}
 use Rattle.mesh_shared.proofs.Comparing.{SameSoFar, entry_at, entry_there, no_entry, differ_here, differ_some, differ_short, is_not_own, is_own, none_of, same_first, same_own, same_past}
 use Rattle.mesh_shared.proofs.differing.first_difference.Goals.{then-worker+in-Some+else-not-is_of, else-worker}

@@ -1,5 +1,5 @@
 use Rattle.std.proofs.Common.{◌≡◌, length}
-use Rattle.mesh_model.specs.Reads.{recorded}
+use Rattle.model_memory.specs.Reads.{recorded}
 use Rattle.mesh_shared.proofs.differing.skip_reads.Given as goal
 
 abbrev pub invariant-loop-kept : goal.invariant-loop-kept

@@ -1,9 +1,9 @@
 use Rattle.std.proofs.Common.{◌≡◌, ◌<◌, ℕ, List, [], length, None, refl, sym, subst}
 use Rattle.std.specs.List.{All}
-use Rattle.mesh_model.specs.Memory.{empty_memory}
-use Rattle.mesh_model.specs.Plain.{Entry, IsLegal}
-use Rattle.mesh_model.specs.Reads.{AreRight, kept_by}
-use Rattle.mesh_model.specs.Seats.{AreSettled, missing_seat}
+use Rattle.model_memory.specs.Memory.{empty_memory}
+use Rattle.model_memory.specs.Plain.{Entry, IsLegal}
+use Rattle.model_memory.specs.Reads.{AreRight, kept_by}
+use Rattle.model_memory.specs.Seats.{AreSettled, missing_seat}
 use Rattle.mesh_mutator.specs.Book.{memory_in}
 use Rattle.mesh_shared.specs.Seat.{IsKept, Seat, calls_of_seats, numbers_of}
 use Rattle.mesh_shared.specs.Settle.{recorded_of}

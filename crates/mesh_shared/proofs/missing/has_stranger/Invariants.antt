@@ -1,5 +1,5 @@
 use Rattle.std.proofs.Common.{◌<◌, ℕ, slice_index_or}
-use Rattle.mesh_model.specs.Plain.{Entry}
+use Rattle.model_memory.specs.Plain.{Entry}
 use Rattle.mesh_shared.proofs.missing.has_stranger.Given as goal
 
 abbrev pub invariant-loop-n : goal.invariant-loop-n

@@ -1,5 +1,5 @@
 use Rattle.std.proofs.Common.{◌≤◌, length, refl, sym, ◌∙◌, arith, inl, inr}
-use Rattle.mesh_model.specs.SeatLaws.{AreSeatedBelow, HasStranger}
+use Rattle.model_memory.specs.SeatLaws.{AreSeatedBelow, HasStranger}
 use Rattle.mesh_shared.specs.Seat.{numbers_of}
 use Rattle.mesh_shared.proofs.Seating.{no_stranger, numbers_many}
 use Rattle.mesh_shared.proofs.Settled.{seated_many}

@@ -1,4 +1,4 @@
-use Rattle.mesh_model.specs.SeatLaws.{AreSeatedBelow}
+use Rattle.model_memory.specs.SeatLaws.{AreSeatedBelow}
 use Rattle.mesh_shared.specs.Seat.{numbers_of}
 use Rattle.mesh_shared.proofs.missing.missing.Given as goal
 

@@ -1,5 +1,5 @@
 use Rattle.std.proofs.Common.{◌≡◌, ◌<◌, ◌≤◌, List, Bool, false, sym, ◌∙◌, subst, arith, [], length}
-use Rattle.mesh_model.specs.Reads.{Kept}
+use Rattle.model_memory.specs.Reads.{Kept}
 use Rattle.mesh_shared.specs.Walk.{IsLeft, IsTakenTo, StopsAt, left_of}
 use Rattle.mesh_shared.proofs.Taking.{is_left, left_more, left_none}
 use Rattle.mesh_shared.proofs.Walking.{taken_up_to_none, taken_up_to_more, taken_up_to_all, index_any}

@@ -1,6 +1,6 @@
 use Rattle.std.proofs.Common.{◌≡◌, ℕ, Some, refl, sym, ◌∙◌, ap, arith, ◌∷◌, [], ◌++◌}
-use Rattle.mesh_model.specs.Plain.{Entry}
-use Rattle.mesh_model.specs.Reads.{Kept, read_reply}
+use Rattle.model_memory.specs.Plain.{Entry}
+use Rattle.model_memory.specs.Reads.{Kept, read_reply}
 use Rattle.mesh_shared.proofs.Taking.{kept_rest, taken_none, taken_more}
 use Rattle.mesh_shared.proofs.reads.take_reads.Goals as goal
 

@@ -1,7 +1,7 @@
 use Rattle.std.proofs.Common.{◌≡◌, [], ℕ, length, map, vec_len, List, Bor, ap, subst, sym, ◌∙◌}
 use Rattle.std.proofs.lemmas.List.{length-map}
 use Rattle.std.specs.List.{All}
-use Rattle.mesh_model.specs.declared.commands.Command.{Command}
+use Rattle.model_words.specs.declared.commands.Command.{Command}
 use Rattle.mesh_mutator.specs.Book.{memory_in}
 use Rattle.mesh_shared.specs.Seat.{Seat}
 use Rattle.mesh_shared.proofs.Running.{opened_empty, opened_many, run_begun, run_whole}

@@ -1,5 +1,5 @@
 use Rattle.std.proofs.Common.{◌≡◌, ◌<◌, ◌++◌, ◌∷◌, [], List, ap, sym, ◌∙◌, arith, length, take, slice_index_or}
-use Rattle.mesh_model.specs.Reads.{Kept}
+use Rattle.model_memory.specs.Reads.{Kept}
 use Rattle.mesh_shared.specs.Seat.{Seat, calls_of_seats}
 use Rattle.mesh_shared.proofs.Seating.{calls_at, calls_more, kept_all, kept_seat}
 use Rattle.mesh_shared.proofs.walk.rests_of.Goals as goal

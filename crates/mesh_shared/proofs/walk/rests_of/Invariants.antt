@@ -1,6 +1,6 @@
 use Rattle.std.proofs.Common.{◌≡◌, ◌<◌, ◌≤◌, ℕ, length, take, vec_len, vec_capacity}
 use Rattle.std.specs.List.{All}
-use Rattle.mesh_model.specs.Reads.{kept_by}
+use Rattle.model_memory.specs.Reads.{kept_by}
 use Rattle.mesh_shared.specs.Seat.{IsKept, calls_of_seats}
 use Rattle.mesh_shared.proofs.walk.rests_of.Given as goal
 

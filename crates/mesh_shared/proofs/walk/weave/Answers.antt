@@ -1,6 +1,6 @@
 use Rattle.std.proofs.Common.{◌≡◌, ℕ, ◌<◌, [], List, ◌∷◌, ◌++◌, length, sym, ◌∙◌, ap, subst, arith, None, Option, slice_index_or}
-use Rattle.mesh_model.specs.Plain.{Entry}
-use Rattle.mesh_model.specs.Reads.{Kept}
+use Rattle.model_memory.specs.Plain.{Entry}
+use Rattle.model_memory.specs.Reads.{Kept}
 use Rattle.mesh_shared.specs.Seat.{calls_of_seats}
 use Rattle.mesh_shared.specs.Walk.{AreLeft, AreTaken, IsFirstLeft, IsStep, Tells}
 use Rattle.mesh_shared.proofs.Looking.{Looks, looks_first, looks_right, looks_wrong}

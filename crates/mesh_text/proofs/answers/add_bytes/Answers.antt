@@ -1,7 +1,7 @@
 use Rattle.std.proofs.Common.{◌≡◌, ◌∙◌, ◌++◌, arith, subst, ap}
 use Rattle.std.specs.Prelude.{List, ℕ, OnOk, if◌then◌else◌, is_ok}
 use Rattle.hex.specs.Hex.{encode_lower}
-use Rattle.mesh_model.specs.Texts.{bytes_text}
+use Rattle.model_jobs.specs.Texts.{bytes_text}
 use Rattle.mesh_text.proofs.Digits.{spelt_by_table}
 use Rattle.mesh_text.proofs.Telling.{grew_ok}
 use Rattle.mesh_text.proofs.answers.add_bytes.Goals as goal

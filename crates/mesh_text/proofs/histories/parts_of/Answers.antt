@@ -2,7 +2,7 @@ use Rattle.std.proofs.Common.{◌≡◌, ◌∙◌, ◌+◌, ◌<◌, ◌++◌, 
 use Rattle.std.specs.List.{range_with_len}
 use Rattle.std.proofs.lemmas.List.{take_more}
 use Rattle.std.proofs.lemmas.List.Elements.{All-get_or}
-use Rattle.mesh_model.specs.Plain.{Entry}
+use Rattle.model_memory.specs.Plain.{Entry}
 use Rattle.mesh_text.specs.Histories.{worker_text}
 use Rattle.mesh_text.proofs.HistoryParts.{as_many, parts_more, parts_none}
 use Rattle.mesh_text.proofs.histories.parts_of.Goals as goal

@@ -1,4 +1,4 @@
-use Rattle.mesh_model.specs.Mesh.{any_mesh, mesh_of_class}
+use Rattle.model_heap.specs.Mesh.{any_mesh, mesh_of_class}
 use Rattle.mesh_text.proofs.Meshing.{begun_call}
 use Rattle.mesh_text.proofs.mesher.begin.Goals as goal
 

@@ -2,8 +2,8 @@ use Rattle.std.proofs.Common.{◌≡◌, ◌∙◌, ◌+◌, length, take, ap, s
 use Rattle.std.proofs.lemmas.Result.{on_ok_weaker}
 use Rattle.std.specs.Result.{OnErr}
 use Rattle.std.specs.Io.KnownBytes.{Appends}
-use Rattle.mesh_model.specs.Files.{IsValidLine}
-use Rattle.mesh_model.specs.Jobs.{Job}
+use Rattle.model_jobs.specs.JobFiles.{IsValidLine}
+use Rattle.model_jobs.specs.Jobs.{Job}
 use Rattle.mesh_job.specs.declared.plan.PlanLine.{PlanLine}
 use Rattle.mesh_job.specs.Plan.{line_of}
 use Rattle.mesh_text.specs.Transfer.{AppendsBeginning}

@@ -1,5 +1,5 @@
 use Rattle.std.proofs.Common.{◌≡◌, ◌≤◌, length}
-use Rattle.mesh_model.specs.Memory.{next_serial}
+use Rattle.model_memory.specs.Memory.{next_serial}
 use Rattle.heap_tests.proofs.tests.plain.a_journal_is_applied.Given as goal
 
 -- no more objects were made than entries applied

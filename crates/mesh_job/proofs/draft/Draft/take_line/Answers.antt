@@ -1,6 +1,6 @@
 use Rattle.std.proofs.Common.{◌≡◌, Ok, ap, ◌∙◌, subst}
 use Rattle.std.proofs.lemmas.Result.{err_from_is_err_and}
-use Rattle.mesh_model.specs.Files.{take_fields}
+use Rattle.model_jobs.specs.JobFiles.{take_fields}
 use Rattle.mesh_job.specs.Draft.{draft_of}
 use Rattle.mesh_job.specs.Reading.{IsFaultOfStep, line_fields, texts}
 use Rattle.mesh_job.proofs.TextLines.{line_fault, line_taken, split_is_line}

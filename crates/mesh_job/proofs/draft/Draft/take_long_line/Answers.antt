@@ -1,7 +1,7 @@
 use Rattle.std.proofs.Common.{◌≡◌, Ok, ap, ◌∙◌, subst, rules}
 use Rattle.std.proofs.lemmas.Result.{err_from_is_err_and}
-use Rattle.mesh_model.specs.Files.{take_fields}
-use Rattle.mesh_model.specs.declared.faults.FaultKind.TheVariants.{Word}
+use Rattle.model_jobs.specs.JobFiles.{take_fields}
+use Rattle.model_words.specs.declared.faults.FaultKind.TheVariants.{Word}
 use Rattle.mesh_job.specs.Draft.{draft_of}
 use Rattle.mesh_job.specs.Reading.{IsFaultOfStep, line_fields, texts}
 use Rattle.mesh_job.specs.declared.faults.LineFault.TheVariants.{Kind as LineKind}

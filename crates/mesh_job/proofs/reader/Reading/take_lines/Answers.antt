@@ -1,8 +1,8 @@
 use Rattle.std.proofs.Common.{◌≡◌, ◌+◌, ◌<◌, ◌≤◌, true, [], ◌++◌, Some, Err, length, ap, refl, sym, subst, ◌∙◌, rules, arith}
 use Rattle.std.proofs.lemmas.List.{length-append}
-use Rattle.mesh_model.specs.Files.{fault_at, has_ended}
-use Rattle.mesh_model.specs.declared.faults.FaultKind.TheVariants.{Trailing}
-use Rattle.mesh_model.specs.declared.faults.TextFault.{TextFault}
+use Rattle.model_jobs.specs.JobFiles.{fault_at, has_ended}
+use Rattle.model_words.specs.declared.faults.FaultKind.TheVariants.{Trailing}
+use Rattle.model_words.specs.declared.faults.TextFault.{TextFault}
 use Rattle.mesh_job.specs.Draft.{draft_of}
 use Rattle.mesh_job.specs.Reading.{IsFaultOfLine, IsReadOn}
 use Rattle.mesh_job.specs.Taken.{IsReadTo}

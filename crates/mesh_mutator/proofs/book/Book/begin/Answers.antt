@@ -1,5 +1,5 @@
 use Rattle.std.proofs.Common.{◌≡◌, Err, refl}
-use Rattle.mesh_model.specs.Mesh.{begin, mesh_of_class}
+use Rattle.model_heap.specs.Mesh.{begin, mesh_of_class}
 use Rattle.mesh_mutator.proofs.KeptBooks.{IsKept, kept_book, kept_heap}
 use Rattle.mesh_mutator.proofs.book.Book.begin.Goals as goal
 use Rattle.mesh_mutator.proofs.book.Book.begin.Goals.{After-begin}

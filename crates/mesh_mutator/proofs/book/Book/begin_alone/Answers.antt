@@ -1,5 +1,5 @@
 use Rattle.std.proofs.Common.{◌≡◌, Err, refl}
-use Rattle.mesh_model.specs.Mesh.{any_mesh, begin}
+use Rattle.model_heap.specs.Mesh.{any_mesh, begin}
 use Rattle.mesh_mutator.proofs.KeptBooks.{IsKept, kept_book, kept_heap}
 use Rattle.mesh_mutator.proofs.book.Book.begin_alone.Goals as goal
 use Rattle.mesh_mutator.proofs.book.Book.begin_alone.Goals.{After-begin_alone}

@@ -1,5 +1,5 @@
 use Rattle.std.proofs.Common.{◌≡◌, Err, refl}
-use Rattle.mesh_model.specs.Mesh.{cancel, mesh_in}
+use Rattle.model_heap.specs.Mesh.{cancel, mesh_in}
 use Rattle.mesh_mutator.proofs.KeptBooks.{IsKept, kept_book, kept_heap}
 use Rattle.mesh_mutator.proofs.book.Book.cancel.Goals as goal
 use Rattle.mesh_mutator.proofs.book.Book.cancel.Goals.{After-cancel}

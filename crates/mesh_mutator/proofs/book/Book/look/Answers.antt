@@ -1,5 +1,5 @@
 use Rattle.std.proofs.Common.{subst}
-use Rattle.mesh_model.specs.declared.commands.Command.TheVariants.{Peek}
+use Rattle.model_words.specs.declared.commands.Command.TheVariants.{Peek}
 use Rattle.mesh_mutator.specs.Book.{Book, IsLooked}
 use Rattle.mesh_mutator.proofs.book.Book.look.Goals as goal
 

@@ -1,5 +1,5 @@
 use Rattle.std.proofs.Common.{◌≡◌, Err, refl}
-use Rattle.mesh_model.specs.Mesh.{mesh_of_class, mesh_whole}
+use Rattle.model_heap.specs.Mesh.{mesh_of_class, mesh_whole}
 use Rattle.mesh_mutator.proofs.KeptBooks.{IsKept, kept_book, kept_heap}
 use Rattle.mesh_mutator.proofs.book.Book.mesh_whole.Goals as goal
 use Rattle.mesh_mutator.proofs.book.Book.mesh_whole.Goals.{After-mesh_whole}

@@ -1,6 +1,6 @@
 use Rattle.std.proofs.Common.{◌≡◌, ℕ, zero, suc, Option, Some, None, List, [], ◌∷◌, length, replicate, refl, sym, ap, ◌∙◌, arith}
 use Rattle.std.proofs.Math.ListN.{length-replicate}
-use Rattle.mesh_model.specs.Memory.{Memory, empty_memory}
+use Rattle.model_memory.specs.Memory.{Memory, empty_memory}
 use Rattle.mesh_mutator.specs.Book.{Cells, cell_at, memory_in, serials_of}
 use Rattle.mesh_steps.specs.Heap.{Heap, memory_of}
 use Rattle.mesh_steps.specs.declared.answers.Ref.{Ref}

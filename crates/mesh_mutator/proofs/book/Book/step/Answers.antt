@@ -1,5 +1,5 @@
 use Rattle.std.proofs.Common.{◌≡◌, Err, refl}
-use Rattle.mesh_model.specs.Mesh.{mesh_in, step}
+use Rattle.model_heap.specs.Mesh.{mesh_in, step}
 use Rattle.mesh_mutator.proofs.KeptBooks.{IsKept, kept_book, kept_heap}
 use Rattle.mesh_mutator.proofs.book.Book.step.Goals as goal
 use Rattle.mesh_mutator.proofs.book.Book.step.Goals.{After-step}

@@ -1,5 +1,5 @@
 use Rattle.std.proofs.Common.{◌≡◌, Err, refl}
-use Rattle.mesh_model.specs.Table.{sweep}
+use Rattle.model_heap.specs.Table.{sweep}
 use Rattle.mesh_mutator.proofs.KeptBooks.{IsKept, kept_book, kept_heap}
 use Rattle.mesh_mutator.proofs.book.Book.sweep.Goals as goal
 use Rattle.mesh_mutator.proofs.book.Book.sweep.Goals.{After-sweep}

@@ -1,5 +1,5 @@
 use Rattle.std.proofs.Common.{◌≡◌, Err, refl}
-use Rattle.mesh_model.specs.Mesh.{any_mesh, mesh_whole}
+use Rattle.model_heap.specs.Mesh.{any_mesh, mesh_whole}
 use Rattle.mesh_mutator.proofs.KeptBooks.{IsKept, kept_book, kept_heap}
 use Rattle.mesh_mutator.proofs.book.Book.whole_alone.Goals as goal
 use Rattle.mesh_mutator.proofs.book.Book.whole_alone.Goals.{After-whole_alone}

@@ -1,5 +1,5 @@
 use Rattle.std.proofs.Common.{ℕ, List, map, ap, ◌∙◌}
-use Rattle.mesh_model.specs.Search.{Found, View, search}
+use Rattle.model_search.specs.Search.{Found, View, search}
 use Rattle.mesh_shared.proofs.mesher.Mesher.make_round.Goals as goal
 
 pub returns-clause-searched : goal.returns-clause-searched

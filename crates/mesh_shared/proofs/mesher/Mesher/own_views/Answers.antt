@@ -1,5 +1,5 @@
 use Rattle.std.proofs.Common.{List, Result, Ok, Err, IfOk, ap, ◌∙◌}
-use Rattle.mesh_model.specs.Search.{View}
+use Rattle.model_search.specs.Search.{View}
 use Rattle.mesh_mutator.specs.Book.{table_of_book}
 use Rattle.mesh_shared.specs.Meshing.{own_views}
 use Rattle.mesh_shared.proofs.mesher.Mesher.own_views.Goals as goal

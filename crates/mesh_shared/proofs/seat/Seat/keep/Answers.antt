@@ -1,5 +1,5 @@
 use Rattle.std.proofs.Common.{◌<◌, refl, sym, arith, subst, length}
-use Rattle.mesh_model.specs.Reads.{Kept}
+use Rattle.model_memory.specs.Reads.{Kept}
 use Rattle.mesh_shared.specs.Seat.{IsKept, Seat}
 use Rattle.mesh_shared.proofs.Seating.{kept_more}
 use Rattle.mesh_shared.proofs.seat.Seat.keep.Goals as goal

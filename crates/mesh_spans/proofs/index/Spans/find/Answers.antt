@@ -1,6 +1,6 @@
 use Rattle.std.proofs.Common.{◌≡◌, ◌+◌, ◌<◌, ◌/◌, ℕ, Option, Some, None, slice_get, slice_index, slice_index_or, refl, subst, sym, ap, ◌∙◌, arith}
 use Rattle.std.proofs.lemmas.Grind.{common_steps}
-use Rattle.mesh_model.specs.Table.{slot_address}
+use Rattle.model_heap.specs.Table.{slot_address}
 use Rattle.mesh_spans.specs.Index.{IsSpan, SpanEntry, address_in, group_at, no_span, span_at}
 use Rattle.mesh_class.specs.Classes.{slots_of}
 use Rattle.mesh_spans.proofs.Added.{if_nothing}

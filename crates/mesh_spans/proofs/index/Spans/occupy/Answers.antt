@@ -1,5 +1,5 @@
 use Rattle.std.proofs.Common.{List, Option, ◌≡◌, None, Some, ap, subst, arith}
-use Rattle.mesh_model.specs.Table.{Slot}
+use Rattle.model_heap.specs.Table.{Slot}
 use Rattle.std.proofs.Common.{◌∙◌}
 use Rattle.std.proofs.lemmas.List.{get_or-set_other}
 use Rattle.std.proofs.lemmas.Option.{get_or_from_slice_get}

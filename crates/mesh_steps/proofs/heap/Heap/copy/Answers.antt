@@ -1,6 +1,6 @@
 use Rattle.std.proofs.Common.{◌+◌, inl, inr}
-use Rattle.mesh_model.specs.Mesh.{is_blocked}
-use Rattle.mesh_model.specs.declared.refusals.Refusal.TheVariants.{Outside}
+use Rattle.model_heap.specs.Mesh.{is_blocked}
+use Rattle.model_words.specs.declared.refusals.Refusal.TheVariants.{Outside}
 use Rattle.mesh_steps.proofs.Copies.{copied_past, copy_stored}
 use Rattle.mesh_steps.proofs.Stores.{answers_refused}
 use Rattle.mesh_steps.specs.Heap.{IsStore, copied_at, plain_of, table_of}

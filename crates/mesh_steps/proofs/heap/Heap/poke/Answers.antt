@@ -1,8 +1,8 @@
 use Rattle.std.proofs.Common.{◌≡◌, ◌+◌, ◌-◌, ℕ, [], ◌∷◌, Result, sym, ap, subst, ◌∙◌, arith}
-use Rattle.mesh_model.specs.Memory.{Memory}
-use Rattle.mesh_model.specs.declared.refusals.Refusal.{Refusal}
-use Rattle.mesh_model.specs.declared.refusals.Refusal.TheVariants.{Stray}
-use Rattle.mesh_model.specs.Mesh.{is_blocked}
+use Rattle.model_memory.specs.Memory.{Memory}
+use Rattle.model_words.specs.declared.refusals.Refusal.{Refusal}
+use Rattle.model_words.specs.declared.refusals.Refusal.TheVariants.{Stray}
+use Rattle.model_heap.specs.Mesh.{is_blocked}
 use Rattle.mesh_steps.specs.Heap.{IsStore, plain_of, stored_at_address, stored_in, table_of}
 use Rattle.mesh_steps.proofs.Stores.{answers_refused, stored_held, stored_stray}
 use Rattle.mesh_steps.proofs.heap.Heap.poke.Goals.{After-save}

@@ -1,5 +1,5 @@
 use Rattle.std.proofs.Common.{◌≡◌, ◌+◌, ℕ, length, refl, sym, subst, arith}
-use Rattle.mesh_model.specs.Mesh.{is_blocked}
+use Rattle.model_heap.specs.Mesh.{is_blocked}
 use Rattle.mesh_steps.specs.Heap.{Heap, IsLiveFor, IsStore, stored_in, table_of}
 use Rattle.mesh_steps.specs.declared.answers.Stored.TheVariants.{Done}
 use Rattle.mesh_steps.proofs.Stores.{held_back, live_for_fits, live_for_object, stored_whole}

@@ -1,5 +1,5 @@
 use Rattle.std.proofs.Common.{◌≡◌, Err}
-use Rattle.mesh_model.specs.Mesh.{begin}
+use Rattle.model_heap.specs.Mesh.{begin}
 use Rattle.mesh_steps.proofs.MeshHeaps.{begun_means, either_heap, told_of}
 use Rattle.mesh_steps.proofs.heap.Heap.start.Goals as goal
 use Rattle.mesh_steps.specs.HeapMeshes.{IsMeshBegun}

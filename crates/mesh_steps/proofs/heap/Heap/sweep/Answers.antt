@@ -1,5 +1,5 @@
 use Rattle.std.proofs.Common.{◌≡◌, Err}
-use Rattle.mesh_model.specs.Table.{sweep}
+use Rattle.model_heap.specs.Table.{sweep}
 use Rattle.mesh_steps.proofs.MeshHeaps.{either_heap, swept_means, told_of}
 use Rattle.mesh_steps.proofs.heap.Heap.sweep.Goals as goal
 use Rattle.mesh_steps.specs.HeapMeshes.{IsSwept}

@@ -1,5 +1,5 @@
 use Rattle.std.proofs.Common.{◌≡◌, map, take}
-use Rattle.mesh_model.specs.Search.{view_of}
+use Rattle.model_search.specs.Search.{view_of}
 use Rattle.mesh_steps.specs.Heap.{table_of}
 use Rattle.mesh_steps.proofs.heap.Heap.views.Given as goal
 

@@ -1,6 +1,6 @@
 use Rattle.std.proofs.Common.{ap, sym, ◌∙◌}
 use Rattle.std.specs.Option.{option_map}
-use Rattle.mesh_model.specs.Table.{Group, group_of}
+use Rattle.model_heap.specs.Table.{Group, group_of}
 use Rattle.mesh_steps.specs.Heap.{Heap, table_of}
 use Rattle.mesh_steps.proofs.MeshHeaps.{has_steps, meshed}
 use Rattle.mesh_steps.proofs.heap.Heap.whole.Goals as goal

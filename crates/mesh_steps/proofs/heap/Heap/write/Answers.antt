@@ -1,4 +1,4 @@
-use Rattle.mesh_model.specs.declared.refusals.Refusal.TheVariants.{Freed, Outside}
+use Rattle.model_words.specs.declared.refusals.Refusal.TheVariants.{Freed, Outside}
 use Rattle.mesh_steps.proofs.Stores.{answers_refused, stored_past, stored_stale}
 use Rattle.mesh_steps.specs.Heap.{plain_of, stored_at}
 use Rattle.mesh_steps.proofs.heap.Heap.write.Goals as goal

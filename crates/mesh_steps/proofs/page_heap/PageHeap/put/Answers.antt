@@ -1,6 +1,6 @@
 use Rattle.std.proofs.Common.{◌≡◌, ℕ, ◌≤◌, sym, subst}
 use Rattle.mesh_layout.proofs.PageHeapBytes.{slot_backed}
-use Rattle.mesh_model.specs.Sound.{IsSound}
+use Rattle.model_heap.specs.Sound.{IsSound}
 use Rattle.mesh_spans.specs.Index.{span_at}
 use Rattle.mesh_steps.specs.PageHeap.{IsFreeSlot, PageHeap, group_number, table_with_object}
 use Rattle.mesh_steps.proofs.Slots.{free_covered, free_open, put_keeps, put_paged, put_saved}

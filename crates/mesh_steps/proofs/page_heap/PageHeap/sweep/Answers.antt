@@ -2,8 +2,8 @@ use Rattle.std.proofs.Common.{◌≡◌, ℕ, List, length, Err, refl, subst, sy
 use Rattle.mesh_class.specs.Classes.{pages_of}
 use Rattle.mesh_layout.specs.Growth.{GivesFirst}
 use Rattle.mesh_layout.specs.PageHeap.{IsPageHeap}
-use Rattle.mesh_model.specs.Table.{sweep}
-use Rattle.mesh_model.specs.declared.refusals.Refusal.TheVariants.{Busy, NoGroup, NotEmpty}
+use Rattle.model_heap.specs.Table.{sweep}
+use Rattle.model_words.specs.declared.refusals.Refusal.TheVariants.{Busy, NoGroup, NotEmpty}
 use Rattle.mesh_steps.proofs.Emptied.{can_give, can_unmap, swept, sweeps_busy, sweeps_filled, sweeps_none}
 use Rattle.mesh_steps.proofs.page_heap.PageHeap.sweep.Goals as goal
 use Rattle.mesh_steps.proofs.page_heap.PageHeap.sweep.Goals.{After-retire}

@@ -1,5 +1,5 @@
 use Rattle.std.proofs.Common.{sym, subst}
-use Rattle.mesh_model.specs.Sound.{IsSound}
+use Rattle.model_heap.specs.Sound.{IsSound}
 use Rattle.mesh_steps.specs.PageHeap.{PageHeap, table_emptied}
 use Rattle.mesh_steps.proofs.Slots.{out_paged, out_table}
 use Rattle.mesh_steps.proofs.page_heap.PageHeap.take_out.Goals as goal

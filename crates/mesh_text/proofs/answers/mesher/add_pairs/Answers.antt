@@ -1,6 +1,6 @@
 use Rattle.std.proofs.Common.{◌∙◌, ◌++◌, ap, arith}
-use Rattle.mesh_model.specs.Search.{Pairing}
-use Rattle.mesh_model.specs.Texts.{pair_text}
+use Rattle.model_search.specs.Search.{Pairing}
+use Rattle.model_jobs.specs.Texts.{pair_text}
 use Rattle.mesh_text.proofs.PartTexts.{wrote_one}
 use Rattle.mesh_text.proofs.answers.mesher.add_pairs.Goals as goal
 

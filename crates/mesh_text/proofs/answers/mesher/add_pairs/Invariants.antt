@@ -1,6 +1,6 @@
 use Rattle.std.proofs.Common.{◌≡◌, ◌++◌, take}
 use Rattle.std.specs.List.{flat_map}
-use Rattle.mesh_model.specs.Texts.{pair_text}
+use Rattle.model_jobs.specs.Texts.{pair_text}
 use Rattle.mesh_text.proofs.answers.mesher.add_pairs.Given as goal
 
 abbrev pub invariant-loop-pair : goal.invariant-loop-pair

@@ -1,9 +1,9 @@
 use Rattle.std.proofs.Common.{ap, refl, subst}
 use Rattle.std.specs.Prelude.{codes}
 use Rattle.std.proofs.lemmas.Result.{on_ok_weaker}
-use Rattle.mesh_model.specs.Jobs.{Job, PagesMeshed, PagesSwept, PairsFound, Reported, StepsLeft, busy_in, counted}
-use Rattle.mesh_model.specs.Mesh.{begin, mesh_whole}
-use Rattle.mesh_model.specs.declared.versions.Version.{Version}
+use Rattle.model_jobs.specs.Jobs.{Job, PagesMeshed, PagesSwept, PairsFound, Reported, StepsLeft, busy_in, counted}
+use Rattle.model_heap.specs.Mesh.{begin, mesh_whole}
+use Rattle.model_words.specs.declared.versions.Version.{Version}
 use Rattle.mesh_steps.specs.PageHeap.{counts_told}
 use Rattle.mesh_text.specs.Answers.{count_told, step_told}
 use Rattle.mesh_text.specs.Turns.{IsNextAt}

@@ -1,7 +1,7 @@
 use Rattle.std.proofs.Common.{◌≡◌, ◌∙◌, ◌+◌, ◌<◌, length, slice_index, slice_set, subst, sym, arith}
 use Rattle.std.proofs.lemmas.List.{get_or_default}
 use Rattle.std.proofs.lemmas.Result.{on_ok_weaker}
-use Rattle.mesh_model.specs.Jobs.{JournalFull, Replied, RunWorker, ScriptOver, StoreBlocked, answer}
+use Rattle.model_jobs.specs.Jobs.{JournalFull, Replied, RunWorker, ScriptOver, StoreBlocked, answer}
 use Rattle.mesh_mutator.specs.declared.attempts.Attempt.TheVariants.{Blocked, Done, HistoryFull}
 use Rattle.mesh_text.specs.Turns.{IsNextAt}
 use Rattle.mesh_text.proofs.Telling.{grew_ok, told_at}

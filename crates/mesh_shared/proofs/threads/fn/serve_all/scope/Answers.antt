@@ -1,7 +1,7 @@
 use Rattle.std.proofs.Common.{rules, ◌≡◌, ◌<◌, ◌+◌, None, List, ℕ, length, map, slice_index_or, Bor, Global, Vec, ap, subst, sym, ◌∙◌, arith}
 use Rattle.std.proofs.lemmas.List.{length-map}
 use Rattle.std.specs.declared.thread.PromisedHandle.{PromisedHandle}
-use Rattle.mesh_model.specs.declared.commands.Command.{Command}
+use Rattle.model_words.specs.declared.commands.Command.{Command}
 use Rattle.mesh_shared.specs.Runs.{script_of}
 use Rattle.mesh_shared.specs.declared.mesher.Meshed.{Meshed}
 use Rattle.mesh_shared.specs.declared.mesher.Meshes.{Meshes}

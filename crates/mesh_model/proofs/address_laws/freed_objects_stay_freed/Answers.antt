@@ -1,8 +1,0 @@
-use Rattle.mesh_model.proofs.Addresses.{freed_stays, serials_up}
-use Rattle.mesh_model.proofs.address_laws.freed_objects_stay_freed.Goals as goal
-
-pub returns-clause-serials : goal.returns-clause-serials
-returns-clause-serials c = serials_up
-
-pub returns-clause-step : goal.returns-clause-step
-returns-clause-step c = freed_stays

@@ -1,5 +1,0 @@
-use Rattle.mesh_model.proofs.AnsweredCommands.{answered_well}
-use Rattle.mesh_model.proofs.history_laws.answered_is_step.Goals as goal
-
-pub returns : goal.returns
-returns c m t command sound tied = (answered_well m t command sound tied).step

@@ -1,9 +1,0 @@
-use Rattle.mesh_model.proofs.JobHistories.{history_legal}
-use Rattle.mesh_model.proofs.JobReplies.{replies_are_recorded}
-use Rattle.mesh_model.proofs.history_laws.history_is_legal.Goals as goal
-
-pub returns-clause-legal : goal.returns-clause-legal
-returns-clause-legal c job lines = history_legal job lines
-
-pub returns-clause-replies : goal.returns-clause-replies
-returns-clause-replies c job lines = replies_are_recorded job lines

@@ -1,8 +1,0 @@
-use Rattle.mesh_model.proofs.TiedMemories.{root_tied, stored_tied}
-use Rattle.mesh_model.proofs.history_laws.store_keeps_tied.Goals as goal
-
-pub returns-clause-bytes : goal.returns-clause-bytes
-returns-clause-bytes c = stored_tied
-
-pub returns-clause-root : goal.returns-clause-root
-returns-clause-root c = root_tied

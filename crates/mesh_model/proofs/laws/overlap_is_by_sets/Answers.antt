@@ -1,5 +1,0 @@
-use Rattle.mesh_model.proofs.Searches.{overlap_by_sets}
-use Rattle.mesh_model.proofs.laws.overlap_is_by_sets.Goals as goal
-
-pub returns : goal.returns
-returns c xs ys = overlap_by_sets xs ys

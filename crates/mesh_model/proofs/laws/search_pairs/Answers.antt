@@ -1,8 +1,0 @@
-use Rattle.mesh_model.proofs.Searches.{search_meshable, search_once}
-use Rattle.mesh_model.proofs.laws.search_pairs.Goals as goal
-
-pub returns-clause-meshable : goal.returns-clause-meshable
-returns-clause-meshable c order t = search_meshable order t
-
-pub returns-clause-once : goal.returns-clause-once
-returns-clause-once c order t n = search_once order t n

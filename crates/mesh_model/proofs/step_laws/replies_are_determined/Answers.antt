@@ -1,5 +1,0 @@
-use Rattle.mesh_model.proofs.Replies.{one_reply}
-use Rattle.mesh_model.proofs.step_laws.replies_are_determined.Goals as goal
-
-pub returns-clause-others : goal.returns-clause-others
-returns-clause-others c = one_reply

@@ -1,8 +1,0 @@
-use Rattle.mesh_model.proofs.MeshLists.{any_tells, class_tells}
-use Rattle.mesh_model.proofs.table_laws.busy_tests.Goals as goal
-
-pub returns-clause-any : goal.returns-clause-any
-returns-clause-any c t class h = any_tells class t.meshes h
-
-pub returns-clause-of_class : goal.returns-clause-of_class
-returns-clause-of_class c t class h = class_tells class t.meshes h

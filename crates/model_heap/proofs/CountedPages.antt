@@ -1,0 +1,418 @@
+-- Every transition keeps the count of physical pages.
+use Rattle.std.proofs.Common.{◌≡◌, ◌≢◌, ℕ, suc, ◌+◌, ◌-◌, ◌*◌, ◌≤◌, Bool, true, false, not, min, nat_eq, nat_lt, List, [], ◌∷◌, ◌++◌, length, find, filter, map, sum_by, ap, subst, refl, sym, ◌∙◌, arith, inl, inr, Option, Some, None, Ok}
+use Rattle.std.specs.List.{list_any}
+use Rattle.std.proofs.lemmas.Bool.Decides.{eqb_tells, leb_tells}
+use Rattle.std.proofs.lemmas.Bool.{true≢false}
+use Rattle.std.proofs.lemmas.List.Sums.{sum_by-cons, sum_by_push}
+use Rattle.std.proofs.Math.Nat.{mul-le-mul_left}
+use Rattle.model_words.proofs.Chains.{or_refuse_went, went_on, refuse_if_went}
+use Rattle.model_heap.proofs.MayBegin.{may_begin_gives}
+use Rattle.model_words.proofs.Tests.{tells}
+use Rattle.model_heap.proofs.GroupLists.{ascend_mapped, changed_number, find_again, find_changed_other, find_more, find_number, find_without_other, first_or_later, without_none}
+use Rattle.model_heap.proofs.MeshLists.{mesh_found, without_fewer, meshes_filtered}
+use Rattle.model_heap.proofs.OneMesh.{at, sum_at, sum_without}
+use Rattle.model_heap.proofs.StepCounts.{merged_keeps}
+use Rattle.model_heap.proofs.TableChanges.{differ, one_group}
+use Rattle.model_heap.proofs.WholeMeshes.{free_next}
+use Rattle.model_words.specs.Classes.{class_for, pages_of, slots_of}
+use Rattle.model_heap.specs.Mesh.{Stepped, begin, may_begin, cancel, cancelled, cancelled_at, free_after, is_mesh, kind_after, merged, merged_into, mesh_whole, page_count, step, step_count, stepped, with_progress, without_mesh}
+use Rattle.model_heap.specs.PageCounts.{AreCounted, released_by, released_pages, span_pages}
+use Rattle.model_heap.specs.Sound.{AreSoundGroups, AreSoundMeshes, AscendBetween, IsSound, IsWithinSteps, meshes_of}
+use Rattle.model_heap.specs.Table.{Counted, Group, Made, Mesh, Placed, Progress, Slot, Table, Unwinding, changed_at, first_member, fresh_group, group_of, group_without, has_number, is_meshing, is_open, mapped_count, object_count, picked_slot, place_in, place_new, placed_in, room_for_span, sweep, takes_part, with_group, with_object_in, with_span, without_object}
+use Rattle.model_heap.specs.TableLaws.{IsBusyTest}
+use Rattle.model_words.specs.declared.refusals.Refusal.TheVariants.{Busy, NoGroup, NoMesh, NoPages, NotEmpty, TooLarge, TooLate, Zero}
+
+-- the physical pages of a group
+abbrev pub span_of : Group → ℕ
+span_of g = pages_of g.class
+
+-- the physical pages that a mesh has released
+abbrev pub given : Table → Mesh → ℕ
+given t mesh = released_by mesh.progress (group_of t mesh.source)
+
+-- changed groups of the same classes have as many pages
+span_mapped : (change : Group → Group) (gs : List Group) → ((g : Group) → (change g).class ≡ g.class) → sum_by span_of (map change gs) ≡ sum_by span_of gs
+span_mapped change [] keeps = refl
+span_mapped change (x ∷ xs) keeps =
+    let rest = span_mapped change xs keeps in let old = sum_by-cons span_of x xs in let new = sum_by-cons span_of (change x) (map change xs) in
+    let same : span_of (change x) ≡ span_of x = ap pages_of (keeps x) in omega (arith, rest, old, new, same)
+
+-- without a group its pages are less
+pub span_without : (n low high : ℕ) (gs : List Group) (g : Group) → AscendBetween low gs high → find (has_number n) gs ≡ Some g
+    → sum_by span_of (filter (λ x. not (has_number n x)) gs) + span_of g ≡ sum_by span_of gs
+span_without n low high [] g ascend h = absurd (cc)
+span_without n low high (x ∷ xs) g ascend h = elim (first_or_later n low high x xs g ascend h) [
+  | inl first ↦ rw (first.0, without_none n xs first.2, first.1) (let old = sum_by-cons span_of g xs in omega (arith, old))
+  | inr later ↦ rw later.0 (let new = sum_by-cons span_of x (filter (λ y. not (has_number n y)) xs) in let old = sum_by-cons span_of x xs in
+      let rest = span_without n (x.number + 1) high xs g ascend.1 later.1 in omega (arith, new, old, rest))
+]
+
+-- where each mesh has released as much, all have
+same_given : (f g : Mesh → ℕ) (ms : List Mesh) → ((m : Mesh) → f m ≡ g m) → sum_by f ms ≡ sum_by g ms
+same_given f g [] same = refl
+same_given f g (m ∷ ms) same =
+    let rest = same_given f g ms same in let old = sum_by-cons g m ms in let new = sum_by-cons f m ms in let here = same m in omega (arith, rest, old, new, here)
+
+-- a group with other slots is the source of as many released pages
+given_mapped : (progress : Progress) (n : ℕ) (change : Group → Group) (gs : List Group) → ((g : Group) → (change g).number ≡ g.number)
+    → ((g : Group) → released_by progress (Some (change g)) ≡ released_by progress (Some g))
+    → released_by progress (find (has_number n) (map change gs)) ≡ released_by progress (find (has_number n) gs)
+given_mapped progress n change [] numbers keeps = refl
+given_mapped progress n change (x ∷ xs) numbers keeps = elim (eqb_tells x.number n) [
+  | inl same ↦ let pass : nat_eq (change x).number n ≡ true = rw (numbers x) same.0 in rw (pass, same.0) (keeps x)
+  | inr other ↦ rw (numbers x, other.0) (given_mapped progress n change xs numbers keeps)
+]
+
+-- groups with other slots keep the count
+mapped_counted : (pages : ℕ) (t : Table) (change : Group → Group) → ((g : Group) → (change g).number ≡ g.number)
+    → ((g : Group) → (change g).class ≡ g.class) → ((progress : Progress) (g : Group) → released_by progress (Some (change g)) ≡ released_by progress (Some g))
+    → AreCounted pages t → AreCounted pages (record t { groups = map change t.groups })
+mapped_counted pages t change numbers classes keeps counted =
+    let u : Table = record t { groups = map change t.groups } in
+    let span : span_pages u ≡ span_pages t = span_mapped change t.groups classes in
+    let released : released_pages u ≡ released_pages t
+    = same_given (given u) (given t) t.meshes (λ m. given_mapped m.progress m.source change t.groups numbers (keeps m.progress)) in
+    omega (arith, span, released, counted)
+
+-- an object taken out leaves what was released
+given_emptied : (serial : ℕ) (progress : Progress) (g : Group) → released_by progress (Some (group_without serial g)) ≡ released_by progress (Some g)
+given_emptied serial (Made d) g = refl
+given_emptied serial (Unwinding q u) g = refl
+
+-- an object freed keeps the count
+pub free_counted : (pages : ℕ) (t : Table) (serial : ℕ) → AreCounted pages t → AreCounted pages (without_object t serial)
+free_counted pages t serial counted = mapped_counted pages t (group_without serial) (λ g. refl) (λ g. refl) (given_emptied serial) counted
+
+-- an object put in leaves what was released
+given_put : (n k : ℕ) (slot : Slot) (progress : Progress) (g : Group)
+    → released_by progress (Some (changed_at n (with_object_in k slot) g)) ≡ released_by progress (Some g)
+given_put n k slot (Made d) g = elim (tells (has_number n g)) [ inl pass ↦ rw pass refl | inr fail ↦ rw fail refl ]
+given_put n k slot (Unwinding q u) g = refl
+
+-- a changed group is of the same class
+class_put : (n k : ℕ) (slot : Slot) (g : Group) → (changed_at n (with_object_in k slot) g).class ≡ g.class
+class_put n k slot g = elim (tells (has_number n g)) [ inl pass ↦ rw pass refl | inr fail ↦ rw fail refl ]
+
+-- an object put into a group keeps the count
+put_counted : (pages : ℕ) (t : Table) (n k : ℕ) (slot : Slot) → AreCounted pages t → AreCounted pages (with_group t n (with_object_in k slot))
+put_counted pages t n k slot counted =
+    mapped_counted pages t (changed_at n (with_object_in k slot)) (changed_number n (with_object_in k slot) (λ g. refl)) (class_put n k slot)
+    (given_put n k slot) counted
+
+-- a group more is the source of no other released pages, where each source is a group
+given_more : (t u : Table) (ms : List Mesh) → ((n : ℕ) (g : Group) → group_of t n ≡ Some g → group_of u n ≡ Some g) → AreSoundMeshes t ms
+    → sum_by (given u) ms ≡ sum_by (given t) ms
+given_more t u [] keeps sound = refl
+given_more t u (m ∷ ms) keeps sound =
+    let rest = given_more t u ms keeps sound.1 in let old = sum_by-cons (given t) m ms in let new = sum_by-cons (given u) m ms in
+    let here : given u m ≡ given t m
+    = ap (released_by m.progress) (keeps m.source sound.0.source sound.0.source_is ∙ sym sound.0.source_is) in omega (arith, rest, old, new, here)
+
+-- a new span keeps the count
+span_counted : (pages : ℕ) (t : Table) (class : ℕ) → IsSound t → nat_lt t.free_pages (pages_of class) ≡ false → AreCounted pages t
+    → AreCounted pages (with_span t class)
+span_counted pages t class sound room counted =
+    let u : Table = with_span t class in
+    let fresh : Group = fresh_group t.next_span class t.next_page in
+    let span : span_pages u ≡ span_pages t + pages_of class = sum_by_push span_of t.groups fresh in
+    let released : released_pages u ≡ released_pages t
+    = given_more t u t.meshes (λ n g is. find_more (has_number n) t.groups (fresh ∷ []) g is) sound.meshes in
+    elim (leb_tells (suc t.free_pages) (pages_of class)) [
+      | inl few ↦ let clash : true ≡ false = rw few.0 at room in absurd (true≢false clash)
+      | inr enough ↦ omega (arith, span, released, counted, enough.1)
+    ]
+
+-- a new object of a class keeps the count
+placed_counted : (pages : ℕ) (t : Table) (o : Option Group) (class word serial len : ℕ) (placed : Placed) → IsSound t → AreCounted pages t
+    → place_in o t class word serial len ≡ Ok placed → AreCounted pages placed.table
+placed_counted pages t (Some g) class word serial len placed sound counted h =
+    let is : placed_in t g word serial len ≡ placed = cc h in
+    subst (λ (x : Placed). AreCounted pages x.table) is
+    (put_counted pages t g.number (picked_slot g word) (record { member = first_member g; serial = serial; len = len }) counted)
+placed_counted pages t None class word serial len placed sound counted h =
+    let room = went_on (room_for_span t class) _ placed h in
+    let enough = refuse_if_went NoPages (nat_lt t.free_pages (pages_of class)) _ room.value room.is in
+    let fresh : Group = fresh_group t.next_span class t.next_page in
+    let done = room.then in
+    let is : placed_in (with_span t class) fresh word serial len ≡ placed = cc done in
+    subst (λ (x : Placed). AreCounted pages x.table) is
+    (put_counted pages (with_span t class) fresh.number (picked_slot fresh word) (record { member = first_member fresh; serial = serial; len = len })
+    (span_counted pages t class sound enough.0 counted))
+
+-- a new object keeps the count
+pub new_counted : (pages : ℕ) (t : Table) (len word serial : ℕ) (placed : Placed) → IsSound t → AreCounted pages t
+    → place_new t len word serial ≡ Ok placed → AreCounted pages placed.table
+new_counted pages t len word serial placed sound counted h =
+    let some = refuse_if_went Zero (nat_eq len 0) _ placed h in
+    let class = or_refuse_went TooLarge (class_for len) _ placed some.1 in
+    placed_counted pages t (find (is_open t class.value) t.groups) class.value word serial len placed sound counted class.then
+
+-- a group in none of the meshes is the source of no released pages
+given_outside : (t u : Table) (n : ℕ) (ms : List Mesh) → ((m : ℕ) → m ≢ n → group_of u m ≡ group_of t m) → list_any (takes_part n) ms ≡ false
+    → sum_by (given u) ms ≡ sum_by (given t) ms
+given_outside t u n [] keeps outside = refl
+given_outside t u n (m ∷ ms) keeps outside = elim (eqb_tells m.source n) [
+  | inl is ↦ let clash : true ≡ false = rw is.0 at outside in absurd (true≢false clash)
+  | inr source ↦ elim (eqb_tells m.destination n) [
+    | inl is ↦ let clash : true ≡ false = rw (source.0, is.0) at outside in absurd (true≢false clash)
+    | inr destination ↦ let later : list_any (takes_part n) ms ≡ false = rw (source.0, destination.0) at outside in
+        let rest = given_outside t u n ms keeps later in let old = sum_by-cons (given t) m ms in let new = sum_by-cons (given u) m ms in
+        let here : given u m ≡ given t m = ap (released_by m.progress) (keeps m.source source.1) in omega (arith, rest, old, new, here)
+  ]
+]
+
+-- the table without a group
+abbrev swept_table : Table → ℕ → Group → Table
+swept_table t n g = record t { free_pages = t.free_pages + pages_of g.class; groups = filter (λ x. not (has_number n x)) t.groups }
+
+-- a group that is in no mesh taken out keeps the count
+swept_counted : (pages : ℕ) (t : Table) (n : ℕ) (g : Group) → IsSound t → AreCounted pages t → group_of t n ≡ Some g → is_meshing t n ≡ false
+    → AreCounted pages (swept_table t n g)
+swept_counted pages t n g sound counted found outside =
+    let span = span_without n 0 t.next_span t.groups g sound.numbers found in
+    let released : released_pages (swept_table t n g) ≡ released_pages t
+    = given_outside t (swept_table t n g) n t.meshes (λ m apart. find_without_other n m t.groups apart) outside in
+    omega (arith, span, released, counted)
+
+-- what a sweep that is not refused gives
+pub record Swept (t : Table) (n : ℕ) (x : Counted) : Type 0 where
+  pub group : Group
+  pub found : group_of t n ≡ Some group
+  pub outside : is_meshing t n ≡ false
+  pub is : record { count = pages_of group.class; table = swept_table t n group } ≡ x
+
+-- a sweep that is not refused
+pub sweep_went : (t : Table) (n : ℕ) (x : Counted) → sweep t n ≡ Ok x → Swept t n x
+sweep_went t n x h =
+    let group = or_refuse_went NoGroup (group_of t n) _ x h in
+    let idle = refuse_if_went Busy (is_meshing t n) _ x group.then in
+    let empty = refuse_if_went NotEmpty (nat_lt 0 (object_count group.value)) _ x idle.1 in
+    let done = empty.1 in
+    record { group = group.value; found = group.is; outside = idle.0; is = cc done }
+
+-- a sweep keeps the count
+pub sweep_counted : (pages : ℕ) (t : Table) (n : ℕ) (x : Counted) → IsSound t → AreCounted pages t → sweep t n ≡ Ok x → AreCounted pages x.table
+sweep_counted pages t n x sound counted h =
+    let went = sweep_went t n x h in
+    subst (λ (y : Counted). AreCounted pages y.table) went.is (swept_counted pages t n went.group sound counted went.found went.outside)
+
+-- a sweep answers how many pages come free
+pub sweep_answers : (t : Table) (n : ℕ) (x : Counted) → sweep t n ≡ Ok x → x.table.free_pages ≡ t.free_pages + x.count
+sweep_answers t n x h =
+    let went = sweep_went t n x h in subst (λ (y : Counted). y.table.free_pages ≡ t.free_pages + y.count) went.is refl
+
+-- a mesh that has made no step has released nothing
+none_given : (o : Option Group) → released_by (Made 0) o ≡ 0
+none_given None = refl
+none_given (Some a) = omega arith
+
+-- a mesh begun keeps the count
+pub begin_counted : (pages : ℕ) (busy : Table → ℕ → Bool) (t : Table) (source destination : ℕ) (x : Counted) → AreCounted pages t
+    → begin busy t source destination ≡ Ok x → AreCounted pages x.table
+begin_counted pages busy t source destination x counted h =
+    let pair = went_on (may_begin busy t source destination) _ x h in
+    let done = pair.then in
+    let m : Mesh = record { class = pair.value.source.class; source = source; destination = destination; progress = Made 0 } in
+    let u : Table = record t { meshes = t.meshes ++ m ∷ [] } in
+    let is : record { count = step_count pair.value.source; table = u } ≡ x = cc done in
+    let more : released_pages u ≡ released_pages t + given t m = sum_by_push (given t) t.meshes m in
+    let none : given t m ≡ 0 = none_given (group_of t source) in
+    let all : AreCounted pages u = omega (arith, more, none, counted) in
+    subst (λ (y : Counted). AreCounted pages y.table) is all
+
+-- groups of a class that none of the meshes is of are the sources of no released pages
+given_elsewhere : (t u : Table) (class : ℕ) (ms : List Mesh)
+    → ((n : ℕ) (g : Group) → g.class ≢ class → group_of t n ≡ Some g → group_of u n ≡ Some g) → meshes_of class ms ≡ 0 → AreSoundMeshes t ms
+    → sum_by (given u) ms ≡ sum_by (given t) ms
+given_elsewhere t u class [] keeps none sound = refl
+given_elsewhere t u class (m ∷ ms) keeps none sound = elim (eqb_tells m.class class) [
+  | inl same ↦ let some : 1 + meshes_of class ms ≡ 0 = rw same.0 at none in absurd (omega (arith, some))
+  | inr other ↦ let later : 0 + meshes_of class ms ≡ 0 = rw other.0 at none in
+      let rest = given_elsewhere t u class ms keeps (omega (arith, later)) sound.1 in
+      let old = sum_by-cons (given t) m ms in let new = sum_by-cons (given u) m ms in
+      let here : given u m ≡ given t m = ap (released_by m.progress)
+      (keeps m.source sound.0.source (λ e. other.1 (sym sound.0.source_class ∙ e)) sound.0.source_is ∙ sym sound.0.source_is) in
+      omega (arith, rest, old, new, here)
+]
+
+-- a merged group is of the destination's class
+class_merged : (n : ℕ) (a g : Group) → (changed_at n (merged_into a) g).class ≡ g.class
+class_merged n a g = elim (tells (has_number n g)) [ inl pass ↦ rw pass refl | inr fail ↦ rw fail refl ]
+
+-- two groups merged have the source's pages less
+span_merged : (t : Table) (a b : Group) (source destination : ℕ) → IsSound t → group_of t source ≡ Some a → source ≢ destination
+    → sum_by span_of (merged t.groups a destination) + pages_of a.class ≡ sum_by span_of t.groups
+span_merged t a b source destination sound is two =
+    let changed : List Group = map (changed_at destination (merged_into a)) t.groups in
+    let number : a.number ≡ source = find_number source t.groups a is in
+    let ascend : AscendBetween 0 changed t.next_span = ascend_mapped 0 t.next_span (changed_at destination (merged_into a)) t.groups
+    (changed_number destination (merged_into a) (λ g. refl)) sound.numbers in
+    let found : find (has_number a.number) changed ≡ Some a
+    = find_changed_other destination a.number (merged_into a) t.groups (λ x. refl) (λ e. two (sym number ∙ e))
+    ∙ find_again (has_number source) 0 t.next_span t.groups a sound.numbers is in
+    let less = span_without a.number 0 t.next_span changed a ascend found in
+    let all = span_mapped (changed_at destination (merged_into a)) t.groups (class_merged destination a) in
+    omega (arith, less, all)
+
+-- the table after a whole mesh
+abbrev whole_table : Table → Group → ℕ → Table
+whole_table t a destination = record t { free_pages = t.free_pages + pages_of a.class; groups = merged t.groups a destination }
+
+-- a whole mesh keeps the count
+pub whole_counted : (pages : ℕ) (busy : Table → ℕ → Bool) (t : Table) (source destination : ℕ) (x : Counted) → IsBusyTest busy t → IsSound t
+    → AreCounted pages t → mesh_whole busy t source destination ≡ Ok x → AreCounted pages x.table
+whole_counted pages busy t source destination x test sound counted h =
+    let pair = went_on (may_begin busy t source destination) _ x h in
+    let may = may_begin_gives busy t source destination pair.value pair.is in
+    let done = pair.then in
+    let u : Table = whole_table t pair.value.source destination in
+    let is : record { count = pages_of pair.value.source.class; table = u } ≡ x = cc done in
+    let span = span_merged t pair.value.source pair.value.destination source destination sound may.source_is (differ source destination may.two) in
+    let released : released_pages u ≡ released_pages t = given_elsewhere t u pair.value.source.class t.meshes
+    (λ n g apart at_n. merged_keeps t pair.value.source pair.value.destination source destination n g may.source_is may.destination_is may.class apart at_n)
+    (test pair.value.source.class may.idle) sound.meshes in
+    let all : AreCounted pages u = omega (arith, span, released, counted) in
+    subst (λ (y : Counted). AreCounted pages y.table) is all
+
+-- a whole mesh answers how many pages come free
+pub whole_answers : (busy : Table → ℕ → Bool) (t : Table) (source destination : ℕ) (x : Counted) → mesh_whole busy t source destination ≡ Ok x
+    → x.table.free_pages ≡ t.free_pages + x.count
+whole_answers busy t source destination x h =
+    let pair = went_on (may_begin busy t source destination) _ x h in
+    let done = pair.then in
+    let is : record { count = pages_of pair.value.source.class; table = whole_table t pair.value.source destination } ≡ x = cc done in
+    subst (λ (y : Counted). y.table.free_pages ≡ t.free_pages + y.count) is refl
+
+-- a mesh that was found comes to a progress at which it has released as much
+come_counted : (pages : ℕ) (t : Table) (test : Mesh → Bool) (this : Mesh) (progress : Progress) → IsSound t → AreCounted pages t
+    → find test t.meshes ≡ Some this → given t (at this progress) ≡ given t this → AreCounted pages (record t { meshes = with_progress t.meshes this progress })
+come_counted pages t test this progress sound counted found same =
+    let all = sum_at t test this progress (given t) t.meshes found sound.meshes (sound.one_a_class this.class) in omega (arith, all, same, counted)
+
+-- a mesh that has released nothing ends
+end_counted : (pages : ℕ) (t : Table) (test : Mesh → Bool) (this : Mesh) → IsSound t → AreCounted pages t → find test t.meshes ≡ Some this
+    → given t this ≡ 0 → AreCounted pages (record t { meshes = without_mesh t.meshes this })
+end_counted pages t test this sound counted found none =
+    let all = sum_without t test this (given t) t.meshes found sound.meshes (sound.one_a_class this.class) in omega (arith, all, none, counted)
+
+-- a mesh of a source has released the pages that its progress tells
+given_is : (t : Table) (this : Mesh) (a : Group) (progress : Progress) → group_of t this.source ≡ Some a → this.progress ≡ progress
+    → given t this ≡ released_by progress (Some a)
+given_is t this a progress is at_p = rw (is, at_p) refl
+
+-- at another progress too
+given_at : (t : Table) (this : Mesh) (a : Group) (progress : Progress) → group_of t this.source ≡ Some a
+    → given t (at this progress) ≡ released_by progress (Some a)
+given_at t this a progress is = rw is refl
+
+-- a mesh cancelled with so many unprotects left keeps the count
+cancelled_at_counted : (pages : ℕ) (t : Table) (test : Mesh → Bool) (this : Mesh) (a : Group) (q : ℕ) → IsSound t → AreCounted pages t
+    → find test t.meshes ≡ Some this → group_of t this.source ≡ Some a → given t this ≡ 0 → AreCounted pages (cancelled_at t this a q).table
+cancelled_at_counted pages t test this a q sound counted found is none = elim (eqb_tells q 0) [
+  | inl end ↦ rw end.0 (end_counted pages t test this sound counted found none)
+  | inr more ↦ rw more.0 (come_counted pages t test this (Unwinding q 0) sound counted found (given_at t this a (Unwinding q 0) is ∙ sym none))
+]
+
+-- a cancel of a mesh at a progress keeps the count
+cancels_counted : (pages : ℕ) (t : Table) (test : Mesh → Bool) (this : Mesh) (a : Group) (progress : Progress) (x : Counted) → IsSound t
+    → AreCounted pages t → find test t.meshes ≡ Some this → group_of t this.source ≡ Some a → this.progress ≡ progress
+    → cancelled t this a progress ≡ Ok x → AreCounted pages x.table
+cancels_counted pages t test this a (Made d) x sound counted found is at_d h =
+    let in_time = refuse_if_went TooLate (nat_lt (page_count a + slots_of a.class) d) _ x h in
+    let done = in_time.1 in
+    let same : cancelled_at t this a (min d (page_count a)) ≡ x = cc done in
+    let early : d ≤ page_count a + slots_of a.class = elim (leb_tells (suc (page_count a + slots_of a.class)) d) [
+      | inl late ↦ let clash : true ≡ false = sym late.0 ∙ in_time.0 in absurd (true≢false clash)
+      | inr soon ↦ omega (arith, soon.1)
+    ] in
+    let given_d = given_is t this a (Made d) is at_d in
+    let none : given t this ≡ 0 = omega (arith, given_d, early) in
+    subst (λ (y : Counted). AreCounted pages y.table) same (cancelled_at_counted pages t test this a (min d (page_count a)) sound counted found is none)
+cancels_counted pages t test this a (Unwinding q u) x sound counted found is at_u h =
+    let same : record { count = q - u; table = t } ≡ x = cc h in subst (λ (y : Counted). AreCounted pages y.table) same counted
+
+-- a cancel keeps the count
+pub cancel_counted : (pages : ℕ) (t : Table) (test : Mesh → Bool) (x : Counted) → IsSound t → AreCounted pages t → cancel t (find test t.meshes) ≡ Ok x
+    → AreCounted pages x.table
+cancel_counted pages t test x sound counted h =
+    let mesh = or_refuse_went NoMesh (find test t.meshes) _ x h in
+    let source = or_refuse_went NoMesh (group_of t mesh.value.source) _ x mesh.then in
+    cancels_counted pages t test mesh.value source.value mesh.value.progress x sound counted mesh.is source.is refl source.then
+
+-- the last step keeps the count
+last_counted : (pages : ℕ) (t : Table) (test : Mesh → Bool) (this : Mesh) (a : Group) (d : ℕ) → IsSound t → AreCounted pages t
+    → find test t.meshes ≡ Some this → group_of t this.source ≡ Some a → this.progress ≡ Made d → d + 1 ≡ step_count a
+    → AreCounted pages (record t {
+      free_pages = free_after (kind_after a d) t.free_pages;
+      meshes = without_mesh t.meshes this;
+      groups = merged t.groups a this.destination;
+    })
+last_counted pages t test this a d sound counted found is at_d last =
+    let u : Table = record t {
+      free_pages = free_after (kind_after a d) t.free_pages;
+      meshes = without_mesh t.meshes this;
+      groups = merged t.groups a this.destination;
+    } in
+    let mesh = mesh_found t test t.meshes this found sound.meshes in
+    let same : mesh.source ≡ a = one_group t this.source mesh.source a mesh.source_is is in
+    let class : a.class ≡ this.class = ap (λ (g : Group). g.class) (sym same) ∙ mesh.source_class in
+    let once = sound.one_a_class a.class in
+    let fewer = without_fewer a.class test t.meshes this found (sym class) in
+    let span = span_merged t a mesh.destination this.source this.destination sound is (differ this.source this.destination mesh.two) in
+    let elsewhere : released_pages u ≡ sum_by (given t) (without_mesh t.meshes this) = given_elsewhere t u a.class (without_mesh t.meshes this)
+    (λ n g apart at_n. merged_keeps t a mesh.destination this.source this.destination n g is mesh.destination_is (class ∙ sym mesh.destination_class) apart at_n)
+    (omega (arith, once, fewer)) (meshes_filtered t (λ m. not (is_mesh this m)) t.meshes sound.meshes) in
+    let less = sum_without t test this (given t) t.meshes found sound.meshes (sound.one_a_class this.class) in
+    let released = given_is t this a (Made d) is at_d in
+    let free = free_next a d t.free_pages in
+    omega (arith, span, elsewhere, less, released, free, counted, last)
+
+-- a step that is not the last keeps the count
+next_counted : (pages : ℕ) (t : Table) (test : Mesh → Bool) (this : Mesh) (a : Group) (d : ℕ) → IsSound t → AreCounted pages t
+    → find test t.meshes ≡ Some this → group_of t this.source ≡ Some a → this.progress ≡ Made d
+    → AreCounted pages (record t { free_pages = free_after (kind_after a d) t.free_pages; meshes = with_progress t.meshes this (Made (d + 1)) })
+next_counted pages t test this a d sound counted found is at_d =
+    let all = sum_at t test this (Made (d + 1)) (given t) t.meshes found sound.meshes (sound.one_a_class this.class) in
+    let old = given_is t this a (Made d) is at_d in
+    let new = given_at t this a (Made (d + 1)) is in
+    let free = free_next a d t.free_pages in
+    omega (arith, all, old, new, free, counted)
+
+-- a step of a mesh at a progress keeps the count
+stepped_counted : (pages : ℕ) (t : Table) (test : Mesh → Bool) (this : Mesh) (a : Group) (progress : Progress) → IsSound t → AreCounted pages t
+    → find test t.meshes ≡ Some this → group_of t this.source ≡ Some a → this.progress ≡ progress → IsWithinSteps a progress
+    → AreCounted pages (stepped t this a progress).table
+stepped_counted pages t test this a (Made d) sound counted found is at_d within = elim (leb_tells (step_count a) (d + 1)) [
+  | inl last ↦ rw last.0 (last_counted pages t test this a d sound counted found is at_d (omega (arith, last.1, within)))
+  | inr more ↦ rw more.0 (next_counted pages t test this a d sound counted found is at_d)
+]
+stepped_counted pages t test this a (Unwinding q u) sound counted found is at_u within =
+    let none : given t this ≡ 0 = given_is t this a (Unwinding q u) is at_u in elim (leb_tells q (u + 1)) [
+      | inl last ↦ rw last.0 (end_counted pages t test this sound counted found none)
+      | inr more ↦ rw more.0 (come_counted pages t test this (Unwinding q (u + 1)) sound counted found (given_at t this a (Unwinding q (u + 1)) is ∙ sym none))
+    ]
+
+-- a step keeps the count
+pub step_counted : (pages : ℕ) (t : Table) (test : Mesh → Bool) (x : Stepped) → IsSound t → AreCounted pages t → step t (find test t.meshes) ≡ Ok x
+    → AreCounted pages x.table
+step_counted pages t test x sound counted h =
+    let mesh = or_refuse_went NoMesh (find test t.meshes) _ x h in
+    let source = or_refuse_went NoMesh (group_of t mesh.value.source) _ x mesh.then in
+    let old = mesh_found t test t.meshes mesh.value mesh.is sound.meshes in
+    let same : old.source ≡ source.value = one_group t mesh.value.source old.source source.value old.source_is source.is in
+    let done = source.then in
+    let is : stepped t mesh.value source.value mesh.value.progress ≡ x = cc done in
+    subst (λ (y : Stepped). AreCounted pages y.table) is (stepped_counted pages t test mesh.value source.value mesh.value.progress sound counted mesh.is
+    source.is refl (subst (λ (g : Group). IsWithinSteps g mesh.value.progress) same old.within))
+
+-- groups have at least as many virtual pages as physical ones
+span_mapped_count : (gs : List Group) → AreSoundGroups gs → sum_by span_of gs ≤ sum_by (λ g. length g.members * pages_of g.class) gs
+span_mapped_count [] sound = omega arith
+span_mapped_count (g ∷ gs) sound =
+    let rest = span_mapped_count gs sound.1 in let some = sound.0.some_member in
+    let old = sum_by-cons span_of g gs in let new = sum_by-cons (λ (x : Group). length x.members * pages_of x.class) g gs in
+    let here : pages_of g.class ≤ length g.members * pages_of g.class = omega (arith, mul-le-mul_left (pages_of g.class) some) in omega (arith, rest, old, new, here)
+
+-- no more pages are taken than mapped
+pub taken_mapped : (pages : ℕ) (t : Table) → IsSound t → AreCounted pages t → pages - t.free_pages ≤ mapped_count t
+taken_mapped pages t sound counted = let fewer = span_mapped_count t.groups sound.groups in omega (arith, counted, fewer)

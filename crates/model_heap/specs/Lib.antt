@@ -1,0 +1,17 @@
+pub mod EffectLaws
+pub mod MeaningLaws
+pub mod Mesh
+pub mod MeshLaws
+pub mod NewLaws
+pub mod PageCounts
+pub mod PageLaws
+pub mod PlaceLaws
+pub mod Places
+pub mod ProtectionLaws
+pub mod RecordLaws
+pub mod RefusalLaws
+pub mod Sound
+pub mod StepEffects
+pub mod Table
+pub mod TableLaws
+pub mod TiedLaws

@@ -1,0 +1,127 @@
+-- When each refusal of a call on a table holds, whatever others do, and that of those that hold the lowest is answered.
+use Rattle.std.specs.Prelude.{◌≡◌, ◌≢◌, ◌⊎◌, ℕ, ◌+◌, ◌-◌, ◌<◌, Bool, true, false, Some, None, find, length, slice_get}
+use Rattle.model_words.specs.Classes.{class_for, pages_of, slots_of}
+use Rattle.model_heap.specs.Mesh.{begin, cancel, mesh_whole, page_count, step}
+use Rattle.model_heap.specs.Sound.{IsSound}
+use Rattle.model_heap.specs.Table.{Group, Made, Mesh, Slot, Table, group_of, is_open, place_new, sweep}
+use Rattle.model_words.specs.declared.refusals.Refusal.{Refusal}
+use Rattle.model_words.specs.declared.refusals.Refusal.TheVariants.{Zero, TooLarge, NoPages, NoAddresses, NoGroup, Same, Class, Busy, Overlap, Members, NoMesh, TooLate, NotEmpty}
+use Rattle.model_words.specs.Refusals.{IsRefusedBy}
+
+-- the group of the number is there, and this holds of it
+pub record OfGroup (t : Table) (n : ℕ) (holds : Group → Type 0) : Type 0 where
+  pub group : Group
+  pub there : group_of t n ≡ Some group
+  pub is : holds group
+
+-- both groups are there, and this holds of them
+pub record OfBoth (t : Table) (source destination : ℕ) (holds : Group → Group → Type 0) : Type 0 where
+  pub a : Group
+  pub b : Group
+  pub source_is : group_of t source ≡ Some a
+  pub destination_is : group_of t destination ≡ Some b
+  pub is : holds a b
+
+-- a slot number is occupied in both groups
+pub record ShareSlot (a b : Group) : Type 0 where
+  pub k : ℕ
+  pub x : Slot
+  pub y : Slot
+  pub in_a : slice_get a.slots k ≡ Some (Some x)
+  pub in_b : slice_get b.slots k ≡ Some (Some y)
+
+-- when each refusal of a mesh of two groups holds, of a `begin` and of a whole mesh
+abbrev pub mesh_holds : (Table → ℕ → Bool) → Table → ℕ → ℕ → Refusal → Type 0
+mesh_holds busy t source destination NoGroup = (group_of t source ≡ None) ⊎ (group_of t destination ≡ None)
+mesh_holds busy t source destination Same = source ≡ destination
+mesh_holds busy t source destination Class = OfBoth t source destination (λ a b. a.class ≢ b.class)
+mesh_holds busy t source destination Busy = OfGroup t source (λ a. busy t a.class ≡ true)
+mesh_holds busy t source destination Overlap = OfBoth t source destination ShareSlot
+mesh_holds busy t source destination Members = OfBoth t source destination (λ a b. 8 < length a.members + length b.members)
+mesh_holds busy t source destination _ = ⊥
+
+-- `begin` is refused by the lowest
+abbrev pub BeginIsRefusedByLowest : Type 0
+BeginIsRefusedByLowest = (busy : Table → ℕ → Bool) (t : Table) (source destination : ℕ)
+    → IsRefusedBy (mesh_holds busy t source destination) (begin busy t source destination)
+
+-- so is a whole mesh
+abbrev pub WholeIsRefusedByLowest : Type 0
+WholeIsRefusedByLowest = (busy : Table → ℕ → Bool) (t : Table) (source destination : ℕ)
+    → IsRefusedBy (mesh_holds busy t source destination) (mesh_whole busy t source destination)
+
+-- a running mesh has the group for its source or its destination
+pub record IsOfMesh (t : Table) (n : ℕ) : Type 0 where
+  pub i : ℕ
+  pub mesh : Mesh
+  pub running : slice_get t.meshes i ≡ Some mesh
+  pub part : (mesh.source ≡ n) ⊎ (mesh.destination ≡ n)
+
+-- a slot of the group is occupied
+pub record HasObject (group : Group) : Type 0 where
+  pub k : ℕ
+  pub slot : Slot
+  pub filled : slice_get group.slots k ≡ Some (Some slot)
+
+-- when each refusal of a sweep holds: it is busy by the group, in a running mesh, and not by its class
+abbrev pub sweep_holds : Table → ℕ → Refusal → Type 0
+sweep_holds t n NoGroup = group_of t n ≡ None
+sweep_holds t n Busy = IsOfMesh t n
+sweep_holds t n NotEmpty = OfGroup t n HasObject
+sweep_holds t n _ = ⊥
+
+-- a sweep is refused by the lowest
+abbrev pub SweepIsRefusedByLowest : Type 0
+SweepIsRefusedByLowest = (t : Table) (n : ℕ) → IsRefusedBy (sweep_holds t n) (sweep t n)
+
+-- no running mesh passes the test
+abbrev pub HasNoMesh : Table → (Mesh → Bool) → Type 0
+HasNoMesh t test = (i : ℕ) (mesh : Mesh) → slice_get t.meshes i ≡ Some mesh → test mesh ≡ false
+
+-- the first mesh that passes the test has made more steps than protect its pages and copy its slots
+pub record IsTooLate (t : Table) (test : Mesh → Bool) : Type 0 where
+  pub mesh : Mesh
+  pub source : Group
+  pub made : ℕ
+  pub running : find test t.meshes ≡ Some mesh
+  pub source_is : group_of t mesh.source ≡ Some source
+  pub made_is : mesh.progress ≡ Made made
+  pub late : page_count source + slots_of source.class < made
+
+-- when the one refusal of a step holds
+abbrev pub step_holds : Table → (Mesh → Bool) → Refusal → Type 0
+step_holds t test NoMesh = HasNoMesh t test
+step_holds t test _ = ⊥
+
+-- when each refusal of a cancel holds
+abbrev pub cancel_holds : Table → (Mesh → Bool) → Refusal → Type 0
+cancel_holds t test NoMesh = HasNoMesh t test
+cancel_holds t test TooLate = IsTooLate t test
+cancel_holds t test _ = ⊥
+
+-- a step of the first mesh that passes a test, as of any mesh or of one of a class, is refused by the lowest in a sound table
+abbrev pub StepIsRefusedByLowest : Type 0
+StepIsRefusedByLowest = (t : Table) (test : Mesh → Bool) → IsSound t → IsRefusedBy (step_holds t test) (step t (find test t.meshes))
+
+-- so is a cancel
+abbrev pub CancelIsRefusedByLowest : Type 0
+CancelIsRefusedByLowest = (t : Table) (test : Mesh → Bool) → IsSound t → IsRefusedBy (cancel_holds t test) (cancel t (find test t.meshes))
+
+-- no group of the table is open to new objects of the class of the length, and this holds of the class
+pub record HasNoOpen (t : Table) (len : ℕ) (holds : ℕ → Type 0) : Type 0 where
+  pub class : ℕ
+  pub class_is : class_for len ≡ Some class
+  pub none : (i : ℕ) (group : Group) → slice_get t.groups i ≡ Some group → is_open t class group ≡ false
+  pub is : holds class
+
+-- when each refusal of a new object holds: there are fewer free pages than a span has, and its last page would be above the last address
+abbrev pub new_holds : Table → ℕ → Refusal → Type 0
+new_holds t len Zero = len ≡ 0
+new_holds t len TooLarge = 2048 < len
+new_holds t len NoPages = HasNoOpen t len (λ class. t.free_pages < pages_of class)
+new_holds t len NoAddresses = HasNoOpen t len (λ class. 65535 < t.next_page + (pages_of class - 1))
+new_holds t len _ = ⊥
+
+-- a new object is refused by the lowest
+abbrev pub NewIsRefusedByLowest : Type 0
+NewIsRefusedByLowest = (t : Table) (len word serial : ℕ) → IsRefusedBy (new_holds t len) (place_new t len word serial)

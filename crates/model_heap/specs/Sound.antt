@@ -1,0 +1,104 @@
+-- What every table keeps, and what ties it to the plain memory.
+use Rattle.std.specs.Prelude.{◌≡◌, ℕ, ◌+◌, ◌*◌, ◌<◌, ◌≤◌, false, nat_eq, if◌then◌else◌, List, [], ◌∷◌, Some, IsSome, length, slice_get}
+use Rattle.std.specs.List.{flat_map}
+use Rattle.model_words.specs.Classes.{row_of, pages_of, slots_of}
+use Rattle.model_memory.specs.Memory.{Object, Memory, object_of}
+use Rattle.model_heap.specs.Mesh.{virtual_pages, page_count, do_overlap}
+use Rattle.model_heap.specs.Table.{Slot, Group, Progress, Made, Unwinding, Mesh, Table, group_of, slot_address}
+
+-- how often a number is in a list
+abbrev pub times_in : ℕ → List ℕ → ℕ
+times_in v [] = 0
+times_in v (x ∷ xs) = (if nat_eq x v then 1 else 0) + times_in v xs
+
+-- the virtual pages of all groups
+abbrev pub all_pages : List Group → List ℕ
+all_pages groups = flat_map virtual_pages groups
+
+-- the slot holds an object of the group: in one of its members, and no longer than its class
+pub record IsSoundSlot (group : Group) (slot : Slot) : Type 0 where
+  pub in_member : 1 ≤ times_in slot.member group.members
+  pub some : 1 ≤ slot.len
+  pub fits : slot.len ≤ group.class
+
+-- the group is of a class of the table, with 1 to 8 members and a place for each slot
+pub record IsSoundGroup (group : Group) : Type 0 where
+  pub class : IsSome (row_of group.class)
+  pub some_member : 1 ≤ length group.members
+  pub few_members : length group.members ≤ 8
+  pub places : length group.slots ≡ slots_of group.class
+  pub objects : (k : ℕ) (slot : Slot) → slice_get group.slots k ≡ Some (Some slot) → IsSoundSlot group slot
+
+-- each group is sound
+abbrev pub AreSoundGroups : List Group → Type 0
+AreSoundGroups [] = Unit {0}
+AreSoundGroups (group ∷ groups) = IsSoundGroup group × AreSoundGroups groups
+
+-- the numbers of the groups ascend from the first bound, and are below the second
+abbrev pub AscendBetween : ℕ → List Group → ℕ → Type 0
+AscendBetween low [] high = low ≤ high
+AscendBetween low (group ∷ groups) high = (low ≤ group.number) × AscendBetween (group.number + 1) groups high
+
+-- the progress is within the steps of a mesh from the source
+abbrev pub IsWithinSteps : Group → Progress → Type 0
+IsWithinSteps source (Made d) = d < 3 * page_count source + slots_of source.class + pages_of source.class
+IsWithinSteps source (Unwinding q u) = (u < q) × (q ≤ page_count source)
+
+-- the mesh is one of two different groups of its class, with no slot number occupied in both, and at most 8 members together
+pub record IsSoundMesh (t : Table) (mesh : Mesh) : Type 0 where
+  pub source : Group
+  pub destination : Group
+  pub source_is : group_of t mesh.source ≡ Some source
+  pub destination_is : group_of t mesh.destination ≡ Some destination
+  pub two : nat_eq mesh.source mesh.destination ≡ false
+  pub source_class : source.class ≡ mesh.class
+  pub destination_class : destination.class ≡ mesh.class
+  pub apart : do_overlap source.slots destination.slots ≡ false
+  pub few_members : length source.members + length destination.members ≤ 8
+  pub within : IsWithinSteps source mesh.progress
+
+-- each running mesh is sound
+abbrev pub AreSoundMeshes : Table → List Mesh → Type 0
+AreSoundMeshes t [] = Unit {0}
+AreSoundMeshes t (mesh ∷ meshes) = IsSoundMesh t mesh × AreSoundMeshes t meshes
+
+-- how many of the meshes are of the class
+abbrev pub meshes_of : ℕ → List Mesh → ℕ
+meshes_of class [] = 0
+meshes_of class (mesh ∷ meshes) = (if nat_eq mesh.class class then 1 else 0) + meshes_of class meshes
+
+-- a sound table
+pub record IsSound (t : Table) : Type 0 where
+  pub some_page : 1 ≤ t.next_page
+  pub few_pages : t.next_page ≤ 65536
+  pub pages_once : (v : ℕ) → times_in v (all_pages t.groups) ≤ 1
+  pub pages_used : (v : ℕ) → 1 ≤ times_in v (all_pages t.groups) → (1 ≤ v) × (v < t.next_page)
+  pub groups : AreSoundGroups t.groups
+  pub numbers : AscendBetween 0 t.groups t.next_span
+  pub meshes : AreSoundMeshes t t.meshes
+  pub one_a_class : (class : ℕ) → meshes_of class t.meshes ≤ 1
+
+-- the slot's object is live in the memory, at the slot's address and of its length
+pub record IsLiveSlot (m : Memory) (class k : ℕ) (slot : Slot) : Type 0 where
+  pub object : Object
+  pub live : object_of m slot.serial ≡ Some object
+  pub address : object.address ≡ slot_address slot.member class k
+  pub len : length object.bytes ≡ slot.len
+
+-- the object of the serial stands in a slot of the table, at its address and with its length
+pub record HasSlot (t : Table) (serial : ℕ) (object : Object) : Type 0 where
+  pub number : ℕ
+  pub group : Group
+  pub k : ℕ
+  pub slot : Slot
+  pub there : group_of t number ≡ Some group
+  pub filled : slice_get group.slots k ≡ Some (Some slot)
+  pub serial_is : slot.serial ≡ serial
+  pub address : object.address ≡ slot_address slot.member group.class k
+  pub len : length object.bytes ≡ slot.len
+
+-- table and memory name the same objects with the same addresses and lengths
+pub record IsTied (m : Memory) (t : Table) : Type 0 where
+  pub slots : (number k : ℕ) (group : Group) (slot : Slot) → group_of t number ≡ Some group → slice_get group.slots k ≡ Some (Some slot)
+      → IsLiveSlot m group.class k slot
+  pub objects : (serial : ℕ) (object : Object) → object_of m serial ≡ Some object → HasSlot t serial object

@@ -1,0 +1,15 @@
+//! The heap without its bytes: the table of groups, slots and running meshes, the steps of a mesh, the places of addresses, and what a heap means; and
+//! what is proved of these definitions alone, a file a thought. It has no other code.
+#![tactic(auto)]
+
+pub mod effect_laws;
+pub mod meaning_laws;
+pub mod mesh_laws;
+pub mod new_laws;
+pub mod page_laws;
+pub mod place_laws;
+pub mod protection_laws;
+pub mod record_laws;
+pub mod refusal_laws;
+pub mod table_laws;
+pub mod tied_laws;

@@ -1,0 +1,69 @@
+//! Laws of the table: its transitions keep a sound table sound. Each is the contract of a function that does nothing.
+ghost use Rattle.model_heap.specs.TableLaws.{EmptyIsSound, FreeKeepsSound, SweepKeepsSound, BeginKeepsSound, WholeKeepsSound, CancelKeepsSound, StepKeepsSound, NewKeepsSound, SpanKeepsSound, GroupsAreSound, PageIsOnceInGroup, PageIsOfOneGroup, OpenIsByTests, FoundIsOpen, NewHasLength, NewIsApart, NewIsVacant, AnyTellsBusy, ClassTellsBusy};
+
+/// The table with no span is sound.
+pub fn empty_is_sound()
+    ensures { EmptyIsSound }
+{}
+
+/// An object taken out keeps the table sound.
+pub fn free_keeps_sound()
+    ensures { FreeKeepsSound }
+{}
+
+/// An empty group taken out keeps the table sound.
+pub fn sweep_keeps_sound()
+    ensures { SweepKeepsSound }
+{}
+
+/// A mesh begun keeps the table sound, and so does a whole mesh.
+pub fn begin_keeps_sound()
+    ensures begun { BeginKeepsSound }
+    ensures whole { WholeKeepsSound }
+{}
+
+/// A cancel keeps the table sound, whichever mesh is meant.
+pub fn cancel_keeps_sound()
+    ensures { CancelKeepsSound }
+{}
+
+/// A step keeps the table sound, whichever mesh is meant.
+pub fn step_keeps_sound()
+    ensures { StepKeepsSound }
+{}
+
+/// A new object keeps the table sound, and so does a new span.
+pub fn new_keeps_sound()
+    ensures object { NewKeepsSound }
+    ensures span { SpanKeepsSound }
+{}
+
+/// Each group of a sound table is sound, and its virtual pages are its own.
+pub fn groups_are_sound()
+    ensures found { GroupsAreSound }
+    ensures once { PageIsOnceInGroup }
+    ensures own { PageIsOfOneGroup }
+{}
+
+/// A group is open to new objects where it is of the class and in no mesh, and has a free slot; the one that is found is.
+pub fn groups_are_open()
+    ensures tests { OpenIsByTests }
+    ensures found { FoundIsOpen }
+{}
+
+/// A new object that is not refused has 1 to 2,048 bytes.
+pub fn new_has_length()
+    ensures { NewHasLength }
+{}
+
+/// A new object is apart from each object of the table, and where table and memory are tied, its range is vacant.
+pub fn new_is_apart()
+    ensures slots { NewIsApart }
+    ensures vacant { NewIsVacant }
+{}
+
+/// The two tests of a running mesh tell where no mesh of a class is running.
+pub fn busy_tests()
+    ensures any { AnyTellsBusy }
+    ensures of_class { ClassTellsBusy }
+{}

@@ -1,0 +1,39 @@
+//! Laws of table and memory: every transition keeps them tied. Each is the contract of a function that does nothing.
+ghost use Rattle.model_heap.specs.TiedLaws.{SweepKeepsTied, BeginKeepsTied, WholeKeepsTied, CancelKeepsTied, StepKeepsTied, StoreKeepsTied, RootKeepsTied, FreeKeepsTied, NewKeepsTied};
+
+/// A sweep keeps table and memory tied.
+pub fn sweep_keeps_tied()
+    ensures { SweepKeepsTied }
+{}
+
+/// A mesh begun keeps table and memory tied, and so does a whole mesh.
+pub fn begin_keeps_tied()
+    ensures begun { BeginKeepsTied }
+    ensures whole { WholeKeepsTied }
+{}
+
+/// A cancel keeps table and memory tied, whichever mesh is meant.
+pub fn cancel_keeps_tied()
+    ensures { CancelKeepsTied }
+{}
+
+/// A step keeps the memory tied to a sound table, whichever mesh is meant.
+pub fn step_keeps_tied()
+    ensures { StepKeepsTied }
+{}
+
+/// A store within an object keeps table and memory tied, and so does another serial in a cell.
+pub fn store_keeps_tied()
+    ensures bytes { StoreKeepsTied }
+    ensures root { RootKeepsTied }
+{}
+
+/// An object freed keeps table and memory tied.
+pub fn free_keeps_tied()
+    ensures { FreeKeepsTied }
+{}
+
+/// A new object keeps the memory tied to a sound table.
+pub fn new_keeps_tied()
+    ensures { NewKeepsTied }
+{}

@@ -1,0 +1,12 @@
+mod AnsweredCommands
+mod CommandLines
+mod FieldReadings
+mod Fields
+mod JobHistories
+mod JobPages
+mod JobReplies
+pub mod LineReadings
+mod Readings
+mod RefusedReplies
+mod SpelledFields
+mod TextReadings

@@ -1,0 +1,31 @@
+//! Laws of a job's walk: its history is legal, and its pages are counted. Each is the contract of a function that does nothing.
+ghost use Rattle.model_jobs.specs.JobLaws.{AnsweredIsStep, OpeningIsRunning, AnswerKeepsRunning, LinesKeepRunning, HistoryIsLegal, RepliesAreRecorded, EntriesBeginScripts, JobsKeepCount, ReportsAddUp};
+
+/// Where table and memory are sound and tied, a command is answered as the plain memory may answer it.
+pub fn answered_is_step()
+    ensures { AnsweredIsStep }
+{}
+
+/// A job's table and memory stay sound and tied, and its history legal.
+pub fn jobs_keep_running()
+    ensures opening { OpeningIsRunning }
+    ensures answer { AnswerKeepsRunning }
+    ensures lines { LinesKeepRunning }
+{}
+
+/// The history of a job is legal after any lines of a plan, and the replies that the plan's answers tell are its entries', in their order.
+pub fn history_is_legal()
+    ensures legal { HistoryIsLegal }
+    ensures replies { RepliesAreRecorded }
+{}
+
+/// What a worker was answered is the beginning of its script.
+pub fn entries_begin_scripts()
+    ensures { EntriesBeginScripts }
+{}
+
+/// A job's pages are counted after any lines of its plan, so a report adds up.
+pub fn job_pages_are_counted()
+    ensures jobs { JobsKeepCount }
+    ensures reports { ReportsAddUp }
+{}

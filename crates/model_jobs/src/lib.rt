@@ -1,0 +1,8 @@
+//! Jobs: their texts, how a text is read, what each line is answered, and what a whole text prints; and what is proved of these definitions alone, a
+//! file a thought. It has no other code.
+#![tactic(auto)]
+
+pub mod job_laws;
+pub mod reader_laws;
+pub mod refusal_laws;
+pub mod text_laws;

@@ -1,0 +1,15 @@
+mod Addresses
+mod Calls
+mod CopiedRanges
+pub mod FittingCalls
+pub mod Histories
+pub mod NamedObjects
+pub mod Objects
+mod RefusedCommands
+pub mod RefusedReplies
+mod Replies
+mod RightReads
+mod SeatedCalls
+mod SettledSeats
+mod ToldReads
+pub mod WovenCalls

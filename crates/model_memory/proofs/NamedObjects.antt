@@ -1,0 +1,97 @@
+-- The live objects that cells and addresses name.
+use Rattle.std.proofs.Common.{◌≡◌, ℕ, suc, ◌+◌, ◌<◌, ◌≤◌, Bool, true, false, ◌||◌, nat_lt, nat_le, List, [], ◌∷◌, length, slice_index_or, slice_range, ap, subst, refl, sym, ◌∙◌, arith, inl, inr, Option, Some, None, Ok}
+use Rattle.std.proofs.lemmas.Bool.Decides.{leb_tells}
+use Rattle.std.proofs.lemmas.List.{length-take, length-drop}
+use Rattle.model_words.proofs.Chains.{or_refuse_went}
+use Rattle.model_words.proofs.Tests.{tells, both_hold}
+use Rattle.model_memory.specs.Memory.{Memory, Object, has_address, holder_from, holder_of, object_of, root_of}
+use Rattle.model_memory.specs.Plain.{Named, both_named, ends_outside, holding, named_by}
+use Rattle.model_words.specs.declared.refusals.Refusal.TheVariants.{Empty, Freed, Stray}
+
+-- the object that a cell names is live
+pub named_live : (m : Memory) (cell : ℕ) (named : Named) → named_by m cell ≡ Ok named → object_of m named.serial ≡ Some named.object
+named_live m cell named h =
+    let serial = or_refuse_went Empty (root_of m cell) _ named h in
+    let object = or_refuse_went Freed (object_of m serial.value) _ named serial.then in
+    let done = object.then in
+    let is : record { serial = serial.value; object = object.value } ≡ named = cc done in
+    subst (λ (x : Named). object_of m x.serial ≡ Some x.object) is object.is
+
+-- the object of a list, counted from a number, that has the address
+pub record IsHolder (objects : List (Option Object)) (from serial address : ℕ) : Type 0 where
+  pub at : ℕ
+  pub object : Object
+  pub is : serial ≡ from + at
+  pub live : slice_index_or objects at None ≡ Some object
+  pub has : has_address object address ≡ true
+
+-- the holder of an address has it
+pub holder_has : (objects : List (Option Object)) (from serial address : ℕ) → holder_from from objects address ≡ Some serial → IsHolder objects from serial address
+holder_has [] from serial address h = absurd (cc)
+holder_has (None ∷ objects) from serial address h =
+    let rest = holder_has objects (from + 1) serial address h in let is : serial ≡ from + 1 + rest.at = rest.is in
+    record { at = suc rest.at; object = rest.object; is = omega (arith, is); live = rest.live; has = rest.has }
+holder_has (Some object ∷ objects) from serial address h = elim (tells (has_address object address)) [
+  | inl pass ↦ let here : Some from ≡ Some serial = rw pass at h in let same : from ≡ serial = cc here in
+      record { at = 0; object = object; is = omega (arith, same); live = refl; has = pass }
+  | inr fail ↦ let later : holder_from (from + 1) objects address ≡ Some serial = rw fail at h in
+      let rest = holder_has objects (from + 1) serial address later in let is : serial ≡ from + 1 + rest.at = rest.is in
+      record { at = suc rest.at; object = rest.object; is = omega (arith, is); live = rest.live; has = rest.has }
+]
+
+-- an object that is live and has the address
+pub record IsHeld (m : Memory) (named : Named) (address : ℕ) : Type 0 where
+  pub live : object_of m named.serial ≡ Some named.object
+  pub from : named.object.address ≤ address
+  pub below : address < named.object.address + length named.object.bytes
+
+-- an address that an object has is in its range
+in_range : (object : Object) (address : ℕ) → has_address object address ≡ true
+    → (object.address ≤ address) × (address < object.address + length object.bytes)
+in_range object address h =
+    let parts = both_hold (nat_le object.address address) (nat_lt address (object.address + length object.bytes)) h in
+    (least object.address address parts.0, least (suc address) (object.address + length object.bytes) parts.1)
+  where
+    least : (a b : ℕ) → nat_le a b ≡ true → a ≤ b
+    least a b h = elim (leb_tells a b) [ inl below ↦ below.1 | inr past ↦ let clash : false ≡ true = rw past.0 at h in absurd (cc clash) ]
+
+-- the object that has an address is live and has it
+pub holding_held : (m : Memory) (address : ℕ) (named : Named) → holding m address ≡ Ok named → IsHeld m named address
+holding_held m address named h =
+    let serial = or_refuse_went Stray (holder_of m address) _ named h in
+    let object = or_refuse_went Stray (object_of m serial.value) _ named serial.then in
+    let done = object.then in
+    let is : record { serial = serial.value; object = object.value } ≡ named = cc done in
+    let holder = holder_has m.objects 0 serial.value address serial.is in
+    let at : serial.value ≡ holder.at = (let e = holder.is in omega (arith, e)) in
+    let both : Some object.value ≡ Some holder.object = sym object.is ∙ ap (λ (s : ℕ). object_of m s) at ∙ holder.live in
+    let same : object.value ≡ holder.object = cc both in
+    let range = in_range object.value address (ap (λ (o : Object). has_address o address) same ∙ holder.has) in
+    subst (λ (x : Named). IsHeld m x address) is (record { live = object.is; from = range.0; below = range.1 })
+
+-- a range that does not end outside is within the object
+pub within_object : (object : Object) (off len : ℕ) → ends_outside object off len ≡ false → off + len ≤ length object.bytes
+within_object object off len h = elim (leb_tells (suc (length object.bytes)) (off + len)) [
+  | inl past ↦ let clash : true ≡ false = rw past.0 at h in absurd (cc clash)
+  | inr within ↦ omega (arith, within.1)
+]
+
+-- the first of the two objects that cells name is live
+pub both_live : (m : Memory) (to from : ℕ) (pair : Named × Named) → both_named m to from ≡ Ok pair
+    → (object_of m pair.0.serial ≡ Some pair.0.object) × (object_of m pair.1.serial ≡ Some pair.1.object)
+both_live m to from pair h =
+    let s = or_refuse_went Empty (root_of m to) _ pair h in let u = or_refuse_went Empty (root_of m from) _ pair s.then in
+    let a = or_refuse_went Freed (object_of m s.value) _ pair u.then in let b = or_refuse_went Freed (object_of m u.value) _ pair a.then in
+    let done = b.then in
+    let is : (record { serial = s.value; object = a.value }, record { serial = u.value; object = b.value }) ≡ pair = cc done in
+    subst (λ (x : Named × Named). (object_of m x.0.serial ≡ Some x.0.object) × (object_of m x.1.serial ≡ Some x.1.object)) is (a.is, b.is)
+
+-- neither of two tests holds
+pub neither_holds : (a b : Bool) → (a || b) ≡ false → (a ≡ false) × (b ≡ false)
+neither_holds false false h = (refl, refl)
+neither_holds false true h = absurd (cc h)
+neither_holds true b h = absurd (cc h)
+
+-- as many bytes as were read
+pub read_length : (bytes : List ℕ) (off len : ℕ) → off + len ≤ length bytes → length (slice_range bytes off (off + len)) ≡ len
+read_length bytes off len within = simp (length-take, length-drop) (omega (arith, within))

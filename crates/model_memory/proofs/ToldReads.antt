@@ -1,0 +1,96 @@
+-- At most one read is told, and few objects are made.
+use Rattle.std.proofs.Common.{◌≡◌, ℕ, suc, ◌+◌, ◌<◌, ◌≤◌, List, [], ◌∷◌, length, subst, refl, sym, arith, inl, inr, Result, Ok, Err, Some, ◌||◌, replicate}
+use Rattle.std.proofs.lemmas.Bool.Decides.{leb_tells}
+use Rattle.std.proofs.lemmas.List.{length-append, length-set}
+use Rattle.model_memory.specs.Memory.{Memory, next_serial}
+use Rattle.model_memory.specs.Plain.{Entry, both_named, ends_outside, holding, named_by}
+use Rattle.model_memory.specs.Reads.{Kept, ReadDiffers, left_by, made_by, memory_after, memory_or}
+use Rattle.model_words.specs.Words.{◌>>=◌, refuse_if}
+use Rattle.model_words.specs.declared.commands.Command.{Command}
+use Rattle.model_words.specs.declared.commands.Command.TheVariants.{New, Put, Get, Free, Alias, Addr, Peek, Poke, Copy}
+use Rattle.model_words.specs.declared.commands.Reply.TheVariants.{Object as Made, Done, Bytes, At, Byte, Refused}
+use Rattle.model_words.specs.declared.refusals.Refusal.{Refusal}
+use Rattle.model_words.specs.declared.refusals.Refusal.TheVariants.{Outside}
+use Rattle.model_words.specs.declared.commands.Reply.{Reply}
+
+-- the seat of a read that is told is not above that of another one
+not_above : (seats : List (List Kept)) (entries : List Entry) (w i v j : ℕ) → ReadDiffers seats entries w i → ReadDiffers seats entries v j → v < w → ⊥
+not_above seats entries w i v j at_w at_v above = at_v.wrong (at_w.right_below v above j)
+
+-- nor is its place
+not_later : (seats : List (List Kept)) (entries : List Entry) (w i j : ℕ) → ReadDiffers seats entries w i → ReadDiffers seats entries w j → j < i → ⊥
+not_later seats entries w i j at_i at_j above = at_j.wrong (at_i.right_before j above)
+
+-- at most one read is told
+pub differ_once : (seats : List (List Kept)) (entries : List Entry) (w i v j : ℕ) → ReadDiffers seats entries w i → ReadDiffers seats entries v j
+    → (w ≡ v) × (i ≡ j)
+differ_once seats entries w i v j at_w at_v = elim (leb_tells (suc v) w) [
+  | inl above ↦ absurd (not_above seats entries w i v j at_w at_v above.1)
+  | inr not_above_w ↦ elim (leb_tells (suc w) v) [
+    | inl above ↦ absurd (not_above seats entries v j w i at_v at_w above.1)
+    | inr not_above_v ↦
+        let same : v ≡ w = omega (arith, not_above_w.1, not_above_v.1) in
+        let here : ReadDiffers seats entries w j = subst (λ (x : ℕ). ReadDiffers seats entries x j) same at_v in (
+          sym same,
+          elim (leb_tells (suc j) i) [
+            | inl later ↦ absurd (not_later seats entries w i j at_w here later.1)
+            | inr not_later_i ↦ elim (leb_tells (suc i) j) [
+              | inl later ↦ absurd (not_later seats entries w j i here at_w later.1)
+              | inr not_later_j ↦ omega (arith, not_later_i.1, not_later_j.1)
+            ]
+          ],
+        )
+  ]
+]
+
+-- a result leaves as many objects where each value that goes on does
+same_many : {X : Type 0} (m : Memory) (r : Result X Refusal) (f : X → Result (Reply × Memory) Refusal)
+    → ((x : X) → next_serial (memory_or m (f x)) ≡ next_serial m) → next_serial (memory_or m (r >>= f)) ≡ next_serial m
+same_many m (Ok x) f goes = goes x
+same_many m (Err refusal) f goes = refl
+
+-- a reply to a `new` tells of one object or none
+made_many : (m : Memory) (cell len : ℕ) (reply : Reply) → next_serial (made_by m cell len reply) ≤ suc (next_serial m)
+made_many m cell len (Made serial address) =
+    let l = length-append m.objects (Some (record { address = address; bytes = replicate len 0 }) ∷ []) in omega (arith, l)
+made_many m cell len Done = omega arith
+made_many m cell len (Bytes bytes) = omega arith
+made_many m cell len (At address) = omega arith
+made_many m cell len (Byte byte) = omega arith
+made_many m cell len (Refused refusal) = omega arith
+
+-- an answered command makes at most one object
+pub one_made : (m : Memory) (command : Command) (reply : Reply) → next_serial (left_by m command reply) ≤ suc (next_serial m)
+one_made m (New cell len word) reply = made_many m cell len reply
+one_made m (Put cell off bytes) reply =
+    let same : next_serial (left_by m (Put cell off bytes) reply) ≡ next_serial m =
+    same_many m (named_by m cell) _ (λ named. same_many m (refuse_if Outside (ends_outside named.object off (length bytes.items))) _ (λ _. length-set m.objects named.serial _)) in
+    omega (arith, same)
+one_made m (Get cell off len) reply =
+    let same : next_serial (left_by m (Get cell off len) reply) ≡ next_serial m =
+    same_many m (named_by m cell) _ (λ named. same_many m (refuse_if Outside (ends_outside named.object off len)) _ (λ _. refl)) in
+    omega (arith, same)
+one_made m (Free cell) reply =
+    let same : next_serial (left_by m (Free cell) reply) ≡ next_serial m = same_many m (named_by m cell) _ (λ named. length-set m.objects named.serial _) in
+    omega (arith, same)
+one_made m (Alias to from) reply =
+    let same : next_serial (left_by m (Alias to from) reply) ≡ next_serial m = same_many m (named_by m from) _ (λ named. refl) in omega (arith, same)
+one_made m (Addr cell) reply =
+    let same : next_serial (left_by m (Addr cell) reply) ≡ next_serial m = same_many m (named_by m cell) _ (λ named. refl) in omega (arith, same)
+one_made m (Peek place) reply =
+    let same : next_serial (left_by m (Peek place) reply) ≡ next_serial m = same_many m (holding m place) _ (λ named. refl) in omega (arith, same)
+one_made m (Poke place byte) reply =
+    let same : next_serial (left_by m (Poke place byte) reply) ≡ next_serial m =
+    same_many m (holding m place) _ (λ named. length-set m.objects named.serial _) in
+    omega (arith, same)
+one_made m (Copy to to_off from from_off len) reply =
+    let same : next_serial (left_by m (Copy to to_off from from_off len) reply) ≡ next_serial m =
+    same_many m (both_named m to from) _ (λ pair.
+    same_many m (refuse_if Outside (ends_outside pair.0.object to_off len || ends_outside pair.1.object from_off len)) _
+    (λ _. length-set m.objects pair.0.serial _)) in
+    omega (arith, same)
+
+-- as many commands make at most as many
+pub few_made : (entries : List Entry) (m : Memory) → next_serial (memory_after m entries) ≤ next_serial m + length entries
+few_made [] m = omega arith
+few_made (e ∷ es) m = let one = one_made m e.command e.reply in let rest = few_made es (left_by m e.command e.reply) in omega (arith, one, rest)

@@ -1,0 +1,11 @@
+pub mod AddressLaws
+pub mod CopyLaws
+pub mod HistoryLaws
+pub mod Memory
+pub mod Plain
+pub mod ReadLaws
+pub mod Reads
+pub mod RefusalLaws
+pub mod SeatLaws
+pub mod Seats
+pub mod StepLaws

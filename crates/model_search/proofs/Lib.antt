@@ -1,0 +1,3 @@
+mod Candidates
+pub mod Searches
+pub mod Shuffles

@@ -1,0 +1,4 @@
+pub mod Chains
+pub mod ClassSizes
+pub mod LowestRefusals
+pub mod Tests

@@ -1,0 +1,64 @@
+//! The faults of a job's text.
+ghost use Rattle.std.specs.Prelude.{◌≡◌};
+ghost use Rattle.model_words.specs.Faults.{kind_name_of};
+
+use thiserror::Error;
+
+/// What is wrong with a line of a job's text.
+///
+/// The first line with a fault is told, with the first kind of this list that holds for it. The order is this project's own.
+#[derive(Clone, Copy, Debug, PartialEq, Eq, Error)]
+pub enum FaultKind {
+    /// The file has more than 1,048,576 bytes; the line is 0.
+    #[error("TOO_LONG")]
+    TooLong,
+    /// A byte follows the line end of `end`; the line is the one after it.
+    #[error("TRAILING")]
+    Trailing,
+    /// The first 1,025 bytes of the line hold no line end.
+    #[error("LONG_LINE")]
+    LongLine,
+    /// The input ends before the line's end, or where a line must begin.
+    #[error("CUT")]
+    Cut,
+    /// A byte outside 20 to 7e.
+    #[error("BYTE")]
+    Byte,
+    /// An empty field, a first field that isn't allowed in this place, or a wrong number of fields.
+    #[error("WORD")]
+    Word,
+    /// A number or an address that is spelt wrongly or out of range.
+    #[error("NUMBER")]
+    Number,
+    /// Bytes that are spelt wrongly, or of a wrong length.
+    #[error("HEX")]
+    Hex,
+}
+
+impl FaultKind {
+    /// The name that a fault line prints, in upper case.
+    pub fn name(self) -> &'static str
+        ensures { result.now ≡ kind_name_of self }
+    {
+        match self {
+            FaultKind::TooLong => "TOO_LONG",
+            FaultKind::Trailing => "TRAILING",
+            FaultKind::LongLine => "LONG_LINE",
+            FaultKind::Cut => "CUT",
+            FaultKind::Byte => "BYTE",
+            FaultKind::Word => "WORD",
+            FaultKind::Number => "NUMBER",
+            FaultKind::Hex => "HEX",
+        }
+    }
+}
+
+/// The first fault of a job's text: the line, numbered from 1, and the kind.
+#[derive(Clone, Copy, Debug, PartialEq, Eq, Error)]
+#[error("line {line}: {kind}")]
+pub struct TextFault {
+    /// The line's number, from 1; 0 where the whole file is too long.
+    pub line: u32,
+    /// What is wrong with it.
+    pub kind: FaultKind,
+}

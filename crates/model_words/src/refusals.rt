@@ -1,0 +1,117 @@
+//! The seventeen reasons for which a call on the heap can be refused.
+ghost use Rattle.std.specs.Prelude.{◌≡◌, ◌≤◌, codes};
+ghost use Rattle.model_words.specs.Refusals.{number_of, name_of};
+
+use thiserror::Error;
+
+/// Why a call was refused. A refusal changes nothing in heap and roots.
+///
+/// Where several hold for one call, the one with the lowest number is answered. Numbers and names are this project's own.
+#[derive(Clone, Copy, Debug, PartialEq, Eq, Error)]
+pub enum Refusal {
+    /// `new`: the length is 0.
+    #[error("ZERO")]
+    Zero,
+    /// `new`: the length is above 2,048.
+    #[error("TOO_LARGE")]
+    TooLarge,
+    /// `new`: no open group has a free slot, and the arena has too few free pages for a new span.
+    #[error("NO_PAGES")]
+    NoPages,
+    /// `new`: no open group has a free slot, and too few virtual pages were never used.
+    #[error("NO_ADDRESSES")]
+    NoAddresses,
+    /// The root cell holds no reference.
+    #[error("EMPTY")]
+    Empty,
+    /// The object that the reference names is no longer live.
+    #[error("FREED")]
+    Freed,
+    /// Offset and length together are above the object's length.
+    #[error("OUTSIDE")]
+    Outside,
+    /// `peek`, `poke`: the address is in no live object's range.
+    #[error("STRAY")]
+    Stray,
+    /// The number names no group now.
+    #[error("NO_GROUP")]
+    NoGroup,
+    /// Source and destination are one group.
+    #[error("SAME")]
+    Same,
+    /// The two groups have different size classes.
+    #[error("CLASS")]
+    Class,
+    /// A mesh is running, or the group is in one.
+    #[error("BUSY")]
+    Busy,
+    /// The two groups have an occupied slot number in common.
+    #[error("OVERLAP")]
+    Overlap,
+    /// The two groups have more than eight members together.
+    #[error("MEMBERS")]
+    Members,
+    /// No mesh is running.
+    #[error("NO_MESH")]
+    NoMesh,
+    /// `cancel`: the first remap was made.
+    #[error("TOO_LATE")]
+    TooLate,
+    /// `sweep`: the group has an object.
+    #[error("NOT_EMPTY")]
+    NotEmpty,
+}
+
+impl Refusal {
+    /// The number, 1 to 17, that answer lines print.
+    pub fn number(self) -> u8
+        ensures value { result ≡ number_of self }
+        ensures first { 1 ≤ result }
+        ensures last { result ≤ 17 }
+    {
+        match self {
+            Refusal::Zero => 1,
+            Refusal::TooLarge => 2,
+            Refusal::NoPages => 3,
+            Refusal::NoAddresses => 4,
+            Refusal::Empty => 5,
+            Refusal::Freed => 6,
+            Refusal::Outside => 7,
+            Refusal::Stray => 8,
+            Refusal::NoGroup => 9,
+            Refusal::Same => 10,
+            Refusal::Class => 11,
+            Refusal::Busy => 12,
+            Refusal::Overlap => 13,
+            Refusal::Members => 14,
+            Refusal::NoMesh => 15,
+            Refusal::TooLate => 16,
+            Refusal::NotEmpty => 17,
+        }
+    }
+
+    /// The name that answer lines print, in upper case.
+    pub fn name(self) -> &'static str
+        ensures { result.now ≡ name_of self }
+    {
+        match self {
+            Refusal::Zero => "ZERO",
+            Refusal::TooLarge => "TOO_LARGE",
+            Refusal::NoPages => "NO_PAGES",
+            Refusal::NoAddresses => "NO_ADDRESSES",
+            Refusal::Empty => "EMPTY",
+            Refusal::Freed => "FREED",
+            Refusal::Outside => "OUTSIDE",
+            Refusal::Stray => "STRAY",
+            Refusal::NoGroup => "NO_GROUP",
+            Refusal::Same => "SAME",
+            Refusal::Class => "CLASS",
+            Refusal::Busy => "BUSY",
+            Refusal::Overlap => "OVERLAP",
+            Refusal::Members => "MEMBERS",
+            Refusal::NoMesh => "NO_MESH",
+            Refusal::TooLate => "TOO_LATE",
+            Refusal::NotEmpty => "NOT_EMPTY",
+        }
+    }
+}
