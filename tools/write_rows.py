@@ -1,8 +1,8 @@
 #!/usr/bin/env python3
-"""Writes the crate mesh_rows, and the tables of program_tests, from the files under jobs/rows.
+"""Writes the crate mesh_rows, and the tables of mesh_run_tests, from the files under jobs/rows.
 
 Each folder there is a subject, and each NAME.job in it a row: NAME.out has the lines that the job is answered, or NAME.err the fault of a file
-that is no job. In mesh_rows a subject becomes a spec file, a function whose clauses are its rows, and that function's proof; in program_tests
+that is no job. In mesh_rows a subject becomes a spec file, a function whose clauses are its rows, and that function's proof; in mesh_run_tests
 the rows become tables, one a subject. Run it from the top of the repository after a row was added or changed; what it writes is
 committed.
 """
@@ -13,7 +13,7 @@ import subprocess
 
 ROWS = pathlib.Path("jobs/rows")
 CRATE = pathlib.Path("crates/mesh_rows")
-TESTS = pathlib.Path("crates/program_tests")
+TESTS = pathlib.Path("crates/mesh_run_tests")
 # The definitions are computed on files below this length; the longer one is there for the program alone.
 MOST_BYTES = 100_000
 

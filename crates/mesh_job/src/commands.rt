@@ -10,7 +10,7 @@ use crate::numbers::{cell, number, number32};
 use model_words::{Command, FaultKind, Version};
 
 /// The greatest length that a `new` may ask for, and the greatest offset of a `put`, a `get` or a `copy`.
-const MOST_LENGTH: u32 = 65_535;
+const MAX_LENGTH: u32 = 65_535;
 
 /// The command of a line with this word and these fields. WORD where the version has no such command, or another number of fields.
 pub(crate) fn command_of(
@@ -61,7 +61,7 @@ fn new_of(fields: &[&[u8]]) -> Result<Command, FaultKind>
 {
     let (to, len, word) = three_fields(fields)?;
     let to = cell(to)?;
-    let len = number32(len, 0, MOST_LENGTH)?;
+    let len = number32(len, 0, MAX_LENGTH)?;
     let word = number(word, 0, u64::MAX)?;
     Ok(Command::New(to, len, word))
 }
@@ -73,7 +73,7 @@ fn put_of(fields: &[&[u8]]) -> Result<Command, FaultKind>
 {
     let (of, off, stored) = three_fields(fields)?;
     let of = cell(of)?;
-    let off = number32(off, 0, MOST_LENGTH)?;
+    let off = number32(off, 0, MAX_LENGTH)?;
     let stored = bytes(stored)?;
     Ok(Command::Put(of, off, stored))
 }
@@ -85,7 +85,7 @@ fn get_of(fields: &[&[u8]]) -> Result<Command, FaultKind>
 {
     let (of, off, len) = three_fields(fields)?;
     let of = cell(of)?;
-    let off = number32(off, 0, MOST_LENGTH)?;
+    let off = number32(off, 0, MAX_LENGTH)?;
     let len = number32(len, 1, 32)?;
     Ok(Command::Get(of, off, len))
 }
@@ -149,9 +149,9 @@ fn copy_of(fields: &[&[u8]]) -> Result<Command, FaultKind>
 {
     let (to, to_off, from, from_off, len) = five_fields(fields)?;
     let to = cell(to)?;
-    let to_off = number32(to_off, 0, MOST_LENGTH)?;
+    let to_off = number32(to_off, 0, MAX_LENGTH)?;
     let from = cell(from)?;
-    let from_off = number32(from_off, 0, MOST_LENGTH)?;
+    let from_off = number32(from_off, 0, MAX_LENGTH)?;
     let count = number32(len, 1, 32)?;
     Ok(Command::Copy(to, to_off, from, from_off, count))
 }

@@ -18,12 +18,12 @@ use std::alloc::Global;
 use std::mem;
 
 /// The most pages of an arena, and the most entries of a journal.
-const MOST_PAGES: u32 = 4096;
+const MAX_PAGES: u32 = 4096;
 
-const MOST_HISTORY: u32 = 65_536;
+const MAX_HISTORY: u32 = 65_536;
 
 /// The most workers of a job.
-const MOST_WORKERS: u32 = 64;
+const MAX_WORKERS: u32 = 64;
 
 /// Where in its file a line stands.
 #[derive(Clone, Copy)]
@@ -162,15 +162,15 @@ impl Draft {
                 self.section = Section::Pages;
             }
             Section::Pages => {
-                self.pages = header(word, fields, b"pages", 1, MOST_PAGES)?;
+                self.pages = header(word, fields, b"pages", 1, MAX_PAGES)?;
                 self.section = Section::History;
             }
             Section::History => {
-                self.history = header(word, fields, b"history", 0, MOST_HISTORY)?;
+                self.history = header(word, fields, b"history", 0, MAX_HISTORY)?;
                 self.section = Section::Workers;
             }
             Section::Workers => {
-                self.workers = header(word, fields, b"workers", 1, MOST_WORKERS)?;
+                self.workers = header(word, fields, b"workers", 1, MAX_WORKERS)?;
                 self.section = Section::FirstWorker;
             }
             Section::FirstWorker => {

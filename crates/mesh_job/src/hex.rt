@@ -9,7 +9,7 @@ use arrayvec::ArrayVec;
 use model_words::{FaultKind, MAX_BYTES};
 
 /// The greatest address, the last byte of the last virtual page.
-const MOST_ADDRESS: u32 = 0xfff_ffff;
+const MAX_ADDRESS: u32 = 0xfff_ffff;
 
 /// What is no value of a digit.
 const NO_DIGIT: u8 = 16;
@@ -91,7 +91,7 @@ pub(crate) fn address(field: &[u8]) -> Result<u32, FaultKind>
     let Some(value) = digits_value(field) else {
         return Err(FaultKind::Number);
     };
-    if value > MOST_ADDRESS {
+    if value > MAX_ADDRESS {
         return Err(FaultKind::Number);
     }
     Ok(value)

@@ -23,5 +23,5 @@ pub use faults::ReadFault;
 pub use job::{Job, Scripts};
 pub use model_words::{Command, FaultKind, TextFault, Version};
 pub use plan::{Plan, PlanLine, Search};
-pub use reader::{MOST_FILE_BYTES, Reading, read_file};
+pub use reader::{MAX_FILE_BYTES, Reading, read_file};
 pub use script::Script;

@@ -9,13 +9,13 @@ use arrayvec::ArrayVec;
 use model_words::FaultKind;
 
 /// The most bytes of a line, without its end.
-const MOST_LINE_BYTES: usize = 1024;
+const MAX_LINE_BYTES: usize = 1024;
 
 /// The most fields of a line.
-const MOST_FIELDS: usize = 35;
+const MAX_FIELDS: usize = 35;
 
 /// The fields of one line, its word first.
-pub(crate) type Fields<'a> = ArrayVec<&'a [u8], MOST_FIELDS>;
+pub(crate) type Fields<'a> = ArrayVec<&'a [u8], MAX_FIELDS>;
 
 /// The most fields of a line that asks for no search.
 const FEW_FIELDS: usize = 6;
@@ -52,13 +52,13 @@ pub(crate) fn next_line(text: &[u8]) -> Result<Option<(&[u8], &[u8])>, FaultKind
     ensures err { IfErr result (λ kind. IsFaultyLine text.now kind) }
 {
     let Some((line, rest)) = cut(text, b'\n') else {
-        return if text.len() > MOST_LINE_BYTES {
+        return if text.len() > MAX_LINE_BYTES {
             Err(FaultKind::LongLine)
         } else {
             Ok(None)
         };
     };
-    if line.len() > MOST_LINE_BYTES {
+    if line.len() > MAX_LINE_BYTES {
         return Err(FaultKind::LongLine);
     }
     if !line.iter().all(|byte| is_printable(*byte)) {
@@ -75,7 +75,7 @@ pub(crate) fn few_fields<'a>(text: &'a [u8], fields: &mut FewFields<'a>) -> Opti
     ensures filled { IfSome result (λ rest. list_any is_empty (texts fields.new.items) ≡ false) }
     ensures shorter { IfSome result (λ rest. length rest.now < length text.now) }
 {
-    let most = text.len().min(MOST_LINE_BYTES + 1);
+    let most = text.len().min(MAX_LINE_BYTES + 1);
     let mut start = 0;
     while start < most {
         let end = field_end(text, start, most);

@@ -15,13 +15,13 @@ use model_words::{FaultKind, Version};
 use std::alloc::Global;
 
 /// The greatest number of a group.
-const MOST_GROUP: u32 = 65_535;
+const MAX_GROUP: u32 = 65_535;
 
 /// The most rounds of a search.
-const MOST_ROUNDS: u32 = 64;
+const MAX_ROUNDS: u32 = 64;
 
 /// The most words of a search.
-const MOST_WORDS: usize = 32;
+const MAX_WORDS: usize = 32;
 
 /// The line of a plan with this word and these fields, in a job of so many workers. WORD where the version has no such line, or
 /// another number of fields.
@@ -89,8 +89,8 @@ fn begin_of(fields: &[&[u8]]) -> Result<PlanLine, FaultKind>
     ensures { read_line result ≡ begin_in (texts fields.now) }
 {
     let (source, destination) = two_fields(fields)?;
-    let source = number32(source, 0, MOST_GROUP)?;
-    let destination = number32(destination, 0, MOST_GROUP)?;
+    let source = number32(source, 0, MAX_GROUP)?;
+    let destination = number32(destination, 0, MAX_GROUP)?;
     Ok(PlanLine::Begin {
         source,
         destination,
@@ -102,8 +102,8 @@ fn whole_of(fields: &[&[u8]]) -> Result<PlanLine, FaultKind>
     ensures { read_line result ≡ whole_in (texts fields.now) }
 {
     let (source, destination) = two_fields(fields)?;
-    let source = number32(source, 0, MOST_GROUP)?;
-    let destination = number32(destination, 0, MOST_GROUP)?;
+    let source = number32(source, 0, MAX_GROUP)?;
+    let destination = number32(destination, 0, MAX_GROUP)?;
     Ok(PlanLine::Whole {
         source,
         destination,
@@ -115,7 +115,7 @@ fn sweep_of(fields: &[&[u8]]) -> Result<PlanLine, FaultKind>
     ensures { read_line result ≡ sweep_in (texts fields.now) }
 {
     let group = one_field(fields)?;
-    let group = number32(group, 0, MOST_GROUP)?;
+    let group = number32(group, 0, MAX_GROUP)?;
     Ok(PlanLine::Sweep(group))
 }
 
@@ -168,11 +168,11 @@ fn pair_of(alloc: Global, fields: &[&[u8]]) -> Result<PlanLine, LineFault>
     let [size, rounds, words @ ..] = fields else {
         return Err(LineFault::Kind(FaultKind::Word));
     };
-    if words.len() > MOST_WORDS {
+    if words.len() > MAX_WORDS {
         return Err(LineFault::Kind(FaultKind::Word));
     }
     let class = class(*size)?;
-    let rounds = number32(*rounds, 0, MOST_ROUNDS)?;
+    let rounds = number32(*rounds, 0, MAX_ROUNDS)?;
     let words = search_words(alloc, words)?;
     let asked = Box::new(
         alloc,

@@ -12,7 +12,7 @@ use model_words::{FaultKind, TextFault};
 use std::alloc::{AllocError, Global};
 
 /// The most bytes of a job file.
-pub const MOST_FILE_BYTES: usize = 1_048_576;
+pub const MAX_FILE_BYTES: usize = 1_048_576;
 
 /// The job that a file's bytes spell.
 ///
@@ -129,7 +129,7 @@ impl Reading {
         ensures too_long { (result ≡ Err (ReadFault.Text (record { line = 0; kind = FaultKind.TooLong })))
             ↔ (1048576 < bytes_taken self + length rest.now) }
     {
-        if self.taken.saturating_add(rest.len()) > MOST_FILE_BYTES {
+        if self.taken.saturating_add(rest.len()) > MAX_FILE_BYTES {
             return Err(ReadFault::Text(TextFault {
                 line: 0,
                 kind: FaultKind::TooLong,

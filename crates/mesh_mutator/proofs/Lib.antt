@@ -1,7 +1,7 @@
-pub mod Answering
+pub mod Attempts
+pub mod CellAnswers
 pub mod Chains
-pub mod Copying
-pub mod Booking
+pub mod CopyAnswers
 pub mod Headlines
 pub mod KeptBooks
-pub mod Packing
+pub mod KeptEntries

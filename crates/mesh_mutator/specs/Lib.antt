@@ -10,4 +10,4 @@ pub mod Codes
 pub mod Headline
 pub mod Journal
 pub mod Mesher
-pub mod Packing
+pub mod PackedEntries

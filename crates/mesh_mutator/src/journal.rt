@@ -23,7 +23,7 @@ impl Model for Journal {
     ghost use Rattle.std.specs.Prelude.{◌*◌, ◌≤◌, length, vec_capacity};
     ghost use Rattle.std.specs.List.{All};
     ghost use Rattle.mesh_mutator.specs.Journal.{Journal as State, journal_code};
-    ghost use Rattle.mesh_mutator.specs.Packing.{IsWithin, entries_in};
+    ghost use Rattle.mesh_mutator.specs.PackedEntries.{IsWithin, entries_in};
 
     ghost Value = { State };
 

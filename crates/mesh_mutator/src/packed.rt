@@ -1,6 +1,6 @@
 //! Entries as the journal keeps them: packed, with the bytes that commands store and replies load beside them.
 ghost use Rattle.std.specs.Prelude.{◌≡◌, ◌+◌, ◌^◌, ◌<◌, ◌∷◌, [], ◌++◌, length, vec_capacity, vec_len};
-ghost use Rattle.mesh_mutator.specs.Packing.{IsCommandWithin, IsReplyWithin, KeepsMore, bytes_at, command_in, reply_in};
+ghost use Rattle.mesh_mutator.specs.PackedEntries.{IsCommandWithin, IsReplyWithin, KeepsMore, bytes_at, command_in, reply_in};
 
 use crate::entry::bytes_again;
 use crate::{Command, Refusal, Reply};

@@ -1,6 +1,6 @@
 pub mod CommandLines
 pub mod CommandsBuilt
 pub mod FirstWords
+pub mod Messages
 pub mod NumbersRead
-pub mod Telling
 pub mod WordCounts

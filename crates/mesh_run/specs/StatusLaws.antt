@@ -7,7 +7,7 @@ use Rattle.mesh_run.specs.Status.{status_of_error}
 use Rattle.mesh_run.specs.Threads.{stop_of, threads_status, threads_text}
 use Rattle.mesh_run.specs.declared.threads_error.ThreadsError.{ThreadsError}
 use Rattle.mesh_run.specs.declared.threads_error.ThreadsError.TheVariants.{Replay, TooShort, Thread}
-use Rattle.mesh_shared.specs.declared.faults.FinishError.TheVariants.{Memory as FinishMemory}
+use Rattle.mesh_seats.specs.declared.faults.FinishError.TheVariants.{Memory as FinishMemory}
 use Rattle.mesh_shared.specs.declared.stops.RunError.{RunError}
 use Rattle.mesh_shared.specs.declared.stops.RunError.TheVariants.{Memory as RunMemory, Thread as RunThread, Finish}
 use Rattle.mesh_text.specs.declared.faults.ReplayError.{ReplayError}

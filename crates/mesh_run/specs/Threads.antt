@@ -15,7 +15,7 @@ use Rattle.mesh_run.specs.Words.{words_of}
 use Rattle.mesh_run.specs.declared.threads_error.ThreadsError.{ThreadsError}
 use Rattle.mesh_run.specs.declared.threads_error.ThreadsError.TheVariants.{Replay, TooShort, Thread, Run}
 use Rattle.mesh_shared.specs.Runs.{HasRun}
-use Rattle.mesh_shared.specs.declared.faults.FinishError.TheVariants.{Memory as FinishMemory, ReadDiffers, SeatDiffers, SeatMissing}
+use Rattle.mesh_seats.specs.declared.faults.FinishError.TheVariants.{Memory as FinishMemory, ReadDiffers, SeatDiffers, SeatMissing}
 use Rattle.mesh_shared.specs.declared.plan.MeshPlan.{MeshPlan}
 use Rattle.mesh_shared.specs.declared.stops.RunError.{RunError}
 use Rattle.mesh_shared.specs.declared.stops.RunError.TheVariants.{Memory as RunMemory, Thread as RunThread, History, Finish}

@@ -2,9 +2,9 @@
 use Rattle.std.specs.Prelude.{◌≡◌, ℕ, ◌<◌, List, None, length, slice_index_or}
 use Rattle.std.specs.declared.thread.PromisedHandle.{PromisedHandle}
 use Rattle.model_memory.specs.Reads.{kept_by}
-use Rattle.mesh_shared.specs.Meshing.{HasMeshed}
+use Rattle.mesh_shared.specs.MesherRuns.{HasMeshed}
 use Rattle.mesh_shared.specs.Runs.{HasWorked}
-use Rattle.mesh_shared.specs.Seat.{Seat, calls_of_seats}
+use Rattle.mesh_seats.specs.Seat.{Seat, calls_of_seats}
 use Rattle.mesh_shared.specs.declared.mesher.Meshed.{Meshed}
 use Rattle.mesh_shared.specs.declared.mesher.Meshes.{Meshes}
 use Rattle.mesh_shared.specs.declared.worker.Served.{Served}

@@ -1,12 +1,8 @@
 pub use Rattle.model_memory.specs.Plain
 pub use Rattle.model_memory.specs.Reads
 pub use Rattle.model_memory.specs.Seats
-pub mod Differing
 pub mod Joined
-pub mod Meshing
+pub mod MesherRuns
 pub mod RunLaws
 pub mod Runs
-pub mod Seat
-pub mod Settle
 pub mod Stops
-pub mod Walk

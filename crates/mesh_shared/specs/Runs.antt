@@ -6,7 +6,7 @@ use Rattle.model_memory.specs.Plain.{Entry, IsLegal}
 use Rattle.model_memory.specs.Reads.{Kept, kept_by}
 use Rattle.model_memory.specs.Seats.{calls_of}
 use Rattle.model_words.specs.declared.commands.Command.{Command}
-use Rattle.mesh_shared.specs.Seat.{Seat, calls_of_seats}
+use Rattle.mesh_seats.specs.Seat.{Seat, calls_of_seats}
 use Rattle.mesh_shared.specs.declared.stops.Stop.{Stop}
 
 -- the commands of a worker's entries, in their order

@@ -3,11 +3,11 @@ ghost use Rattle.std.specs.Prelude.{◌≡◌, ◌↔◌, ◌≤◌, length, Non
 ghost use Rattle.model_words.specs.Commands.{IsInRange};
 ghost use Rattle.model_memory.specs.Reads.{is_read};
 ghost use Rattle.mesh_mutator.specs.declared.attempts.Attempt.{Attempt};
-ghost use Rattle.mesh_shared.specs.Seat.{IsNew, IsStore, IsTaken};
+ghost use Rattle.mesh_seats.specs.Seat.{IsNew, IsStore, IsTaken};
 
 use crate::guarded::{act, look};
-use crate::kept::is_read;
-use crate::seat::Seat;
+use mesh_seats::is_read;
+use mesh_seats::Seat;
 use crate::shared::Shared;
 use mesh_mutator::{Attempt, Command};
 use mesh_search::{Actor, Gate, Point};

@@ -9,12 +9,12 @@ ghost use Rattle.model_memory.specs.Reads.{is_read};
 ghost use Rattle.mesh_mutator.specs.Book.{IsAttempt, IsLooked, table_of_book};
 ghost use Rattle.mesh_mutator.specs.Mesher.{KeepsBook};
 ghost use Rattle.mesh_mutator.specs.declared.attempts.Attempt.{Attempt};
-ghost use Rattle.mesh_shared.specs.Meshing.{IsOver, IsSpent};
-ghost use Rattle.mesh_shared.specs.Seat.{IsNew, IsNoted, IsStore, noted};
+ghost use Rattle.mesh_shared.specs.MesherRuns.{IsOver, IsSpent};
+ghost use Rattle.mesh_seats.specs.Seat.{IsNew, IsNoted, IsStore, noted};
 ghost use Rattle.mesh_steps.specs.HeapMeshes.{IsMeshBegun, IsStepMade};
 
 use crate::calls::Calls;
-use crate::seat::Seat;
+use mesh_seats::Seat;
 use mesh_class::Class;
 use mesh_mutator::{Attempt, Book, Command, Refusal, Reply};
 use mesh_search::Pair;

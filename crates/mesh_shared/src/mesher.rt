@@ -1,7 +1,7 @@
 //! A mesher of a run.
 ghost use Rattle.std.specs.Prelude.{◌≡◌, ◌+◌, ◌↔◌, ◌≤◌, IfOk, IsTrue, None, length, map};
 ghost use Rattle.model_search.specs.Search.{search, views};
-ghost use Rattle.mesh_shared.specs.Meshing.{AreOwn, HasMeshed, HasSearched, IsOver, own_views, words_in};
+ghost use Rattle.mesh_shared.specs.MesherRuns.{AreOwn, HasMeshed, HasSearched, IsOver, own_views, words_in};
 
 use crate::calls::Calls;
 use crate::guarded::{begin, step};

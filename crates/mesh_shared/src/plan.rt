@@ -1,6 +1,6 @@
 //! What meshers do in a run, and how long threads go on.
 ghost use Rattle.std.specs.Prelude.{◌≡◌};
-ghost use Rattle.mesh_shared.specs.Meshing.{words_in};
+ghost use Rattle.mesh_shared.specs.MesherRuns.{words_in};
 
 /// What meshers do while scripts run. In each of its rounds a mesher takes the views of its classes, searches them, and meshes each pair.
 #[derive(Drop)]

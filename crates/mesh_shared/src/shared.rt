@@ -5,12 +5,12 @@ ghost use Rattle.model_memory.specs.Reads.{is_read};
 ghost use Rattle.mesh_mutator.specs.declared.attempts.Attempt.{Attempt};
 ghost use Rattle.model_memory.specs.Plain.{Entry};
 ghost use Rattle.mesh_mutator.specs.Book.{memory_in};
-ghost use Rattle.mesh_shared.specs.Seat.{IsEmptySeats, IsTaken};
-ghost use Rattle.mesh_shared.specs.Settle.{IsEnd, IsFault};
+ghost use Rattle.mesh_seats.specs.Seat.{IsEmptySeats, IsTaken};
+ghost use Rattle.mesh_seats.specs.Settle.{IsEnd, IsFault};
 
-use crate::ending::{Ended, settle};
-use crate::faults::{FinishError, OpenError};
-use crate::seat::Seat;
+use mesh_seats::{Ended, settle};
+use mesh_seats::{FinishError, OpenError};
+use mesh_seats::Seat;
 use mesh_mutator::{Attempt, Book, Command};
 use mesh_search::NoGate;
 use std::alloc::{AllocError, Global};

@@ -4,7 +4,7 @@ ghost use Rattle.mesh_shared.specs.Stops.{either_stop, error_of, first_of, stop_
 ghost use Rattle.mesh_shared.specs.declared.stops.RunError.{RunError};
 ghost use Rattle.mesh_shared.specs.declared.stops.Stop.{Stop};
 
-use crate::faults::{FinishError, OpenError};
+use mesh_seats::{FinishError, OpenError};
 use mesh_search::SearchError;
 use std::alloc::AllocError;
 use std::thread::SpawnError;

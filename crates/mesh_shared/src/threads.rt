@@ -4,14 +4,14 @@ ghost use Rattle.std.specs.List.{All};
 ghost use Rattle.model_words.specs.Commands.{IsInRange};
 ghost use Rattle.mesh_mutator.specs.Book.{memory_in};
 ghost use Rattle.mesh_shared.specs.Joined.{HaveMeshed, HaveServed};
-ghost use Rattle.mesh_shared.specs.Meshing.{AreMeshed, HasMeshed};
+ghost use Rattle.mesh_shared.specs.MesherRuns.{AreMeshed, HasMeshed};
 ghost use Rattle.mesh_shared.specs.Runs.{AreServed, HasBegun, HasRun, HasWorked};
 ghost use Rattle.mesh_shared.specs.Stops.{first_stop};
 
-use crate::ending::Ended;
+use mesh_seats::Ended;
 use crate::mesher::{Meshed, Mesher, Meshes};
 use crate::plan::{MeshPlan, Patience};
-use crate::seat::Seat;
+use mesh_seats::Seat;
 use crate::shared::Shared;
 use crate::stops::{RunError, Stop, either_stop};
 use crate::worker::{Served, Works, serve};

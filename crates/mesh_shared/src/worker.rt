@@ -5,7 +5,7 @@ ghost use Rattle.model_words.specs.Commands.{IsInRange};
 ghost use Rattle.mesh_shared.specs.Runs.{HasWorked};
 
 use crate::calling::counted;
-use crate::seat::Seat;
+use mesh_seats::Seat;
 use crate::shared::Shared;
 use crate::stops::Stop;
 use mesh_mutator::{Attempt, Command};

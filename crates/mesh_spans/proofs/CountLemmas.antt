@@ -14,7 +14,7 @@ use Rattle.mesh_spans.specs.Counts.{IsCounted, IsPart, IsWithin, byte_count, byt
 use Rattle.mesh_spans.specs.declared.totals.Totals.{Totals}
 use Rattle.mesh_spans.specs.Groups.{first_of, groups_from, groups_of, table_group}
 use Rattle.mesh_spans.specs.Index.{GroupEntry, Index, IsGroup, IsIndex, IsObject, SpanEntry, group_at, slot_in, with_entry, with_slot}
-use Rattle.mesh_spans.proofs.FilingLemmas.{few_groups}
+use Rattle.mesh_spans.proofs.BinLemmas.{few_groups}
 
 -- terms of at most c sum to at most c for each
 sum_few : {X : Type 0} (f : X → ℕ) (d : X) (c : ℕ) (xs : List X) → ((k : ℕ) → f (slice_index_or xs k d) ≤ c) → sum_by f xs ≤ length xs * c

@@ -6,10 +6,10 @@ use Rattle.mesh_bins.specs.Words.{IsLeast}
 use Rattle.mesh_class.specs.Classes.{slots_of}
 use Rattle.model_heap.specs.Table.{Group}
 use Rattle.std.specs.Prelude.{IfNone, IfSome, IsSomeAnd}
-use Rattle.mesh_spans.specs.Filing.{candidate_from, candidates_from, is_partial}
+use Rattle.mesh_spans.specs.GroupBins.{candidate_from, candidates_from, is_partial}
 use Rattle.mesh_spans.specs.Groups.{groups_from, groups_of, is_closed, table_group}
 use Rattle.mesh_spans.specs.Index.{GroupEntry, Index, IsIndex, SpanEntry, group_at}
-use Rattle.mesh_spans.proofs.FilingLemmas.{number_fits}
+use Rattle.mesh_spans.proofs.BinLemmas.{number_fits}
 use Rattle.mesh_spans.proofs.IndexLemmas.{group_below}
 
 -- the first group that a test passes

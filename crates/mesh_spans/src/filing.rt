@@ -4,7 +4,7 @@ ghost use Rattle.std.specs.FinSet as set;
 ghost use Rattle.mesh_bins.specs.Words.{IsLeast};
 ghost use Rattle.mesh_class.specs.Classes.{IsClass};
 ghost use Rattle.mesh_spans.specs.Counts.{IsPart, IsWithin, counts_of, recounted};
-ghost use Rattle.mesh_spans.specs.Filing.{AreMoved, bin_at, class_place, file_of, filed, lower_of, unfiled};
+ghost use Rattle.mesh_spans.specs.GroupBins.{AreMoved, bin_at, class_place, file_of, filed, lower_of, unfiled};
 ghost use Rattle.mesh_spans.specs.Index.{group_at};
 
 use crate::Totals;
@@ -60,7 +60,7 @@ pub(crate) fn new_bins(alloc: Global) -> Result<Vec<Bin>, AllocError>
 }
 
 /// The place of a class in the class table.
-#[tactic(auto, unfolding(crate::specs::Filing::class_place))]
+#[tactic(auto, unfolding(crate::specs::GroupBins::class_place))]
 pub(crate) fn class_place(class: Class) -> u32
     ensures value { result ≡ class_place class }
     ensures few { result < 10 }

@@ -9,7 +9,7 @@ ghost use Rattle.mesh_spans.specs.Index.{AreUnused, GroupEntry, IsFoundAt, IsInd
 ghost use Rattle.model_heap.specs.Mesh.{do_overlap, merged, page_count};
 ghost use Rattle.model_heap.specs.Table.{Group as TableGroup, has_number};
 ghost use Rattle.mesh_bins.specs.Words.{IsLeast};
-ghost use Rattle.mesh_spans.specs.Filing.{candidate_from, candidates_from, is_partial};
+ghost use Rattle.mesh_spans.specs.GroupBins.{candidate_from, candidates_from, is_partial};
 ghost use Rattle.mesh_spans.specs.Changes.{IsMergeable, Merges, Regroups, merged_entry, merged_groups, with_flag};
 
 use crate::extent::Extent;
@@ -46,7 +46,7 @@ impl Model for Spans {
     ghost view = { λ s. record { spans = s.spans.items; groups = s.groups.items } };
 
     ghost use Rattle.mesh_spans.specs.Counts.{IsCounted};
-    ghost use Rattle.mesh_spans.specs.Filing.{IsFiled};
+    ghost use Rattle.mesh_spans.specs.GroupBins.{IsFiled};
 
     ghost invariant = { λ s. (IsIndex s.spans.items s.groups.items × IsOwned s.spans.items s.groups.items s.owners)
         × IsFiled s.groups.items s.files.bins.items × IsCounted s.groups.items s.files.totals };

@@ -25,7 +25,7 @@ use Rattle.mesh_spans.specs.Groups.{groups_of, is_in_mesh, table_group}
 use Rattle.mesh_spans.specs.Index.{GroupEntry, Index, IsIndex, SpanEntry, group_at}
 use Rattle.mesh_steps.proofs.GroupNumbers.{group_below}
 use Rattle.mesh_steps.specs.PageHeap.{PageHeap, table_in}
-use Rattle.mesh_steps.specs.Sweeping.{CanUnmap, HasGone}
+use Rattle.mesh_steps.specs.Sweeps.{CanUnmap, HasGone}
 
 -- there is no group to sweep
 pub sweeps_none : (g : PageHeap) (n : ℕ) → group_at g.index.groups n ≡ None → sweep (table_in g) n ≡ Err NoGroup

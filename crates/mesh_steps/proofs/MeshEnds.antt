@@ -14,7 +14,7 @@ use Rattle.mesh_layout.proofs.Beginnings.{Flags}
 use Rattle.mesh_layout.proofs.MadeSteps.{Unites, page_heap_ends, page_heap_goes}
 use Rattle.mesh_layout.proofs.MeshPlaces.{progress_set, without_at}
 use Rattle.mesh_layout.proofs.StepEffects.{step_has_effect, unwinding_has_effect}
-use Rattle.mesh_layout.proofs.Unwinding.{Holds, Reopens, cancel_holds, cancel_stops, unwind_ends, unwind_goes}
+use Rattle.mesh_layout.proofs.UnwoundMeshes.{Holds, Reopens, cancel_holds, cancel_stops, unwind_ends, unwind_goes}
 use Rattle.model_heap.specs.Mesh.{merged, with_progress, without_mesh}
 use Rattle.model_heap.specs.Table.{Made, Mesh, Unwinding}
 use Rattle.model_words.specs.declared.commands.StepKind.{StepKind}

@@ -21,12 +21,12 @@ use Rattle.model_words.specs.declared.refusals.Refusal.{Refusal}
 use Rattle.mesh_pagemap.specs.Entries.{Entries, is_mapped}
 use Rattle.mesh_spans.specs.Index.{IsIndex}
 use Rattle.mesh_arena.specs.Pages.{Pages}
-use Rattle.mesh_steps.proofs.Beginning.{busy_tells}
+use Rattle.mesh_steps.proofs.MayBegin.{busy_tells}
 use Rattle.mesh_steps.specs.Heap.{HasAsManyPages, Heap, IsHeap, plain_of, table_of}
 use Rattle.mesh_steps.specs.HeapMeshes.{IsMeshBegun, IsMeshCancelled, IsMeshed, IsOnItsWay, IsStepMade, IsSwept, MeansTheSame}
 use Rattle.mesh_steps.specs.Meshes.{IsBegun, IsCancelled, IsStepped, busy_by}
 use Rattle.mesh_steps.specs.PageHeap.{PageHeap, table_in}
-use Rattle.mesh_steps.specs.Sweeping.{HasGone}
+use Rattle.mesh_steps.specs.Sweeps.{HasGone}
 use Rattle.mesh_steps.specs.declared.answers.StepDone.{StepDone}
 use Rattle.mesh_steps.specs.declared.busy.Busy.{Busy}
 

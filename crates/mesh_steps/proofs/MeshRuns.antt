@@ -13,7 +13,7 @@ use Rattle.mesh_layout.proofs.MadeSteps.{HasSides, has_sides, pages_counted, som
 use Rattle.mesh_layout.proofs.MeshList.{from_found}
 use Rattle.mesh_layout.proofs.MeshPlaces.{position_finds, position_none}
 use Rattle.mesh_layout.proofs.PageHeapSteps.{page_heap_orderly}
-use Rattle.mesh_layout.proofs.Unwinding.{cancel_late, unwinding_cancelled}
+use Rattle.mesh_layout.proofs.UnwoundMeshes.{cancel_late, unwinding_cancelled}
 use Rattle.model_heap.specs.Mesh.{cancel, mesh_in}
 use Rattle.model_heap.specs.Sound.{IsWithinSteps}
 use Rattle.model_heap.specs.Table.{Made, Mesh, Progress, Unwinding}

@@ -10,7 +10,7 @@ use Rattle.mesh_layout.proofs.Changes.{index_alike, open_calm}
 use Rattle.mesh_layout.proofs.Ends.{page_heap_make}
 use Rattle.mesh_layout.proofs.PageHeapChanges.{entry_groups, page_heap_free, page_heap_put}
 use Rattle.mesh_layout.proofs.PageHeapSteps.{page_heap_orderly}
-use Rattle.mesh_layout.proofs.Standing.{calm_open}
+use Rattle.mesh_layout.proofs.LiveObjects.{calm_open}
 use Rattle.mesh_layout.proofs.Stores.{store_others}
 use Rattle.mesh_layout.specs.Indexes.{class_in, layout_of, members_in, slots_in, table_with}
 use Rattle.mesh_layout.specs.Layout.{IsCovered}

@@ -3,7 +3,7 @@ use Rattle.std.proofs.Common.{◌≡◌, ℕ, ◌+◌, ◌-◌, ◌<◌, ◌≤�
 use Rattle.mesh_arena.specs.Pages.{Pages, free_count}
 use Rattle.mesh_layout.proofs.Meaning.{store_means_here}
 use Rattle.mesh_layout.proofs.PageHeapSteps.{page_heap_orderly}
-use Rattle.mesh_layout.proofs.Standing.{blocked_is, open_is}
+use Rattle.mesh_layout.proofs.LiveObjects.{blocked_is, open_is}
 use Rattle.mesh_layout.specs.Indexes.{layout_of}
 use Rattle.mesh_layout.specs.Layout.{AreInObject}
 use Rattle.mesh_layout.specs.Meshes.{stage_of}
@@ -22,7 +22,7 @@ use Rattle.model_words.specs.declared.refusals.Refusal.TheVariants.{Freed, Outsi
 use Rattle.mesh_spans.specs.Index.{IsIndex}
 use Rattle.mesh_store.specs.Places.{IsBlocked, IsOpen, Saves, byte_of}
 use Rattle.mesh_steps.proofs.Objects.{ends_past, ends_within, live_ends, live_found, live_in_object, object_len, reference_names}
-use Rattle.mesh_steps.proofs.Standing.{heap_objects_apart}
+use Rattle.mesh_steps.proofs.AlwaysHolds.{heap_objects_apart}
 use Rattle.mesh_steps.specs.Heap.{Heap, IsHeap, IsHeld, IsHeldBack, IsLiveFor, IsReferred, IsRefused, IsStore, IsStored, arena_of, byte_at_address, index_of, live_record, live_records, map_of, object_in, plain_of, referred, stored_at, stored_at_address, stored_in, table_of}
 use Rattle.mesh_steps.specs.PageHeap.{PageHeap}
 use Rattle.mesh_steps.specs.declared.answers.Occupied.{Occupied}

@@ -1,11 +1,11 @@
+pub mod AnswerLines
 pub mod Digits
-pub mod Gathering
 pub mod HistoryParts
-pub mod Meshing
+pub mod LineTexts
+pub mod MesherCalls
 pub mod PartTexts
 pub mod Parts
 pub mod Pieces
 pub mod PlanLines
 pub mod PlayEnds
-pub mod Telling
-pub mod Turning
+pub mod WorkerTurns

@@ -62,13 +62,13 @@ pub(crate) fn add_decimal(text: &mut Vec<u8>, number: u64) -> Result<(), AllocEr
 }
 
 /// The most digits of an address.
-const MOST_DIGITS: usize = 8;
+const MAX_DIGITS: usize = 8;
 
 /// Adds an address in hexadecimal digits without a leading zero.
 fn add_address(text: &mut Vec<u8>, address: u32) -> Result<(), AllocError>
     ensures { OnOk result (text.new.items ≡ text.old.items ++ address_text address) }
 {
-    text.reserve(MOST_DIGITS)?;
+    text.reserve(MAX_DIGITS)?;
     push_address(text, address);
     Ok(())
 }

@@ -5,17 +5,17 @@ ghost use Rattle.mesh_text.specs.Replay.{HasReadInto, HasReadJob, HasReadNoJob, 
 
 use crate::transfer::read_some;
 use crate::{ReplayError, Source};
-use mesh_job::{Job, MOST_FILE_BYTES, Reading};
+use mesh_job::{Job, MAX_FILE_BYTES, Reading};
 use std::alloc::{AllocError, Global};
 
 /// The most bytes that are read: one more than a job file may have, which tells a file that is too long.
-const MOST_READ: usize = MOST_FILE_BYTES + 1;
+const MAX_READ: usize = MAX_FILE_BYTES + 1;
 
 /// The most bytes of one read.
 const READ_BYTES: usize = 16_384;
 
 /// The most bytes of a line, of which the beginning may have been read.
-const MOST_LINE_BYTES: usize = 1024;
+const MAX_LINE_BYTES: usize = 1024;
 
 /// The job of the file that the input gives.
 ///
@@ -38,7 +38,7 @@ pub fn read_job<I: Source>(alloc: Global, input: &mut I) -> Result<Job, ReplayEr
 fn room_to_read(alloc: Global) -> Result<Vec<u8>, AllocError>
     ensures { IfOk result (λ room. vec_len room ≡ 17408) }
 {
-    vec![in alloc; 0; READ_BYTES + MOST_LINE_BYTES]
+    vec![in alloc; 0; READ_BYTES + MAX_LINE_BYTES]
 }
 
 /// Reads the input to its end, or to its first 1,048,577 bytes, piece by piece. The reading takes the whole lines of each piece. Gives
@@ -59,8 +59,8 @@ fn read_pieces<I: Source>(
 {
     let mut held = 0;
     let mut count = 0;
-    while count < MOST_READ {
-        let room = READ_BYTES.min(MOST_READ - count);
+    while count < MAX_READ {
+        let room = READ_BYTES.min(MAX_READ - count);
         let more = read_some(input, &mut buffer[held..held + room])?;
         if more == 0 {
             return Ok(held);

@@ -4,7 +4,7 @@ ghost use Rattle.mesh_layout.specs.Indexes.{layout_of};
 ghost use Rattle.mesh_layout.specs.Steps.{UnmapsGroup};
 ghost use Rattle.model_heap.specs.Table.{sweep};
 ghost use Rattle.mesh_steps.specs.PageHeap.{table_in};
-ghost use Rattle.mesh_steps.specs.Sweeping.{CanUnmap, HasGone};
+ghost use Rattle.mesh_steps.specs.Sweeps.{CanUnmap, HasGone};
 
 use super::PageHeap;
 use crate::growth::give_pages;

@@ -13,8 +13,8 @@ returns-in_default c = elim (c.in_default.ensures.none (search rules)) [
   | inr large ↦ sym (too_great c.args.field.now (omega (arith, large)))
 ]
 
-pub returns-then-value-gt-MOST_ADDRESS : goal.returns-then-value-gt-MOST_ADDRESS
-returns-then-value-gt-MOST_ADDRESS c = sym (too_great c.args.field.now (omega (arith, c.in-Some.ensures.value)))
+pub returns-then-value-gt-MAX_ADDRESS : goal.returns-then-value-gt-MAX_ADDRESS
+returns-then-value-gt-MAX_ADDRESS c = sym (too_great c.args.field.now (omega (arith, c.in-Some.ensures.value)))
 
 pub returns : goal.returns
 returns c =

@@ -7,20 +7,20 @@ use Rattle.mesh_job.specs.Reading.{text_lines}
 use Rattle.mesh_job.proofs.TextLines.{byte_fault, long_fault, unended_fault}
 use Rattle.mesh_job.proofs.lines.next_line.Goals as goal
 
-pub returns-then-text-gt-MOST_LINE_BYTES-clause-err : goal.returns-then-text-gt-MOST_LINE_BYTES-clause-err
-returns-then-text-gt-MOST_LINE_BYTES-clause-err c =
+pub returns-then-text-gt-MAX_LINE_BYTES-clause-err : goal.returns-then-text-gt-MAX_LINE_BYTES-clause-err
+returns-then-text-gt-MAX_LINE_BYTES-clause-err c =
     let one : text_lines c.args.text.now ≡ c.args.text.now ∷ [] = search rules in
-    unended_fault c.args.text.now one c.if-text-gt-MOST_LINE_BYTES.true
+    unended_fault c.args.text.now one c.if-text-gt-MAX_LINE_BYTES.true
 
-pub returns-then-line-gt-MOST_LINE_BYTES-clause-err : goal.returns-then-line-gt-MOST_LINE_BYTES-clause-err
-returns-then-line-gt-MOST_LINE_BYTES-clause-err c =
-    long_fault c.args.text.now c.in-Some.line.now c.in-Some.rest.now c.in-Some.ensures.some c.if-line-gt-MOST_LINE_BYTES.true
+pub returns-then-line-gt-MAX_LINE_BYTES-clause-err : goal.returns-then-line-gt-MAX_LINE_BYTES-clause-err
+returns-then-line-gt-MAX_LINE_BYTES-clause-err c =
+    long_fault c.args.text.now c.in-Some.line.now c.in-Some.rest.now c.in-Some.ensures.some c.if-line-gt-MAX_LINE_BYTES.true
 
 pub returns-then-not-all-clause-err : goal.returns-then-not-all-clause-err
 returns-then-not-all-clause-err c =
     let tested : c.all.result ≡ list_all is_printable c.in-Some.line.now =
     all_from_yields_List is_printable _ _ c.all.result c.all.ensures.ran (YieldsList-from_slice c.in-Some.line.now cc) (λ x b q k. search (rules, tests)) in
-    byte_fault c.args.text.now c.in-Some.line.now c.in-Some.rest.now c.in-Some.ensures.some c.if-line-gt-MOST_LINE_BYTES.false (sym tested ∙ c.if-not-all.true)
+    byte_fault c.args.text.now c.in-Some.line.now c.in-Some.rest.now c.in-Some.ensures.some c.if-line-gt-MAX_LINE_BYTES.false (sym tested ∙ c.if-not-all.true)
 
 pub returns-clause-printable : goal.returns-clause-printable
 returns-clause-printable c =

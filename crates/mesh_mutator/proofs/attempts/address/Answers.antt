@@ -1,4 +1,4 @@
-use Rattle.mesh_mutator.proofs.Answering.{addr_done, addr_refused}
+use Rattle.mesh_mutator.proofs.CellAnswers.{addr_done, addr_refused}
 use Rattle.mesh_mutator.proofs.attempts.address.Goals as goal
 
 pub returns-in-Ok : goal.returns-in-Ok

@@ -1,4 +1,4 @@
-use Rattle.mesh_mutator.proofs.Answering.{alias_done, alias_refused, rooted_set}
+use Rattle.mesh_mutator.proofs.CellAnswers.{alias_done, alias_refused, rooted_set}
 use Rattle.mesh_mutator.proofs.attempts.alias.Goals as goal
 
 pub returns-in-Ok-clause-performed : goal.returns-in-Ok-clause-performed

@@ -1,8 +1,8 @@
 use Rattle.std.proofs.Common.{◌≡◌, ◌+◌, Some, refl, sym}
 use Rattle.model_heap.specs.Mesh.{is_blocked}
 use Rattle.model_words.specs.declared.commands.Command.TheVariants.{Copy}
-use Rattle.mesh_mutator.proofs.Answering.{rooted_stored, store_performed, stored_serial}
-use Rattle.mesh_mutator.proofs.Copying.{copied_at_keeps, copy_alike, copy_touches}
+use Rattle.mesh_mutator.proofs.CellAnswers.{rooted_stored, store_performed, stored_serial}
+use Rattle.mesh_mutator.proofs.CopyAnswers.{copied_at_keeps, copy_alike, copy_touches}
 use Rattle.mesh_mutator.specs.Book.{cell_at}
 use Rattle.mesh_steps.specs.Heap.{IsStore, copied_at, plain_of, table_of}
 use Rattle.mesh_mutator.proofs.attempts.copy.Goals.{After-stored}

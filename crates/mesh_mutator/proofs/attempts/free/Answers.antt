@@ -1,5 +1,5 @@
 use Rattle.std.proofs.Common.{sym, subst}
-use Rattle.mesh_mutator.proofs.Answering.{free_empty, free_performed, free_refused, freed_at_keeps, rooted_kept}
+use Rattle.mesh_mutator.proofs.CellAnswers.{free_empty, free_performed, free_refused, freed_at_keeps, rooted_kept}
 use Rattle.mesh_mutator.specs.Book.{AreRooted}
 use Rattle.mesh_steps.specs.Heap.{Heap, plain_of}
 use Rattle.mesh_mutator.proofs.attempts.free.Goals as goal

@@ -1,5 +1,5 @@
 use Rattle.std.proofs.Common.{sym}
-use Rattle.mesh_mutator.proofs.Answering.{get_done, get_refused, get_empty}
+use Rattle.mesh_mutator.proofs.CellAnswers.{get_done, get_refused, get_empty}
 use Rattle.mesh_mutator.proofs.attempts.get.Goals as goal
 
 pub returns-in-Ok : goal.returns-in-Ok

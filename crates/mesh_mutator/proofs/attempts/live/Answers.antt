@@ -1,5 +1,5 @@
 use Rattle.std.proofs.Common.{sym, ◌∙◌}
-use Rattle.mesh_mutator.proofs.Answering.{live_named, live_stale, named_none}
+use Rattle.mesh_mutator.proofs.CellAnswers.{live_named, live_stale, named_none}
 use Rattle.mesh_mutator.proofs.attempts.live.Goals as goal
 
 pub returns-in_default-clause-refused : goal.returns-in_default-clause-refused

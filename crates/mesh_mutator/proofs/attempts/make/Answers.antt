@@ -1,7 +1,7 @@
 use Rattle.std.proofs.Common.{refl, sym, subst}
 use Rattle.mesh_mutator.specs.Book.{AreRooted}
 use Rattle.mesh_steps.specs.Heap.{Heap}
-use Rattle.mesh_mutator.proofs.Answering.{made_performed, made_rooted, new_refused}
+use Rattle.mesh_mutator.proofs.CellAnswers.{made_performed, made_rooted, new_refused}
 use Rattle.mesh_mutator.proofs.attempts.make.Goals as goal
 
 pub returns-in-Ok-clause-performed : goal.returns-in-Ok-clause-performed

@@ -1,4 +1,4 @@
-use Rattle.mesh_mutator.proofs.Answering.{peek_done, peek_refused}
+use Rattle.mesh_mutator.proofs.CellAnswers.{peek_done, peek_refused}
 use Rattle.mesh_mutator.proofs.attempts.peek.Goals as goal
 
 pub returns-in-Ok : goal.returns-in-Ok

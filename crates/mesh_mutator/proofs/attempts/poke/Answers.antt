@@ -1,6 +1,6 @@
 use Rattle.std.proofs.Common.{refl}
 use Rattle.model_words.specs.declared.commands.Command.TheVariants.{Poke}
-use Rattle.mesh_mutator.proofs.Answering.{poke_alike, rooted_stored, store_performed, stored_at_address_keeps, stored_serial}
+use Rattle.mesh_mutator.proofs.CellAnswers.{poke_alike, rooted_stored, store_performed, stored_at_address_keeps, stored_serial}
 use Rattle.model_heap.specs.Mesh.{is_blocked}
 use Rattle.mesh_steps.specs.Heap.{IsStore, plain_of, stored_at_address, table_of}
 use Rattle.mesh_mutator.proofs.attempts.poke.Goals.{After-stored}

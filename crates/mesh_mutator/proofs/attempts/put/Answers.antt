@@ -1,6 +1,6 @@
 use Rattle.std.proofs.Common.{◌≡◌, ◌+◌, Some, length, refl, sym}
 use Rattle.model_words.specs.declared.commands.Command.TheVariants.{Put}
-use Rattle.mesh_mutator.proofs.Answering.{put_alike, put_empty, put_touches, rooted_stored, store_performed, stored_at_keeps, stored_serial}
+use Rattle.mesh_mutator.proofs.CellAnswers.{put_alike, put_empty, put_touches, rooted_stored, store_performed, stored_at_keeps, stored_serial}
 use Rattle.mesh_mutator.specs.Book.{cell_at}
 use Rattle.model_heap.specs.Mesh.{is_blocked}
 use Rattle.mesh_steps.specs.Heap.{IsStore, plain_of, stored_at, table_of}

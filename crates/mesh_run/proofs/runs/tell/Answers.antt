@@ -1,4 +1,4 @@
-use Rattle.mesh_run.proofs.Telling.{told_by_write}
+use Rattle.mesh_run.proofs.Messages.{told_by_write}
 use Rattle.mesh_run.proofs.runs.tell.Goals as goal
 
 pub returns : goal.returns

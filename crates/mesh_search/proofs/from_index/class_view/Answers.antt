@@ -3,8 +3,8 @@ use Rattle.std.proofs.lemmas.List.{append-nil, length-append}
 use Rattle.model_search.specs.Search.{Candidate, candidate_of, viewed}
 use Rattle.model_heap.specs.Table.{Group}
 use Rattle.mesh_search.specs.Views.{IsCandidate}
-use Rattle.mesh_search.proofs.Viewing.{AreBelow, all_more, below_more, candidate_is, from_zero, no_view, partial_is, view_more}
-use Rattle.mesh_spans.specs.Filing.{candidates_from, is_partial}
+use Rattle.mesh_search.proofs.GroupViews.{AreBelow, all_more, below_more, candidate_is, from_zero, no_view, partial_is, view_more}
+use Rattle.mesh_spans.specs.GroupBins.{candidates_from, is_partial}
 use Rattle.mesh_spans.specs.Index.{GroupEntry, group_at}
 use Rattle.mesh_spans.specs.Groups.{groups_of, is_closed, table_group}
 use Rattle.mesh_search.proofs.from_index.class_view.Goals as goal

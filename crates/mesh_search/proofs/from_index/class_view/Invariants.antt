@@ -1,8 +1,8 @@
 use Rattle.std.proofs.Common.{◌≡◌, ◌-◌, ◌≤◌, ◌++◌, length, map}
 use Rattle.model_search.specs.Search.{candidate_of}
 use Rattle.mesh_search.specs.Views.{IsView}
-use Rattle.mesh_search.proofs.Viewing.{AreBelow}
-use Rattle.mesh_spans.specs.Filing.{candidates_from}
+use Rattle.mesh_search.proofs.GroupViews.{AreBelow}
+use Rattle.mesh_spans.specs.GroupBins.{candidates_from}
 use Rattle.mesh_search.proofs.from_index.class_view.Given as goal
 
 abbrev pub invariant-loop-number : goal.invariant-loop-number

@@ -1,5 +1,5 @@
 use Rattle.std.proofs.Common.{arith}
-use Rattle.mesh_search.proofs.Naming.{few_named}
+use Rattle.mesh_search.proofs.CandidatePlaces.{few_named}
 use Rattle.mesh_search.proofs.split.named_places.Goals as goal
 
 pub push_reserved-requires : goal.push_reserved-requires

@@ -1,7 +1,7 @@
 use Rattle.std.proofs.Common.{◌≡◌, ℕ, List, IfOk, ap, ◌∙◌, subst}
 use Rattle.model_search.specs.Search.{Candidate, split_search}
 use Rattle.mesh_search.specs.Views.{chosen, named}
-use Rattle.mesh_search.proofs.Naming.{found_named}
+use Rattle.mesh_search.proofs.CandidatePlaces.{found_named}
 use Rattle.mesh_search.proofs.split.split_mesh.Goals as goal
 
 pub returns-clause-value : goal.returns-clause-value

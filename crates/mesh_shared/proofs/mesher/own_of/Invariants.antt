@@ -1,6 +1,6 @@
 use Rattle.std.proofs.Common.{◌≡◌, ◌+◌, ◌++◌, vec_len}
 use Rattle.std.specs.Vec.Iter.{into_iter_items, into_iter_len}
-use Rattle.mesh_shared.specs.Meshing.{own_from}
+use Rattle.mesh_shared.specs.MesherRuns.{own_from}
 use Rattle.mesh_shared.proofs.mesher.own_of.Given as goal
 
 abbrev pub invariant-loop-view : goal.invariant-loop-view

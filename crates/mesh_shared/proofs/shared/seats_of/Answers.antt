@@ -1,6 +1,6 @@
 use Rattle.std.proofs.Common.{◌≡◌, ◌<◌, ◌+◌, ℕ, suc, ◌++◌, ◌∷◌, [], List, ap, sym, ◌∙◌, arith, length, take}
-use Rattle.mesh_shared.specs.Seat.{Seat, empty_seats}
-use Rattle.mesh_shared.proofs.Seating.{seats_more}
+use Rattle.mesh_seats.specs.Seat.{Seat, empty_seats}
+use Rattle.mesh_seats.proofs.MadeSeats.{seats_more}
 use Rattle.mesh_shared.proofs.shared.seats_of.Goals as goal
 
 pub loop-k-preserved : goal.loop-k-preserved

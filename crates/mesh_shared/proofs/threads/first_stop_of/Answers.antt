@@ -4,7 +4,7 @@ use Rattle.mesh_shared.specs.Stops.{either_stop, first_stop}
 use Rattle.mesh_shared.specs.declared.mesher.Meshed.{Meshed}
 use Rattle.mesh_shared.specs.declared.stops.Stop.{Stop}
 use Rattle.mesh_shared.specs.declared.worker.Served.{Served}
-use Rattle.mesh_shared.proofs.Stopping.{next_other_end}
+use Rattle.mesh_shared.proofs.SeveralStops.{next_other_end}
 use Rattle.mesh_shared.proofs.threads.first_stop_of.Goals as goal
 
 -- what is read where no mesher tells

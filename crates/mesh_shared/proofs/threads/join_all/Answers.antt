@@ -1,5 +1,5 @@
 use Rattle.std.proofs.Common.{arith}
-use Rattle.mesh_shared.proofs.Joining.{have_meshed, have_served, none_of_all}
+use Rattle.mesh_shared.proofs.JoinedThreads.{have_meshed, have_served, none_of_all}
 use Rattle.mesh_shared.proofs.threads.join_all.Goals as goal
 
 pub returns-clause-started : goal.returns-clause-started

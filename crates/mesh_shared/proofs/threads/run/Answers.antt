@@ -3,8 +3,8 @@ use Rattle.std.proofs.lemmas.List.{length-map}
 use Rattle.std.specs.List.{All}
 use Rattle.model_words.specs.declared.commands.Command.{Command}
 use Rattle.mesh_mutator.specs.Book.{memory_in}
-use Rattle.mesh_shared.specs.Seat.{Seat}
-use Rattle.mesh_shared.proofs.Running.{opened_empty, opened_many, run_begun, run_whole}
+use Rattle.mesh_seats.specs.Seat.{Seat}
+use Rattle.mesh_shared.proofs.WorkerRuns.{opened_empty, opened_many, run_begun, run_whole}
 use Rattle.mesh_shared.proofs.threads.run.Goals as goal
 
 pub serve_all-requires-clause-many : goal.serve_all-requires-clause-many

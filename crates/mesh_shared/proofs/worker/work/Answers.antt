@@ -1,5 +1,5 @@
 use Rattle.std.proofs.Common.{◌<◌, ◌≤◌, None, length, refl, arith}
-use Rattle.mesh_shared.proofs.Running.{call_answered, worked_partly, worked_wholly}
+use Rattle.mesh_shared.proofs.WorkerRuns.{call_answered, worked_partly, worked_wholly}
 use Rattle.mesh_shared.proofs.worker.work.Goals as goal
 
 pub loop-i-init : goal.loop-i-init

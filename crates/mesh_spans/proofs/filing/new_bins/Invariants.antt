@@ -1,7 +1,7 @@
 use Rattle.std.proofs.Common.{◌≡◌, ℕ, List, length}
 use Rattle.std.specs.FinSet.{FinSet, empty}
 use Rattle.std.specs.Ordering.{nat_cmp}
-use Rattle.mesh_spans.specs.Filing.{bin_at}
+use Rattle.mesh_spans.specs.GroupBins.{bin_at}
 use Rattle.mesh_spans.proofs.filing.new_bins.Given as goal
 
 -- so many empty bins

@@ -3,7 +3,7 @@ use Rattle.std.specs.Prelude.{List, ℕ, OnOk, if◌then◌else◌, is_ok}
 use Rattle.hex.specs.Hex.{encode_lower}
 use Rattle.model_jobs.specs.Texts.{bytes_text}
 use Rattle.mesh_text.proofs.Digits.{spelt_by_table}
-use Rattle.mesh_text.proofs.Telling.{grew_ok}
+use Rattle.mesh_text.proofs.LineTexts.{grew_ok}
 use Rattle.mesh_text.proofs.answers.add_bytes.Goals as goal
 
 pub returns : goal.returns

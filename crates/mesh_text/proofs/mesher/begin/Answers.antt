@@ -1,5 +1,5 @@
 use Rattle.model_heap.specs.Mesh.{any_mesh, mesh_of_class}
-use Rattle.mesh_text.proofs.Meshing.{begun_call}
+use Rattle.mesh_text.proofs.MesherCalls.{begun_call}
 use Rattle.mesh_text.proofs.mesher.begin.Goals as goal
 
 pub returns-in-One : goal.returns-in-One

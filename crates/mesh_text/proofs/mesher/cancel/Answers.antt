@@ -1,4 +1,4 @@
-use Rattle.mesh_text.proofs.Meshing.{cancelled_call}
+use Rattle.mesh_text.proofs.MesherCalls.{cancelled_call}
 use Rattle.mesh_text.proofs.mesher.cancel.Goals as goal
 
 pub returns : goal.returns

@@ -1,7 +1,7 @@
 use Rattle.std.proofs.Common.{◌∙◌, sym}
 use Rattle.model_jobs.specs.Jobs.{StepsLeft}
 use Rattle.mesh_text.specs.Answers.{count_told}
-use Rattle.mesh_text.proofs.Meshing.{first_cancelled, none_cancelled}
+use Rattle.mesh_text.proofs.MesherCalls.{first_cancelled, none_cancelled}
 use Rattle.mesh_text.proofs.mesher.cancel_first.Goals as goal
 
 pub returns-in-Some : goal.returns-in-Some

@@ -2,7 +2,7 @@ use Rattle.std.proofs.Common.{ap, ◌∙◌}
 use Rattle.std.proofs.lemmas.Result.{IfOk-weaker}
 use Rattle.model_jobs.specs.Jobs.{PairsFound}
 use Rattle.model_search.specs.Search.{Found, search, view_of}
-use Rattle.mesh_text.proofs.Meshing.{look_call}
+use Rattle.mesh_text.proofs.MesherCalls.{look_call}
 use Rattle.mesh_text.proofs.mesher.pair.Goals as goal
 
 pub returns : goal.returns

@@ -1,4 +1,4 @@
-use Rattle.mesh_text.proofs.Meshing.{report_call}
+use Rattle.mesh_text.proofs.MesherCalls.{report_call}
 use Rattle.mesh_text.proofs.mesher.report.Goals as goal
 
 pub returns : goal.returns

@@ -1,4 +1,4 @@
-use Rattle.mesh_text.proofs.Meshing.{stepped_call}
+use Rattle.mesh_text.proofs.MesherCalls.{stepped_call}
 use Rattle.mesh_text.proofs.mesher.step.Goals as goal
 
 pub returns : goal.returns

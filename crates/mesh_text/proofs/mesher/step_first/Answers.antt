@@ -1,6 +1,6 @@
 use Rattle.std.proofs.Common.{◌∙◌, sym}
 use Rattle.mesh_text.specs.Answers.{step_told}
-use Rattle.mesh_text.proofs.Meshing.{first_stepped, none_stepped}
+use Rattle.mesh_text.proofs.MesherCalls.{first_stepped, none_stepped}
 use Rattle.mesh_text.proofs.mesher.step_first.Goals as goal
 
 pub returns-in-Some : goal.returns-in-Some

@@ -1,4 +1,4 @@
-use Rattle.mesh_text.proofs.Meshing.{swept_call}
+use Rattle.mesh_text.proofs.MesherCalls.{swept_call}
 use Rattle.mesh_text.proofs.mesher.sweep.Goals as goal
 
 pub returns : goal.returns

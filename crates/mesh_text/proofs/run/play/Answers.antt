@@ -8,7 +8,7 @@ use Rattle.mesh_job.specs.declared.plan.PlanLine.{PlanLine}
 use Rattle.mesh_job.specs.Plan.{line_of}
 use Rattle.mesh_text.specs.Transfer.{AppendsBeginning}
 use Rattle.mesh_text.specs.Turns.{HasGathered, state_up_to}
-use Rattle.mesh_text.proofs.Gathering.{all_written, gathered_more, next_at, output_written, part_written}
+use Rattle.mesh_text.proofs.AnswerLines.{all_written, gathered_more, next_at, output_written, part_written}
 use Rattle.mesh_text.proofs.PlanLines.{all_lines, line_fits, one_more}
 use Rattle.mesh_text.proofs.PlayEnds.{gathered_none, is_memory, is_write, last_fails, last_kind, last_not_memory, last_ok, never_ok, not_memory, not_write, nothing_written}
 use Rattle.mesh_text.proofs.run.play.Goals as goal

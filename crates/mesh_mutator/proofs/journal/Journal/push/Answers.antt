@@ -1,6 +1,6 @@
 use Rattle.std.proofs.Common.{refl, arith}
 use Rattle.std.proofs.lemmas.Grind.{common_steps}
-use Rattle.mesh_mutator.proofs.Packing.{all_within, entries_pushed, kept_more}
+use Rattle.mesh_mutator.proofs.KeptEntries.{all_within, entries_pushed, kept_more}
 use Rattle.mesh_mutator.proofs.journal.Journal.push.Goals as goal
 
 pub invariant_of-self : goal.invariant_of-self

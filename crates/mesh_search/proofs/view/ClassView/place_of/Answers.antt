@@ -1,7 +1,7 @@
 use Rattle.std.proofs.Common.{rules, ◌≡◌, ◌<◌, nat_lt, length}
 use Rattle.std.proofs.lemmas.List.Sorted.{IsPartitionPoint-from_clause}
 use Rattle.mesh_search.specs.Views.{candidate_at, candidate_named}
-use Rattle.mesh_search.proofs.Naming.{parted_in, place_in}
+use Rattle.mesh_search.proofs.CandidatePlaces.{parted_in, place_in}
 use Rattle.mesh_search.proofs.view.ClassView.place_of.Goals as goal
 
 found : (c : goal.After-partition_point) → (c.partition_point.result < length c.args.self.now.candidates)

@@ -1,7 +1,7 @@
 use Rattle.std.proofs.Common.{List, Result, Ok, Err, IfOk, ap, ◌∙◌}
 use Rattle.model_search.specs.Search.{View}
 use Rattle.mesh_mutator.specs.Book.{table_of_book}
-use Rattle.mesh_shared.specs.Meshing.{own_views}
+use Rattle.mesh_shared.specs.MesherRuns.{own_views}
 use Rattle.mesh_shared.proofs.mesher.Mesher.own_views.Goals as goal
 
 if_ok : {A E : Type 0} (P Q : A → Type 0) (r : Result A E) → ((a : A) → P a → Q a) → IfOk r P → IfOk r Q

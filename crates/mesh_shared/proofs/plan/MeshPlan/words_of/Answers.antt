@@ -1,5 +1,5 @@
 use Rattle.std.proofs.Common.{List, ℕ, ap, ◌∙◌}
-use Rattle.mesh_shared.specs.Meshing.{words_in}
+use Rattle.mesh_shared.specs.MesherRuns.{words_in}
 use Rattle.mesh_shared.proofs.Words.{words_cut}
 use Rattle.mesh_shared.proofs.plan.MeshPlan.words_of.Goals as goal
 

@@ -2,10 +2,10 @@ use Rattle.std.proofs.Common.{None, refl, ◌≡◌, ℕ, ◌++◌, ◌∷◌, [
 use Rattle.mesh_spans.specs.Groups.{groups_of}
 use Rattle.mesh_spans.specs.Index.{GroupEntry, Index, AreUnused, IsVacant, new_span, new_group}
 use Rattle.std.proofs.lemmas.List.{get_or_past}
-use Rattle.mesh_spans.specs.Filing.{file_of}
+use Rattle.mesh_spans.specs.GroupBins.{file_of}
 use Rattle.mesh_spans.proofs.Added.{if_refused, last_below, no_place, on_refused, pushed_is, room_for_one}
 use Rattle.mesh_spans.proofs.CountLemmas.{counted_added, none_is, totals_few}
-use Rattle.mesh_spans.proofs.FilingLemmas.{added_others, refiled_is}
+use Rattle.mesh_spans.proofs.BinLemmas.{added_others, refiled_is}
 use Rattle.mesh_spans.proofs.IndexLemmas.{IsIndex_add, IsOwned_add}
 use Rattle.mesh_spans.proofs.TableLemmas.{index_is, new_vacant, table_added}
 use Rattle.mesh_spans.proofs.index.Spans.add_span.Goals as goal

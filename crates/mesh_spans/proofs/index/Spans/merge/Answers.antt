@@ -6,7 +6,7 @@ use Rattle.mesh_spans.specs.Index.{Index, group_at}
 use Rattle.mesh_spans.proofs.CountLemmas.{part_is, recounted_is, totals_few}
 use Rattle.mesh_spans.proofs.FlagLemmas.{IsIndex_replaced, replaced_none}
 use Rattle.mesh_spans.proofs.MergeLemmas.{absorbed, few_together, merge_closed, merge_keeps, merge_table, merges_is, same_classes, slots_apart}
-use Rattle.mesh_spans.proofs.FilingLemmas.{moved_sized, merged_filed, number_fits}
+use Rattle.mesh_spans.proofs.BinLemmas.{moved_sized, merged_filed, number_fits}
 use Rattle.mesh_spans.proofs.IndexLemmas.{group_below}
 use Rattle.mesh_spans.proofs.ReadSpans.{members_below, set_below}
 use Rattle.mesh_spans.proofs.index.Spans.merge.Goals as goal

@@ -1,10 +1,10 @@
 use Rattle.std.proofs.Common.{◌≡◌, ◌+◌, [], ◌∷◌, subst, IfNone, IfSome, IsSomeAnd}
 use Rattle.mesh_bins.specs.Words.{IsLeast}
-use Rattle.mesh_spans.specs.Filing.{candidates_from, is_partial}
+use Rattle.mesh_spans.specs.GroupBins.{candidates_from, is_partial}
 use Rattle.mesh_spans.specs.Index.{Index, group_at}
 use Rattle.mesh_spans.specs.Groups.{groups_of, table_group}
 use Rattle.mesh_spans.proofs.FindLemmas.{candidate_found, next_left, none_left}
-use Rattle.mesh_spans.proofs.FilingLemmas.{partial_least}
+use Rattle.mesh_spans.proofs.BinLemmas.{partial_least}
 use Rattle.mesh_spans.proofs.index.Spans.next_candidate.Goals as goal
 
 pub returns-clause-least : goal.returns-clause-least

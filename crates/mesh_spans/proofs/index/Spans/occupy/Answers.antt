@@ -4,7 +4,7 @@ use Rattle.std.proofs.Common.{◌∙◌}
 use Rattle.std.proofs.lemmas.List.{get_or-set_other}
 use Rattle.std.proofs.lemmas.Option.{get_or_from_slice_get}
 use Rattle.mesh_spans.proofs.CountLemmas.{counted_more, totals_few}
-use Rattle.mesh_spans.proofs.FilingLemmas.{number_fits, refiled_is}
+use Rattle.mesh_spans.proofs.BinLemmas.{number_fits, refiled_is}
 use Rattle.mesh_spans.specs.Groups.{groups_of}
 use Rattle.mesh_spans.specs.Index.{GroupEntry, IsIndex, group_at, Index, span_at}
 use Rattle.mesh_spans.proofs.IndexLemmas.{put_keeps, vacant_fits}

@@ -2,7 +2,7 @@ use Rattle.std.proofs.Common.{◌≡◌, Some, None, true, false, position, sym,
 use Rattle.std.proofs.lemmas.Grind.{common_steps}
 use Rattle.mesh_spans.specs.Index.{group_at, is_open}
 use Rattle.mesh_spans.proofs.TableLemmas.{no_group, open_parts, picked_in, table_none, table_open, vacant_in}
-use Rattle.mesh_spans.proofs.FilingLemmas.{open_position}
+use Rattle.mesh_spans.proofs.BinLemmas.{open_position}
 use Rattle.mesh_spans.proofs.index.Spans.open_slot.Goals as goal
 
 pub returns-in_err-open-clause-none : goal.returns-in_err-open-clause-none

@@ -3,7 +3,7 @@ use Rattle.std.specs.Prelude.{IsSome}
 use Rattle.std.proofs.Common.{◌∙◌}
 use Rattle.std.proofs.lemmas.List.{get_or-set_other}
 use Rattle.mesh_spans.proofs.CountLemmas.{part_is, recounted_is, totals_few}
-use Rattle.mesh_spans.proofs.FilingLemmas.{number_fits, refiled_is}
+use Rattle.mesh_spans.proofs.BinLemmas.{number_fits, refiled_is}
 use Rattle.mesh_spans.specs.Groups.{groups_of, is_in_mesh}
 use Rattle.mesh_spans.specs.Index.{GroupEntry, Index, group_at}
 use Rattle.mesh_spans.proofs.FlagLemmas.{IsIndex_replaced, IsOwned_replaced, replaced_none, none_flag, some_below}

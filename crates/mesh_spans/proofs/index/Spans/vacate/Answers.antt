@@ -2,7 +2,7 @@ use Rattle.std.proofs.Common.{List, Option, ◌≡◌, None, ap, arith}
 use Rattle.std.proofs.Common.{◌∙◌}
 use Rattle.std.proofs.lemmas.List.{get_or-set_other}
 use Rattle.mesh_spans.proofs.CountLemmas.{counted_less, has_object}
-use Rattle.mesh_spans.proofs.FilingLemmas.{number_fits, refiled_is}
+use Rattle.mesh_spans.proofs.BinLemmas.{number_fits, refiled_is}
 use Rattle.mesh_spans.specs.Groups.{groups_of}
 use Rattle.mesh_spans.specs.Index.{GroupEntry, group_at, Index, span_at}
 use Rattle.mesh_spans.proofs.IndexLemmas.{nothing_fits, put_keeps, recorded}

@@ -1,5 +1,5 @@
-use Rattle.mesh_layout.proofs.Standing.{places_apart, read_only}
-use Rattle.mesh_steps.proofs.Standing.{heap_held_taken, heap_objects_apart}
+use Rattle.mesh_layout.proofs.LiveObjects.{places_apart, read_only}
+use Rattle.mesh_steps.proofs.AlwaysHolds.{heap_held_taken, heap_objects_apart}
 use Rattle.mesh_steps.proofs.heap.Heap.always.Goals as goal
 
 pub returns-clause-objects : goal.returns-clause-objects

@@ -1,7 +1,7 @@
 use Rattle.std.proofs.Common.{Option, IfSome, subst, sym}
 use Rattle.mesh_steps.specs.Heap.{Heap, IsObjectAt, IsReferred}
 use Rattle.mesh_steps.specs.declared.answers.Occupied.{Occupied}
-use Rattle.mesh_steps.proofs.Making.{emptied_sound, freed_heap, freed_is}
+use Rattle.mesh_steps.proofs.MadeObjects.{emptied_sound, freed_heap, freed_is}
 use Rattle.mesh_steps.proofs.heap.Heap.free.Goals as goal
 
 pub take_out-requires-clause-sound : goal.take_out-requires-clause-sound

@@ -1,4 +1,4 @@
-use Rattle.mesh_steps.proofs.Making.{IsFound, IsPut, fault_heap, fault_is, handed_on, new_heap, new_is, placed_sound}
+use Rattle.mesh_steps.proofs.MadeObjects.{IsFound, IsPut, fault_heap, fault_is, handed_on, new_heap, new_is, placed_sound}
 use Rattle.mesh_steps.specs.Heap.{Heap, IsNotMade}
 use Rattle.mesh_steps.proofs.heap.Heap.new.Goals as goal
 use Rattle.mesh_steps.proofs.heap.Heap.new.Goals.{After-self-1}

@@ -4,7 +4,7 @@ use Rattle.mesh_steps.proofs.MeshHeaps.{either_heap, swept_means, told_of}
 use Rattle.mesh_steps.proofs.heap.Heap.sweep.Goals as goal
 use Rattle.mesh_steps.specs.HeapMeshes.{IsSwept}
 use Rattle.mesh_steps.specs.PageHeap.{table_in}
-use Rattle.mesh_steps.specs.Sweeping.{HasGone}
+use Rattle.mesh_steps.specs.Sweeps.{HasGone}
 
 pub invariant_of-self : goal.invariant_of-self
 invariant_of-self c =

@@ -2,7 +2,7 @@ use Rattle.std.proofs.Common.{◌≡◌, ℕ, List, ◌+◌, ◌≤◌, length, 
 use Rattle.mesh_arena.specs.Pages.{free_count}
 use Rattle.mesh_class.specs.Classes.{pages_of}
 use Rattle.mesh_layout.specs.Growth.{MapsFirst, given_back}
-use Rattle.mesh_steps.proofs.Placing.{IsAdded, IsFreshSpan_added, grown, page_heap_is, room_is}
+use Rattle.mesh_steps.proofs.NewPlaces.{IsAdded, IsFreshSpan_added, grown, page_heap_is, room_is}
 use Rattle.mesh_steps.specs.PageHeap.{PageHeap, table_in}
 use Rattle.mesh_steps.proofs.page_heap.PageHeap.add_span.Goals as goal
 use Rattle.mesh_steps.proofs.page_heap.PageHeap.add_span.Goals.{After-self-1}

@@ -1,5 +1,5 @@
 use Rattle.std.proofs.Common.{◌≡◌, ℕ, Option, Some, None, slice_index, ap}
-use Rattle.mesh_steps.proofs.Placing.{found_recorded}
+use Rattle.mesh_steps.proofs.NewPlaces.{found_recorded}
 use Rattle.mesh_steps.proofs.page_heap.PageHeap.occupied_at.Goals as goal
 
 -- nothing is not something

@@ -7,7 +7,7 @@ use Rattle.model_words.specs.declared.refusals.Refusal.TheVariants.{Busy, NoGrou
 use Rattle.mesh_steps.proofs.Emptied.{can_give, can_unmap, swept, sweeps_busy, sweeps_filled, sweeps_none}
 use Rattle.mesh_steps.proofs.page_heap.PageHeap.sweep.Goals as goal
 use Rattle.mesh_steps.proofs.page_heap.PageHeap.sweep.Goals.{After-retire}
-use Rattle.mesh_steps.specs.Sweeping.{HasGone}
+use Rattle.mesh_steps.specs.Sweeps.{HasGone}
 use Rattle.mesh_steps.specs.PageHeap.{PageHeap, table_in}
 
 -- the page heap inside, where there is no such group

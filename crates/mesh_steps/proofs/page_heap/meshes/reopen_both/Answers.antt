@@ -1,6 +1,6 @@
 use Rattle.std.proofs.Common.{false}
 use Rattle.mesh_layout.proofs.Beginnings.{Flags}
-use Rattle.mesh_steps.proofs.Flagging.{flag_there, opened_twice}
+use Rattle.mesh_steps.proofs.MeshFlags.{flag_there, opened_twice}
 use Rattle.mesh_steps.proofs.page_heap.meshes.reopen_both.Goals as goal
 
 pub reopen-requires-2 : goal.reopen-requires-2

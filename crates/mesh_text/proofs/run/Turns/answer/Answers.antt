@@ -7,7 +7,7 @@ use Rattle.model_words.specs.declared.versions.Version.{Version}
 use Rattle.mesh_steps.specs.PageHeap.{counts_told}
 use Rattle.mesh_text.specs.Answers.{count_told, step_told}
 use Rattle.mesh_text.specs.Turns.{IsNextAt}
-use Rattle.mesh_text.proofs.Telling.{counted_at, told_at}
+use Rattle.mesh_text.proofs.LineTexts.{counted_at, told_at}
 use Rattle.mesh_text.proofs.run.Turns.answer.Goals as goal
 
 pub returns-in_ok-pair-in-Pair-clause-told : goal.returns-in_ok-pair-in-Pair-clause-told

@@ -4,8 +4,8 @@ use Rattle.std.proofs.lemmas.Result.{on_ok_weaker}
 use Rattle.model_jobs.specs.Jobs.{JournalFull, Replied, RunWorker, ScriptOver, StoreBlocked, answer}
 use Rattle.mesh_mutator.specs.declared.attempts.Attempt.TheVariants.{Blocked, Done, HistoryFull}
 use Rattle.mesh_text.specs.Turns.{IsNextAt}
-use Rattle.mesh_text.proofs.Telling.{grew_ok, told_at}
-use Rattle.mesh_text.proofs.Turning.{at_place, turn_over, turn_taken}
+use Rattle.mesh_text.proofs.LineTexts.{grew_ok, told_at}
+use Rattle.mesh_text.proofs.WorkerTurns.{at_place, turn_over, turn_taken}
 use Rattle.mesh_text.proofs.run.Turns.run.Goals as goal
 
 pub returns-in_default-clause-told : goal.returns-in_default-clause-told

@@ -7,8 +7,8 @@ use Rattle.mesh_shared.specs.declared.mesher.Meshed.{Meshed}
 use Rattle.mesh_shared.specs.declared.mesher.Meshes.{Meshes}
 use Rattle.mesh_shared.specs.declared.worker.Served.{Served}
 use Rattle.mesh_shared.specs.declared.worker.Works.{Works}
-use Rattle.mesh_shared.proofs.Joining.{all_meshed, all_served, if_ok_both, one_mesher_more}
-use Rattle.mesh_shared.proofs.Running.{each_and_one_more, script_there}
+use Rattle.mesh_shared.proofs.JoinedThreads.{all_meshed, all_served, if_ok_both, one_mesher_more}
+use Rattle.mesh_shared.proofs.WorkerRuns.{each_and_one_more, script_there}
 use Rattle.mesh_shared.proofs.threads.fn.serve_all.scope.Goals as goal
 use Rattle.mesh_shared.proofs.threads.fn.serve_all.scope.Goals.{in-None, in-Some+in-Err, in-Ok-spawn_with, in-Err-spawn_with}
 

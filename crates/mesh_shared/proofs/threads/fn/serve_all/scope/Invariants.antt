@@ -1,6 +1,6 @@
 use Rattle.std.proofs.Common.{◌≡◌, ◌≤◌, ◌<◌, ◌+◌, ℕ, [], None, length, map, slice_index_or, vec_len, vec_capacity}
 use Rattle.std.specs.Vec.Iter.{into_iter_items, into_iter_len}
-use Rattle.mesh_shared.specs.Seat.{Seat}
+use Rattle.mesh_seats.specs.Seat.{Seat}
 use Rattle.mesh_shared.specs.Runs.{script_of}
 use Rattle.mesh_shared.proofs.threads.fn.serve_all.scope.Given as goal
 

@@ -1,0 +1,86 @@
+-- Seats that are made, and one call more.
+use Rattle.std.proofs.Common.{◌≡◌, ℕ, zero, suc, ◌+◌, ◌<◌, ◌≤◌, true, List, [], ◌∷◌, ◌++◌, length, take, slice_index, slice_index_or, ap, subst, refl, sym, ◌∙◌, arith, is_some, inl, inr}
+use Rattle.std.proofs.lemmas.Bool.Decides.{eqb_tells, leb_tells}
+use Rattle.std.specs.List.{All}
+use Rattle.std.proofs.lemmas.List.{length-append}
+use Rattle.std.proofs.lemmas.List.Elements.{All-append, All-cons}
+use Rattle.std.proofs.lemmas.Option.{slice_get_within, get_or_from_slice_get}
+use Rattle.model_memory.specs.Plain.{Entry}
+use Rattle.model_memory.specs.SeatLaws.{HasStranger}
+use Rattle.model_memory.specs.Reads.{Kept, is_marked, kept_by}
+use Rattle.mesh_seats.specs.Seat.{IsKept, IsSeat, Seat, calls_of_seats, empty_seats, numbers_of}
+
+-- one seat more
+pub seats_more : (counts : List ℕ) (i k n : ℕ) → i < length counts → n ≡ k + i
+    → empty_seats k (take (suc i) counts) ≡ empty_seats k (take i counts) ++ record { number = n; calls = []; room = slice_index counts i } ∷ []
+seats_more [] i k n below is = absurd (omega (arith, below))
+seats_more (c ∷ cs) zero k n below is = let same : k ≡ n = omega (arith, is) in ap (λ (x : ℕ). record { number = x; calls = []; room = c } ∷ []) same
+seats_more (c ∷ cs) (suc i) k n below is = ap (λ (seats : List Seat). record { number = k; calls = []; room = c } ∷ seats) (seats_more cs i (suc k) n (omega (arith, below)) (omega (arith, is)))
+
+-- one call more
+pub kept_more : (s t : Seat) (kept : Kept) → IsSeat s → length s.calls < s.room → IsKept kept → t.calls ≡ s.calls ++ kept ∷ [] → t.room ≡ s.room → IsSeat t
+kept_more s t kept is below good calls room = record {
+  short = let l = length-append s.calls (kept ∷ []) in rw (calls, room) (omega (arith, l, below));
+  kept = subst (λ (ks : List Kept). All IsKept ks) (sym calls) (All-append IsKept s.calls (kept ∷ []) is.kept
+      (All-cons IsKept kept [] good (λ k d none. absurd (omega (arith, none)))));
+}
+
+-- the calls of one seat
+pub calls_at : (seats : List Seat) (w : ℕ) (d : Seat) → w < length seats → slice_index_or (calls_of_seats seats) w [] ≡ (slice_index_or seats w d).calls
+calls_at [] w d below = absurd (omega (arith, below))
+calls_at (s ∷ ss) zero d below = refl
+calls_at (s ∷ ss) (suc w) d below = calls_at ss w d (omega (arith, below))
+
+pub calls_past : (seats : List Seat) (w : ℕ) → length seats ≤ w → slice_index_or (calls_of_seats seats) w [] ≡ []
+calls_past [] zero past = refl
+calls_past [] (suc w) past = refl
+calls_past (s ∷ ss) zero past = absurd (omega (arith, past))
+calls_past (s ∷ ss) (suc w) past = calls_past ss w (omega (arith, past))
+
+-- one seat more
+pub calls_more : (seats : List Seat) (k : ℕ) (d : Seat) → k < length seats → calls_of_seats (take (k + 1) seats) ≡ calls_of_seats (take k seats) ++ (slice_index_or seats k d).calls ∷ []
+calls_more seats k d below = let one : k + 1 ≡ suc k = omega arith in rw one (go seats k below)
+  where
+    go : (ss : List Seat) (i : ℕ) → i < length ss → calls_of_seats (take (suc i) ss) ≡ calls_of_seats (take i ss) ++ (slice_index_or ss i d).calls ∷ []
+    go [] i b = absurd (omega (arith, b))
+    go (s ∷ ss) zero b = refl
+    go (s ∷ ss) (suc i) b = ap (λ (l : List (List Kept)). s.calls ∷ l) (go ss i (omega (arith, b)))
+
+-- each seat's calls are kept ones
+pub kept_seat : (seats : List Seat) (k : ℕ) (calls : List Kept) → slice_index_or (calls_of_seats seats) k [] ≡ calls → All IsKept calls
+    → ((w : ℕ) → w < k → All IsKept (kept_by (calls_of_seats seats) w)) → (w : ℕ) → w < k + 1 → All IsKept (kept_by (calls_of_seats seats) w)
+kept_seat seats k calls is kept before w below = elim (eqb_tells w k) [
+  | inl same ↦ subst (λ (x : ℕ). All IsKept (kept_by (calls_of_seats seats) x)) (sym same.1) (subst (λ (l : List Kept). All IsKept l) (sym is) kept)
+  | inr other ↦ before w (let o = other.1 in omega (arith, o, below))
+]
+
+pub kept_all : (seats : List Seat) (k : ℕ) → length seats ≤ k → ((w : ℕ) → w < k → All IsKept (kept_by (calls_of_seats seats) w)) → (w : ℕ)
+    → All IsKept (kept_by (calls_of_seats seats) w)
+kept_all seats k past before w = elim (leb_tells (suc w) k) [
+  | inl below ↦ before w below.1
+  | inr beyond ↦ subst (λ (l : List Kept). All IsKept l) (sym (calls_past seats w (let b = beyond.1 in omega (arith, past, b)))) (λ j d none. absurd (omega (arith, none)))
+]
+
+-- only reads saw a length
+pub kept_marked : (calls : List Kept) → All IsKept calls → All is_marked calls
+kept_marked calls kept k d below n sees =
+    let good = (kept k d below).0 in let some : is_some (slice_index_or calls k d).seen ≡ true = rw sees refl in sym good ∙ some
+
+-- as many
+pub calls_many : (seats : List Seat) → length (calls_of_seats seats) ≡ length seats
+calls_many [] = refl
+calls_many (s ∷ ss) = ap (λ (n : ℕ). suc n) (calls_many ss)
+
+pub numbers_many : (seats : List Seat) → length (numbers_of seats) ≡ length seats
+numbers_many [] = refl
+numbers_many (s ∷ ss) = ap (λ (n : ℕ). suc n) (numbers_many ss)
+
+-- where there are as many seats as the count, and all workers are below it, there is no stranger
+pub no_stranger : (count : ℕ) (numbers : List ℕ) (entries : List Entry) → length numbers ≤ count → All (λ entry. entry.worker < count) entries
+    → HasStranger count numbers entries → ⊥
+no_stranger count numbers entries few known (inl more) = omega (arith, few, more)
+no_stranger count numbers entries few known (inr some) =
+    let within = slice_get_within entries some.0 some.1 some.2 in
+    let there = get_or_from_slice_get entries some.0 some.1 some.1 some.2 in
+    let low : some.1.worker < count = subst (λ (e : Entry). e.worker < count) there (known some.0 some.1 within) in
+    let high = some.3 in omega (arith, low, high)

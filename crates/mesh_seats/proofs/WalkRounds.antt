@@ -1,0 +1,116 @@
+-- One round of the walk, and its end.
+use Rattle.std.proofs.Common.{◌≡◌, ℕ, zero, suc, ◌+◌, ◌<◌, ◌≤◌, List, [], ◌∷◌, ◌++◌, length, take, drop, slice_index_or, ap, subst, refl, sym, ◌∙◌, arith, Option, Some, None}
+use Rattle.std.proofs.Math.Seq.{drop-cons, take-append_seam}
+use Rattle.model_memory.specs.Memory.{Memory, empty_memory}
+use Rattle.model_memory.specs.Plain.{Entry}
+use Rattle.model_memory.specs.Reads.{Kept, left_by, memory_after}
+use Rattle.mesh_seats.specs.Walk.{AreLeft, AreTaken, IsFirstLeft, IsStep, IsStepped, Tells, Walks, left_of}
+use Rattle.mesh_seats.proofs.WalkPlaces.{Looks, looks_last, looks_stepped, looks_taken}
+use Rattle.mesh_seats.proofs.BuiltHistories.{ComesTo, comes_more, comes_to_end, drop_all}
+
+-- the items of a vector whose slice was written
+pub written_back : {X : Type 0} (items new : List X) (len : ℕ) → len ≡ length items → length new ≡ length items → take len (new ++ drop (length new) items) ≡ new
+written_back {X = X} items new len is same =
+    let many : length new ≡ len = omega (arith, is, same) in
+    subst (λ (k : ℕ). take k (new ++ drop (length new) items) ≡ new) many (take-append_seam new (drop (length new) items))
+
+drop_many : {X : Type 0} (xs : List X) (n : ℕ) → n ≤ length xs → length xs ≡ n + length (drop n xs)
+drop_many [] zero below = omega arith
+drop_many [] (suc n) below = absurd (omega (arith, below))
+drop_many (x ∷ xs) zero below = omega arith
+drop_many (x ∷ xs) (suc n) below = let rest = drop_many xs n (omega (arith, below)) in omega (arith, rest)
+
+-- the memory after one entry more
+after_more : (es : List Entry) (n : ℕ) (e : Entry) (m : Memory) → n < length es → slice_index_or es n e ≡ e
+    → memory_after m (take (suc n) es) ≡ left_by (memory_after m (take n es)) e.command e.reply
+after_more [] n e m below at = absurd (omega (arith, below))
+after_more (x ∷ xs) zero e m below at = ap (λ (y : Entry). left_by m y.command y.reply) at
+after_more (x ∷ xs) (suc n) e m below at = after_more xs n e (left_by m x.command x.reply) (omega (arith, below)) at
+
+-- where nothing is told nothing was, and nothing was found
+record NothingTold (found : Option ℕ) (old new : List (List Kept)) (told : Option (ℕ × ℕ)) : Type 0 where
+  not_found : found ≡ None
+  not_told : told ≡ None
+  same : new ≡ old
+
+nothing_told : (seats : List (List Kept)) (found : Option ℕ) (old new : List (List Kept)) (told told' : Option (ℕ × ℕ)) → Tells seats found old new told told' → told' ≡ None
+    → NothingTold found old new told
+nothing_told seats None old new told told' tells none = record { not_found = refl; not_told = sym tells.1 ∙ none; same = tells.0 }
+nothing_told seats (Some w) old new told told' tells none = let clash = sym none ∙ tells.1 in absurd (cc clash)
+
+step_none : (worker : ℕ) (old new : List (List Kept)) (found : Option ℕ) → found ≡ None → worker < length old → IsStep worker old new found → IsStepped worker old new
+step_none worker old new None none below step = step.0 below
+step_none worker old new (Some w) none below step = absurd (cc none)
+
+-- what holds before each entry
+pub record Goes (seats : List (List Kept)) (entries : List Entry) (n : ℕ) (plain : Memory) (rests : List (List Kept)) (history : List Entry) (told : Option (ℕ × ℕ)) : Type 0 where
+  pub looks : Looks seats entries n rests told
+  pub comes : told ≡ None → ComesTo empty_memory seats entries n plain rests history
+  pub memory : plain ≡ memory_after empty_memory (take n entries)
+
+-- the reads of this length are taken
+pub record Takes (seats : List (List Kept)) (n : ℕ) (plain : Memory) (rests lefts rests' : List (List Kept)) (history history' : List Entry) (wrong : Option ℕ)
+    (told told' : Option (ℕ × ℕ)) : Type 0 where
+  pub left : AreLeft n plain rests lefts wrong
+  pub taken : wrong ≡ None → AreTaken n 0 plain rests lefts history history'
+  pub many : length lefts ≡ length rests
+  pub tells : Tells seats wrong lefts rests' told told'
+
+-- one entry more
+pub goes_on : (seats : List (List Kept)) (entries : List Entry) (entry : Entry) (n : ℕ) (plain plain' : Memory) (rests lefts rests' mids rests'' : List (List Kept))
+    (history history' history'' : List Entry) (wrong early : Option ℕ) (told told' told'' : Option (ℕ × ℕ)) → n < length entries → slice_index_or entries n entry ≡ entry
+    → entry.worker < length seats → Goes seats entries n plain rests history told → Takes seats n plain rests lefts rests' history history' wrong told told'
+    → IsStep entry.worker rests' mids early → length mids ≡ length rests' → Tells seats early mids rests'' told' told''
+    → plain' ≡ left_by plain entry.command entry.reply → history'' ≡ history' ++ entry ∷ [] → Goes seats entries (n + 1) plain' rests'' history'' told''
+goes_on seats entries entry n plain plain' rests lefts rests' mids rests'' history history' history'' wrong early told told' told'' below at known goes takes step many tells applied pushed =
+    let one : suc n ≡ n + 1 = omega arith in
+    let all = drop_many entries n (omega (arith, below)) in
+    let cut : drop n entries ≡ entry ∷ drop (suc n) entries = drop-cons entries n entry below ∙ ap (λ (e : Entry). e ∷ drop (suc n) entries) at in
+    let here = looks_taken seats entries n plain rests lefts rests' wrong told told' all goes.memory takes.many goes.looks takes.left takes.tells in
+    let next : Looks seats entries (suc n) rests'' told'' = looks_stepped seats entries (drop (suc n) entries) entry n plain rests' mids rests'' early told' told'' cut refl all
+    (omega (arith, below)) many here.0 here.1 step tells in
+    let memory : plain' ≡ memory_after empty_memory (take (suc n) entries) =
+    applied ∙ ap (λ (m : Memory). left_by m entry.command entry.reply) goes.memory ∙ sym (after_more entries n entry empty_memory below at) in
+    record {
+      looks = subst (λ (k : ℕ). Looks seats entries k rests'' told'') one next;
+      comes = λ none.
+          let late = nothing_told seats early mids rests'' told' told'' tells none in
+          let soon = nothing_told seats wrong lefts rests' told told' takes.tells late.not_told in
+          let whole : length rests ≡ length seats = looks_whole goes.looks soon.not_told in
+          let inside : entry.worker < length rests' = (let l = ap (λ (x : List (List Kept)). length x) soon.same in let m = takes.many in omega (arith, l, m, whole, known)) in
+          let stepped : IsStepped entry.worker lefts mids = subst (λ (x : List (List Kept)). IsStepped entry.worker x mids) soon.same (step_none entry.worker rests' mids early late.not_found inside step) in
+          let moved = comes_more empty_memory plain seats rests lefts mids entries n history history' history'' entry below at (goes.comes soon.not_told) (takes.taken soon.not_found) stepped pushed in
+          let there : ComesTo empty_memory seats entries (n + 1) plain' mids history'' =
+          subst (λ (m : Memory). ComesTo empty_memory seats entries (n + 1) m mids history'') (sym applied) moved in
+          subst (λ (x : List (List Kept)). ComesTo empty_memory seats entries (n + 1) plain' x history'') (sym late.same) there;
+      memory = subst (λ (k : ℕ). plain' ≡ memory_after empty_memory (take k entries)) one memory;
+    }
+  where
+    looks_whole : Looks seats entries n rests told → told ≡ None → length rests ≡ length seats
+    looks_whole looks none = let t = subst (λ (x : Option (ℕ × ℕ)). Looks seats entries n rests x) none looks in t.telling
+
+-- what holds at the end
+pub record Ends (seats : List (List Kept)) (entries : List Entry) (n : ℕ) (rests : List (List Kept)) (history : List Entry) (told : Option (ℕ × ℕ)) : Type 0 where
+  pub looks : Looks seats entries n rests told
+  pub none_left : (v : ℕ) → left_of rests v ≡ []
+  pub walks : told ≡ None → Walks 0 empty_memory seats entries [] history
+
+-- after the last entry
+pub goes_to_end : (seats : List (List Kept)) (entries : List Entry) (n k : ℕ) (plain : Memory) (rests lefts rests' rests'' : List (List Kept)) (history history' : List Entry)
+    (wrong late : Option ℕ) (told told' told'' : Option (ℕ × ℕ)) → length entries ≡ n → k ≡ n → Goes seats entries n plain rests history told
+    → Takes seats k plain rests lefts rests' history history' wrong told told' → IsFirstLeft rests' late → Tells seats late rests' rests'' told' told''
+    → Ends seats entries n rests'' history' told''
+goes_to_end seats entries n k plain rests lefts rests' rests'' history history' wrong late told told' told'' end same goes takes' first tells =
+    let takes = subst (λ (x : ℕ). Takes seats x plain rests lefts rests' history history' wrong told told') same takes' in
+    let none : drop n entries ≡ [] = drop_all entries n (omega (arith, end)) in
+    let here = looks_taken seats entries n plain rests lefts rests' wrong told told' (drop_many entries n (omega (arith, end))) goes.memory takes.many goes.looks takes.left takes.tells in
+    let last = looks_last seats entries n plain rests' rests'' late told' told'' none end here.0 here.1 first tells in
+    record {
+      looks = last.0;
+      none_left = last.1;
+      walks = λ nothing.
+          let after = nothing_told seats late rests' rests'' told' told'' tells nothing in
+          let soon = nothing_told seats wrong lefts rests' told told' takes.tells after.not_told in
+          comes_to_end empty_memory plain seats rests lefts entries n history history' (omega (arith, end)) (goes.comes soon.not_told) (takes.taken soon.not_found)
+          (λ w. ap (λ (x : List (List Kept)). left_of x w) (sym soon.same ∙ sym after.same) ∙ last.1 w);
+    }

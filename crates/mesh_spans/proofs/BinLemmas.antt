@@ -1,0 +1,417 @@
+-- Groups in their bins.
+use Rattle.std.proofs.Common.{◌≡◌, ◌≢◌, ℕ, zero, suc, ◌+◌, ◌*◌, ◌<◌, ◌≤◌, Bool, true, false, not, ◌&&◌, ◌||◌, if◌then◌else◌, nat_eq, nat_lt, count_by, is_some, List, [], ◌∷◌, Option, Some, None, length, slice_set, ap, refl, sym, ◌∙◌, arith, inl, inr}
+use Rattle.std.proofs.Math.ListN.{length-set}
+use Rattle.std.proofs.lemmas.Bool.Decides.{eqb_tells, leb_tells}
+use Rattle.std.proofs.lemmas.List.{get_or_past, get_or-set_other, get_or-set_same}
+use Rattle.std.proofs.Common.{position, ◌-◌, ◌++◌}
+use Rattle.std.specs.List.{position_or_len}
+use Rattle.std.proofs.lemmas.List.Sums.{fails_before_first}
+use Rattle.std.proofs.lemmas.List.Quantifiers.{position-Some}
+use Rattle.std.specs.Ordering.{nat_cmp, eq_by_cmp}
+use Rattle.std.specs.Cmp.{unsigned_tied, nat_cmp_total}
+use Rattle.std.specs.FinSet.{FinSet, contains, insert, remove, empty, contains-insert, contains-remove, contains-empty}
+use Rattle.mesh_bins.specs.Words.{IsLeast}
+use Rattle.mesh_class.specs.Classes.{IsClass, slots_of}
+use Rattle.mesh_spans.specs.GroupBins.{AreMoved, IsFiled, is_partial, bin_at, class_place, file_of, filed, is_at, kind_of, lower_of, unfiled}
+use Rattle.mesh_spans.specs.Index.{GroupEntry, IsGroup, IsIndex, SpanEntry, group_at, is_open}
+
+tied_same : (v : ℕ) → eq_by_cmp nat_cmp v v ≡ true
+tied_same v = unsigned_tied v v ∙ elim (eqb_tells v v) [ inl same ↦ same.0 | inr other ↦ absurd (other.1 refl) ]
+
+tied_other : (v w : ℕ) → v ≢ w → eq_by_cmp nat_cmp v w ≡ false
+tied_other v w ne = unsigned_tied v w ∙ elim (eqb_tells v w) [ inl same ↦ absurd (ne same.1) | inr other ↦ other.0 ]
+
+remove_same : (s : FinSet nat_cmp) (n : ℕ) → contains (remove s n) n ≡ false
+remove_same s n = contains-remove nat_cmp_total s n n ∙ ap (λ (b : Bool). not b && contains s n) (tied_same n)
+
+remove_other : (s : FinSet nat_cmp) (n m : ℕ) → m ≢ n → contains (remove s n) m ≡ contains s m
+remove_other s n m apart = contains-remove nat_cmp_total s n m ∙ ap (λ (b : Bool). not b && contains s m) (tied_other m n apart)
+
+insert_same : (s : FinSet nat_cmp) (n : ℕ) → contains (insert s n) n ≡ true
+insert_same s n = contains-insert nat_cmp_total s n n ∙ ap (λ (b : Bool). b || contains s n) (tied_same n)
+
+insert_other : (s : FinSet nat_cmp) (n m : ℕ) → m ≢ n → contains (insert s n) m ≡ contains s m
+insert_other s n m apart = contains-insert nat_cmp_total s n m ∙ ap (λ (b : Bool). b || contains s m) (tied_other m n apart)
+
+nat_eq_other : (a b : ℕ) → a ≢ b → nat_eq a b ≡ false
+nat_eq_other a b apart = elim (eqb_tells a b) [ inl same ↦ absurd (apart same.1) | inr other ↦ other.0 ]
+
+nat_eq_same : (a : ℕ) → nat_eq a a ≡ true
+nat_eq_same a = elim (eqb_tells a a) [ inl same ↦ same.0 | inr other ↦ absurd (other.1 refl) ]
+
+abbrev Bins : Type 0
+Bins = List (FinSet nat_cmp)
+
+-- a number other than the one that is filed or unfiled stays where it is
+unfiled_other : (bins : Bins) (n m : ℕ) (file : Option ℕ) (place : ℕ) → place < length bins → m ≢ n
+    → contains (bin_at (unfiled bins n file) place) m ≡ contains (bin_at bins place) m
+unfiled_other bins n m None place below apart = refl
+unfiled_other bins n m (Some p) place below apart = elim (eqb_tells place p) [
+  | inl same ↦ rw (← same.1, get_or-set_same bins place (remove (bin_at bins place) n) empty below) (remove_other (bin_at bins place) n m apart)
+  | inr other ↦ ap (λ (s : FinSet nat_cmp). contains s m) (get_or-set_other bins p place (remove (bin_at bins p) n) empty other.1)
+]
+
+filed_other : (bins : Bins) (n m : ℕ) (file : Option ℕ) (place : ℕ) → place < length bins → m ≢ n
+    → contains (bin_at (filed bins n file) place) m ≡ contains (bin_at bins place) m
+filed_other bins n m None place below apart = refl
+filed_other bins n m (Some p) place below apart = elim (eqb_tells place p) [
+  | inl same ↦ rw (← same.1, get_or-set_same bins place (insert (bin_at bins place) n) empty below) (insert_other (bin_at bins place) n m apart)
+  | inr other ↦ ap (λ (s : FinSet nat_cmp). contains s m) (get_or-set_other bins p place (insert (bin_at bins p) n) empty other.1)
+]
+
+-- a number that is taken out of its bin is in none
+unfiled_same : (bins : Bins) (n : ℕ) (file : Option ℕ) (place : ℕ) → place < length bins → contains (bin_at bins place) n ≡ is_at file place
+    → contains (bin_at (unfiled bins n file) place) n ≡ false
+unfiled_same bins n None place below was = was
+unfiled_same bins n (Some p) place below was = elim (eqb_tells place p) [
+  | inl same ↦ rw (← same.1, get_or-set_same bins place (remove (bin_at bins place) n) empty below) (remove_same (bin_at bins place) n)
+  | inr other ↦ ap (λ (s : FinSet nat_cmp). contains s n) (get_or-set_other bins p place (remove (bin_at bins p) n) empty other.1)
+      ∙ was ∙ nat_eq_other p place (λ e. other.1 (sym e))
+]
+
+-- and one that is put into a bin is in this one
+filed_same : (bins : Bins) (n : ℕ) (file : Option ℕ) (place : ℕ) → place < length bins → contains (bin_at bins place) n ≡ false
+    → contains (bin_at (filed bins n file) place) n ≡ is_at file place
+filed_same bins n None place below was = was
+filed_same bins n (Some p) place below was = elim (eqb_tells place p) [
+  | inl same ↦ rw (← same.1, get_or-set_same bins place (insert (bin_at bins place) n) empty below) (insert_same (bin_at bins place) n ∙ sym (nat_eq_same place))
+  | inr other ↦ ap (λ (s : FinSet nat_cmp). contains s n) (get_or-set_other bins p place (insert (bin_at bins p) n) empty other.1)
+      ∙ was ∙ sym (nat_eq_other p place (λ e. other.1 (sym e)))
+]
+
+unfiled_long : (bins : Bins) (n : ℕ) (file : Option ℕ) → length (unfiled bins n file) ≡ length bins
+unfiled_long bins n None = refl
+unfiled_long bins n (Some p) = length-set bins p (remove (bin_at bins p) n)
+
+filed_long : (bins : Bins) (n : ℕ) (file : Option ℕ) → length (filed bins n file) ≡ length bins
+filed_long bins n None = refl
+filed_long bins n (Some p) = length-set bins p (insert (bin_at bins p) n)
+
+-- the bins after one group changed and was filed anew
+abbrev pub refiled : List (Option GroupEntry) → List (Option GroupEntry) → List (FinSet nat_cmp) → ℕ → List (FinSet nat_cmp)
+refiled groups new bins n = filed (unfiled bins n (file_of (group_at groups n))) n (file_of (group_at new n))
+
+-- groups stay in their bins as one changes and is filed anew
+pub IsFiled_changed : (groups new : List (Option GroupEntry)) (bins : List (FinSet nat_cmp)) (n : ℕ) → IsFiled groups bins
+    → ((m : ℕ) → m ≢ n → group_at new m ≡ group_at groups m) → IsFiled new (refiled groups new bins n)
+IsFiled_changed groups new bins n is others = record {
+  sized = filed_long (unfiled bins n old) n now ∙ unfiled_long bins n old ∙ is.sized;
+  each = λ place m below. elim (eqb_tells m n) [
+    | inl same ↦ rw same.1 (filed_same (unfiled bins n old) n now place (omega (arith, below, is.sized, unfiled_long bins n old))
+        (unfiled_same bins n old place (omega (arith, below, is.sized)) (is.each place n below)))
+    | inr other ↦ filed_other (unfiled bins n old) n m now place (omega (arith, below, is.sized, unfiled_long bins n old)) other.1
+        ∙ unfiled_other bins n m old place (omega (arith, below, is.sized)) other.1 ∙ is.each place m below
+        ∙ ap (λ (o : Option GroupEntry). is_at (file_of o) place) (sym (others m other.1))
+  ];
+}
+  where
+    old : Option ℕ
+    old = file_of (group_at groups n)
+
+    now : Option ℕ
+    now = file_of (group_at new n)
+
+-- no group in no bin
+pub IsFiled_empty : (bins : List (FinSet nat_cmp)) → length bins ≡ 30 → ((place : ℕ) → bin_at bins place ≡ empty) → IsFiled [] bins
+IsFiled_empty bins sized none = record {
+  sized = sized;
+  each = λ place n below. ap (λ (s : FinSet nat_cmp). contains s n) (none place) ∙ contains-empty nat_cmp n;
+}
+
+-- the least of two sets
+pub least_of_both : (p q : ℕ → Bool) (from end : ℕ) (a b : Option ℕ) → IsLeast p from end a → IsLeast q from end b → IsLeast (λ n. p n || q n) from end (lower_of a b)
+least_of_both p q from end None None x y = λ m above below. rw (x m above below) (y m above below)
+least_of_both p q from end None (Some b) x y = record {
+  above = y.above;
+  below = y.below;
+  passes = rw (x b y.above y.below) y.passes;
+  first = λ m above below. rw (x m above (let l = y.below in omega (arith, below, l))) (y.first m above below);
+}
+least_of_both p q from end (Some a) None x y = record {
+  above = x.above;
+  below = x.below;
+  passes = rw x.passes refl;
+  first = λ m above below. rw (x.first m above below) (y m above (let l = x.below in omega (arith, below, l)));
+}
+least_of_both p q from end (Some a) (Some b) x y = elim (leb_tells (suc a) b) [
+  | inl less ↦ rw less.0 (record {
+    above = x.above;
+    below = x.below;
+    passes = rw x.passes refl;
+    first = λ m above below. rw (x.first m above below) (y.first m above (let l = less.1 in omega (arith, below, l)));
+  })
+  | inr more ↦ rw more.0 (record {
+    above = y.above;
+    below = y.below;
+    passes = or_true (p b) (q b) y.passes;
+    first = λ m above below. rw (x.first m above (let l = more.1 in omega (arith, below, l))) (y.first m above below);
+  })
+]
+  where
+    or_true : (u v : Bool) → v ≡ true → (u || v) ≡ true
+    or_true true v e = refl
+    or_true false v e = e
+
+-- a number of a group is below 65,536
+pub number_fits : (spans : List SpanEntry) (groups : List (Option GroupEntry)) (n : ℕ) → IsIndex spans groups → n < length groups → n < 65536
+number_fits spans groups n sound below =
+    let inside : n < length spans = (let paired = sound.paired in omega (arith, below, paired)) in
+    let few = sound.few n inside in
+    let last = (sound.span n inside).last in
+    omega (arith, few, last)
+
+-- there are at most 65,536 groups
+pub few_groups : (spans : List SpanEntry) (groups : List (Option GroupEntry)) → IsIndex spans groups → length groups ≤ 65536
+few_groups spans groups sound = elim (eqb_tells (length groups) 0) [
+  | inl none ↦ let n = none.1 in omega (arith, n)
+  | inr some ↦ let apart = some.1 in
+      let last : length groups - 1 < 65536 = number_fits spans groups (length groups - 1) sound (omega (arith, apart)) in omega (arith, last)
+]
+
+-- groups stay in their bins as one changes that stays in its own
+IsFiled_same : (groups new : List (Option GroupEntry)) (bins : List (FinSet nat_cmp)) (n : ℕ) → IsFiled groups bins
+    → file_of (group_at new n) ≡ file_of (group_at groups n) → ((m : ℕ) → m ≢ n → group_at new m ≡ group_at groups m) → IsFiled new bins
+IsFiled_same groups new bins n is same others = record {
+  sized = is.sized;
+  each = λ place m below. is.each place m below ∙ ap (λ (f : Option ℕ). is_at f place) (sym (elim (eqb_tells m n) [
+    | inl here ↦ rw here.1 same
+    | inr other ↦ ap (λ (o : Option GroupEntry). file_of o) (others m other.1)
+  ]));
+}
+
+-- groups stay in their bins as one changes and is filed anew
+pub refiled_is : (groups new groups0 new0 : List (Option GroupEntry)) (bins after : List (FinSet nat_cmp)) (n : ℕ) (before : Option ℕ) → IsFiled groups bins
+    → groups0 ≡ groups → new0 ≡ new → before ≡ file_of (group_at groups0 n) → AreMoved bins after n before (file_of (group_at new0 n))
+    → ((m : ℕ) → m ≢ n → group_at new m ≡ group_at groups m) → IsFiled new after
+refiled_is groups new groups0 new0 bins after n before is old now was moves others =
+    let b : before ≡ file_of (group_at groups n) = was ∙ ap (λ (gs : List (Option GroupEntry)). file_of (group_at gs n)) old in
+    let to : file_of (group_at new0 n) ≡ file_of (group_at new n) = ap (λ (gs : List (Option GroupEntry)). file_of (group_at gs n)) now in
+    elim moves [
+      | inl stays ↦ rw stays.1 (IsFiled_same groups new bins n is (sym to ∙ sym stays.0 ∙ b) others)
+      | inr refiles ↦
+          let a : after ≡ refiled groups new bins n = refiles ∙ ap (λ (f : Option ℕ). filed (unfiled bins n f) n (file_of (group_at new0 n))) b
+          ∙ ap (λ (f : Option ℕ). filed (unfiled bins n (file_of (group_at groups n))) n f) to in
+          rw a (IsFiled_changed groups new bins n is others)
+    ]
+
+-- the size of the class at a place of the class table
+abbrev pub size_at : ℕ → ℕ
+size_at n =
+    if nat_eq n 0 then 16 else (if nat_eq n 1 then 32 else (if nat_eq n 2 then 64 else (if nat_eq n 3 then 128 else (if nat_eq n 4 then 256 else
+    (if nat_eq n 5 then 384 else (if nat_eq n 6 then 512 else (if nat_eq n 7 then 1024 else (if nat_eq n 8 then 1536 else 2048))))))))
+
+-- each class has its own place
+pub size_is : (size : ℕ) → IsClass size → size_at (class_place size) ≡ size
+unfolding class_place slots_of
+size_is size is =
+    let some = is.some_slot in
+    elim (eqb_tells size 16) [
+      | inl e ↦ rw (e.0) (sym e.1)
+      | inr n16 ↦
+          elim (eqb_tells size 32) [
+            | inl e ↦ rw (n16.0, e.0) (sym e.1)
+            | inr n32 ↦
+                elim (eqb_tells size 64) [
+                  | inl e ↦ rw (n16.0, n32.0, e.0) (sym e.1)
+                  | inr n64 ↦
+                      elim (eqb_tells size 128) [
+                        | inl e ↦ rw (n16.0, n32.0, n64.0, e.0) (sym e.1)
+                        | inr n128 ↦
+                            elim (eqb_tells size 256) [
+                              | inl e ↦ rw (n16.0, n32.0, n64.0, n128.0, e.0) (sym e.1)
+                              | inr n256 ↦
+                                  elim (eqb_tells size 384) [
+                                    | inl e ↦ rw (n16.0, n32.0, n64.0, n128.0, n256.0, e.0) (sym e.1)
+                                    | inr n384 ↦
+                                        elim (eqb_tells size 512) [
+                                          | inl e ↦ rw (n16.0, n32.0, n64.0, n128.0, n256.0, n384.0, e.0) (sym e.1)
+                                          | inr n512 ↦
+                                              elim (eqb_tells size 1024) [
+                                                | inl e ↦ rw (n16.0, n32.0, n64.0, n128.0, n256.0, n384.0, n512.0, e.0) (sym e.1)
+                                                | inr n1024 ↦
+                                                    elim (eqb_tells size 1536) [
+                                                      | inl e ↦ rw (n16.0, n32.0, n64.0, n128.0, n256.0, n384.0, n512.0, n1024.0, e.0) (sym e.1)
+                                                      | inr n1536 ↦
+                                                          elim (eqb_tells size 2048) [
+                                                            | inl e ↦ rw (n16.0, n32.0, n64.0, n128.0, n256.0, n384.0, n512.0, n1024.0, n1536.0) (sym e.1)
+                                                            | inr n2048 ↦
+                                                                absurd (let none : slots_of size ≡ 0 = rw (nat_eq_other 16 size (λ x. n16.1 (sym x)), nat_eq_other 32 size (λ x. n32.1 (sym x)), nat_eq_other 64 size (λ x. n64.1 (sym x)), nat_eq_other 128 size (λ x. n128.1 (sym x)), nat_eq_other 256 size (λ x. n256.1 (sym x)), nat_eq_other 384 size (λ x. n384.1 (sym x)), nat_eq_other 512 size (λ x. n512.1 (sym x)), nat_eq_other 1024 size (λ x. n1024.1 (sym x)), nat_eq_other 1536 size (λ x. n1536.1 (sym x)), nat_eq_other 2048 size (λ x. n2048.1 (sym x))) refl in omega (arith, some, none))
+                                                          ]
+                                                    ]
+                                              ]
+                                        ]
+                                  ]
+                            ]
+                      ]
+                ]
+          ]
+    ]
+
+pub same_place : (a b : ℕ) → IsClass a → IsClass b → class_place a ≡ class_place b → a ≡ b
+same_place a b x y same = sym (size_is a x) ∙ ap size_at same ∙ size_is b y
+
+kind_few : (count total : ℕ) → kind_of count total ≤ 2
+kind_few count total = elim (eqb_tells count 0) [
+  | inl z ↦ rw z.0 (omega arith)
+  | inr z ↦ elim (leb_tells (suc count) total) [ inl l ↦ rw (z.0, l.0) (omega arith) | inr l ↦ rw (z.0, l.0) (omega arith) ]
+]
+
+-- whether a group is open, by its bin
+open_plain : (m : Bool) (count total of class : ℕ) → 2 ≤ total → IsClass of → IsClass class
+    → (is_at (if m then None else Some (3 * class_place of + kind_of count total)) (3 * class_place class)
+    || is_at (if m then None else Some (3 * class_place of + kind_of count total)) (3 * class_place class + 1))
+    ≡ (nat_eq of class && not m && nat_lt count total)
+open_plain true count total of class some x y = elim (eqb_tells of class) [ inl e ↦ rw e.0 refl | inr e ↦ rw e.0 refl ]
+open_plain false count total of class some x y = elim (eqb_tells of class) [
+  | inl e ↦ let same : class_place of ≡ class_place class = ap class_place e.1 in
+      elim (eqb_tells count 0) [
+        | inl z ↦ let room = z.1 in elim (leb_tells (suc count) total) [
+          | inl l ↦ rw (e.0, z.0, l.0) (let t : nat_eq (3 * class_place of + 0) (3 * class_place class) ≡ true = (let at : 3 * class_place of + 0 ≡ 3 * class_place class = omega (arith, same) in rw at (nat_eq_same (3 * class_place class))) in rw t refl)
+          | inr l ↦ absurd (let low = l.1 in omega (arith, low, room, some))
+        ]
+        | inr z ↦ elim (leb_tells (suc count) total) [
+          | inl l ↦ rw (e.0, z.0, l.0) (let t : nat_eq (3 * class_place of + 1) (3 * class_place class + 1) ≡ true = (let at : 3 * class_place of + 1 ≡ 3 * class_place class + 1 = omega (arith, same) in rw at (nat_eq_same (3 * class_place class + 1))) in
+              rw (nat_eq_other (3 * class_place of + 1) (3 * class_place class) (omega (arith, same)), t) refl)
+          | inr l ↦ rw (e.0, z.0, l.0) (rw (
+            nat_eq_other (3 * class_place of + 2) (3 * class_place class) (omega (arith, same)),
+            nat_eq_other (3 * class_place of + 2) (3 * class_place class + 1) (omega (arith, same)),
+          ) refl)
+        ]
+      ]
+  | inr e ↦ let apart : class_place of ≢ class_place class = λ p. e.1 (same_place of class x y p) in
+      rw e.0 (rw (
+        nat_eq_other (3 * class_place of + kind_of count total) (3 * class_place class) (λ p. apart (let k = kind_few count total in omega (arith, p, k))),
+        nat_eq_other (3 * class_place of + kind_of count total) (3 * class_place class + 1) (λ p. apart (let k = kind_few count total in omega (arith, p, k))),
+      ) refl)
+]
+
+-- a group is open where it is in one of two bins
+pub open_filed : (groups : List (Option GroupEntry)) (bins : List (FinSet nat_cmp)) (class n : ℕ) → IsFiled groups bins → IsClass class → class_place class < 10
+    → ((g : GroupEntry) → group_at groups n ≡ Some g → IsGroup g)
+    → (contains (bin_at bins (3 * class_place class)) n || contains (bin_at bins (3 * class_place class + 1)) n) ≡ is_open (group_at groups n) class
+open_filed groups bins class n is y low each =
+    rw (is.each (3 * class_place class) n (omega (arith, low)), is.each (3 * class_place class + 1) n (omega (arith, low))) (tells (group_at groups n) each)
+  where
+    tells : (o : Option GroupEntry) → ((g : GroupEntry) → o ≡ Some g → IsGroup g)
+        → (is_at (file_of o) (3 * class_place class) || is_at (file_of o) (3 * class_place class + 1)) ≡ is_open o class
+    tells None sound = refl
+    tells (Some g) sound =
+        let x = sound g refl in
+        let slots = x.slots in let two = x.class.some_slot in
+        open_plain g.in_mesh (count_by is_some g.slots) (length g.slots) g.class class (omega (arith, slots, two)) x.class y
+
+-- the lowest place that passes is the position
+pub position_is : (test : Option GroupEntry → Bool) (groups : List (Option GroupEntry)) (r : Option ℕ) → test None ≡ false → length groups ≤ 65536
+    → IsLeast (λ n. test (group_at groups n)) 0 65536 r → position test groups ≡ r
+position_is test groups None none few least = elim (leb_tells (suc (position_or_len test groups)) (length groups)) [
+  | inl within ↦ absurd (let found : position test groups ≡ Some (position_or_len test groups) = rw within.0 refl in
+      let parts = position-Some test groups (position_or_len test groups) None found in
+      let two : false ≡ true = sym (least (position_or_len test groups) (omega arith) (let w = within.1 in omega (arith, w, few))) ∙ parts.1 in cc two)
+  | inr past ↦ rw past.0 refl
+]
+position_is test groups (Some n) none few least = elim (leb_tells (suc (position_or_len test groups)) (length groups)) [
+  | inl within ↦
+      let found : position test groups ≡ Some (position_or_len test groups) = rw within.0 refl in
+      let parts = position-Some test groups (position_or_len test groups) None found in
+      found ∙ ap (λ (m : ℕ). Some m) (same (position_or_len test groups) parts.1 parts.2)
+  | inr past ↦ absurd (elim (leb_tells (length groups) n) [
+    | inl beyond ↦ let two : false ≡ true = sym none ∙ ap test (sym (get_or_past groups n None beyond.1)) ∙ least.passes in cc two
+    | inr below ↦ let two : false ≡ true = sym (fails_before_first test groups n None (let p = past.1 in let b = below.1 in omega (arith, p, b))) ∙ least.passes in cc two
+  ])
+]
+  where
+    same : (m : ℕ) → test (group_at groups m) ≡ true → ((j : ℕ) → j < m → test (group_at groups j) ≡ false) → m ≡ n
+    same m is before = elim (leb_tells (suc n) m) [
+      | inl less ↦ absurd (let two : false ≡ true = sym (before n less.1) ∙ least.passes in cc two)
+      | inr more ↦ elim (leb_tells (suc m) n) [
+        | inl less ↦ absurd (let two : false ≡ true = sym (least.first m (omega arith) less.1) ∙ is in cc two)
+        | inr most ↦ let a = more.1 in let b = most.1 in omega (arith, a, b)
+      ]
+    ]
+
+-- the lowest open group, by the bins
+pub open_position : (spans : List SpanEntry) (groups : List (Option GroupEntry)) (bins bins0 : List (FinSet nat_cmp)) (class : ℕ) (r : Option ℕ) → bins0 ≡ bins
+    → IsFiled groups bins → IsIndex spans groups → IsClass class → class_place class < 10
+    → IsLeast (λ n. contains (bin_at bins0 (3 * class_place class)) n || contains (bin_at bins0 (3 * class_place class + 1)) n) 0 65536 r
+    → position (λ o. is_open o class) groups ≡ r
+open_position spans groups bins bins0 class r same is sound y low least =
+    position_is (λ (o : Option GroupEntry). is_open o class) groups r refl (few_groups spans groups sound) (moved r least)
+  where
+    tells : (n : ℕ) → (contains (bin_at bins0 (3 * class_place class)) n || contains (bin_at bins0 (3 * class_place class + 1)) n) ≡ is_open (group_at groups n) class
+    tells n = ap (λ (bs : List (FinSet nat_cmp)). contains (bin_at bs (3 * class_place class)) n || contains (bin_at bs (3 * class_place class + 1)) n) same
+        ∙ open_filed groups bins class n is y low (sound.each n)
+
+    moved : (r : Option ℕ) → IsLeast (λ n. contains (bin_at bins0 (3 * class_place class)) n || contains (bin_at bins0 (3 * class_place class + 1)) n) 0 65536 r
+        → IsLeast (λ n. is_open (group_at groups n) class) 0 65536 r
+    moved None h = λ m above below. sym (tells m) ∙ h m above below
+    moved (Some n) h = record { above = h.above; below = h.below; passes = sym (tells n) ∙ h.passes; first = λ m above below. sym (tells m) ∙ h.first m above below }
+
+-- a group added after the others leaves them
+pub added_others : (groups : List (Option GroupEntry)) (x : Option GroupEntry) (m : ℕ) → m ≢ length groups → group_at (groups ++ x ∷ []) m ≡ group_at groups m
+added_others [] x zero apart = absurd (apart refl)
+added_others [] x (suc m) apart = refl
+added_others (y ∷ groups) x zero apart = refl
+added_others (y ∷ groups) x (suc m) apart = added_others groups x m (λ e. apart (ap suc e))
+
+-- two groups of one index are refiled as one is merged into the other
+pub merged_filed : (groups middle after groups0 middle0 middle1 after0 : List (Option GroupEntry)) (bins between last : List (FinSet nat_cmp)) (s d : ℕ) (x y : Option GroupEntry)
+    (from before : Option ℕ) → IsFiled groups bins → middle ≡ slice_set groups s x → after ≡ slice_set middle d y
+    → groups0 ≡ groups → middle0 ≡ middle → middle1 ≡ middle → after0 ≡ after
+    → from ≡ file_of (group_at groups0 s) → AreMoved bins between s from (file_of (group_at middle0 s))
+    → before ≡ file_of (group_at middle1 d) → AreMoved between last d before (file_of (group_at after0 d)) → IsFiled after last
+merged_filed groups middle after groups0 middle0 middle1 after0 bins between last s d x y from before is one two e0 e1 e2 e3 was refiles was' refiles' =
+    refiled_is middle after middle1 after0 between last d before
+    (refiled_is groups middle groups0 middle0 bins between s from is e0 e1 was refiles
+    (λ m apart. ap (λ (gs : List (Option GroupEntry)). group_at gs m) one ∙ get_or-set_other groups s m x None apart))
+    e2 e3 was' refiles' (λ m apart. ap (λ (gs : List (Option GroupEntry)). group_at gs m) two ∙ get_or-set_other middle d m y None apart)
+
+-- whether a group is partly filled, by its bin
+partial_plain : (m : Bool) (count total of class : ℕ) → 2 ≤ total → IsClass of → IsClass class
+    → is_at (if m then None else Some (3 * class_place of + kind_of count total)) (3 * class_place class + 1)
+    ≡ (nat_eq of class && not m && nat_lt 0 count && nat_lt count total)
+partial_plain true count total of class some x y = elim (eqb_tells of class) [ inl e ↦ rw e.0 refl | inr e ↦ rw e.0 refl ]
+partial_plain false count total of class some x y = elim (eqb_tells of class) [
+  | inl e ↦ let same : class_place of ≡ class_place class = ap class_place e.1 in
+      elim (eqb_tells count 0) [
+        | inl z ↦ let none : nat_lt 0 count ≡ false = (let zero = z.1 in rw zero refl) in
+            rw (e.0, none, z.0) (nat_eq_other (3 * class_place of + 0) (3 * class_place class + 1) (omega (arith, same)))
+        | inr z ↦ let more : nat_lt 0 count ≡ true = (elim (leb_tells 1 count) [ inl l ↦ l.0 | inr l ↦ absurd (let a = z.1 in let b = l.1 in omega (arith, a, b)) ]) in
+            elim (leb_tells (suc count) total) [
+              | inl l ↦ rw (e.0, more, z.0, l.0) (let at : 3 * class_place of + 1 ≡ 3 * class_place class + 1 = omega (arith, same) in rw at (nat_eq_same (3 * class_place class + 1)))
+              | inr l ↦ rw (e.0, more, z.0, l.0) (nat_eq_other (3 * class_place of + 2) (3 * class_place class + 1) (omega (arith, same)))
+            ]
+      ]
+  | inr e ↦ let apart : class_place of ≢ class_place class = λ p. e.1 (same_place of class x y p) in
+      rw e.0 (nat_eq_other (3 * class_place of + kind_of count total) (3 * class_place class + 1) (λ p. apart (let k = kind_few count total in omega (arith, p, k))))
+]
+
+-- the lowest partly filled group, by its bin
+pub partial_least : (groups : List (Option GroupEntry)) (bins bins0 : List (FinSet nat_cmp)) (class from : ℕ) (r : Option ℕ) → bins0 ≡ bins
+    → IsFiled groups bins → ((n : ℕ) (g : GroupEntry) → group_at groups n ≡ Some g → IsGroup g) → IsClass class → class_place class < 10
+    → IsLeast (contains (bin_at bins0 (3 * class_place class + 1))) from 65536 r → IsLeast (λ n. is_partial (group_at groups n) class) from 65536 r
+partial_least groups bins bins0 class from r same is each y low least = moved r least
+  where
+    tells : (o : Option GroupEntry) → ((g : GroupEntry) → o ≡ Some g → IsGroup g) → is_at (file_of o) (3 * class_place class + 1) ≡ is_partial o class
+    tells None sound = refl
+    tells (Some g) sound =
+        let x = sound g refl in
+        let slots = x.slots in let two = x.class.some_slot in
+        partial_plain g.in_mesh (count_by is_some g.slots) (length g.slots) g.class class (omega (arith, slots, two)) x.class y
+
+    told : (n : ℕ) → contains (bin_at bins0 (3 * class_place class + 1)) n ≡ is_partial (group_at groups n) class
+    told n = ap (λ (bs : List (FinSet nat_cmp)). contains (bin_at bs (3 * class_place class + 1)) n) same
+        ∙ is.each (3 * class_place class + 1) n (omega (arith, low)) ∙ tells (group_at groups n) (each n)
+
+    moved : (r : Option ℕ) → IsLeast (contains (bin_at bins0 (3 * class_place class + 1))) from 65536 r → IsLeast (λ n. is_partial (group_at groups n) class) from 65536 r
+    moved None h = λ m above below. sym (told m) ∙ h m above below
+    moved (Some n) h = record { above = h.above; below = h.below; passes = sym (told n) ∙ h.passes; first = λ m above below. sym (told m) ∙ h.first m above below }
+
+refiled_sized : (bins : List (FinSet nat_cmp)) (n : ℕ) (from to : Option ℕ) → length (filed (unfiled bins n from) n to) ≡ length bins
+refiled_sized bins n from to = filed_long (unfiled bins n from) n to ∙ unfiled_long bins n from
+
+-- there are as many bins after a number is moved
+pub moved_sized : (bins new : List (FinSet nat_cmp)) (n : ℕ) (from to : Option ℕ) → length bins ≡ 30 → AreMoved bins new n from to → length new ≡ 30
+moved_sized bins new n from to sized moves = elim moves [
+  | inl stays ↦ rw stays.1 sized
+  | inr refiles ↦ rw refiles (refiled_sized bins n from to ∙ sized)
+]
