@@ -15,7 +15,7 @@ ROWS = pathlib.Path("jobs/rows")
 CRATE = pathlib.Path("crates/mesh_rows")
 TESTS = pathlib.Path("crates/mesh_run_tests")
 # The definitions are computed on files below this length; the longer one is there for the program alone.
-MOST_BYTES = 100_000
+MAX_BYTES = 100_000
 
 # Subjects whose rows are too long for the tests' tables: the built program runs them, as it does all (tools/check_program.sh).
 UNTABLED = {"interleavings"}
@@ -29,6 +29,22 @@ KINDS = {
     "TOO_LONG": "TooLong", "TRAILING": "Trailing", "LONG_LINE": "LongLine", "CUT": "Cut",
     "BYTE": "Byte", "WORD": "Word", "NUMBER": "Number", "HEX": "Hex",
 }
+
+
+ROW = """-- A worked row, written by tools/write_rows.py: a file, and what it is replayed to.
+use Rattle.std.specs.Prelude.{◌≡◌, ℕ, List, Result}
+use Rattle.model_jobs.specs.JobFiles.{replayed}
+use Rattle.model_words.specs.declared.faults.TextFault.{TextFault}
+
+-- a file, and its answer lines or its fault
+pub record Row : Type 0 where
+  pub file : List ℕ
+  pub answer : Result (List ℕ) TextFault
+
+-- the definitions replay the file to the answer
+abbrev pub IsReplayed : Row → Type 0
+IsReplayed row = replayed row.file ≡ row.answer
+"""
 
 
 def text(content):
@@ -69,42 +85,52 @@ def camel(name):
     return "".join(part.capitalize() for part in name.split("_"))
 
 
-def write_subject(folder):
-    name, rows = folder.name, [row for row in sorted(folder.glob("*.job")) if row.stat().st_size < MOST_BYTES]
+def rows_of(folder):
+    """The rows of a subject that the definitions are computed on."""
+    return [row for row in sorted(folder.glob("*.job")) if row.stat().st_size < MAX_BYTES]
+
+
+def write_subject(name, rows):
     faults = any(row.with_suffix(".err").exists() for row in rows)
-    words = ["ℕ", "List", "Result", "Err"] if faults else ["ℕ", "List", "Result", "Ok"]
-    words += ["codes"]
+    words = ["Err" if faults else "Ok", "codes"]
     if faults:
         words += ["[]", "◌∷◌", "◌++◌", "replicate"]
     spec = [f"-- Worked rows: {name.replace('_', ' ')}. Written by tools/write_rows.py from jobs/rows/{name}.",
             f"use Rattle.std.specs.Prelude.{{{', '.join(words)}}}",
-            "use Rattle.mesh_model.specs.declared.faults.TextFault.{TextFault}"]
+            "use Rattle.mesh_rows.specs.Rows.{Row}"]
     if faults:
         used = sorted({KINDS[row.with_suffix(".err").read_text().strip().split(": ")[1]] for row in rows})
-        spec.append(f"use Rattle.mesh_model.specs.declared.faults.FaultKind.TheVariants.{{{', '.join(used)}}}")
+        spec.append(f"use Rattle.model_words.specs.declared.faults.FaultKind.TheVariants.{{{', '.join(used)}}}")
     for row in rows:
-        spec += ["", f"abbrev pub {row.stem}_file : List ℕ", f"{row.stem}_file = {text(file_text(row))}",
-                 "", f"abbrev pub {row.stem}_answer : Result (List ℕ) TextFault", f"{row.stem}_answer = {expected(row)}"]
+        spec += ["", f"abbrev pub {row.stem} : Row", f"{row.stem} = record {{ file = {text(file_text(row))}; answer = {expected(row)} }}"]
     (CRATE / "specs" / f"{camel(name)}.antt").write_text("\n".join(spec) + "\n")
-    names = [word for row in rows for word in (f"{row.stem}_file", f"{row.stem}_answer")]
-    ghost = f"ghost use Rattle.mesh_rows.specs.{camel(name)}.{{{', '.join(names)}}};"
-    clauses = "\n".join(f"    ensures {row.stem} {{ replayed {row.stem}_file ≡ {row.stem}_answer }}" for row in rows)
-    if len(rows) == 1:
-        clauses = f"    ensures {{ replayed {rows[0].stem}_file ≡ {rows[0].stem}_answer }}"
-    function = f"/// Worked rows: {name.replace('_', ' ')}.\npub fn {name}()\n{clauses}\n{{}}\n"
-    (CRATE / "src" / f"{name}_rows.rt").write_text(
-        f"//! Worked rows: {name.replace('_', ' ')}. Written by `tools/write_rows.py`.\n"
-        "ghost use Rattle.std.specs.Prelude.{◌≡◌};\n"
-        "ghost use Rattle.mesh_model.specs.Files.{replayed};\n" + ghost + "\n\n" + function)
-    proof = CRATE / "proofs" / f"{name}_rows" / name
+    write_proof(name, rows)
+
+
+def write_proof(name, rows):
+    """The proof of a subject's function: each row computes."""
+    proof = CRATE / "proofs" / "rows" / name
     proof.mkdir(parents=True)
     goals = [f"returns-clause-{row.stem}" for row in rows] if len(rows) > 1 else ["returns"]
     answers = "\n".join(f"\npub {goal} : goal.{goal}\nunfolding pages_of slots_of digits\n{goal} c = refl" for goal in goals)
     (proof / "Answers.antt").write_text(
         "use Rattle.std.proofs.Common.{refl}\n"
         "use Rattle.std.specs.Fmt.{digits}\n"
-        "use Rattle.mesh_model.specs.Classes.{pages_of, slots_of}\n"
-        f"use Rattle.mesh_rows.proofs.{name}_rows.{name}.Goals as goal\n" + answers + "\n")
+        "use Rattle.model_words.specs.Classes.{pages_of, slots_of}\n"
+        f"use Rattle.mesh_rows.proofs.rows.{name}.Goals as goal\n" + answers + "\n")
+
+
+def write_functions(subjects):
+    """A function for each subject, with a clause for each of its rows."""
+    lines = ["//! A function for each subject of the worked rows. Written by `tools/write_rows.py`.",
+             "ghost use Rattle.mesh_rows.specs.Rows.{IsReplayed};"]
+    for name, rows in subjects.items():
+        lines.append(f"ghost use Rattle.mesh_rows.specs.{camel(name)}.{{{', '.join(row.stem for row in rows)}}};")
+    for name, rows in subjects.items():
+        named = len(rows) > 1
+        lines += ["", f"/// Worked rows: {name.replace('_', ' ')}.", f"pub fn {name}()"]
+        lines += [f"    ensures {row.stem + ' ' if named else ''}{{ IsReplayed {row.stem} }}" for row in rows] + ["{}"]
+    (CRATE / "src" / "rows.rt").write_text("\n".join(lines) + "\n")
 
 
 def literal(content):
@@ -142,18 +168,17 @@ def main():
     for part in ("src", "specs", "proofs"):
         shutil.rmtree(CRATE / part, ignore_errors=True)
         (CRATE / part).mkdir(parents=True)
-    subjects = sorted(folder for folder in ROWS.iterdir() if folder.is_dir())
-    for folder in subjects:
-        write_subject(folder)
-    modules = "\n".join(f"mod {folder.name}_rows;" for folder in subjects)
-    exports = "\n".join(f"pub use {folder.name}_rows::{folder.name};" for folder in subjects)
+    subjects = {folder.name: rows_of(folder) for folder in sorted(ROWS.iterdir()) if folder.is_dir()}
+    for name, rows in subjects.items():
+        write_subject(name, rows)
+    write_functions(subjects)
     (CRATE / "src" / "lib.rt").write_text(
-        "//! The worked rows as theorems: what the definitions of `mesh_model` give for each file under `jobs/rows`.\n//!\n"
+        "//! The worked rows as theorems: what the definitions of `model_jobs` give for each file under `jobs/rows`.\n//!\n"
         "//! Each function does nothing; its clauses say that a file is replayed to the lines that were worked out by hand.\n"
         "//! Written by `tools/write_rows.py`.\n"
-        f"#![tactic(auto)]\n\n{modules}\n\n{exports}\n")
-    libs = "\n".join(["pub use Rattle.mesh_model.specs.Files"] + [f"pub mod {camel(folder.name)}" for folder in subjects])
-    (CRATE / "specs" / "Lib.antt").write_text(libs + "\n")
+        f"#![tactic(auto)]\n\nmod rows;\n\npub use rows::{{{', '.join(subjects)}}};\n")
+    (CRATE / "specs" / "Rows.antt").write_text(ROW)
+    (CRATE / "specs" / "Lib.antt").write_text("\n".join(f"pub mod {name}" for name in sorted([camel(name) for name in subjects] + ["Rows"])) + "\n")
     write_tables()
 
 

@@ -1,9 +1,9 @@
-pub use Rattle.model_jobs.specs.JobFiles
 pub mod Abandoned
 pub mod Cancels
 pub mod Faults
 pub mod Interleavings
 pub mod Mutators
+pub mod Rows
 pub mod Searches
 pub mod SmallSteps
 pub mod Version2

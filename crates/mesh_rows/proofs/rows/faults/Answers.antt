@@ -1,7 +1,7 @@
 use Rattle.std.proofs.Common.{refl}
 use Rattle.std.specs.Fmt.{digits}
 use Rattle.model_words.specs.Classes.{pages_of, slots_of}
-use Rattle.mesh_rows.proofs.faults_rows.faults.Goals as goal
+use Rattle.mesh_rows.proofs.rows.faults.Goals as goal
 
 pub returns-clause-addr_of_two_cells : goal.returns-clause-addr_of_two_cells
 unfolding pages_of slots_of digits

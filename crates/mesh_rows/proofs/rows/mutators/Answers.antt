@@ -1,7 +1,7 @@
 use Rattle.std.proofs.Common.{refl}
 use Rattle.std.specs.Fmt.{digits}
 use Rattle.model_words.specs.Classes.{pages_of, slots_of}
-use Rattle.mesh_rows.proofs.mutators_rows.mutators.Goals as goal
+use Rattle.mesh_rows.proofs.rows.mutators.Goals as goal
 
 pub returns-clause-first_bytes : goal.returns-clause-first_bytes
 unfolding pages_of slots_of digits

@@ -1,7 +1,7 @@
 use Rattle.std.proofs.Common.{refl}
 use Rattle.std.specs.Fmt.{digits}
 use Rattle.model_words.specs.Classes.{pages_of, slots_of}
-use Rattle.mesh_rows.proofs.version_2_rows.version_2.Goals as goal
+use Rattle.mesh_rows.proofs.rows.version_2.Goals as goal
 
 pub returns-clause-cancels_of_classes : goal.returns-clause-cancels_of_classes
 unfolding pages_of slots_of digits

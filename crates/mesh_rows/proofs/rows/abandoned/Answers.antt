@@ -1,7 +1,7 @@
 use Rattle.std.proofs.Common.{refl}
 use Rattle.std.specs.Fmt.{digits}
 use Rattle.model_words.specs.Classes.{pages_of, slots_of}
-use Rattle.mesh_rows.proofs.abandoned_rows.abandoned.Goals as goal
+use Rattle.mesh_rows.proofs.rows.abandoned.Goals as goal
 
 pub returns-clause-abandoned_after_00 : goal.returns-clause-abandoned_after_00
 unfolding pages_of slots_of digits

@@ -1,7 +1,7 @@
 use Rattle.std.proofs.Common.{refl}
 use Rattle.std.specs.Fmt.{digits}
 use Rattle.model_words.specs.Classes.{pages_of, slots_of}
-use Rattle.mesh_rows.proofs.searches_rows.searches.Goals as goal
+use Rattle.mesh_rows.proofs.rows.searches.Goals as goal
 
 pub returns-clause-fewer_objects_is_source : goal.returns-clause-fewer_objects_is_source
 unfolding pages_of slots_of digits

@@ -1,7 +1,7 @@
 use Rattle.std.proofs.Common.{refl}
 use Rattle.std.specs.Fmt.{digits}
 use Rattle.model_words.specs.Classes.{pages_of, slots_of}
-use Rattle.mesh_rows.proofs.whole_meshes_rows.whole_meshes.Goals as goal
+use Rattle.mesh_rows.proofs.rows.whole_meshes.Goals as goal
 
 pub returns-clause-bytes_of_three_pages : goal.returns-clause-bytes_of_three_pages
 unfolding pages_of slots_of digits

@@ -1,7 +1,7 @@
 use Rattle.std.proofs.Common.{refl}
 use Rattle.std.specs.Fmt.{digits}
 use Rattle.model_words.specs.Classes.{pages_of, slots_of}
-use Rattle.mesh_rows.proofs.interleavings_rows.interleavings.Goals as goal
+use Rattle.mesh_rows.proofs.rows.interleavings.Goals as goal
 
 pub returns-clause-begun : goal.returns-clause-begun
 unfolding pages_of slots_of digits

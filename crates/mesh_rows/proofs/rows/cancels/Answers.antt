@@ -1,7 +1,7 @@
 use Rattle.std.proofs.Common.{refl}
 use Rattle.std.specs.Fmt.{digits}
 use Rattle.model_words.specs.Classes.{pages_of, slots_of}
-use Rattle.mesh_rows.proofs.cancels_rows.cancels.Goals as goal
+use Rattle.mesh_rows.proofs.rows.cancels.Goals as goal
 
 pub returns-clause-cancel_after_three_protects : goal.returns-clause-cancel_after_three_protects
 unfolding pages_of slots_of digits

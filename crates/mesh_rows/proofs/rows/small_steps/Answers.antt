@@ -1,7 +1,7 @@
 use Rattle.std.proofs.Common.{refl}
 use Rattle.std.specs.Fmt.{digits}
 use Rattle.model_words.specs.Classes.{pages_of, slots_of}
-use Rattle.mesh_rows.proofs.small_steps_rows.small_steps.Goals as goal
+use Rattle.mesh_rows.proofs.rows.small_steps.Goals as goal
 
 pub returns-clause-addresses_after_meshing : goal.returns-clause-addresses_after_meshing
 unfolding pages_of slots_of digits

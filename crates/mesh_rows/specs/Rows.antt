@@ -1,0 +1,13 @@
+-- A worked row, written by tools/write_rows.py: a file, and what it is replayed to.
+use Rattle.std.specs.Prelude.{◌≡◌, ℕ, List, Result}
+use Rattle.model_jobs.specs.JobFiles.{replayed}
+use Rattle.model_words.specs.declared.faults.TextFault.{TextFault}
+
+-- a file, and its answer lines or its fault
+pub record Row : Type 0 where
+  pub file : List ℕ
+  pub answer : Result (List ℕ) TextFault
+
+-- the definitions replay the file to the answer
+abbrev pub IsReplayed : Row → Type 0
+IsReplayed row = replayed row.file ≡ row.answer
