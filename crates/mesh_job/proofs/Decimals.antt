@@ -8,10 +8,11 @@ use Rattle.std.proofs.lemmas.Fmt.{decimal_by_steps, digits_decimal, decimal-digi
 use Rattle.std.proofs.lemmas.List.{take-append-drop, get_or_append_left}
 use Rattle.std.proofs.lemmas.List.Sums.{fold-append}
 use Rattle.std.proofs.lemmas.Str.Parse.{IsDigitsTest, FoldsDigits, IsNumeralModel, numerals_by_fold}
+use Rattle.model_jobs.proofs.FieldReadings.{same_by_test}
 use Rattle.model_jobs.specs.JobFiles.{are_same, is_between, with_decimal, decimal_value, number_in}
 use Rattle.model_words.specs.declared.faults.FaultKind.TheVariants.{Number}
 use Rattle.mesh_job.specs.Reading.{is_decimal_digit}
-use Rattle.mesh_job.proofs.Sames.{fails, same_bytes, same_by_test, between_by_test}
+use Rattle.mesh_job.proofs.Sames.{fails, same_bytes, between_by_test}
 
 -- decimal digits give their number back
 value_of_decimal : (n : ℕ) → n < 2 ^ 64 → decimal_value (decimal n) ≡ n

@@ -1,5 +1,5 @@
 -- Fields of hexadecimal digits: an address, and bytes of two digits each.
-use Rattle.std.proofs.Common.{◌≡◌, ◌≢◌, ℕ, zero, suc, ◌+◌, ◌-◌, ◌*◌, ◌/◌, ◌%◌, ◌^◌, ◌<◌, ◌≤◌, true, false, ◌&&◌, if◌then◌else◌, nat_le, Bool, List, [], ◌∷◌, ◌++◌, Option, Some, None, Result, Ok, Err, length, get_or, take, drop, ap, refl, sym, subst, ◌∙◌, arith, inl, inr, append-nil, append_assoc, length-append, length-drop}
+use Rattle.std.proofs.Common.{◌≡◌, ◌≢◌, ℕ, zero, suc, ◌+◌, ◌*◌, ◌/◌, ◌%◌, ◌^◌, ◌<◌, ◌≤◌, true, false, ◌&&◌, if◌then◌else◌, nat_le, Bool, List, [], ◌∷◌, ◌++◌, Option, Some, None, Result, Ok, Err, length, get_or, take, drop, ap, refl, sym, subst, ◌∙◌, arith, inl, inr, append-nil, append_assoc, length-append, length-drop}
 use Rattle.std.specs.Prelude.{◌⊎◌, is_some}
 use Rattle.std.specs.List.{fold, list_all}
 use Rattle.std.proofs.lemmas.Bool.Decides.{leb_tells}
@@ -9,13 +9,14 @@ use Rattle.std.proofs.lemmas.List.Folds.{list_all-append}
 use Rattle.std.proofs.lemmas.List.Sums.{fold-append}
 use Rattle.std.proofs.lemmas.List.{take-append-drop}
 use Rattle.std.proofs.Math.Nat.{pow-suc}
-use Rattle.model_jobs.specs.JobFiles.{are_same, is_between, hex_value, with_hex, hex_number, address_in, byte_from, bytes_from, bytes_in}
+use Rattle.model_jobs.proofs.FieldReadings.{digit_told, same_by_test}
+use Rattle.model_jobs.specs.JobFiles.{are_same, hex_value, with_hex, hex_number, address_in, byte_from, bytes_from, bytes_in}
 use Rattle.model_jobs.specs.Texts.{hex_digit, hex_from, address_text}
 use Rattle.model_words.specs.Words.{◌>>=◌, or_refuse}
 use Rattle.model_words.specs.declared.faults.FaultKind.{FaultKind}
 use Rattle.model_words.specs.declared.faults.FaultKind.TheVariants.{Number, Hex}
 use Rattle.mesh_job.specs.Reading.{is_hex_digit}
-use Rattle.mesh_job.proofs.Sames.{fails, same_bytes, same_by_test, between_by_test}
+use Rattle.mesh_job.proofs.Sames.{fails, same_bytes}
 
 -- a number with one more hexadecimal digit
 with_digit : (n d : ℕ) → d < 16 → with_hex n (hex_digit d) ≡ 16 * n + d
@@ -41,18 +42,6 @@ digit_is d small = elim (leb_tells (suc d) 10) [
 if_tells : {A : Type 0} (b : Bool) (x y z : A) → (if b then x else y) ≡ z → ((b ≡ true) × (x ≡ z)) ⊎ ((b ≡ false) × (y ≡ z))
 if_tells true x y z h = inl (refl, h)
 if_tells false x y z h = inr (refl, h)
-
--- a digit is the spelling of its value
-value_told : (byte v : ℕ) → hex_value byte ≡ Some v → (byte ≡ hex_digit v) × (v < 16)
-value_told byte v h = elim (if_tells (is_between 48 57 byte) (Some (byte - 48)) (if is_between 97 102 byte then Some (byte - 87) else None) (Some v) h) [
-  | inl low ↦ let ends = between_by_test 48 57 byte low.0 in let is : byte - 48 ≡ v = cc low.1 in
-      rw (le-leb (suc v) 10 (omega (arith, ends.0, ends.1, is))) (omega (arith, ends.0, is), omega (arith, ends.0, ends.1, is))
-  | inr other ↦ elim (if_tells (is_between 97 102 byte) (Some (byte - 87)) None (Some v) other.1) [
-    | inl high ↦ let ends = between_by_test 97 102 byte high.0 in let is : byte - 87 ≡ v = cc high.1 in
-        rw (lt-leb (suc v) 10 (omega (arith, ends.0, ends.1, is))) (omega (arith, ends.0, is), omega (arith, ends.0, ends.1, is))
-    | inr none ↦ absurd (cc none.1)
-  ]
-]
 
 -- the value of an option that has one
 value_of : (o : Option ℕ) → is_some o ≡ true → (v : ℕ) × (o ≡ Some v)
@@ -94,7 +83,7 @@ digits_behind : (n : ℕ) (digits : List ℕ) → 1 ≤ n → list_all is_hex_di
 digits_behind n [] some are small = sym (append-nil (hex_from 7 n))
 digits_behind n (b ∷ bs) some are small =
     let parts = and_parts (is_hex_digit b) (list_all is_hex_digit bs) are in
-    let value = value_of (hex_value b) parts.0 in let told = value_told b value.0 value.1 in
+    let value = value_of (hex_value b) parts.0 in let told = digit_told b value.0 value.1 in
     let step : with_hex n b ≡ 16 * n + value.0 = ap (λ (c : ℕ). with_hex n c) told.0 ∙ with_digit n value.0 told.1 in
     let large : 16 * n + value.0 ≤ fold with_hex n (b ∷ bs) = omega (arith, grows (with_hex n b) bs, step) in
     let later = digits_behind (with_hex n b) bs (omega (arith, step, some)) parts.1 small in
@@ -184,13 +173,13 @@ pub address_spelt : (field : List ℕ) → 1 ≤ length field → ((2 ≤ length
 address_spelt [] some first are small = absurd (omega (arith, some))
 address_spelt (b ∷ []) some first are small =
     let parts = and_parts (is_hex_digit b) true are in
-    let value = value_of (hex_value b) parts.0 in let told = value_told b value.0 value.1 in
+    let value = value_of (hex_value b) parts.0 in let told = digit_told b value.0 value.1 in
     let number : hex_number (b ∷ []) ≡ value.0 = ap (λ (c : ℕ). with_hex 0 c) told.0 ∙ with_digit 0 value.0 told.1 ∙ omega arith in
     let one : address_text value.0 ≡ hex_digit value.0 ∷ [] = rw (le-leb (suc value.0) 16 told.1) refl in
     spelt_so (b ∷ []) (ap address_text number ∙ one ∙ ap (λ (c : ℕ). c ∷ []) (sym told.0)) small
 address_spelt (b ∷ c ∷ cs) some first are small =
     let parts = and_parts (is_hex_digit b) (list_all is_hex_digit (c ∷ cs)) are in
-    let value = value_of (hex_value b) parts.0 in let told = value_told b value.0 value.1 in
+    let value = value_of (hex_value b) parts.0 in let told = digit_told b value.0 value.1 in
     let above : 1 ≤ value.0 = above_zero value.0 (λ e. first (omega arith, told.0 ∙ e)) in
     let front : with_hex 0 b ≡ value.0 = ap (λ (c : ℕ). with_hex 0 c) told.0 ∙ with_digit 0 value.0 told.1 ∙ omega arith in
     let number : hex_number (b ∷ c ∷ cs) ≡ fold with_hex value.0 (c ∷ cs) = ap (λ (n : ℕ). fold with_hex n (c ∷ cs)) front in

@@ -6,6 +6,7 @@ use Rattle.std.proofs.lemmas.Bool.Decides.{eqb_tells, leb_tells}
 use Rattle.std.proofs.lemmas.Bool.{true≢false}
 use Rattle.std.proofs.lemmas.List.{map-append}
 use Rattle.std.proofs.lemmas.List.Elements.{All-append, All-cons, All-nil}
+use Rattle.model_jobs.proofs.FieldReadings.{same_by_test}
 use Rattle.model_words.specs.Classes.{Row, class_for, row_of, table}
 use Rattle.model_jobs.specs.JobFiles.{IsValidLine, are_same, line_in, pair_in}
 use Rattle.model_jobs.specs.Jobs.{Line}
@@ -15,7 +16,6 @@ use Rattle.model_words.specs.declared.versions.Version.{Version}
 use Rattle.model_jobs.proofs.LineReadings.{line_in_range}
 use Rattle.mesh_job.specs.Plan.{line_of}
 use Rattle.mesh_job.specs.declared.plan.PlanLine.{PlanLine}
-use Rattle.mesh_job.proofs.Sames.{same_by_test}
 
 -- words that were read
 abbrev taken : List ℕ → Result (List ℕ) FaultKind

@@ -1,8 +1,7 @@
 -- Bytes that are the same, and tests that fail.
-use Rattle.std.proofs.Common.{◌≡◌, ℕ, ◌≤◌, Bool, true, false, nat_eq, nat_le, List, [], ◌∷◌, refl, sym, inl, inr}
+use Rattle.std.proofs.Common.{◌≡◌, ℕ, ◌≤◌, Bool, true, false, nat_le, List, [], ◌∷◌, refl}
 use Rattle.std.specs.Str.{bytes_eq}
-use Rattle.std.proofs.lemmas.Bool.Decides.{eqb_tells}
-use Rattle.std.proofs.lemmas.Bool.{and_parts, eq-eqb, leb-true, true≢false}
+use Rattle.std.proofs.lemmas.Bool.{and_parts, eq-eqb, leb-true}
 use Rattle.model_jobs.specs.JobFiles.{are_same, is_between}
 
 -- a test that can't hold fails
@@ -21,18 +20,6 @@ pointwise_same [] [] = refl
 pointwise_same [] (y ∷ ys) = refl
 pointwise_same (x ∷ xs) [] = refl
 pointwise_same (x ∷ xs) (y ∷ ys) = rw (pointwise_same xs ys) refl
-
--- equal numbers by their test
-equal_by_test : (a b : ℕ) → nat_eq a b ≡ true → a ≡ b
-equal_by_test a b h = elim (eqb_tells a b) [ inl same ↦ same.1 | inr other ↦ absurd (true≢false (rw other.0 at (sym h))) ]
-
--- bytes that pass the test are the same
-pub same_by_test : (xs ys : List ℕ) → are_same xs ys ≡ true → xs ≡ ys
-same_by_test [] [] h = refl
-same_by_test [] (y ∷ ys) h = absurd (true≢false (sym h))
-same_by_test (x ∷ xs) [] h = absurd (true≢false (sym h))
-same_by_test (x ∷ xs) (y ∷ ys) h =
-    let parts = and_parts (nat_eq x y) (are_same xs ys) h in rw (equal_by_test x y parts.0, same_by_test xs ys parts.1) refl
 
 -- the test of a range tells it
 pub between_by_test : (least most n : ℕ) → is_between least most n ≡ true → (least ≤ n) × (n ≤ most)

@@ -1,11 +1,12 @@
 -- The slots of a sound table are apart.
-use Rattle.std.proofs.Common.{◌≡◌, ◌≢◌, ℕ, zero, suc, ◌+◌, ◌-◌, ◌*◌, ◌<◌, ◌≤◌, ◌%◌, true, cond, not, nat_eq, List, [], ◌∷◌, length, filter, find, flat_map, slice_get, slice_index, count_by, IsSome, is_some, ap, subst, refl, sym, ◌∙◌, arith, inl, inr, Option, Some, None, mul-le-mul_right, mod-lt}
+use Rattle.std.proofs.Common.{◌≡◌, ◌≢◌, ℕ, zero, suc, ◌+◌, ◌-◌, ◌*◌, ◌<◌, ◌≤◌, ◌%◌, true, cond, nat_eq, List, [], ◌∷◌, length, find, flat_map, slice_get, slice_index, count_by, IsSome, is_some, ap, subst, refl, sym, ◌∙◌, arith, inl, inr, Option, Some, None, mul-le-mul_right, mod-lt}
 use Rattle.std.specs.List.{range_with_len}
 use Rattle.std.specs.Option.{option_map_or}
 use Rattle.std.proofs.lemmas.Bool.Decides.{eqb_tells, leb_tells}
 use Rattle.std.proofs.lemmas.List.Sums.{sum_by-cons}
 use Rattle.std.proofs.lemmas.Option.{slice_get_within}
-use Rattle.model_heap.proofs.GroupLists.{times_in-append, pages_in, find_sound, find_without_other, pages_without, ascend_filtered}
+use Rattle.model_heap.proofs.GroupLists.{times_in-append, pages_in, find_sound, pages_without}
+use Rattle.model_heap.proofs.GroupPages.{page_of_one}
 use Rattle.model_heap.proofs.TableChanges.{class_paged, one_group}
 use Rattle.model_words.specs.Classes.{Row, table, row_of, pages_of, slots_of}
 use Rattle.model_heap.specs.Mesh.{virtual_pages}
@@ -82,18 +83,6 @@ member_twice v w n (x ∷ xs) there there' low high = let parts = times_in-appen
 group_in : (t : Table) (w n : ℕ) (g : Group) → IsSound t → group_of t n ≡ Some g → times_in w (virtual_pages g) ≤ pages_in w t.groups
 group_in t w n g sound is = let parts = pages_without w n 0 t.next_span t.groups g sound.numbers is in omega (arith, parts)
 
--- a page of two groups shows that they are one
-one_number : (t : Table) (w m n : ℕ) (g h : Group) → IsSound t → group_of t m ≡ Some g → group_of t n ≡ Some h → 1 ≤ times_in w (virtual_pages g)
-    → 1 ≤ times_in w (virtual_pages h) → m ≡ n
-one_number t w m n g h sound is is' there there' = elim (eqb_tells m n) [
-  | inl same ↦ same.1
-  | inr other ↦ let rest : List Group = filter (λ x. not (has_number m x)) t.groups in
-      let one = pages_without w m 0 t.next_span t.groups g sound.numbers is in
-      let found : find (has_number n) rest ≡ Some h = find_without_other m n t.groups (λ e. other.1 (sym e)) ∙ is' in
-      let more = pages_without w n 0 t.next_span rest h (ascend_filtered 0 t.next_span (λ x. not (has_number m x)) t.groups sound.numbers) found in
-      let once = sound.pages_once w in absurd (omega (arith, one, more, once, there, there'))
-]
-
 -- the group of one number is that of an equal one
 same_group : (t : Table) (m n : ℕ) (g h : Group) → group_of t m ≡ Some g → group_of t n ≡ Some h → m ≡ n → g ≡ h
 same_group t m n g h is is' same = one_group t m g h is (ap (λ (k : ℕ). group_of t k) same ∙ is')
@@ -105,7 +94,7 @@ members_apart t m n v w g h sound is is' there there' paged low = elim (leb_tell
   | inl apart ↦ apart.1
   | inr inside ↦ let in_g : 1 ≤ times_in w (virtual_pages g) = member_in v w (pages_of g.class) g.members there (omega (arith, low)) inside.1 in
       let in_h : 1 ≤ times_in w (virtual_pages h) = member_in w w (pages_of h.class) h.members there' (omega arith) (omega (arith, paged)) in
-      let same : g ≡ h = same_group t m n g h is is' (one_number t w m n g h sound is is' in_g in_h) in
+      let same : g ≡ h = same_group t m n g h is is' (page_of_one t w m n g h sound is is' in_g in_h) in
       let own : 1 ≤ times_in w g.members = subst (λ (x : Group). 1 ≤ times_in w x.members) (sym same) there' in
       let twice : 2 ≤ times_in w (virtual_pages g) = member_twice v w (pages_of g.class) g.members there own low inside.1 in
       let all = group_in t w m g sound is in let once = sound.pages_once w in absurd (omega (arith, twice, all, once))
@@ -127,7 +116,7 @@ places_apart t m n j k v w g h sound p q other = elim (leb_tells (suc v) w) [
     | inr same' ↦ let same : v ≡ w = omega (arith, high.1, same'.1) in
         let in_g : 1 ≤ times_in v (virtual_pages g) = member_in v v (pages_of g.class) g.members p.there (omega arith) (omega (arith, paged)) in
         let in_h : 1 ≤ times_in v (virtual_pages h) = member_in w v (pages_of h.class) h.members q.there (omega (arith, same)) (omega (arith, paged', same)) in
-        let number : m ≡ n = one_number t v m n g h sound p.is q.is in_g in_h in
+        let number : m ≡ n = page_of_one t v m n g h sound p.is q.is in_g in_h in
         let class : g.class ≡ h.class = ap (λ (x : Group). x.class) (same_group t m n g h p.is q.is number) in
         slots_apart v w g.class h.class j k same class (other number)
   ]

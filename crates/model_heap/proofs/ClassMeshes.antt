@@ -3,7 +3,7 @@ use Rattle.std.proofs.Common.{◌≡◌, ℕ, zero, suc, ◌+◌, ◌-◌, ◌*�
 use Rattle.std.proofs.lemmas.Bool.Decides.{leb_tells}
 use Rattle.std.proofs.lemmas.List.{map-append}
 use Rattle.std.proofs.lemmas.List.Elements.{filter-append}
-use Rattle.model_heap.proofs.MayBegin.{MayBegin, may_begin_gives}
+use Rattle.model_heap.proofs.MayBegin.{MayBegin, may_begin_gives, may_begin_sound}
 use Rattle.model_words.proofs.Chains.{went_on}
 use Rattle.model_heap.proofs.GroupLists.{find_sound}
 use Rattle.model_heap.proofs.MeshLists.{same_mesh}
@@ -14,7 +14,7 @@ use Rattle.model_heap.proofs.WholeMeshes.{free_next}
 use Rattle.model_words.specs.Classes.{pages_of, slots_of}
 use Rattle.model_heap.specs.Mesh.{Pair, Stepped, free_after, is_mesh, kind_after, may_begin, merged, mesh_at, mesh_in, page_count, step, step_count, stepped, table_after, with_progress, without_mesh}
 use Rattle.model_heap.specs.MeshLaws.{IsAllStepsOfClass, steps_of_class}
-use Rattle.model_heap.specs.Sound.{IsSound, IsSoundMesh, meshes_of}
+use Rattle.model_heap.specs.Sound.{IsSound, meshes_of}
 use Rattle.model_heap.specs.Table.{Counted, Group, Made, Mesh, Progress, Table, has_number}
 use Rattle.model_heap.specs.TableLaws.{IsBusyTest}
 use Rattle.model_words.specs.Words.{◌>>=◌}
@@ -54,22 +54,6 @@ after t pair source destination d = record t {
 abbrev ended : Table → Pair → ℕ → Table
 ended t pair destination = record t { free_pages = t.free_pages + pages_of pair.source.class; groups = merged t.groups pair.source destination }
 
--- the mesh is sound at each of its steps
-step_sound : (busy : Table → ℕ → Bool) (t : Table) (source destination : ℕ) (pair : Pair) (d : ℕ) → MayBegin busy t source destination pair
-    → d < step_count pair.source → IsSoundMesh t (at_step pair source destination d)
-step_sound busy t source destination pair d may within = record {
-  source = pair.source;
-  destination = pair.destination;
-  source_is = may.source_is;
-  destination_is = may.destination_is;
-  two = may.two;
-  source_class = refl;
-  destination_class = sym may.class;
-  apart = may.apart;
-  few_members = may.few;
-  within = omega (arith, within);
-}
-
 -- one step of the mesh that came last
 next_step : (busy : Table → ℕ → Bool) (t : Table) (source destination : ℕ) (pair : Pair) (d : ℕ) → IsSound t → MayBegin busy t source destination pair
     → meshes_of pair.source.class t.meshes ≡ 0 → step (after t pair source destination d) (mesh_in (after t pair source destination d) pair.source.class)
@@ -89,7 +73,7 @@ next_table : (busy : Table → ℕ → Bool) (t : Table) (source destination : �
     → table_after (after t pair source destination d) (at_step pair source destination d) pair.source d ≡ after t pair source destination (d + 1)
 next_table busy t source destination pair d sound may none more = elim (leb_tells (step_count pair.source) (d + 1)) [
   | inl past ↦ absurd (omega (arith, past.1, more))
-  | inr within ↦ let this = step_sound busy t source destination pair d may (omega (arith, more)) in
+  | inr within ↦ let this = may_begin_sound busy t source destination pair (Made d) may (omega (arith, more)) in
       rw (
         within.0,
         freed pair.source t.free_pages d,
@@ -103,7 +87,7 @@ last_table : (busy : Table → ℕ → Bool) (t : Table) (source destination : �
     → meshes_of pair.source.class t.meshes ≡ 0 → d + 1 ≡ step_count pair.source
     → table_after (after t pair source destination d) (at_step pair source destination d) pair.source d ≡ ended t pair destination
 last_table busy t source destination pair d sound may none last = elim (leb_tells (step_count pair.source) (d + 1)) [
-  | inl past ↦ let this = step_sound busy t source destination pair d may (omega (arith, last)) in
+  | inl past ↦ let this = may_begin_sound busy t source destination pair (Made d) may (omega (arith, last)) in
       let pages : d + 1 - (3 * page_count pair.source + slots_of pair.source.class) ≡ pages_of pair.source.class = omega (arith, last) in
       rw (
         past.0,

@@ -1,43 +1,33 @@
 -- What the words of the effects of steps change.
-use Rattle.std.proofs.Common.{◌≡◌, ◌≢◌, ℕ, zero, suc, ◌+◌, ◌<◌, Bool, true, false, List, ap, refl, sym, subst, ◌∙◌, arith, inl, inr}
+use Rattle.std.proofs.Common.{◌≡◌, ◌≢◌, ℕ, zero, suc, ◌+◌, ◌<◌, Bool, true, false, List, ap, refl, sym, subst, ◌∙◌, arith, inl, inr, nat_eq, if◌then◌else◌}
 use Rattle.std.proofs.lemmas.Bool.Decides.{eqb_tells}
 use Rattle.model_words.proofs.Tests.{tells}
 use Rattle.model_heap.specs.Places.{Place, Target, with_protection}
 use Rattle.model_heap.specs.StepEffects.{is_place, place_at, with_copied, with_free, with_page}
 
+-- a value put at one number is there, and every other number keeps its own
+one_put : {A : Type 0} (f : ℕ → A) (n : ℕ) (new : ℕ → A)
+    → ((if nat_eq n n then new n else f n) ≡ new n) × ((k : ℕ) → k ≢ n → (if nat_eq k n then new k else f k) ≡ f k)
+one_put f n new = (
+  elim (eqb_tells n n) [ inl same ↦ rw same.0 refl | inr other ↦ absurd (other.1 refl) ],
+  λ k apart. elim (eqb_tells k n) [ inl same ↦ absurd (apart same.1) | inr other ↦ rw other.0 refl ],
+)
+
 -- another protection is of one page
 pub one_protected : (targets : ℕ → Target) (v : ℕ) (read_only : Bool)
     → (with_protection targets v read_only v ≡ record { page = (targets v).page; read_only = read_only })
     × ((w : ℕ) → w ≢ v → with_protection targets v read_only w ≡ targets w)
-one_protected targets v read_only = (
-  elim (eqb_tells v v) [
-    | inl same ↦ rw same.0 refl
-    | inr other ↦ absurd (other.1 refl)
-  ],
-  λ w apart. elim (eqb_tells w v) [ inl same ↦ absurd (apart same.1) | inr other ↦ rw other.0 refl ],
-)
+one_protected targets v read_only = one_put targets v (λ w. record (targets w) { read_only = read_only })
 
 -- another lead is of one page
 pub one_led : (targets : ℕ → Target) (v page : ℕ) → (with_page targets v page v ≡ record { page = page; read_only = (targets v).read_only })
     × ((w : ℕ) → w ≢ v → with_page targets v page w ≡ targets w)
-one_led targets v page = (
-  elim (eqb_tells v v) [
-    | inl same ↦ rw same.0 refl
-    | inr other ↦ absurd (other.1 refl)
-  ],
-  λ w apart. elim (eqb_tells w v) [ inl same ↦ absurd (apart same.1) | inr other ↦ rw other.0 refl ],
-)
+one_led targets v page = one_put targets v (λ w. record (targets w) { page = page })
 
 -- one page more is free
 pub one_freed : (is_free : ℕ → Bool) (page : ℕ)
     → (with_free is_free page page ≡ true) × ((other : ℕ) → other ≢ page → with_free is_free page other ≡ is_free other)
-one_freed is_free page = (
-  elim (eqb_tells page page) [
-    | inl same ↦ rw same.0 refl
-    | inr other ↦ absurd (other.1 refl)
-  ],
-  λ w apart. elim (eqb_tells w page) [ inl same ↦ absurd (apart same.1) | inr other ↦ rw other.0 refl ],
-)
+one_freed is_free page = one_put is_free page (λ _. true)
 
 -- a place is itself
 same_place : (x : Place) → is_place x x ≡ true

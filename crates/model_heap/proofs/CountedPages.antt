@@ -5,22 +5,23 @@ use Rattle.std.proofs.lemmas.Bool.Decides.{eqb_tells, leb_tells}
 use Rattle.std.proofs.lemmas.Bool.{true≢false}
 use Rattle.std.proofs.lemmas.List.Sums.{sum_by-cons, sum_by_push}
 use Rattle.std.proofs.Math.Nat.{mul-le-mul_left}
-use Rattle.model_words.proofs.Chains.{or_refuse_went, went_on, refuse_if_went}
+use Rattle.model_heap.proofs.NewObjects.{by_place}
+use Rattle.model_words.proofs.Chains.{went_on, refuse_if_went}
 use Rattle.model_heap.proofs.MayBegin.{may_begin_gives}
 use Rattle.model_words.proofs.Tests.{tells}
 use Rattle.model_heap.proofs.GroupLists.{ascend_mapped, changed_number, find_again, find_changed_other, find_more, find_number, find_without_other, first_or_later, without_none}
 use Rattle.model_heap.proofs.MeshLists.{mesh_found, without_fewer, meshes_filtered}
 use Rattle.model_heap.proofs.OneMesh.{at, sum_at, sum_without}
 use Rattle.model_heap.proofs.StepCounts.{merged_keeps}
-use Rattle.model_heap.proofs.TableChanges.{differ, one_group}
+use Rattle.model_heap.proofs.TableChanges.{differ, one_group, sweep_went, cancel_went, step_went, found_within}
 use Rattle.model_heap.proofs.WholeMeshes.{free_next}
-use Rattle.model_words.specs.Classes.{class_for, pages_of, slots_of}
+use Rattle.model_words.specs.Classes.{pages_of, slots_of}
 use Rattle.model_heap.specs.Mesh.{Stepped, begin, may_begin, cancel, cancelled, cancelled_at, free_after, is_mesh, kind_after, merged, merged_into, mesh_whole, page_count, step, step_count, stepped, with_progress, without_mesh}
 use Rattle.model_heap.specs.PageCounts.{AreCounted, released_by, released_pages, span_pages}
 use Rattle.model_heap.specs.Sound.{AreSoundGroups, AreSoundMeshes, AscendBetween, IsSound, IsWithinSteps, meshes_of}
-use Rattle.model_heap.specs.Table.{Counted, Group, Made, Mesh, Placed, Progress, Slot, Table, Unwinding, changed_at, first_member, fresh_group, group_of, group_without, has_number, is_meshing, is_open, mapped_count, object_count, picked_slot, place_in, place_new, placed_in, room_for_span, sweep, takes_part, with_group, with_object_in, with_span, without_object}
+use Rattle.model_heap.specs.Table.{Counted, Group, Made, Mesh, Placed, Progress, Slot, Table, Unwinding, changed_at, first_member, fresh_group, group_of, group_without, has_number, is_meshing, mapped_count, picked_slot, place_new, placed_in, sweep, takes_part, with_group, with_object_in, with_span, without_object}
 use Rattle.model_heap.specs.TableLaws.{IsBusyTest}
-use Rattle.model_words.specs.declared.refusals.Refusal.TheVariants.{Busy, NoGroup, NoMesh, NoPages, NotEmpty, TooLarge, TooLate, Zero}
+use Rattle.model_words.specs.declared.refusals.Refusal.TheVariants.{TooLate}
 
 -- the physical pages of a group
 abbrev pub span_of : Group → ℕ
@@ -122,30 +123,15 @@ span_counted pages t class sound room counted =
       | inr enough ↦ omega (arith, span, released, counted, enough.1)
     ]
 
--- a new object of a class keeps the count
-placed_counted : (pages : ℕ) (t : Table) (o : Option Group) (class word serial len : ℕ) (placed : Placed) → IsSound t → AreCounted pages t
-    → place_in o t class word serial len ≡ Ok placed → AreCounted pages placed.table
-placed_counted pages t (Some g) class word serial len placed sound counted h =
-    let is : placed_in t g word serial len ≡ placed = cc h in
-    subst (λ (x : Placed). AreCounted pages x.table) is
-    (put_counted pages t g.number (picked_slot g word) (record { member = first_member g; serial = serial; len = len }) counted)
-placed_counted pages t None class word serial len placed sound counted h =
-    let room = went_on (room_for_span t class) _ placed h in
-    let enough = refuse_if_went NoPages (nat_lt t.free_pages (pages_of class)) _ room.value room.is in
-    let fresh : Group = fresh_group t.next_span class t.next_page in
-    let done = room.then in
-    let is : placed_in (with_span t class) fresh word serial len ≡ placed = cc done in
-    subst (λ (x : Placed). AreCounted pages x.table) is
-    (put_counted pages (with_span t class) fresh.number (picked_slot fresh word) (record { member = first_member fresh; serial = serial; len = len })
-    (span_counted pages t class sound enough.0 counted))
-
 -- a new object keeps the count
 pub new_counted : (pages : ℕ) (t : Table) (len word serial : ℕ) (placed : Placed) → IsSound t → AreCounted pages t
     → place_new t len word serial ≡ Ok placed → AreCounted pages placed.table
-new_counted pages t len word serial placed sound counted h =
-    let some = refuse_if_went Zero (nat_eq len 0) _ placed h in
-    let class = or_refuse_went TooLarge (class_for len) _ placed some.1 in
-    placed_counted pages t (find (is_open t class.value) t.groups) class.value word serial len placed sound counted class.then
+new_counted pages t len word serial placed sound counted = by_place (λ (x : Placed). AreCounted pages x.table) t len word serial placed sound
+    (λ class g at. in_group t g counted)
+    (λ class at. in_group (with_span t class) (fresh_group t.next_span class t.next_page) (span_counted pages t class sound at.pages counted))
+  where
+    in_group : (u : Table) (g : Group) → AreCounted pages u → AreCounted pages (placed_in u g word serial len).table
+    in_group u g before = put_counted pages u g.number (picked_slot g word) (record { member = first_member g; serial = serial; len = len }) before
 
 -- a group in none of the meshes is the source of no released pages
 given_outside : (t u : Table) (n : ℕ) (ms : List Mesh) → ((m : ℕ) → m ≢ n → group_of u m ≡ group_of t m) → list_any (takes_part n) ms ≡ false
@@ -174,27 +160,11 @@ swept_counted pages t n g sound counted found outside =
     = given_outside t (swept_table t n g) n t.meshes (λ m apart. find_without_other n m t.groups apart) outside in
     omega (arith, span, released, counted)
 
--- what a sweep that is not refused gives
-pub record Swept (t : Table) (n : ℕ) (x : Counted) : Type 0 where
-  pub group : Group
-  pub found : group_of t n ≡ Some group
-  pub outside : is_meshing t n ≡ false
-  pub is : record { count = pages_of group.class; table = swept_table t n group } ≡ x
-
--- a sweep that is not refused
-pub sweep_went : (t : Table) (n : ℕ) (x : Counted) → sweep t n ≡ Ok x → Swept t n x
-sweep_went t n x h =
-    let group = or_refuse_went NoGroup (group_of t n) _ x h in
-    let idle = refuse_if_went Busy (is_meshing t n) _ x group.then in
-    let empty = refuse_if_went NotEmpty (nat_lt 0 (object_count group.value)) _ x idle.1 in
-    let done = empty.1 in
-    record { group = group.value; found = group.is; outside = idle.0; is = cc done }
-
 -- a sweep keeps the count
 pub sweep_counted : (pages : ℕ) (t : Table) (n : ℕ) (x : Counted) → IsSound t → AreCounted pages t → sweep t n ≡ Ok x → AreCounted pages x.table
 sweep_counted pages t n x sound counted h =
     let went = sweep_went t n x h in
-    subst (λ (y : Counted). AreCounted pages y.table) went.is (swept_counted pages t n went.group sound counted went.found went.outside)
+    subst (λ (y : Counted). AreCounted pages y.table) went.is (swept_counted pages t n went.group sound counted went.found went.idle)
 
 -- a sweep answers how many pages come free
 pub sweep_answers : (t : Table) (n : ℕ) (x : Counted) → sweep t n ≡ Ok x → x.table.free_pages ≡ t.free_pages + x.count
@@ -335,9 +305,8 @@ cancels_counted pages t test this a (Unwinding q u) x sound counted found is at_
 pub cancel_counted : (pages : ℕ) (t : Table) (test : Mesh → Bool) (x : Counted) → IsSound t → AreCounted pages t → cancel t (find test t.meshes) ≡ Ok x
     → AreCounted pages x.table
 cancel_counted pages t test x sound counted h =
-    let mesh = or_refuse_went NoMesh (find test t.meshes) _ x h in
-    let source = or_refuse_went NoMesh (group_of t mesh.value.source) _ x mesh.then in
-    cancels_counted pages t test mesh.value source.value mesh.value.progress x sound counted mesh.is source.is refl source.then
+    let went = cancel_went t (find test t.meshes) x h in
+    cancels_counted pages t test went.mesh went.source went.mesh.progress x sound counted went.running went.source_is refl went.is
 
 -- the last step keeps the count
 last_counted : (pages : ℕ) (t : Table) (test : Mesh → Bool) (this : Mesh) (a : Group) (d : ℕ) → IsSound t → AreCounted pages t
@@ -396,14 +365,9 @@ stepped_counted pages t test this a (Unwinding q u) sound counted found is at_u 
 pub step_counted : (pages : ℕ) (t : Table) (test : Mesh → Bool) (x : Stepped) → IsSound t → AreCounted pages t → step t (find test t.meshes) ≡ Ok x
     → AreCounted pages x.table
 step_counted pages t test x sound counted h =
-    let mesh = or_refuse_went NoMesh (find test t.meshes) _ x h in
-    let source = or_refuse_went NoMesh (group_of t mesh.value.source) _ x mesh.then in
-    let old = mesh_found t test t.meshes mesh.value mesh.is sound.meshes in
-    let same : old.source ≡ source.value = one_group t mesh.value.source old.source source.value old.source_is source.is in
-    let done = source.then in
-    let is : stepped t mesh.value source.value mesh.value.progress ≡ x = cc done in
-    subst (λ (y : Stepped). AreCounted pages y.table) is (stepped_counted pages t test mesh.value source.value mesh.value.progress sound counted mesh.is
-    source.is refl (subst (λ (g : Group). IsWithinSteps g mesh.value.progress) same old.within))
+    let went = step_went t (find test t.meshes) x h in
+    subst (λ (y : Stepped). AreCounted pages y.table) went.is (stepped_counted pages t test went.mesh went.source went.mesh.progress sound counted
+    went.running went.source_is refl (found_within t test went.mesh went.source sound went.running went.source_is))
 
 -- groups have at least as many virtual pages as physical ones
 span_mapped_count : (gs : List Group) → AreSoundGroups gs → sum_by span_of gs ≤ sum_by (λ g. length g.members * pages_of g.class) gs

@@ -1,25 +1,14 @@
 -- No two live objects have an address in common, so an address has one holder at most.
-use Rattle.std.proofs.Common.{◌≡◌, ◌≢◌, ℕ, zero, suc, ◌+◌, ◌<◌, ◌≤◌, true, false, nat_le, nat_lt, List, [], ◌∷◌, length, get_or, slice_get, ap, refl, sym, ◌∙◌, arith, inl, inr, Option, Some, None}
-use Rattle.std.proofs.lemmas.Bool.Decides.{leb_tells}
+use Rattle.std.proofs.Common.{◌≡◌, ◌≢◌, ℕ, zero, suc, ◌+◌, true, false, List, [], ◌∷◌, length, get_or, slice_get, ap, refl, sym, ◌∙◌, arith, inl, inr, Option, Some, None}
 use Rattle.model_heap.proofs.Apart.{places_apart, filled_place}
 use Rattle.model_heap.proofs.GroupLists.{find_sound}
 use Rattle.model_heap.proofs.NewApart.{not_had}
-use Rattle.model_words.proofs.Tests.{both_hold}
+use Rattle.model_memory.proofs.NamedObjects.{in_range}
 use Rattle.model_heap.proofs.TableChanges.{one_group}
 use Rattle.model_memory.specs.Memory.{Memory, Object, are_apart, has_address, holder_from, holder_of, object_of}
 use Rattle.model_heap.specs.Sound.{HasSlot, IsSound, IsSoundSlot, IsTied}
 use Rattle.model_heap.specs.Table.{Group, Slot, Table, group_of, has_number, slot_address}
 use Rattle.model_heap.specs.TableLaws.{AreApart}
-
--- an address that an object has is in its range
-had_within : (object : Object) (address : ℕ) → has_address object address ≡ true
-    → (object.address ≤ address) × (address < object.address + length object.bytes)
-had_within object address h =
-    let parts = both_hold (nat_le object.address address) (nat_lt address (object.address + length object.bytes)) h in
-    (told object.address address parts.0, told (suc address) (object.address + length object.bytes) parts.1)
-  where
-    told : (a b : ℕ) → nat_le a b ≡ true → a ≤ b
-    told a b h = elim (leb_tells a b) [ inl below ↦ below.1 | inr past ↦ let clash : false ≡ true = rw past.0 at h in absurd (cc) ]
 
 -- objects in different slots have ranges apart
 slots_apart : (t : Table) (i j : ℕ) (x y : Object) → IsSound t → HasSlot t i x → HasSlot t j y → i ≢ j
@@ -54,7 +43,7 @@ slots_apart t i j x y sound at_x at_y apart = elim ranges [
 pub objects_apart : (m : Memory) (t : Table) (i j : ℕ) (x y : Object) → IsSound t → IsTied m t → object_of m i ≡ Some x → object_of m j ≡ Some y
     → i ≢ j → are_apart x y
 objects_apart m t i j x y sound tied live live' apart address had =
-    let within = had_within x address had in
+    let within = in_range x address had in
     not_had y x.address (length x.bytes) y.address (length y.bytes) address
     (slots_apart t i j x y sound (tied.objects i x live) (tied.objects j y live') apart) refl refl within.0 within.1
 

@@ -2,20 +2,18 @@
 use Rattle.std.proofs.Common.{◌≡◌, ℕ, ◌+◌, Bool, true, false, cond, not, List, [], ◌∷◌, ◌++◌, filter, find, count_by, flat_map, is_some, nat_lt, Option, Some, None, Ok, ap, refl, sym, ◌∙◌, arith, inl, inr}
 use Rattle.std.proofs.lemmas.Bool.Decides.{leb_tells}
 use Rattle.std.proofs.lemmas.List.Sums.{sum_by-cons}
-use Rattle.model_words.proofs.Chains.{or_refuse_went, refuse_if_went, went_on}
+use Rattle.model_words.proofs.Chains.{went_on}
 use Rattle.model_heap.proofs.GroupLists.{first_or_later, without_none}
 use Rattle.model_heap.proofs.SameRecords.{same_records}
-use Rattle.model_heap.proofs.TableChanges.{step_sound, whole_sound}
+use Rattle.model_heap.proofs.TableChanges.{step_sound, whole_sound, sweep_went, cancel_went}
 use Rattle.model_heap.proofs.TiedTables.{cancelled_groups, step_tied, whole_tied}
-use Rattle.model_words.specs.Classes.{pages_of}
 use Rattle.model_memory.specs.Memory.{Memory}
 use Rattle.model_heap.specs.Mesh.{Stepped, begin, cancel, may_begin, mesh_whole, step, step_count}
 use Rattle.model_heap.specs.Places.{Record, record_with, records_from, records_in, records_of}
 use Rattle.model_heap.specs.RecordLaws.{KeepsRecords}
 use Rattle.model_heap.specs.Sound.{AscendBetween, IsSound, IsTied}
-use Rattle.model_heap.specs.Table.{Counted, Group, Made, Mesh, Slot, Table, group_of, has_number, is_meshing, object_count, sweep}
+use Rattle.model_heap.specs.Table.{Counted, Group, Made, Mesh, Slot, Table, has_number, object_count, sweep}
 use Rattle.model_heap.specs.TableLaws.{IsBusyTest}
-use Rattle.model_words.specs.declared.refusals.Refusal.TheVariants.{Busy, NoGroup, NoMesh, NotEmpty}
 
 -- a table with the same groups has the same records
 same_groups : (t u : Table) → u.groups ≡ t.groups → KeepsRecords t u
@@ -38,9 +36,7 @@ begin_records busy t source destination begun h =
 -- a cancel leaves them
 pub cancel_records : (t : Table) (which : Option Mesh) (x : Counted) → cancel t which ≡ Ok x → KeepsRecords t x.table
 cancel_records t which x h =
-    let mesh = or_refuse_went NoMesh which _ x h in
-    let source = or_refuse_went NoMesh (group_of t mesh.value.source) _ x mesh.then in
-    same_groups t x.table (cancelled_groups t mesh.value source.value mesh.value.progress x source.then)
+    let went = cancel_went t which x h in same_groups t x.table (cancelled_groups t went.mesh went.source went.mesh.progress x went.is)
 
 -- slots without objects have no records
 no_records : (class from : ℕ) (slots : List (Option Slot)) → count_by is_some slots ≡ 0 → records_from class from slots ≡ []
@@ -69,17 +65,10 @@ none_counted n h = elim (leb_tells 1 n) [ inl some ↦ absurd (let clash : true 
 -- a sweep leaves them
 pub sweep_records : (t : Table) (n : ℕ) (swept : Counted) → IsSound t → sweep t n ≡ Ok swept → KeepsRecords t swept.table
 sweep_records t n swept sound h serial =
-    let group = or_refuse_went NoGroup (group_of t n) _ swept h in
-    let idle = refuse_if_went Busy (is_meshing t n) _ swept group.then in
-    let empty = refuse_if_went NotEmpty (nat_lt 0 (object_count group.value)) _ swept idle.1 in
-    let done = empty.1 in
-    let is : record {
-      count = pages_of group.value.class;
-      table = record t { free_pages = t.free_pages + pages_of group.value.class; groups = filter (λ g. not (has_number n g)) t.groups };
-    } ≡ swept = cc done in
-    ap (λ (x : Counted). record_with serial (records_of x.table)) (sym is)
-    ∙ ap (λ (rs : List Record). record_with serial rs) (records_without n 0 t.next_span t.groups group.value sound.numbers group.is
-    (no_records group.value.class 0 group.value.slots (none_counted (object_count group.value) empty.0)))
+    let went = sweep_went t n swept h in
+    ap (λ (x : Counted). record_with serial (records_of x.table)) (sym went.is)
+    ∙ ap (λ (rs : List Record). record_with serial rs) (records_without n 0 t.next_span t.groups went.group sound.numbers went.found
+    (no_records went.group.class 0 went.group.slots (none_counted (object_count went.group) went.empty)))
 
 -- a step leaves them
 pub step_records : (m : Memory) (t : Table) (test : Mesh → Bool) (x : Stepped) → IsSound t → IsTied m t → step t (find test t.meshes) ≡ Ok x

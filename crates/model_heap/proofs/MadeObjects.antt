@@ -1,5 +1,5 @@
 -- What a heap means once a new object is placed in its table.
-use Rattle.std.proofs.Common.{◌≡◌, ◌≢◌, ℕ, zero, suc, ◌+◌, ◌<◌, Bool, cond, nat_eq, List, [], ◌∷◌, ◌++◌, length, map, find, flat_map, replicate, slice_get, slice_set, IsSome, option_map, ap, subst, refl, sym, ◌∙◌, arith, inl, inr, Option, Some, None, Ok, append-nil}
+use Rattle.std.proofs.Common.{◌≡◌, ◌≢◌, ℕ, zero, suc, ◌+◌, ◌<◌, Bool, cond, nat_eq, List, [], ◌∷◌, ◌++◌, length, map, find, flat_map, replicate, slice_get, slice_set, IsSome, option_map, ap, refl, sym, ◌∙◌, arith, inl, inr, Option, Some, None, Ok, append-nil}
 use Rattle.std.specs.List.{range_with_len}
 use Rattle.std.specs.Option.{option_or}
 use Rattle.std.proofs.lemmas.Bool.Decides.{eqb_tells}
@@ -7,19 +7,17 @@ use Rattle.std.proofs.lemmas.Grind.{flat_map-append}
 use Rattle.std.proofs.lemmas.List.Folds.{find-append}
 use Rattle.std.proofs.lemmas.List.FromFn.{map-range_with_len_more}
 use Rattle.model_heap.proofs.Apart.{picked_free}
-use Rattle.model_words.proofs.Chains.{or_refuse_went, went_on, refuse_if_went}
-use Rattle.model_heap.proofs.GroupLists.{ascend_more, find_again, find_passes, head_found}
+use Rattle.model_heap.proofs.GroupLists.{ascend_more, head_found}
 use Rattle.model_heap.proofs.Meanings.{made_same, record_same}
-use Rattle.model_heap.proofs.NewObjects.{class_fits, last_found, none_from, open_gives}
+use Rattle.model_heap.proofs.NewObjects.{last_found, none_from, by_place}
 use Rattle.model_heap.proofs.Records.{found_later}
 use Rattle.model_heap.proofs.TableChanges.{one_group}
 use Rattle.model_heap.proofs.TiedNewObjects.{fresh_open}
-use Rattle.model_words.specs.Classes.{class_for, row_of, slots_of}
+use Rattle.model_words.specs.Classes.{row_of, slots_of}
 use Rattle.model_memory.specs.Memory.{Memory, Object, with_new}
 use Rattle.model_heap.specs.Places.{Place, Record, Target, byte_of, has_serial, meaning, object_at, records_from, records_of, AreBelow, IsIn, record_in, record_with, records_in}
 use Rattle.model_heap.specs.Sound.{AscendBetween, IsSound}
-use Rattle.model_heap.specs.Table.{Group, Placed, Slot, Table, changed_at, first_member, fresh_group, group_of, has_number, is_open, object_count, picked_slot, place_in, place_new, placed_in, room_for_span, with_object_in, with_span}
-use Rattle.model_words.specs.declared.refusals.Refusal.TheVariants.{TooLarge, Zero}
+use Rattle.model_heap.specs.Table.{Group, Placed, Slot, Table, changed_at, first_member, fresh_group, group_of, has_number, object_count, picked_slot, place_new, placed_in, with_object_in, with_span}
 
 -- an object put into a free slot leaves the record of another as before
 others_put : (s class from : ℕ) (slots : List (Option Slot)) (k : ℕ) (slot : Slot) → slice_get slots k ≡ Some None → slot.serial ≢ s
@@ -148,27 +146,11 @@ spanned_record t class word serial len sound row =
       others = λ s apart. placed.others s apart ∙ ap (λ (rs : List Record). record_with s rs) same;
     }
 
--- a new object of a class, in an open group or a new span
-placed_in_record : (t : Table) (o : Option Group) (class word serial len : ℕ) (placed : Placed) → IsSound t → IsSome (row_of class)
-    → find (is_open t class) t.groups ≡ o → place_in o t class word serial len ≡ Ok placed → HasNewRecord t placed serial len
-placed_in_record t (Some g) class word serial len placed sound row found h =
-    let open_ = open_gives t class g (find_passes (is_open t class) t.groups g found) in
-    let is : placed_in t g word serial len ≡ placed = cc h in
-    subst (λ (x : Placed). HasNewRecord t x serial len) is
-    (placed_record t g word serial len sound.numbers (find_again (is_open t class) 0 t.next_span t.groups g sound.numbers found) open_.some_slot)
-placed_in_record t None class word serial len placed sound row found h =
-    let room = went_on (room_for_span t class) _ placed h in
-    let done = room.then in
-    let is : placed_in (with_span t class) (fresh_group t.next_span class t.next_page) word serial len ≡ placed = cc done in
-    subst (λ (x : Placed). HasNewRecord t x serial len) is (spanned_record t class word serial len sound row)
-
 -- a new object's record comes to those that there were
 new_record : (t : Table) (len word serial : ℕ) (placed : Placed) → IsSound t → place_new t len word serial ≡ Ok placed → HasNewRecord t placed serial len
-new_record t len word serial placed sound h =
-    let some = refuse_if_went Zero (nat_eq len 0) _ placed h in
-    let class = or_refuse_went TooLarge (class_for len) _ placed some.1 in
-    let fits = class_fits len class.value class.is in
-    placed_in_record t (find (is_open t class.value) t.groups) class.value word serial len placed sound fits.1 refl class.then
+new_record t len word serial placed sound = by_place (λ (x : Placed). HasNewRecord t x serial len) t len word serial placed sound
+    (λ class g at. placed_record t g word serial len sound.numbers at.there at.is_open.some_slot)
+    (λ class at. spanned_record t class word serial len sound at.row)
 
 -- a list made from a range of numbers that make zeros
 zeros_made : (f : ℕ → ℕ) (a n : ℕ) → ((k : ℕ) → k < n → f (a + k) ≡ 0) → map f (range_with_len a n) ≡ replicate n 0

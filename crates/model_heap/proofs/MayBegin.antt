@@ -1,8 +1,9 @@
 -- What holds of two groups whose mesh may begin.
-use Rattle.std.proofs.Common.{◌≡◌, ℕ, ◌+◌, ◌≤◌, Bool, true, false, not, nat_eq, nat_lt, length, Some, Ok, subst, arith, inl, inr}
+use Rattle.std.proofs.Common.{◌≡◌, ℕ, ◌+◌, ◌≤◌, Bool, true, false, not, nat_eq, nat_lt, length, Some, Ok, subst, arith, inl, inr, sym, refl}
 use Rattle.std.proofs.lemmas.Bool.Decides.{eqb_tells, leb_tells}
 use Rattle.model_heap.specs.Mesh.{Pair, may_begin, do_overlap}
-use Rattle.model_heap.specs.Table.{Group, Table, group_of}
+use Rattle.model_heap.specs.Sound.{IsSoundMesh, IsWithinSteps}
+use Rattle.model_heap.specs.Table.{Group, Table, group_of, Progress}
 use Rattle.model_words.specs.Words.{◌>>=◌, refuse_if}
 use Rattle.model_words.specs.declared.refusals.Refusal.TheVariants.{NoGroup, Same, Class, Busy, Overlap, Members}
 use Rattle.model_words.proofs.Chains.{or_refuse_went, refuse_if_went}
@@ -56,3 +57,20 @@ may_begin_gives busy t source destination pair h =
     let a = or_refuse_went NoGroup (group_of t source) _ pair h in
     let b = or_refuse_went NoGroup (group_of t destination) _ pair a.then in
     may_begin_found busy t source destination a.value b.value pair a.is b.is b.then
+
+-- a mesh that may begin is sound at any progress within its steps
+pub may_begin_sound : (busy : Table → ℕ → Bool) (t : Table) (source destination : ℕ) (pair : Pair) (progress : Progress)
+    → MayBegin busy t source destination pair → IsWithinSteps pair.source progress
+    → IsSoundMesh t (record { class = pair.source.class; source = source; destination = destination; progress = progress })
+may_begin_sound busy t source destination pair progress may within = record {
+  source = pair.source;
+  destination = pair.destination;
+  source_is = may.source_is;
+  destination_is = may.destination_is;
+  two = may.two;
+  source_class = refl;
+  destination_class = sym may.class;
+  apart = may.apart;
+  few_members = may.few;
+  within = within;
+}

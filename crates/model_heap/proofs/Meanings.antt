@@ -4,9 +4,9 @@ use Rattle.std.specs.List.{range_with_len}
 use Rattle.std.proofs.lemmas.Bool.Decides.{eqb_tells, leb_tells}
 use Rattle.std.proofs.lemmas.List.{get_or-set_same, get_or-set_other, get_or_past, get_or-take, get_or-drop, get_or_append_left, get_or-append_right, length-take, length-drop, length-set}
 use Rattle.std.proofs.lemmas.List.FromFn.{length-map-range_with_len, get_or-map-range_with_len}
+use Rattle.model_heap.specs.MeaningLaws.{StoreChangesMeaning}
 use Rattle.model_memory.specs.Memory.{Memory, Object, next_serial, object_of, overwritten}
 use Rattle.model_heap.specs.Places.{Place, Record, Target, byte_of, meaning, object_at, AreBelow, IsIn, record_with}
-use Rattle.model_memory.specs.Plain.{stored}
 
 -- the next serial of what a heap means is its own
 pub meaning_next : (next : ℕ) (records : List Record) (targets : ℕ → Target) (bytes : Place → ℕ) (roots : List (Option ℕ))
@@ -167,14 +167,7 @@ overwritten_made f g a n off new fits written kept = ext_get_or 0 (map f (range_
     ]
 
 -- bytes stored at the places of a part of one object, while those of all other live bytes stay, are stored in the object
-pub store_means : (next : ℕ) (records : List Record) (targets : ℕ → Target) (bytes bytes' : Place → ℕ) (roots : List (Option ℕ)) (r : Record)
-    (off : ℕ) (new : List ℕ) → r.serial < next → record_with r.serial records ≡ Some r → off + length new ≤ r.len
-    → ((k : ℕ) → k < length new → byte_of targets bytes' (r.address + off + k) ≡ slice_index new k)
-    → ((x : ℕ) → IsIn r x → (x < r.address + off) ⊎ (r.address + off + length new ≤ x) → byte_of targets bytes' x ≡ byte_of targets bytes x)
-    → ((serial x : ℕ) (q : Record) → record_with serial records ≡ Some q → serial ≢ r.serial → IsIn q x
-    → byte_of targets bytes' x ≡ byte_of targets bytes x)
-    → meaning next records targets bytes' roots
-    ≡ stored (meaning next records targets bytes roots) (record { serial = r.serial; object = object_at targets bytes r }) off new
+pub store_means : StoreChangesMeaning
 store_means next records targets bytes bytes' roots r off new below is fits written kept others =
     ap {B = Memory} (λ (os : List (Option Object)). record { objects = os; roots = roots })
     (made_with (objects_by bytes') (objects_by bytes) next r.serial (Some after) below here there)

@@ -9,7 +9,7 @@ use Rattle.model_heap.specs.Sound.{IsWithinSteps, IsSoundMesh, AreSoundMeshes, m
 use Rattle.model_heap.specs.Table.{Slot, Group, Progress, Made, Unwinding, Mesh, Table, group_of, takes_part, emptied_of, group_without, without_object}
 
 -- a mesh whose groups stay is sound
-mesh_kept : (t u : Table) (mesh : Mesh) (sound : IsSoundMesh t mesh) → group_of u mesh.source ≡ Some sound.source
+pub mesh_kept : (t u : Table) (mesh : Mesh) (sound : IsSoundMesh t mesh) → group_of u mesh.source ≡ Some sound.source
     → group_of u mesh.destination ≡ Some sound.destination → IsSoundMesh u mesh
 mesh_kept t u mesh sound source destination = record {
   source = sound.source;

@@ -1,18 +1,15 @@
 -- A new object is apart from each object that there is.
-use Rattle.std.proofs.Common.{◌≡◌, ℕ, suc, ◌+◌, ◌<◌, ◌≤◌, false, nat_eq, length, find, slice_get, ap, subst, refl, sym, ◌∙◌, arith, inl, inr, Option, Some, None, Ok}
+use Rattle.std.proofs.Common.{◌≡◌, ℕ, suc, ◌+◌, ◌<◌, ◌≤◌, false, length, find, slice_get, ap, refl, sym, ◌∙◌, arith, inl, inr, Some, None, Ok}
 use Rattle.std.proofs.lemmas.Bool.Decides.{leb_tells}
 use Rattle.std.proofs.lemmas.Option.{slice_get_within}
 use Rattle.model_heap.proofs.Apart.{IsPlace, places_apart, place_used, filled_place, picked_free}
-use Rattle.model_words.proofs.Chains.{or_refuse_went, went_on, refuse_if_went}
 use Rattle.model_heap.proofs.GroupLists.{find_again, find_passes, find_sound}
-use Rattle.model_heap.proofs.NewObjects.{class_fits, first_in, open_gives}
-use Rattle.model_words.specs.Classes.{class_for}
+use Rattle.model_heap.proofs.NewObjects.{first_in, open_gives, by_place}
 use Rattle.model_memory.specs.Memory.{Memory, Object, has_address}
 use Rattle.model_memory.specs.Plain.{IsVacantRange}
 use Rattle.model_heap.specs.Sound.{IsSound, IsTied}
-use Rattle.model_heap.specs.Table.{Slot, Group, Table, Placed, group_of, has_number, is_open, picked_slot, first_member, slot_address, fresh_group, with_span, placed_in, place_in, place_new, room_for_span}
+use Rattle.model_heap.specs.Table.{Slot, Group, Table, Placed, group_of, has_number, is_open, picked_slot, first_member, slot_address, fresh_group, place_new}
 use Rattle.model_heap.specs.TableLaws.{AreApart}
-use Rattle.model_words.specs.declared.refusals.Refusal.TheVariants.{Zero, TooLarge}
 
 -- shorter ranges of ranges apart are apart
 shorter_apart : (a m b n m' n' : ℕ) → m' ≤ m → n' ≤ n → AreApart a m b n → AreApart a m' b n'
@@ -55,30 +52,14 @@ spanned_apart t class j len number k h slot sound is filled =
     let short = ((find_sound (has_number number) t.groups h is sound.groups).objects k slot filled).fits in
     inr (omega (arith, used, short))
 
--- a new object of a class is apart from those that there were
-placed_apart : (t : Table) (o : Option Group) (class len word serial number k : ℕ) (placed : Placed) (h : Group) (slot : Slot) → IsSound t → len ≤ class
-    → find (is_open t class) t.groups ≡ o → place_in o t class word serial len ≡ Ok placed → group_of t number ≡ Some h
-    → slice_get h.slots k ≡ Some (Some slot) → AreApart placed.address len (slot_address slot.member h.class k) slot.len
-placed_apart t (Some g) class len word serial number k placed h slot sound fits found went is filled =
-    let same : placed_in t g word serial len ≡ placed = cc went in
-    subst (λ (x : Placed). AreApart x.address len (slot_address slot.member h.class k) slot.len) same
-    (open_apart t class word len number k g h slot sound fits found is filled)
-placed_apart t None class len word serial number k placed h slot sound fits found went is filled =
-    let room = went_on (room_for_span t class) _ placed went in
-    let done = room.then in
-    let same : placed_in (with_span t class) (fresh_group t.next_span class t.next_page) word serial len ≡ placed = cc done in
-    subst (λ (x : Placed). AreApart x.address len (slot_address slot.member h.class k) slot.len) same
-    (spanned_apart t class (picked_slot (fresh_group t.next_span class t.next_page) word) len number k h slot sound is filled)
-
 -- the range of a new object is apart from that of each object of the table
 pub new_apart : (t : Table) (len word serial : ℕ) (placed : Placed) (number k : ℕ) (group : Group) (slot : Slot) → IsSound t
     → place_new t len word serial ≡ Ok placed → group_of t number ≡ Some group → slice_get group.slots k ≡ Some (Some slot)
     → AreApart placed.address len (slot_address slot.member group.class k) slot.len
 new_apart t len word serial placed number k h slot sound went is filled =
-    let some = refuse_if_went Zero (nat_eq len 0) _ placed went in
-    let class = or_refuse_went TooLarge (class_for len) _ placed some.1 in
-    let fits = class_fits len class.value class.is in
-    placed_apart t (find (is_open t class.value) t.groups) class.value len word serial number k placed h slot sound fits.0 refl class.then is filled
+    by_place (λ (x : Placed). AreApart x.address len (slot_address slot.member h.class k) slot.len) t len word serial placed sound
+    (λ class g at. open_apart t class word len number k g h slot sound at.fits at.found is filled)
+    (λ class at. spanned_apart t class (picked_slot (fresh_group t.next_span class t.next_page) word) len number k h slot sound is filled) went
 
 -- an address of a range is not one of a range apart
 pub not_had : (object : Object) (a m b n x : ℕ) → AreApart a m b n → object.address ≡ b → length object.bytes ≡ n → a ≤ x → x < a + m

@@ -1,10 +1,10 @@
 -- A new object keeps a sound table sound.
-use Rattle.std.proofs.Common.{◌≡◌, ℕ, zero, suc, ◌+◌, ◌<◌, ◌≤◌, Bool, true, false, not, ◌&&◌, nat_eq, nat_lt, nat_le, List, [], ◌∷◌, ◌++◌, length, map, find, slice_get, slice_set, slice_index, replicate, IsSome, is_some, option_map, ap, subst, refl, sym, ◌∙◌, arith, ◌⊎◌, inl, inr, Option, Some, None, Ok}
+use Rattle.std.proofs.Common.{◌≡◌, ℕ, zero, suc, ◌+◌, ◌<◌, ◌≤◌, true, false, not, ◌&&◌, nat_eq, nat_lt, nat_le, List, [], ◌∷◌, ◌++◌, length, map, find, slice_get, slice_set, slice_index, replicate, IsSome, is_some, option_map, ap, subst, refl, sym, ◌∙◌, arith, ◌⊎◌, inl, inr, Option, Some, None, Ok}
 use Rattle.std.specs.List.{list_any, range_with_len}
 use Rattle.std.proofs.lemmas.Bool.Decides.{eqb_tells, leb_tells}
 use Rattle.std.proofs.lemmas.List.{length-set, length-replicate}
 use Rattle.model_words.proofs.Chains.{or_refuse_went, went_on, refuse_if_went, refuse_last}
-use Rattle.model_words.proofs.Tests.{tells, both_hold, positive}
+use Rattle.model_words.proofs.Tests.{tells, both_hold, positive, equal, less, negated}
 use Rattle.model_heap.proofs.GroupLists.{times_in-append, pages_in, find_again, find_passes, find_sound, pages_changed, pages_more, groups_changed, groups_more, ascend_mapped, ascend_more, changed_number, find_changed_other, find_more, find_between, head_found}
 use Rattle.model_heap.proofs.MeshLists.{meshes_kept, meshes_outside}
 use Rattle.model_heap.proofs.TableChanges.{table_sound}
@@ -186,23 +186,10 @@ open_gives t class g h =
     let parts = both_hold (nat_eq g.class class && not (is_meshing t g.number)) (nat_lt (object_count g) (length g.slots)) h in
     let first = both_hold (nat_eq g.class class) (not (is_meshing t g.number)) parts.0 in
     record {
-      class_is = equal first.0;
-      outside = unmeshed (is_meshing t g.number) first.1;
-      some_slot = less parts.1;
+      class_is = equal g.class class first.0;
+      outside = negated (is_meshing t g.number) first.1;
+      some_slot = less (object_count g) (length g.slots) parts.1;
     }
-  where
-    equal : nat_eq g.class class ≡ true → g.class ≡ class
-    equal h = elim (eqb_tells g.class class) [ inl same ↦ same.1 | inr other ↦ let clash : false ≡ true = rw other.0 at h in absurd (cc) ]
-
-    unmeshed : (b : Bool) → not b ≡ true → b ≡ false
-    unmeshed true h = sym h
-    unmeshed false h = refl
-
-    less : nat_lt (object_count g) (length g.slots) ≡ true → object_count g < length g.slots
-    less h = elim (leb_tells (suc (object_count g)) (length g.slots)) [
-      | inl below ↦ below.1
-      | inr past ↦ let clash : false ≡ true = rw past.0 at h in absurd (cc)
-    ]
 
 -- a group that passes the tests is open
 pub gives_open : (t : Table) (class : ℕ) (g : Group) → g.class ≡ class → is_meshing t g.number ≡ false → object_count g < length g.slots
@@ -235,28 +222,67 @@ class_fits len class h = rows_fit len table class h
 has_addresses : (n : ℕ) → nat_lt 65536 n ≡ false → n ≤ 65536
 has_addresses n h = elim (leb_tells 65537 n) [ inl past ↦ let clash : true ≡ false = rw past.0 at h in absurd (cc) | inr within ↦ omega (arith, within.1) ]
 
--- a new object of a class keeps the table sound
-placed_in_sound : (t : Table) (o : Option Group) (class word serial len : ℕ) (placed : Placed) → IsSound t → IsSome (row_of class) → 1 ≤ len → len ≤ class
-    → find (is_open t class) t.groups ≡ o → place_in o t class word serial len ≡ Ok placed → IsSound placed.table
-placed_in_sound t (Some g) class word serial len placed sound row some fits found h =
-    let open_ = open_gives t class g (find_passes (is_open t class) t.groups g found) in
-    let class_is = open_.class_is in
-    let is : placed_in t g word serial len ≡ placed = cc h in
-    subst (λ (x : Placed). IsSound x.table) is (placed_sound t g word serial len sound
-    (find_again (is_open t class) 0 t.next_span t.groups g sound.numbers found) open_.outside some (omega (arith, fits, class_is)))
-placed_in_sound t None class word serial len placed sound row some fits found h =
-    let room = went_on (room_for_span t class) _ placed h in
-    let pages = refuse_if_went NoPages (nat_lt t.free_pages (pages_of class)) _ room.value room.is in
-    let addresses = refuse_last NoAddresses (nat_lt 65536 (t.next_page + pages_of class)) room.value pages.1 in
-    let done = room.then in
-    let is : placed_in (with_span t class) (fresh_group t.next_span class t.next_page) word serial len ≡ placed = cc done in
-    subst (λ (x : Placed). IsSound x.table) is (spanned_sound t class word serial len sound row (has_addresses (t.next_page + pages_of class) addresses)
-    some fits)
+-- a new object of the length goes to this group: the first of its class that is open
+pub record GoesToOpen (t : Table) (len class : ℕ) (g : Group) : Type 0 where
+  pub class_is : class_for len ≡ Some class
+  pub some : 1 ≤ len
+  pub fits : len ≤ class
+  pub found : find (is_open t class) t.groups ≡ Some g
+  pub is_open : IsOpen t class g
+  pub there : group_of t g.number ≡ Some g
 
--- a new object keeps the table sound
-pub new_sound : (t : Table) (len word serial : ℕ) (placed : Placed) → IsSound t → place_new t len word serial ≡ Ok placed → IsSound placed.table
-new_sound t len word serial placed sound h =
+-- it goes to a new span, where no group of its class is open and there is room for one
+pub record GoesToSpan (t : Table) (len class : ℕ) : Type 0 where
+  pub class_is : class_for len ≡ Some class
+  pub some : 1 ≤ len
+  pub fits : len ≤ class
+  pub row : IsSome (row_of class)
+  pub none : find (is_open t class) t.groups ≡ None
+  pub pages : nat_lt t.free_pages (pages_of class) ≡ false
+  pub addresses : t.next_page + pages_of class ≤ 65536
+
+-- what holds of an object in an open group and of one in a new span holds of every new object
+pub by_place : (P : Placed → Type 0) (t : Table) (len word serial : ℕ) (placed : Placed) → IsSound t
+    → ((class : ℕ) (g : Group) → GoesToOpen t len class g → P (placed_in t g word serial len))
+    → ((class : ℕ) → GoesToSpan t len class → P (placed_in (with_span t class) (fresh_group t.next_span class t.next_page) word serial len))
+    → place_new t len word serial ≡ Ok placed → P placed
+by_place P t len word serial placed sound in_open in_span h =
     let some = refuse_if_went Zero (nat_eq len 0) _ placed h in
     let class = or_refuse_went TooLarge (class_for len) _ placed some.1 in
     let fits = class_fits len class.value class.is in
-    placed_in_sound t (find (is_open t class.value) t.groups) class.value word serial len placed sound fits.1 (positive len some.0) fits.0 refl class.then
+    by_found class.value class.is (positive len some.0) fits.0 fits.1 (find (is_open t class.value) t.groups) refl class.then
+  where
+    by_found : (class : ℕ) → class_for len ≡ Some class → 1 ≤ len → len ≤ class → IsSome (row_of class) → (o : Option Group)
+        → find (is_open t class) t.groups ≡ o → place_in o t class word serial len ≡ Ok placed → P placed
+    by_found class class_is some fits row (Some g) found went =
+        let is : placed_in t g word serial len ≡ placed = cc went in
+        subst P is (in_open class g (record {
+          class_is = class_is;
+          some = some;
+          fits = fits;
+          found = found;
+          is_open = open_gives t class g (find_passes (is_open t class) t.groups g found);
+          there = find_again (is_open t class) 0 t.next_span t.groups g sound.numbers found;
+        }))
+    by_found class class_is some fits row None found went =
+        let room = went_on (room_for_span t class) _ placed went in
+        let pages = refuse_if_went NoPages (nat_lt t.free_pages (pages_of class)) _ room.value room.is in
+        let addresses = refuse_last NoAddresses (nat_lt 65536 (t.next_page + pages_of class)) room.value pages.1 in
+        let done = room.then in
+        let is : placed_in (with_span t class) (fresh_group t.next_span class t.next_page) word serial len ≡ placed = cc done in
+        subst P is (in_span class (record {
+          class_is = class_is;
+          some = some;
+          fits = fits;
+          row = row;
+          none = found;
+          pages = pages.0;
+          addresses = has_addresses (t.next_page + pages_of class) addresses;
+        }))
+
+-- a new object keeps the table sound
+pub new_sound : (t : Table) (len word serial : ℕ) (placed : Placed) → IsSound t → place_new t len word serial ≡ Ok placed → IsSound placed.table
+new_sound t len word serial placed sound = by_place (λ (x : Placed). IsSound x.table) t len word serial placed sound
+    (λ class g at. let fits = at.fits in let class_is = at.is_open.class_is in
+    placed_sound t g word serial len sound at.there at.is_open.outside at.some (omega (arith, fits, class_is)))
+    (λ class at. spanned_sound t class word serial len sound at.row at.addresses at.some at.fits)

@@ -31,25 +31,20 @@ share_none (None ∷ xs) (b ∷ ys) (suc k) x y h at at' = share_none xs ys k x 
 share_none (Some a ∷ xs) (None ∷ ys) zero x y h at at' = cc
 share_none (Some a ∷ xs) (None ∷ ys) (suc k) x y h at at' = share_none xs ys k x y h at at'
 
+-- every refusal of a mesh is from the first one on, and up to the last one
+mesh_between : (busy : Table → ℕ → Bool) (t : Table) (source destination : ℕ) (r : Refusal) → mesh_holds busy t source destination r
+    → (9 ≤ number_of r) × (number_of r ≤ 14)
+mesh_between busy t source destination NoGroup h = (lit≤ tt, lit≤ tt)
+mesh_between busy t source destination Same h = (lit≤ tt, lit≤ tt)
+mesh_between busy t source destination Class h = (lit≤ tt, lit≤ tt)
+mesh_between busy t source destination Busy h = (lit≤ tt, lit≤ tt)
+mesh_between busy t source destination Overlap h = (lit≤ tt, lit≤ tt)
+mesh_between busy t source destination Members h = (lit≤ tt, lit≤ tt)
+mesh_between busy t source destination _ h = absurd h
+
 -- every refusal of a mesh is from the first one on
 mesh_from : (busy : Table → ℕ → Bool) (t : Table) (source destination : ℕ) → AreFrom 9 (mesh_holds busy t source destination)
-mesh_from busy t source destination NoGroup h = lit≤ tt
-mesh_from busy t source destination Same h = lit≤ tt
-mesh_from busy t source destination Class h = lit≤ tt
-mesh_from busy t source destination Busy h = lit≤ tt
-mesh_from busy t source destination Overlap h = lit≤ tt
-mesh_from busy t source destination Members h = lit≤ tt
-mesh_from busy t source destination _ h = absurd h
-
--- and up to the last one
-mesh_to : (busy : Table → ℕ → Bool) (t : Table) (source destination : ℕ) (r : Refusal) → mesh_holds busy t source destination r → number_of r ≤ 14
-mesh_to busy t source destination NoGroup h = lit≤ tt
-mesh_to busy t source destination Same h = lit≤ tt
-mesh_to busy t source destination Class h = lit≤ tt
-mesh_to busy t source destination Busy h = lit≤ tt
-mesh_to busy t source destination Overlap h = lit≤ tt
-mesh_to busy t source destination Members h = lit≤ tt
-mesh_to busy t source destination _ h = absurd h
+mesh_from busy t source destination r h = (mesh_between busy t source destination r h).0
 
 -- what holds of the two groups that are there
 of_both : (t : Table) (source destination : ℕ) (a b : Group) (holds : Group → Group → Type 0) → group_of t source ≡ Some a
@@ -83,7 +78,7 @@ may_told busy t source destination =
     (λ few h. not_less 8 (length a.members + length b.members) few
     (of_both t source destination a b (λ x y. 8 < length x.members + length y.members) is is' h))
     (λ few above. told_ok Pair H (record { source = a; destination = b })
-    (λ r h. let low = above r h in let high = mesh_to busy t source destination r h in omega (arith, low, high)))))))))
+    (λ r h. let low = above r h in let high = (mesh_between busy t source destination r h).1 in omega (arith, low, high)))))))))
   where
     H : Refusal → Type 0
     H = mesh_holds busy t source destination

@@ -1,19 +1,19 @@
 -- The steps to come of the mesh of a class, and what a step and a cancel leave of them.
 use Rattle.std.proofs.Common.{◌≡◌, ◌≢◌, ◌↔◌, ℕ, zero, suc, ◌+◌, ◌-◌, ◌*◌, ◌≤◌, Bool, min, nat_lt, List, [], ◌∷◌, ◌++◌, length, find, map, ap, subst, refl, sym, ◌∙◌, arith, ◌⊎◌, inl, inr, Option, Some, None, Ok}
 use Rattle.std.proofs.lemmas.Bool.Decides.{eqb_tells, leb_tells}
-use Rattle.model_words.proofs.Chains.{or_refuse_went, went_on, refuse_if_went}
+use Rattle.model_words.proofs.Chains.{went_on, refuse_if_went}
 use Rattle.model_heap.proofs.MayBegin.{may_begin_gives}
 use Rattle.model_heap.proofs.GroupLists.{find_number, find_without_other, find_changed_other}
 use Rattle.model_heap.proofs.MeshLists.{mesh_found, without_fewer}
 use Rattle.model_heap.proofs.OneMesh.{at, of_class, found_at, found_beside, found_class, found_more, found_without, none_found}
-use Rattle.model_heap.proofs.TableChanges.{one_group, step_sound}
+use Rattle.model_heap.proofs.TableChanges.{one_group, step_sound, cancel_went, step_went, found_within}
 use Rattle.model_words.specs.Classes.{pages_of, slots_of}
 use Rattle.model_heap.specs.Mesh.{Stepped, begin, may_begin, cancel, cancelled, cancelled_at, left_of, merged, merged_into, mesh_in, page_count, step, step_count, stepped, with_progress, without_mesh}
 use Rattle.model_heap.specs.MeshLaws.{left_in, steps_of_class}
 use Rattle.model_heap.specs.Sound.{IsSound, IsSoundMesh, IsWithinSteps}
 use Rattle.model_heap.specs.Table.{Counted, Group, Made, Mesh, Progress, Table, Unwinding, changed_at, group_of, has_number}
 use Rattle.model_heap.specs.TableLaws.{IsBusyTest}
-use Rattle.model_words.specs.declared.refusals.Refusal.TheVariants.{NoMesh, TooLate}
+use Rattle.model_words.specs.declared.refusals.Refusal.TheVariants.{TooLate}
 
 -- two groups of a class merged leave each group of another class
 pub merged_keeps : (t : Table) (a b : Group) (source destination n : ℕ) (g : Group) → group_of t source ≡ Some a → group_of t destination ≡ Some b
@@ -71,27 +71,24 @@ pub record Went (t : Table) (test : Mesh → Bool) (x : Stepped) : Type 0 where
   pub came : Came t mesh source x
 
 -- a step that is not refused
-pub step_went : (t : Table) (test : Mesh → Bool) (x : Stepped) → IsSound t → step t (find test t.meshes) ≡ Ok x → Went t test x
-step_went t test x sound h =
-    let mesh = or_refuse_went NoMesh (find test t.meshes) _ x h in
-    let source = or_refuse_went NoMesh (group_of t mesh.value.source) _ x mesh.then in
-    let old = mesh_found t test t.meshes mesh.value mesh.is sound.meshes in
-    let same : old.source ≡ source.value = one_group t mesh.value.source old.source source.value old.source_is source.is in
-    let class : source.value.class ≡ mesh.value.class = ap (λ (g : Group). g.class) (sym same) ∙ old.source_class in
-    let within : IsWithinSteps source.value mesh.value.progress = subst (λ (g : Group). IsWithinSteps g mesh.value.progress) same old.within in
-    let done = source.then in
-    let is : stepped t mesh.value source.value mesh.value.progress ≡ x = cc done in
+pub step_came : (t : Table) (test : Mesh → Bool) (x : Stepped) → IsSound t → step t (find test t.meshes) ≡ Ok x → Went t test x
+step_came t test x sound h =
+    let went = step_went t (find test t.meshes) x h in
+    let old = mesh_found t test t.meshes went.mesh went.running sound.meshes in
+    let same : old.source ≡ went.source = one_group t went.mesh.source old.source went.source old.source_is went.source_is in
+    let class : went.source.class ≡ went.mesh.class = ap (λ (g : Group). g.class) (sym same) ∙ old.source_class in
+    let within = found_within t test went.mesh went.source sound went.running went.source_is in
     record {
-      mesh = mesh.value;
-      source = source.value;
-      found = mesh.is;
+      mesh = went.mesh;
+      source = went.source;
+      found = went.running;
       sound = old;
-      source_is = source.is;
+      source_is = went.source_is;
       class = class;
       within = within;
-      is = is;
-      one = ap (λ (y : Stepped). y.left + 1) (sym is) ∙ one_less t mesh.value source.value mesh.value.progress within;
-      came = subst (λ (y : Stepped). Came t mesh.value source.value y) is (comes t mesh.value source.value old.destination mesh.value.progress source.is
+      is = went.is;
+      one = ap (λ (y : Stepped). y.left + 1) (sym went.is) ∙ one_less t went.mesh went.source went.mesh.progress within;
+      came = subst (λ (y : Stepped). Came t went.mesh went.source y) went.is (comes t went.mesh went.source old.destination went.mesh.progress went.source_is
           old.destination_is (class ∙ sym old.destination_class) within);
     }
 
@@ -127,7 +124,7 @@ goes t class left mesh source found is some above = (
 pub step_leaves : (t : Table) (class : ℕ) (x : Stepped) → IsSound t → step t (mesh_in t class) ≡ Ok x
     → (x.left + 1 ≡ left_in t class) × (left_in x.table class ≡ x.left) × ((mesh_in x.table class ≡ None) ↔ (x.left ≡ 0))
 step_leaves t class x sound h =
-    let went = step_went t (of_class class) x sound h in
+    let went = step_came t (of_class class) x sound h in
     let after : (left_in x.table class ≡ x.left) × ((mesh_in x.table class ≡ None) ↔ (x.left ≡ 0)) = elim went.came.how [
       | inl end ↦ over x.table class x.left
           (ap (λ (ms : List Mesh). find (of_class class) ms) end.1 ∙ ended t class went.mesh sound went.found) end.0
@@ -147,7 +144,7 @@ left_stays t u class (Some mesh) found found' stays = rw (found, found', stays m
 pub others_keep : (t : Table) (class other : ℕ) (x : Stepped) → IsSound t → other ≢ class → step t (mesh_in t class) ≡ Ok x
     → left_in x.table other ≡ left_in t other
 others_keep t class other x sound apart h =
-    let went = step_went t (of_class class) x sound h in
+    let went = step_came t (of_class class) x sound h in
     let mesh_class : went.mesh.class ≡ class = found_class class t.meshes went.mesh went.found in
     let aside : went.mesh.class ≢ other = λ e. apart (sym e ∙ mesh_class) in
     let same : mesh_in x.table other ≡ mesh_in t other = elim went.came.how [
@@ -197,12 +194,9 @@ cancels t class this a (Unwinding q u) x sound found is at_u within h =
 pub cancel_leaves : (t : Table) (class : ℕ) (x : Counted) → IsSound t → cancel t (mesh_in t class) ≡ Ok x
     → (left_in x.table class ≡ x.count) × ((mesh_in x.table class ≡ None) ↔ (x.count ≡ 0))
 cancel_leaves t class x sound h =
-    let mesh = or_refuse_went NoMesh (mesh_in t class) _ x h in
-    let source = or_refuse_went NoMesh (group_of t mesh.value.source) _ x mesh.then in
-    let old = mesh_found t (of_class class) t.meshes mesh.value mesh.is sound.meshes in
-    let same : old.source ≡ source.value = one_group t mesh.value.source old.source source.value old.source_is source.is in
-    cancels t class mesh.value source.value mesh.value.progress x sound mesh.is source.is refl
-    (subst (λ (g : Group). IsWithinSteps g mesh.value.progress) same old.within) source.then
+    let went = cancel_went t (mesh_in t class) x h in
+    cancels t class went.mesh went.source went.mesh.progress x sound went.running went.source_is refl
+    (found_within t (of_class class) went.mesh went.source sound went.running went.source_is) went.is
 
 -- `begin` answers all steps of the mesh
 pub begin_answers : (busy : Table → ℕ → Bool) (t : Table) (source destination : ℕ) (group : Group) (begun : Counted) → group_of t source ≡ Some group

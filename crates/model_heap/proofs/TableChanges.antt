@@ -5,10 +5,10 @@ use Rattle.std.specs.Option.{option_map_or}
 use Rattle.std.proofs.lemmas.Bool.Decides.{eqb_tells, leb_tells}
 use Rattle.std.proofs.lemmas.List.{length-map}
 use Rattle.model_words.proofs.Chains.{or_refuse_went, went_on, refuse_if_went}
-use Rattle.model_heap.proofs.MayBegin.{may_begin_gives}
+use Rattle.model_heap.proofs.MayBegin.{may_begin_gives, may_begin_sound}
 use Rattle.model_words.proofs.Tests.{tells}
 use Rattle.model_heap.proofs.GroupLists.{times_in-append, pages_in, find_number, find_sound, find_again, pages_changed, pages_without, groups_changed, groups_mapped, groups_filtered, pages_mapped, ascend_mapped, ascend_filtered, changed_number, find_changed_other, find_without_other}
-use Rattle.model_heap.proofs.MeshLists.{meshes_kept, meshes_outside, meshes_elsewhere, mesh_found, meshes_filtered, meshes_of-filtered, meshes_of-progress, meshes_progress, without_fewer, meshes_more, meshes_of-more, meshes_emptied}
+use Rattle.model_heap.proofs.MeshLists.{meshes_kept, meshes_outside, meshes_elsewhere, mesh_found, meshes_filtered, meshes_of-filtered, meshes_of-progress, meshes_progress, without_fewer, meshes_more, meshes_of-more, meshes_emptied, mesh_kept}
 use Rattle.model_words.specs.Classes.{Row, table, row_of, pages_of, slots_of}
 use Rattle.model_heap.specs.Mesh.{Stepped, begin, may_begin, cancel, cancelled, cancelled_at, is_mesh, mesh_whole, merged, merged_into, page_count, step, step_count, stepped, table_after, table_unwound, united, virtual_pages, with_progress, without_mesh, free_after, kind_after}
 use Rattle.model_heap.specs.Sound.{times_in, AreSoundGroups, AscendBetween, AreSoundMeshes, IsSound, IsSoundGroup, IsSoundMesh, IsWithinSteps, meshes_of}
@@ -84,18 +84,31 @@ swept_sound t n free g sound found outside =
     (ascend_filtered 0 t.next_span (λ x. not (has_number n x)) t.groups sound.numbers)
     (meshes_outside t u n t.meshes (λ m x apart is. find_without_other n m t.groups apart ∙ is) outside sound.meshes) (λ class. omega arith)
 
+-- what a sweep that is not refused went through
+pub record WasSwept (t : Table) (n : ℕ) (x : Counted) : Type 0 where
+  pub group : Group
+  pub found : group_of t n ≡ Some group
+  pub idle : is_meshing t n ≡ false
+  pub empty : nat_lt 0 (object_count group) ≡ false
+  pub is : record {
+    count = pages_of group.class;
+    table = record t { free_pages = t.free_pages + pages_of group.class; groups = filter (λ g. not (has_number n g)) t.groups };
+  } ≡ x
+
+-- a sweep that is not refused
+pub sweep_went : (t : Table) (n : ℕ) (x : Counted) → sweep t n ≡ Ok x → WasSwept t n x
+sweep_went t n x h =
+    let group = or_refuse_went NoGroup (group_of t n) _ x h in
+    let idle = refuse_if_went Busy (is_meshing t n) _ x group.then in
+    let empty = refuse_if_went NotEmpty (nat_lt 0 (object_count group.value)) _ x idle.1 in
+    let done = empty.1 in
+    record { group = group.value; found = group.is; idle = idle.0; empty = empty.0; is = cc done }
+
 -- an empty group taken out keeps the table sound
 pub sweep_sound : (t : Table) (n : ℕ) (swept : Counted) → IsSound t → sweep t n ≡ Ok swept → IsSound swept.table
 sweep_sound t n swept sound h =
-    let group = or_refuse_went NoGroup (group_of t n) _ swept h in
-    let idle = refuse_if_went Busy (is_meshing t n) _ swept group.then in
-    let empty = refuse_if_went NotEmpty (nat_lt 0 (object_count group.value)) _ swept idle.1 in
-    let done = empty.1 in
-    let is : record {
-      count = pages_of group.value.class;
-      table = record t { free_pages = t.free_pages + pages_of group.value.class; groups = filter (λ g. not (has_number n g)) t.groups };
-    } ≡ swept = cc done in
-    subst (λ (x : Counted). IsSound x.table) is (swept_sound t n (t.free_pages + pages_of group.value.class) group.value sound group.is idle.0)
+    let went = sweep_went t n swept h in
+    subst (λ (x : Counted). IsSound x.table) went.is (swept_sound t n (t.free_pages + pages_of went.group.class) went.group sound went.found went.idle)
 
 -- each row has a page
 abbrev ArePaged : List Row → Type 0
@@ -117,7 +130,7 @@ class_paged class h = row_paged (λ r. nat_eq r.size class) table
     (omega arith, (omega arith, (omega arith, (omega arith, (omega arith, (omega arith, (omega arith, (omega arith, (omega arith, (omega arith, tt)))))))))) h
 
 -- a sound mesh of a class that no mesh is of keeps the table sound
-begun_sound : (t : Table) (m : Mesh) → IsSound t → IsSoundMesh (record t { meshes = t.meshes ++ m ∷ [] }) m → meshes_of m.class t.meshes ≡ 0
+begun_sound : (t : Table) (m : Mesh) → IsSound t → IsSoundMesh t m → meshes_of m.class t.meshes ≡ 0
     → IsSound (record t { meshes = t.meshes ++ m ∷ [] })
 begun_sound t m sound new none =
     let u : Table = record t { meshes = t.meshes ++ m ∷ [] } in record {
@@ -127,7 +140,7 @@ begun_sound t m sound new none =
       pages_used = sound.pages_used;
       groups = sound.groups;
       numbers = sound.numbers;
-      meshes = meshes_more u t.meshes m new (meshes_kept t u t.meshes (λ n g is. is) sound.meshes);
+      meshes = meshes_more u t.meshes m (mesh_kept t u m new new.source_is new.destination_is) (meshes_kept t u t.meshes (λ n g is. is) sound.meshes);
       one_a_class = λ class. rw (meshes_of-more class t.meshes m) (elim (eqb_tells m.class class) [
         | inl same ↦ rw same.0 (let zero' : meshes_of class t.meshes ≡ 0 = subst (λ (c : ℕ). meshes_of c t.meshes ≡ 0) same.1 none in omega (arith, zero'))
         | inr other ↦ rw other.0 (let once = sound.one_a_class class in omega (arith, once))
@@ -144,18 +157,8 @@ begin_sound busy t source destination begun test sound h =
     let done = pair.then in
     let is : record { count = step_count pair.value.source; table = record t { meshes = t.meshes ++ m ∷ [] } } ≡ begun = cc done in
     let paged = class_paged pair.value.source.class (find_sound (has_number source) t.groups pair.value.source may.source_is sound.groups).class in
-    subst (λ (x : Counted). IsSound x.table) is (begun_sound t m sound (record {
-      source = pair.value.source;
-      destination = pair.value.destination;
-      source_is = may.source_is;
-      destination_is = may.destination_is;
-      two = may.two;
-      source_class = refl;
-      destination_class = sym may.class;
-      apart = may.apart;
-      few_members = may.few;
-      within = omega (arith, paged);
-    })
+    subst (λ (x : Counted). IsSound x.table) is
+    (begun_sound t m sound (may_begin_sound busy t source destination pair.value (Made 0) may (omega (arith, paged)))
     (test pair.value.source.class may.idle))
 
 -- other meshes on the same groups, no more of a class, keep the table sound
@@ -201,12 +204,26 @@ cancelled_sound t this a (Made d) x sound is h =
 cancelled_sound t this a (Unwinding q u) x sound is h =
     let same : record { count = q - u; table = t } ≡ x = cc h in subst (λ (y : Counted). IsSound y.table) same sound
 
+-- what a cancel that is not refused went through
+pub record WasCancelled (t : Table) (which : Option Mesh) (x : Counted) : Type 0 where
+  pub mesh : Mesh
+  pub running : which ≡ Some mesh
+  pub source : Group
+  pub source_is : group_of t mesh.source ≡ Some source
+  pub is : cancelled t mesh source mesh.progress ≡ Ok x
+
+-- a cancel that is not refused
+pub cancel_went : (t : Table) (which : Option Mesh) (x : Counted) → cancel t which ≡ Ok x → WasCancelled t which x
+cancel_went t which x h =
+    let mesh = or_refuse_went NoMesh which _ x h in
+    let source = or_refuse_went NoMesh (group_of t mesh.value.source) _ x mesh.then in
+    record { mesh = mesh.value; running = mesh.is; source = source.value; source_is = source.is; is = source.then }
+
 -- a cancel of a mesh found by any test keeps the table sound
 pub cancel_sound : (t : Table) (test : Mesh → Bool) (x : Counted) → IsSound t → cancel t (find test t.meshes) ≡ Ok x → IsSound x.table
 cancel_sound t test x sound h =
-    let mesh = or_refuse_went NoMesh (find test t.meshes) _ x h in
-    let source = or_refuse_went NoMesh (group_of t mesh.value.source) _ x mesh.then in
-    cancelled_sound t mesh.value source.value mesh.value.progress x sound source.is source.then
+    let went = cancel_went t (find test t.meshes) x h in
+    cancelled_sound t went.mesh went.source went.mesh.progress x sound went.source_is went.is
 
 -- two lists of slots united are as long as each
 united_length : (xs ys : List (Option Slot)) → length xs ≡ length ys → length (united xs ys) ≡ length xs
@@ -360,14 +377,33 @@ stepped_sound : (t : Table) (test : Mesh → Bool) (this : Mesh) (a : Group) (pr
 stepped_sound t test this a (Made d) sound found is within = after_sound t test this a d sound found is
 stepped_sound t test this a (Unwinding q u) sound found is within = unwound_sound t this a q u sound is within.1
 
+-- what a step that is not refused went through
+pub record WasStepped (t : Table) (which : Option Mesh) (x : Stepped) : Type 0 where
+  pub mesh : Mesh
+  pub running : which ≡ Some mesh
+  pub source : Group
+  pub source_is : group_of t mesh.source ≡ Some source
+  pub is : stepped t mesh source mesh.progress ≡ x
+
+-- a step that is not refused
+pub step_went : (t : Table) (which : Option Mesh) (x : Stepped) → step t which ≡ Ok x → WasStepped t which x
+step_went t which x h =
+    let mesh = or_refuse_went NoMesh which _ x h in
+    let source = or_refuse_went NoMesh (group_of t mesh.value.source) _ x mesh.then in
+    let done = source.then in
+    record { mesh = mesh.value; running = mesh.is; source = source.value; source_is = source.is; is = cc done }
+
+-- the progress of a mesh of a sound table, found by any test, is within the steps of its source
+pub found_within : (t : Table) (test : Mesh → Bool) (this : Mesh) (a : Group) → IsSound t → find test t.meshes ≡ Some this → group_of t this.source ≡ Some a
+    → IsWithinSteps a this.progress
+found_within t test this a sound found is =
+    let old = mesh_found t test t.meshes this found sound.meshes in
+    let same : old.source ≡ a = one_group t this.source old.source a old.source_is is in
+    subst (λ (g : Group). IsWithinSteps g this.progress) same old.within
+
 -- a step of a mesh found by any test keeps the table sound
 pub step_sound : (t : Table) (test : Mesh → Bool) (x : Stepped) → IsSound t → step t (find test t.meshes) ≡ Ok x → IsSound x.table
 step_sound t test x sound h =
-    let mesh = or_refuse_went NoMesh (find test t.meshes) _ x h in
-    let source = or_refuse_went NoMesh (group_of t mesh.value.source) _ x mesh.then in
-    let old = mesh_found t test t.meshes mesh.value mesh.is sound.meshes in
-    let same : old.source ≡ source.value = one_group t mesh.value.source old.source source.value old.source_is source.is in
-    let done = source.then in
-    let is : stepped t mesh.value source.value mesh.value.progress ≡ x = cc done in
-    subst (λ (y : Stepped). IsSound y.table) is (stepped_sound t test mesh.value source.value mesh.value.progress sound mesh.is source.is
-    (subst (λ (g : Group). IsWithinSteps g mesh.value.progress) same old.within))
+    let went = step_went t (find test t.meshes) x h in
+    subst (λ (y : Stepped). IsSound y.table) went.is (stepped_sound t test went.mesh went.source went.mesh.progress sound went.running went.source_is
+    (found_within t test went.mesh went.source sound went.running went.source_is))

@@ -1,21 +1,19 @@
 -- A new object keeps table and memory tied: it comes to the slots that were filled.
-use Rattle.std.proofs.Common.{◌≡◌, ◌≢◌, ℕ, zero, suc, ◌*◌, ◌<◌, ◌≤◌, Bool, nat_eq, List, [], ◌∷◌, ◌++◌, length, find, count_by, slice_get, slice_set, replicate, IsSome, is_some, ap, subst, refl, sym, ◌∙◌, arith, ◌⊎◌, inl, inr, Option, Some, None, Ok, length-append}
+use Rattle.std.proofs.Common.{◌≡◌, ◌≢◌, ℕ, zero, suc, ◌*◌, ◌<◌, ◌≤◌, Bool, List, [], ◌∷◌, ◌++◌, length, find, count_by, slice_get, slice_set, replicate, IsSome, is_some, ap, subst, refl, sym, ◌∙◌, arith, ◌⊎◌, inl, inr, Option, Some, None, Ok, length-append}
 use Rattle.std.proofs.lemmas.Bool.Decides.{eqb_tells, leb_tells}
 use Rattle.std.proofs.lemmas.List.{get_or_append_left, get_or_push, get_or_past, length-replicate}
 use Rattle.model_heap.proofs.Apart.{class_full, picked_free}
-use Rattle.model_words.proofs.Chains.{or_refuse_went, went_on, refuse_if_went}
 use Rattle.model_words.proofs.Tests.{tells}
-use Rattle.model_heap.proofs.GroupLists.{find_again, find_passes, find_mapped, find_changed_other, find_more, changed_number}
-use Rattle.model_heap.proofs.NewObjects.{class_fits, fresh_none, last_found, none_from, open_gives}
+use Rattle.model_heap.proofs.GroupLists.{find_mapped, find_changed_other, find_more, changed_number}
+use Rattle.model_heap.proofs.NewObjects.{fresh_none, last_found, none_from, by_place}
 use Rattle.model_heap.proofs.TableChanges.{class_paged, one_group}
 use Rattle.model_memory.proofs.Objects.{live_below}
 use Rattle.model_heap.proofs.TiedTables.{AreKept, IsFilled, live_slot}
-use Rattle.model_words.specs.Classes.{class_for, row_of, slots_of}
+use Rattle.model_words.specs.Classes.{row_of, slots_of}
 use Rattle.model_memory.specs.Memory.{Memory, Object, next_serial, object_of}
 use Rattle.model_memory.specs.Plain.{made}
 use Rattle.model_heap.specs.Sound.{HasSlot, IsLiveSlot, IsSound, IsTied}
-use Rattle.model_heap.specs.Table.{Group, Placed, Slot, Table, changed_at, first_member, fresh_group, group_of, has_number, is_open, object_count, picked_slot, place_in, place_new, placed_in, room_for_span, slot_address, with_group, with_object_in, with_span}
-use Rattle.model_words.specs.declared.refusals.Refusal.TheVariants.{TooLarge, Zero}
+use Rattle.model_heap.specs.Table.{Group, Placed, Slot, Table, changed_at, first_member, fresh_group, group_of, has_number, object_count, picked_slot, place_new, placed_in, slot_address, with_group, with_object_in, with_span}
 
 -- the second table has one filled slot more
 record HasOneMore (t u : Table) (class k : ℕ) (slot : Slot) : Type 0 where
@@ -205,27 +203,11 @@ spanned_more t class word serial len sound row =
       long = placed.long;
     }
 
--- a new object of a class, in an open group or a new span
-placed_in_more : (t : Table) (o : Option Group) (class word serial len : ℕ) (placed : Placed) → IsSound t → IsSome (row_of class)
-    → find (is_open t class) t.groups ≡ o → place_in o t class word serial len ≡ Ok placed → IsPlaced t placed serial len
-placed_in_more t (Some g) class word serial len placed sound row found h =
-    let open_ = open_gives t class g (find_passes (is_open t class) t.groups g found) in
-    let is : placed_in t g word serial len ≡ placed = cc h in
-    subst (λ (x : Placed). IsPlaced t x serial len) is
-    (placed_more t g word serial len (find_again (is_open t class) 0 t.next_span t.groups g sound.numbers found) open_.some_slot)
-placed_in_more t None class word serial len placed sound row found h =
-    let room = went_on (room_for_span t class) _ placed h in
-    let done = room.then in
-    let is : placed_in (with_span t class) (fresh_group t.next_span class t.next_page) word serial len ≡ placed = cc done in
-    subst (λ (x : Placed). IsPlaced t x serial len) is (spanned_more t class word serial len sound row)
-
 -- a new object is one filled slot more
 new_more : (t : Table) (len word serial : ℕ) (placed : Placed) → IsSound t → place_new t len word serial ≡ Ok placed → IsPlaced t placed serial len
-new_more t len word serial placed sound h =
-    let some = refuse_if_went Zero (nat_eq len 0) _ placed h in
-    let class = or_refuse_went TooLarge (class_for len) _ placed some.1 in
-    let fits = class_fits len class.value class.is in
-    placed_in_more t (find (is_open t class.value) t.groups) class.value word serial len placed sound fits.1 refl class.then
+new_more t len word serial placed sound = by_place (λ (x : Placed). IsPlaced t x serial len) t len word serial placed sound
+    (λ class g at. placed_more t g word serial len at.there at.is_open.some_slot)
+    (λ class at. spanned_more t class word serial len sound at.row)
 
 -- a new object keeps table and memory tied
 pub new_tied : (m : Memory) (t : Table) (cell len word : ℕ) (placed : Placed) → IsSound t → IsTied m t → place_new t len word (next_serial m) ≡ Ok placed

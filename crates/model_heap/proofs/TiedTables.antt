@@ -2,17 +2,17 @@
 use Rattle.std.proofs.Common.{◌≡◌, ◌≢◌, ℕ, zero, suc, ◌+◌, ◌-◌, ◌≤◌, Bool, true, false, cond, not, ◌||◌, min, nat_lt, List, [], ◌∷◌, ◌++◌, map, filter, find, count_by, slice_get, is_some, ap, subst, refl, sym, ◌∙◌, arith, inl, inr, Option, Some, None, Ok}
 use Rattle.std.proofs.lemmas.Bool.Decides.{eqb_tells, leb_tells}
 use Rattle.std.proofs.lemmas.List.Sums.{sum_by-cons}
-use Rattle.model_words.proofs.Chains.{or_refuse_went, went_on, refuse_if_went}
+use Rattle.model_words.proofs.Chains.{went_on, refuse_if_went}
 use Rattle.model_heap.proofs.MayBegin.{may_begin_gives}
 use Rattle.model_heap.proofs.GroupLists.{find_number, find_mapped, find_changed_other, find_without_other, changed_number}
 use Rattle.model_heap.proofs.MeshLists.{mesh_found}
-use Rattle.model_heap.proofs.TableChanges.{differ, one_group, united_at}
+use Rattle.model_heap.proofs.TableChanges.{differ, one_group, united_at, sweep_went, cancel_went, step_went}
 use Rattle.model_words.specs.Classes.{pages_of, slots_of}
 use Rattle.model_memory.specs.Memory.{Memory}
 use Rattle.model_heap.specs.Mesh.{Stepped, begin, both_occupied, cancel, cancelled, cancelled_at, do_overlap, may_begin, mesh_whole, merged, merged_into, page_count, step, step_count, stepped, table_after, table_unwound, united}
 use Rattle.model_heap.specs.Sound.{IsLiveSlot, IsSound, IsTied}
-use Rattle.model_heap.specs.Table.{Counted, Group, Made, Mesh, Progress, Slot, Table, Unwinding, changed_at, group_of, has_number, is_meshing, object_count, slot_address, sweep}
-use Rattle.model_words.specs.declared.refusals.Refusal.TheVariants.{Busy, NoGroup, NoMesh, NotEmpty, TooLate}
+use Rattle.model_heap.specs.Table.{Counted, Group, Made, Mesh, Progress, Slot, Table, Unwinding, changed_at, group_of, has_number, object_count, slot_address, sweep}
+use Rattle.model_words.specs.declared.refusals.Refusal.TheVariants.{TooLate}
 
 -- the slot stands under a number in a group of the class
 pub record IsFilled (t : Table) (class k : ℕ) (slot : Slot) : Type 0 where
@@ -118,15 +118,8 @@ swept_tied m t u n g is empty same tied = tied_kept m t u kept old tied
 -- a sweep keeps table and memory tied
 pub sweep_tied : (m : Memory) (t : Table) (n : ℕ) (swept : Counted) → IsTied m t → sweep t n ≡ Ok swept → IsTied m swept.table
 sweep_tied m t n swept tied h =
-    let group = or_refuse_went NoGroup (group_of t n) _ swept h in
-    let idle = refuse_if_went Busy (is_meshing t n) _ swept group.then in
-    let empty = refuse_if_went NotEmpty (nat_lt 0 (object_count group.value)) _ swept idle.1 in
-    let done = empty.1 in
-    let is : record {
-      count = pages_of group.value.class;
-      table = record t { free_pages = t.free_pages + pages_of group.value.class; groups = filter (λ g. not (has_number n g)) t.groups };
-    } ≡ swept = cc done in
-    swept_tied m t swept.table n group.value group.is empty.0 (ap (λ (x : Counted). x.table.groups) (sym is)) tied
+    let went = sweep_went t n swept h in
+    swept_tied m t swept.table n went.group went.found went.empty (ap (λ (x : Counted). x.table.groups) (sym went.is)) tied
 
 -- the objects of the first list stay
 united_first : (xs ys : List (Option Slot)) (k : ℕ) (slot : Slot) → slice_get xs k ≡ Some (Some slot) → slice_get (united xs ys) k ≡ Some (Some slot)
@@ -273,9 +266,7 @@ cancelled_groups t this a (Unwinding q u) x h = let same : record { count = q - 
 -- a cancel keeps table and memory tied
 pub cancel_tied : (m : Memory) (t : Table) (which : Option Mesh) (x : Counted) → IsTied m t → cancel t which ≡ Ok x → IsTied m x.table
 cancel_tied m t which x tied h =
-    let mesh = or_refuse_went NoMesh which _ x h in
-    let source = or_refuse_went NoMesh (group_of t mesh.value.source) _ x mesh.then in
-    tied_groups m t x.table (cancelled_groups t mesh.value source.value mesh.value.progress x source.then) tied
+    let went = cancel_went t which x h in tied_groups m t x.table (cancelled_groups t went.mesh went.source went.mesh.progress x went.is) tied
 
 -- the last step of a mesh keeps table and memory tied
 last_tied : (m : Memory) (t u : Table) (test : Mesh → Bool) (this : Mesh) (a : Group) → IsSound t → find test t.meshes ≡ Some this
@@ -308,8 +299,5 @@ stepped_tied m t test this a (Unwinding q u) sound found is tied = tied_groups m
 -- a step of a mesh found by any test keeps table and memory tied
 pub step_tied : (m : Memory) (t : Table) (test : Mesh → Bool) (x : Stepped) → IsSound t → IsTied m t → step t (find test t.meshes) ≡ Ok x → IsTied m x.table
 step_tied m t test x sound tied h =
-    let mesh = or_refuse_went NoMesh (find test t.meshes) _ x h in
-    let source = or_refuse_went NoMesh (group_of t mesh.value.source) _ x mesh.then in
-    let done = source.then in
-    let is : stepped t mesh.value source.value mesh.value.progress ≡ x = cc done in
-    subst (λ (y : Stepped). IsTied m y.table) is (stepped_tied m t test mesh.value source.value mesh.value.progress sound mesh.is source.is tied)
+    let went = step_went t (find test t.meshes) x h in
+    subst (λ (y : Stepped). IsTied m y.table) went.is (stepped_tied m t test went.mesh went.source went.mesh.progress sound went.running went.source_is tied)

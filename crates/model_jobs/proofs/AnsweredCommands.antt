@@ -1,5 +1,5 @@
 -- A command answered over a sound table tied to the memory is a plain step, and leaves them sound and tied.
-use Rattle.std.proofs.Common.{◌≡◌, ℕ, ◌+◌, ◌-◌, ◌≤◌, true, false, ◌||◌, nat_eq, nat_lt, List, [], ◌∷◌, length, find, slice_index, slice_range, subst, refl, arith, inl, inr, Option, Some, None, Result, Ok, Err}
+use Rattle.std.proofs.Common.{◌≡◌, ℕ, ◌+◌, ◌-◌, ◌≤◌, true, false, nat_eq, nat_lt, List, [], ◌∷◌, length, find, slice_index, slice_range, subst, refl, arith, inl, inr, Option, Some, None, Result, Ok, Err}
 use Rattle.std.proofs.lemmas.Bool.Decides.{eqb_tells, leb_tells}
 use Rattle.model_words.proofs.Chains.{went_on, refuse_if_went, refuse_if_refused, or_refuse_refused, last_test, first_refused}
 use Rattle.model_heap.proofs.NewApart.{new_vacant}
@@ -11,7 +11,7 @@ use Rattle.model_heap.proofs.TiedNewObjects.{new_tied}
 use Rattle.model_words.specs.Classes.{class_for, pages_of}
 use Rattle.model_jobs.specs.Jobs.{Outcome, answered, new_answered, others_answered, table_freed}
 use Rattle.model_memory.specs.Memory.{Memory, next_serial, with_object, with_root}
-use Rattle.model_memory.specs.Plain.{Follows, IsNewRefusal, Named, PlainStep, both_named, copied, ends_outside, holding, named_by, plain, stored}
+use Rattle.model_memory.specs.Plain.{Follows, IsNewRefusal, Named, PlainStep, copied, ends_outside, holding, named_by, plain, stored}
 use Rattle.model_heap.specs.Sound.{IsSound, IsTied}
 use Rattle.model_heap.specs.Table.{Group, Placed, Table, is_open, place_in, place_new, room_for_span, without_object}
 use Rattle.model_words.specs.declared.commands.Command.{Command}
@@ -22,7 +22,7 @@ use Rattle.model_words.specs.declared.refusals.Refusal.{Refusal}
 use Rattle.model_words.specs.declared.refusals.Refusal.TheVariants.{NoAddresses, NoPages, Outside, TooLarge, Zero}
 use Rattle.model_words.proofs.ClassSizes.{class_none, class_some}
 use Rattle.model_heap.proofs.NewLengths.{new_length}
-use Rattle.model_memory.proofs.NamedObjects.{named_live, holding_held, within_object, both_live, neither_holds, read_length}
+use Rattle.model_memory.proofs.NamedObjects.{named_live, holding_held, within_object, copy_went}
 
 -- the answer is a plain step, and leaves table and memory sound and tied
 pub record IsWell (m : Memory) (command : Command) (done : Outcome) : Type 0 where
@@ -159,15 +159,9 @@ poke_tied m t place byte x tied h =
 copy_tied : (m : Memory) (t : Table) (to to_off from from_off len : ℕ) (x : Reply × Memory) → IsTied m t
     → plain m 0 (CopyBytes to to_off from from_off len) ≡ Ok x → IsTied x.1 t
 copy_tied m t to to_off from from_off len x tied h =
-    let pair = went_on (both_named m to from) _ x h in
-    let inside = refuse_if_went Outside (ends_outside pair.value.0.object to_off len || ends_outside pair.value.1.object from_off len) _ x pair.then in
-    let both = neither_holds (ends_outside pair.value.0.object to_off len) (ends_outside pair.value.1.object from_off len) inside.0 in
-    let read = read_length pair.value.1.object.bytes from_off len (within_object pair.value.1.object from_off len both.1) in
-    let room : to_off + length (slice_range pair.value.1.object.bytes from_off (from_off + len)) ≤ length pair.value.0.object.bytes =
-    rw read (within_object pair.value.0.object to_off len both.0) in
-    said_tied (copied m pair.value.0 to_off pair.value.1 from_off len) t x Done
-    (stored_tied m t pair.value.0 to_off (slice_range pair.value.1.object.bytes from_off (from_off + len)) (both_live m to from pair.value pair.is).0 room tied)
-    inside.1
+    let went = copy_went m to to_off from from_off len x h in
+    said_tied (copied m went.to_named to_off went.from_named from_off len) t x Done
+    (stored_tied m t went.to_named to_off (slice_range went.from_named.object.bytes from_off (from_off + len)) went.to_live went.room tied) went.is
 
 -- a command answered is a plain step, and leaves table and memory sound and tied
 pub answered_well : (m : Memory) (t : Table) (command : Command) → IsSound t → IsTied m t → IsWell m command (answered m t command)

@@ -3,9 +3,9 @@ use Rattle.std.proofs.Common.{◌≡◌, ℕ, suc, ◌+◌, ◌-◌, ◌*◌, �
 use Rattle.std.specs.Prelude.{IsSome, ◌⊎◌}
 use Rattle.std.specs.Fmt.{decimal}
 use Rattle.std.specs.List.{All}
-use Rattle.std.proofs.lemmas.Bool.Decides.{eqb_tells}
 use Rattle.std.proofs.lemmas.Bool.{le-leb, lt-leb, and_parts, leb-true, true≢false}
 use Rattle.std.proofs.lemmas.List.Elements.{All-cons, All-nil}
+use Rattle.model_words.proofs.Tests.{equal}
 use Rattle.model_words.specs.Classes.{row_of}
 use Rattle.model_jobs.specs.JobFiles.{are_same, is_between, decimal_value, number_in, hex_value, hex_number, address_in, byte_from, bytes_from, bytes_in, byte_in, word_in, class_in, words_in}
 use Rattle.model_jobs.specs.Texts.{hex_digit, address_text, byte_text, bytes_text}
@@ -23,17 +23,13 @@ pub let_pass : {A E : Type 0} (e : E) (b : Bool) (x y : A) → (if b then Ok x e
 let_pass e true x y h = (refl, cc h)
 let_pass e false x y h = absurd (cc h)
 
--- equal numbers by their test
-pub equal_by_test : (a b : ℕ) → nat_eq a b ≡ true → a ≡ b
-equal_by_test a b h = elim (eqb_tells a b) [ inl same ↦ same.1 | inr other ↦ absurd (true≢false (rw other.0 at (sym h))) ]
-
 -- bytes that pass the test are the same
 pub same_by_test : (xs ys : List ℕ) → are_same xs ys ≡ true → xs ≡ ys
 same_by_test [] [] h = refl
 same_by_test [] (y ∷ ys) h = absurd (true≢false (sym h))
 same_by_test (x ∷ xs) [] h = absurd (true≢false (sym h))
 same_by_test (x ∷ xs) (y ∷ ys) h =
-    let parts = and_parts (nat_eq x y) (are_same xs ys) h in rw (equal_by_test x y parts.0, same_by_test xs ys parts.1) refl
+    let parts = and_parts (nat_eq x y) (are_same xs ys) h in rw (equal x y parts.0, same_by_test xs ys parts.1) refl
 
 -- a decimal field that was read is the spelling of its number
 pub number_told : (least most : ℕ) (field : List ℕ) (n : ℕ) → number_in least most field ≡ Ok n → (field ≡ decimal n) × (least ≤ n) × (n ≤ most)

@@ -1,6 +1,6 @@
 mod AnsweredCommands
 mod CommandLines
-mod FieldReadings
+pub mod FieldReadings
 mod Fields
 mod JobHistories
 mod JobPages

@@ -11,6 +11,7 @@ use Rattle.model_jobs.specs.JobFiles.{are_same, number_in, address_in, bytes_in,
 use Rattle.model_jobs.specs.Jobs.{Line, RunWorker, PairClass, BeginMesh, StepMesh, CancelMesh, StepClass, CancelClass, WholeMesh, SweepGroup, MakeReport}
 use Rattle.model_jobs.specs.ReaderLaws.{IsHeader, IsNextWorker, IsPlanHead, IsCommandLine, IsEnd, IsPlanLine}
 use Rattle.model_jobs.specs.Texts.{field, number_field, command_text, line_text}
+use Rattle.model_words.proofs.Tests.{equal}
 use Rattle.model_words.specs.Words.{◌>>=◌, refuse_if}
 use Rattle.model_words.specs.declared.commands.Command.{Command}
 use Rattle.model_words.specs.declared.commands.Command.TheVariants.{New, Put, Get, Free, Alias, Addr, Peek, Poke, Copy as CopyBytes}
@@ -21,7 +22,7 @@ use Rattle.model_words.specs.declared.versions.Version.{Version}
 use Rattle.model_words.specs.declared.versions.Version.TheVariants.{One, Two}
 use Rattle.model_words.proofs.Chains.{went_on, refuse_if_went}
 use Rattle.model_jobs.proofs.CommandLines.{word_of, fields_of, command_spelt, line_word, line_fields, line_spelt}
-use Rattle.model_jobs.proofs.FieldReadings.{if_tells, not_refused, equal_by_test, same_by_test, number_told, address_told, byte_told, bytes_told, class_told, words_told}
+use Rattle.model_jobs.proofs.FieldReadings.{if_tells, not_refused, same_by_test, number_told, address_told, byte_told, bytes_told, class_told, words_told}
 
 -- the one field that there is
 one_told : (fields : List (List ℕ)) (f : List ℕ) → one_field fields ≡ Ok f → fields ≡ f ∷ []
@@ -413,7 +414,7 @@ plan_head_told draft worker word fields line draft' is test h =
     let parts = and_parts (are_same word (codes "plan")) (nat_eq (worker + 1) draft.workers) test in
     let none = went_on (no_field fields) _ draft' h in (
       is ∙ rw (same_by_test word (codes "plan") parts.0, none_told fields none.value none.is) refl,
-      equal_by_test (worker + 1) draft.workers parts.1,
+      equal (worker + 1) draft.workers parts.1,
       cc none.then,
     )
 

@@ -1,14 +1,14 @@
 -- What a command leaves of each object: its address and its length, until it is freed.
-use Rattle.std.proofs.Common.{◌≡◌, ℕ, ◌+◌, ◌-◌, ◌<◌, ◌≤◌, ◌||◌, List, [], ◌∷◌, ◌++◌, length, slice_range, ap, subst, refl, sym, ◌∙◌, arith, ◌⊎◌, inl, inr, Option, Some, None, Result, Ok, Err, append_assoc, length-append, append-nil, replicate}
+use Rattle.std.proofs.Common.{◌≡◌, ℕ, ◌+◌, ◌-◌, ◌<◌, ◌≤◌, List, [], ◌∷◌, ◌++◌, length, slice_range, ap, subst, refl, sym, ◌∙◌, arith, ◌⊎◌, inl, inr, Option, Some, None, Result, Ok, Err, append_assoc, length-append, append-nil, replicate}
 use Rattle.std.proofs.lemmas.Bool.Decides.{eqb_tells}
 use Rattle.std.proofs.lemmas.List.{get_or-set_same, get_or-set_other, get_or_append_left, get_or_push, length-replicate, length-set}
-use Rattle.model_memory.proofs.NamedObjects.{both_live, holding_held, named_live, neither_holds, read_length, within_object}
+use Rattle.model_memory.proofs.NamedObjects.{holding_held, named_live, within_object, copy_went}
 use Rattle.model_words.proofs.Chains.{or_refuse_went, went_on, refuse_if_went}
 use Rattle.model_memory.proofs.Histories.{Runs_end, Runs_more}
 use Rattle.model_memory.proofs.Objects.{live_below, overwritten_length}
 use Rattle.model_memory.specs.AddressLaws.{Frees, IsAt, IsFreedAfter, IsKeptOrFreed}
 use Rattle.model_memory.specs.Memory.{Memory, Object, empty_memory, next_serial, object_of, overwritten, root_of, with_object, with_root}
-use Rattle.model_memory.specs.Plain.{Entry, Follows, IsLegal, Named, PlainStep, Runs, both_named, copied, ends_outside, holding, made, named_by, plain, stored}
+use Rattle.model_memory.specs.Plain.{Entry, Follows, IsLegal, Named, PlainStep, Runs, copied, ends_outside, holding, made, named_by, plain, stored}
 use Rattle.model_words.specs.declared.commands.Command.{Command}
 use Rattle.model_words.specs.declared.commands.Command.TheVariants.{Addr, Alias, Copy as CopyBytes, Free, Get, New, Peek, Poke, Put}
 use Rattle.model_words.specs.declared.commands.Reply.{Reply}
@@ -178,15 +178,10 @@ step_keeps m (Poke place byte) reply n step =
 step_keeps m (CopyBytes to to_off from from_off len) reply n step =
     follow_keeps (λ s. Frees m s (CopyBytes to to_off from from_off len) reply n) (plain m 0 (CopyBytes to to_off from from_off len)) m reply n step
     (λ x h reply_is is.
-    let pair = went_on (both_named m to from) _ x h in
-    let inside = refuse_if_went Outside (ends_outside pair.value.0.object to_off len || ends_outside pair.value.1.object from_off len) _ x pair.then in
-    let both = neither_holds (ends_outside pair.value.0.object to_off len) (ends_outside pair.value.1.object from_off len) inside.0 in
-    let read = read_length pair.value.1.object.bytes from_off len (within_object pair.value.1.object from_off len both.1) in
-    let room : to_off + length (slice_range pair.value.1.object.bytes from_off (from_off + len)) ≤ length pair.value.0.object.bytes =
-    rw read (within_object pair.value.0.object to_off len both.0) in
-    left_keeps (λ s. Frees m s (CopyBytes to to_off from from_off len) reply n) m (copied m pair.value.0 to_off pair.value.1 from_off len) n Done x inside.1 is
-    (stored_keeps (λ s. Frees m s (CopyBytes to to_off from from_off len) reply n) m pair.value.0 to_off
-    (slice_range pair.value.1.object.bytes from_off (from_off + len)) (both_live m to from pair.value pair.is).0 room))
+    let went = copy_went m to to_off from from_off len x h in
+    left_keeps (λ s. Frees m s (CopyBytes to to_off from from_off len) reply n) m (copied m went.to_named to_off went.from_named from_off len) n Done x went.is is
+    (stored_keeps (λ s. Frees m s (CopyBytes to to_off from from_off len) reply n) m went.to_named to_off
+    (slice_range went.from_named.object.bytes from_off (from_off + len)) went.to_live went.room))
 
 -- over a command a live object keeps its address and its length, or it is freed
 pub live_keeps : (m n : Memory) (command : Command) (reply : Reply) (serial address len : ℕ) → PlainStep m command reply n → IsAt m serial address len

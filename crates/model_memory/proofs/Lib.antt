@@ -1,6 +1,7 @@
 mod Addresses
 mod Calls
 mod CopiedRanges
+mod FirstPlaces
 pub mod FittingCalls
 pub mod Histories
 pub mod NamedObjects

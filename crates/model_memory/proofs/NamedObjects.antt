@@ -1,12 +1,16 @@
 -- The live objects that cells and addresses name.
-use Rattle.std.proofs.Common.{◌≡◌, ℕ, suc, ◌+◌, ◌<◌, ◌≤◌, Bool, true, false, ◌||◌, nat_lt, nat_le, List, [], ◌∷◌, length, slice_index_or, slice_range, ap, subst, refl, sym, ◌∙◌, arith, inl, inr, Option, Some, None, Ok}
+use Rattle.std.proofs.Common.{◌≡◌, ℕ, suc, ◌+◌, ◌<◌, ◌≤◌, Bool, true, false, ◌||◌, nat_lt, nat_le, List, [], ◌∷◌, length, slice_index_or, slice_range, ap, subst, refl, sym, ◌∙◌, arith, inl, inr, Option, Some, None, Ok, Result}
 use Rattle.std.proofs.lemmas.Bool.Decides.{leb_tells}
 use Rattle.std.proofs.lemmas.List.{length-take, length-drop}
-use Rattle.model_words.proofs.Chains.{or_refuse_went}
+use Rattle.model_words.proofs.Chains.{or_refuse_went, went_on, refuse_if_went}
 use Rattle.model_words.proofs.Tests.{tells, both_hold}
 use Rattle.model_memory.specs.Memory.{Memory, Object, has_address, holder_from, holder_of, object_of, root_of}
-use Rattle.model_memory.specs.Plain.{Named, both_named, ends_outside, holding, named_by}
-use Rattle.model_words.specs.declared.refusals.Refusal.TheVariants.{Empty, Freed, Stray}
+use Rattle.model_memory.specs.Plain.{Named, both_named, ends_outside, holding, named_by, copied, plain}
+use Rattle.model_words.specs.declared.commands.Command.TheVariants.{Copy as CopyBytes}
+use Rattle.model_words.specs.declared.commands.Reply.{Reply}
+use Rattle.model_words.specs.declared.commands.Reply.TheVariants.{Done}
+use Rattle.model_words.specs.declared.refusals.Refusal.{Refusal}
+use Rattle.model_words.specs.declared.refusals.Refusal.TheVariants.{Empty, Freed, Stray, Outside}
 
 -- the object that a cell names is live
 pub named_live : (m : Memory) (cell : ℕ) (named : Named) → named_by m cell ≡ Ok named → object_of m named.serial ≡ Some named.object
@@ -46,7 +50,7 @@ pub record IsHeld (m : Memory) (named : Named) (address : ℕ) : Type 0 where
   pub below : address < named.object.address + length named.object.bytes
 
 -- an address that an object has is in its range
-in_range : (object : Object) (address : ℕ) → has_address object address ≡ true
+pub in_range : (object : Object) (address : ℕ) → has_address object address ≡ true
     → (object.address ≤ address) × (address < object.address + length object.bytes)
 in_range object address h =
     let parts = both_hold (nat_le object.address address) (nat_lt address (object.address + length object.bytes)) h in
@@ -95,3 +99,27 @@ neither_holds true b h = absurd (cc h)
 -- as many bytes as were read
 pub read_length : (bytes : List ℕ) (off len : ℕ) → off + len ≤ length bytes → length (slice_range bytes off (off + len)) ≡ len
 read_length bytes off len within = simp (length-take, length-drop) (omega (arith, within))
+
+-- what a copy that is not refused went through: both objects, and the range copied ends within the one copied to
+pub record WasCopied (m : Memory) (to to_off from from_off len : ℕ) (x : Reply × Memory) : Type 0 where
+  pub to_named : Named
+  pub from_named : Named
+  pub to_live : object_of m to_named.serial ≡ Some to_named.object
+  pub room : to_off + length (slice_range from_named.object.bytes from_off (from_off + len)) ≤ length to_named.object.bytes
+  pub is : ◌≡◌ {A = Result (Reply × Memory) Refusal} (Ok (Done, copied m to_named to_off from_named from_off len)) (Ok x)
+
+-- a copy that is not refused
+pub copy_went : (m : Memory) (to to_off from from_off len : ℕ) (x : Reply × Memory) → plain m 0 (CopyBytes to to_off from from_off len) ≡ Ok x
+    → WasCopied m to to_off from from_off len x
+copy_went m to to_off from from_off len x h =
+    let pair = went_on (both_named m to from) _ x h in
+    let inside = refuse_if_went Outside (ends_outside pair.value.0.object to_off len || ends_outside pair.value.1.object from_off len) _ x pair.then in
+    let both = neither_holds (ends_outside pair.value.0.object to_off len) (ends_outside pair.value.1.object from_off len) inside.0 in
+    let read = read_length pair.value.1.object.bytes from_off len (within_object pair.value.1.object from_off len both.1) in
+    record {
+      to_named = pair.value.0;
+      from_named = pair.value.1;
+      to_live = (both_live m to from pair.value pair.is).0;
+      room = rw read (within_object pair.value.0.object to_off len both.0);
+      is = inside.1;
+    }

@@ -1,7 +1,8 @@
 -- Which seat is missing, and where calls first differ.
-use Rattle.std.proofs.Common.{◌≡◌, ◌≢◌, ℕ, zero, suc, ◌+◌, ◌<◌, ◌≤◌, ◌⊎◌, Bool, true, false, not, ◌||◌, List, [], ◌∷◌, length, map, nat_eq, nat_lt, nat_le, find, slice_get, slice_index_or, ap, subst, refl, sym, ◌∙◌, arith, inl, inr, Option, Some, None}
+use Rattle.std.proofs.Common.{◌≡◌, ◌≢◌, ℕ, zero, suc, ◌+◌, ◌<◌, ◌≤◌, ◌⊎◌, Bool, true, false, not, ◌||◌, List, [], ◌∷◌, length, map, nat_eq, nat_lt, nat_le, find, slice_get, ap, subst, refl, sym, ◌∙◌, arith, inl, inr, Option, Some, None}
 use Rattle.std.proofs.lemmas.Bool.Decides.{eqb_tells, leb_tells}
 use Rattle.std.specs.List.{list_any, range_with_len}
+use Rattle.model_memory.proofs.FirstPlaces.{told_once, neither_below}
 use Rattle.model_memory.specs.Seats.{commands_of, Call, DifferFirstAt, SeatDiffers, calls_of, has_seat, has_stranger, is_number, missing_or, missing_seat}
 use Rattle.model_memory.specs.Plain.{Entry}
 use Rattle.model_memory.specs.SeatLaws.{AreSeatedBelow, HasStranger, IsLeastUnseated, IsCountWithStranger}
@@ -185,33 +186,15 @@ no_stranger count numbers entries h some = let is = one_told count numbers entri
 
 -- two lists of calls have one first difference
 pub one_difference : (theirs ours : List Call) (i j : ℕ) → DifferFirstAt theirs ours i → DifferFirstAt theirs ours j → i ≡ j
-one_difference theirs ours i j at_i at_j = elim (leb_tells (suc i) j) [
-  | inl below ↦ absurd (at_i.other (at_j.same_before i below.1))
-  | inr not_below ↦ elim (leb_tells (suc j) i) [
-    | inl above ↦ absurd (at_j.other (at_i.same_before j above.1))
-    | inr not_above ↦ omega (arith, not_below.1, not_above.1)
-  ]
-]
-
--- the seat that differs is not above another that does
-not_above : (seats : List (List Call)) (entries : List Entry) (w i v j : ℕ) → SeatDiffers seats entries w i → SeatDiffers seats entries v j → v < w → ⊥
-not_above seats entries w i v j at_w at_v above = at_v.first.other (ap (λ (calls : List Call). slice_get calls j) (at_w.same_below v above))
+one_difference theirs ours i j at_i at_j =
+    neither_below i j (λ below. at_i.other (at_j.same_before i below)) (λ above. at_j.other (at_i.same_before j above))
 
 -- seats differ from the entries first at one call of one seat
 pub differ_once : (seats : List (List Call)) (entries : List Entry) (w i v j : ℕ) → SeatDiffers seats entries w i → SeatDiffers seats entries v j
     → (w ≡ v) × (i ≡ j)
-differ_once seats entries w i v j at_w at_v = elim (leb_tells (suc v) w) [
-  | inl above ↦ absurd (not_above seats entries w i v j at_w at_v above.1)
-  | inr not_above_w ↦ elim (leb_tells (suc w) v) [
-    | inl above ↦ absurd (not_above seats entries v j w i at_v at_w above.1)
-    | inr not_above_v ↦
-        let same : v ≡ w = omega (arith, not_above_w.1, not_above_v.1) in (
-          sym same,
-          one_difference (slice_index_or seats w []) (calls_of w entries) i j at_w.first
-              (subst (λ (x : ℕ). DifferFirstAt (slice_index_or seats x []) (calls_of x entries) j) same at_v.first),
-        )
-  ]
-]
+differ_once seats entries = told_once (SeatDiffers seats entries)
+    (λ w i v j at_w at_v above. at_v.first.other (ap (λ (calls : List Call). slice_get calls j) (at_w.same_below v above)))
+    (λ w i j at_i at_j above. at_j.first.other (at_i.first.same_before j above))
 
 -- the calls of a worker's entries have the worker's commands
 pub calls_commands : (worker : ℕ) (entries : List Entry) → map (λ call. call.command) (calls_of worker entries) ≡ commands_of worker entries

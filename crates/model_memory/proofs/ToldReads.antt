@@ -1,7 +1,7 @@
 -- At most one read is told, and few objects are made.
-use Rattle.std.proofs.Common.{◌≡◌, ℕ, suc, ◌+◌, ◌<◌, ◌≤◌, List, [], ◌∷◌, length, subst, refl, sym, arith, inl, inr, Result, Ok, Err, Some, ◌||◌, replicate}
-use Rattle.std.proofs.lemmas.Bool.Decides.{leb_tells}
+use Rattle.std.proofs.Common.{◌≡◌, ℕ, suc, ◌+◌, ◌≤◌, List, [], ◌∷◌, length, refl, arith, Result, Ok, Err, Some, ◌||◌, replicate}
 use Rattle.std.proofs.lemmas.List.{length-append, length-set}
+use Rattle.model_memory.proofs.FirstPlaces.{told_once}
 use Rattle.model_memory.specs.Memory.{Memory, next_serial}
 use Rattle.model_memory.specs.Plain.{Entry, both_named, ends_outside, holding, named_by}
 use Rattle.model_memory.specs.Reads.{Kept, ReadDiffers, left_by, made_by, memory_after, memory_or}
@@ -13,35 +13,11 @@ use Rattle.model_words.specs.declared.refusals.Refusal.{Refusal}
 use Rattle.model_words.specs.declared.refusals.Refusal.TheVariants.{Outside}
 use Rattle.model_words.specs.declared.commands.Reply.{Reply}
 
--- the seat of a read that is told is not above that of another one
-not_above : (seats : List (List Kept)) (entries : List Entry) (w i v j : ℕ) → ReadDiffers seats entries w i → ReadDiffers seats entries v j → v < w → ⊥
-not_above seats entries w i v j at_w at_v above = at_v.wrong (at_w.right_below v above j)
-
--- nor is its place
-not_later : (seats : List (List Kept)) (entries : List Entry) (w i j : ℕ) → ReadDiffers seats entries w i → ReadDiffers seats entries w j → j < i → ⊥
-not_later seats entries w i j at_i at_j above = at_j.wrong (at_i.right_before j above)
-
 -- at most one read is told
 pub differ_once : (seats : List (List Kept)) (entries : List Entry) (w i v j : ℕ) → ReadDiffers seats entries w i → ReadDiffers seats entries v j
     → (w ≡ v) × (i ≡ j)
-differ_once seats entries w i v j at_w at_v = elim (leb_tells (suc v) w) [
-  | inl above ↦ absurd (not_above seats entries w i v j at_w at_v above.1)
-  | inr not_above_w ↦ elim (leb_tells (suc w) v) [
-    | inl above ↦ absurd (not_above seats entries v j w i at_v at_w above.1)
-    | inr not_above_v ↦
-        let same : v ≡ w = omega (arith, not_above_w.1, not_above_v.1) in
-        let here : ReadDiffers seats entries w j = subst (λ (x : ℕ). ReadDiffers seats entries x j) same at_v in (
-          sym same,
-          elim (leb_tells (suc j) i) [
-            | inl later ↦ absurd (not_later seats entries w i j at_w here later.1)
-            | inr not_later_i ↦ elim (leb_tells (suc i) j) [
-              | inl later ↦ absurd (not_later seats entries w j i here at_w later.1)
-              | inr not_later_j ↦ omega (arith, not_later_i.1, not_later_j.1)
-            ]
-          ],
-        )
-  ]
-]
+differ_once seats entries = told_once (ReadDiffers seats entries) (λ w i v j at_w at_v above. at_v.wrong (at_w.right_below v above j))
+    (λ w i j at_i at_j above. at_j.wrong (at_i.right_before j above))
 
 -- a result leaves as many objects where each value that goes on does
 same_many : {X : Type 0} (m : Memory) (r : Result X Refusal) (f : X → Result (Reply × Memory) Refusal)
