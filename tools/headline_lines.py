@@ -3,7 +3,7 @@
 
 For each file the definitions are named in the order in which a reader comes to them, and the last line counts them and their lines, comments and
 empty lines aside. Run it from the top of the repository; docs/PROOF.md shows what it prints. Words of the toolchain's library and the enums of
-crates/mesh_model/src are not counted.
+crates/model_words/src are not counted.
 
     tools/headline_lines.py [FUNCTION]      another function of crates/mesh_mutator/src/book.rt, as act
 """

@@ -9,8 +9,8 @@
 set -u
 cd "$(dirname "$0")/.." || exit 1
 
-deps='mesh_model mesh_class mesh_arena mesh_spans anyhow'
-crates='mesh_bits mesh_bins mesh_model mesh_arena mesh_class mesh_spans'
+deps='model_words model_heap mesh_class mesh_arena mesh_spans anyhow'
+crates='mesh_bits mesh_bins model_words model_memory model_heap model_search mesh_arena mesh_class mesh_spans'
 times=$(tools/times.sh index_times "$deps" $crates) || exit 1
 
 printf '%s\n' "$times" | awk '

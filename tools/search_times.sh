@@ -10,8 +10,8 @@
 set -u
 cd "$(dirname "$0")/.." || exit 1
 
-deps='mesh_model mesh_class mesh_arena mesh_spans mesh_search rand_core rand_xoshiro anyhow'
-crates='mesh_bits mesh_bins mesh_model mesh_arena mesh_class mesh_spans mesh_search'
+deps='model_words model_heap model_search mesh_class mesh_arena mesh_spans mesh_search rand_core rand_xoshiro anyhow'
+crates='mesh_bits mesh_bins model_words model_memory model_heap model_search mesh_arena mesh_class mesh_spans mesh_search'
 times=$(tools/times.sh search_times "$deps" $crates) || exit 1
 
 printf '%s\n' "$times" | awk '

@@ -90,7 +90,7 @@ impl Book {
     /// The journal is a legal history of the plain memory; its end is what heap and cells mean; two different bytes of live objects never
     /// share a place; no free page holds a live object; the read-only pages are exactly those of the running meshes; the table is sound, and
     /// names the live objects. So a `step` is refused only where no mesh of the class runs, and a `cancel` only there or once a page was
-    /// remapped (`mesh_model::mesh_laws`). `docs/PROOF.md` tells what to read to be sure of it.
+    /// remapped (`model_heap::mesh_laws`). `docs/PROOF.md` tells what to read to be sure of it.
     pub fn headline(&self)
         ensures legal { IsHistory self.now.entries }
         ensures ends { EndsInMeaning self.now }
