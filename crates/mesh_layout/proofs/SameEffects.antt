@@ -1,14 +1,11 @@
 -- Two outcomes of one step of a mesh are the same.
-use Rattle.std.proofs.Common.{◌≡◌, ℕ, Bool, true, false, not, List, Option, Some, find, ap, refl, subst, sym, ◌∙◌}
-use Rattle.mesh_arena.specs.Pages.{IsTaken, Pages, is_taken}
+use Rattle.std.proofs.Common.{◌≡◌, ℕ, Bool, true, false, not, List, Some, ap, refl, subst, sym, ◌∙◌}
+use Rattle.mesh_arena.specs.Pages.{Pages, is_taken}
 use Rattle.mesh_layout.specs.EffectLaws.{AreSame}
 use Rattle.mesh_layout.specs.Effects.{AreSides, HasEffect, IsUnder, under_of}
-use Rattle.mesh_layout.specs.PageHeap.{bytes_in, targets_of}
-use Rattle.model_heap.specs.Places.{Place, Target}
 use Rattle.model_heap.specs.StepEffects.{Sides, Under, step_effect}
-use Rattle.model_heap.specs.Table.{Group, Mesh, has_number}
+use Rattle.model_heap.specs.Table.{Group, Mesh}
 use Rattle.mesh_pagemap.specs.Entries.{Entries}
-use Rattle.mesh_spans.specs.Groups.{groups_of}
 use Rattle.mesh_spans.specs.Index.{Index}
 
 -- sides with the same parts are one

@@ -1,5 +1,5 @@
 -- What the headline says of a heap's bytes.
-use Rattle.std.proofs.Common.{◌≡◌, ℕ, subst, sym, inl, inr}
+use Rattle.std.proofs.Common.{ℕ, subst, sym, inl, inr}
 use Rattle.std.proofs.lemmas.Bool.Decides.{eqb_tells}
 use Rattle.model_heap.specs.Places.{IsIn}
 use Rattle.mesh_mutator.specs.Headline.{HasBytesApart}

@@ -1,4 +1,4 @@
-pub mod Attempts
+pub mod AttemptEnds
 pub mod CellAnswers
 pub mod Chains
 pub mod CopyAnswers

@@ -1,8 +1,7 @@
 -- Worked histories and their texts: two workers take turns, and each one's answers stand together.
-use Rattle.std.specs.Prelude.{◌≡◌, ℕ, List, [], ◌∷◌, codes}
+use Rattle.std.specs.Prelude.{◌≡◌, List, [], ◌∷◌, codes}
 use Rattle.model_memory.specs.Plain.{Entry}
 use Rattle.model_words.specs.declared.commands.Command.TheVariants.{New, Put, Get, Free, Addr, Peek}
-use Rattle.model_words.specs.declared.commands.Reply.{Reply}
 use Rattle.model_words.specs.declared.commands.Reply.TheVariants.{Object as Made, Done, Bytes, At, Byte, Refused}
 use Rattle.model_words.specs.declared.refusals.Refusal.TheVariants.{Freed}
 use Rattle.mesh_text.specs.Histories.{history_text}

@@ -1,5 +1,5 @@
 use Rattle.std.proofs.Common.{subst, sym, arith}
-use Rattle.mesh_mutator.proofs.Attempts.{IsBook_answered, adds_entry, attempt_answered, attempt_unrecorded, not_full, unrecorded_same}
+use Rattle.mesh_mutator.proofs.AttemptEnds.{IsBook_answered, adds_entry, attempt_answered, attempt_unrecorded, not_full, unrecorded_same}
 use Rattle.mesh_mutator.specs.Book.{Book, Cells, IsBook}
 use Rattle.mesh_mutator.specs.Journal.{Journal}
 use Rattle.mesh_steps.specs.Heap.{Heap}

@@ -1,4 +1,4 @@
-use Rattle.mesh_mutator.proofs.Attempts.{IsTied_roots}
+use Rattle.mesh_mutator.proofs.AttemptEnds.{IsTied_roots}
 use Rattle.mesh_mutator.proofs.Headlines.{bytes_apart}
 use Rattle.mesh_mutator.specs.Book.{memory_in}
 use Rattle.mesh_mutator.proofs.book.Book.headline.Goals as goal
