@@ -8,7 +8,7 @@ ghost use Rattle.mesh_spans.specs.GroupBins.{AreMoved, bin_at, class_place, file
 ghost use Rattle.mesh_spans.specs.Index.{group_at};
 
 use crate::Totals;
-use crate::groups::Group;
+use crate::group::Group;
 use mesh_bins::Bin;
 use mesh_class::Class;
 use std::alloc::{AllocError, Global};

@@ -14,7 +14,7 @@ ghost use Rattle.mesh_spans.specs.Changes.{IsMergeable, Merges, Regroups, merged
 
 use crate::extent::Extent;
 use crate::filing::{Filed, Files, bin_for, file_at, lowest_open, lowest_partial, new_bins};
-use crate::groups::Group;
+use crate::group::Group;
 use crate::occupant::Occupant;
 use crate::owners::Owners;
 use crate::{Slot, Span, Totals};

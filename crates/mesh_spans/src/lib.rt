@@ -7,14 +7,14 @@
 
 mod extent;
 mod filing;
-mod groups;
+mod group;
 mod index;
 mod names;
 mod occupant;
 mod owners;
 mod totals;
 
-pub use groups::{Group, MAX_MEMBERS, MAX_SPAN_PAGES};
+pub use group::{Group, MAX_MEMBERS, MAX_SPAN_PAGES};
 pub use index::Spans;
 pub use names::{Slot, Span};
 pub use totals::Totals;

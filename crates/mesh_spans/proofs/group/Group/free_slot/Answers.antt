@@ -4,7 +4,7 @@ use Rattle.std.proofs.lemmas.List.{length-map}
 use Rattle.mesh_bits.specs.Bits.{member_count, clear_count}
 use Rattle.mesh_class.specs.Classes.{slots_of}
 use Rattle.mesh_spans.proofs.SlotLemmas.{clear_is_free, member_or_clear, picked}
-use Rattle.mesh_spans.proofs.groups.Group.free_slot.Goals as goal
+use Rattle.mesh_spans.proofs.group.Group.free_slot.Goals as goal
 
 pub returns-in_err-slot-clause-none : goal.returns-in_err-slot-clause-none
 returns-in_err-slot-clause-none c =

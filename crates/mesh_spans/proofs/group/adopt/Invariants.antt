@@ -1,5 +1,5 @@
 use Rattle.std.proofs.Common.{◌≡◌, ◌++◌, List, ℕ, take}
-use Rattle.mesh_spans.proofs.groups.adopt.Given as goal
+use Rattle.mesh_spans.proofs.group.adopt.Given as goal
 
 -- so many members were added
 pub record AreAdded (old new more : List ℕ) (count capacity : ℕ) : Type 0 where
