@@ -1,9 +1,9 @@
 -- Groups in their bins.
-use Rattle.std.proofs.Common.{◌≡◌, ◌≢◌, ℕ, zero, suc, ◌+◌, ◌*◌, ◌<◌, ◌≤◌, Bool, true, false, not, ◌&&◌, ◌||◌, if◌then◌else◌, nat_eq, nat_lt, count_by, is_some, List, [], ◌∷◌, Option, Some, None, length, slice_set, ap, refl, sym, ◌∙◌, arith, inl, inr}
+use Rattle.std.proofs.Common.{◌≡◌, ◌≢◌, ℕ, suc, ◌+◌, ◌*◌, ◌<◌, ◌≤◌, Bool, true, false, not, ◌&&◌, ◌||◌, if◌then◌else◌, nat_eq, nat_lt, count_by, is_some, List, [], Option, Some, None, length, ap, refl, sym, ◌∙◌, arith, inl, inr}
 use Rattle.std.proofs.Math.ListN.{length-set}
 use Rattle.std.proofs.lemmas.Bool.Decides.{eqb_tells, leb_tells}
 use Rattle.std.proofs.lemmas.List.{get_or_past, get_or-set_other, get_or-set_same}
-use Rattle.std.proofs.Common.{position, ◌-◌, ◌++◌}
+use Rattle.std.proofs.Common.{position}
 use Rattle.std.specs.List.{position_or_len}
 use Rattle.std.proofs.lemmas.List.Sums.{fails_before_first}
 use Rattle.std.proofs.lemmas.List.Quantifiers.{position-Some}
@@ -12,8 +12,8 @@ use Rattle.std.specs.Cmp.{unsigned_tied, nat_cmp_total}
 use Rattle.std.specs.FinSet.{FinSet, contains, insert, remove, empty, contains-insert, contains-remove, contains-empty}
 use Rattle.mesh_bins.specs.Words.{IsLeast}
 use Rattle.mesh_class.specs.Classes.{IsClass, slots_of}
-use Rattle.mesh_spans.specs.GroupBins.{AreMoved, IsFiled, is_partial, bin_at, class_place, file_of, filed, is_at, kind_of, lower_of, unfiled}
-use Rattle.mesh_spans.specs.Index.{GroupEntry, IsGroup, IsIndex, SpanEntry, group_at, is_open}
+use Rattle.mesh_spans.specs.GroupBins.{AreMoved, IsFiled, is_partial, bin_at, class_place, file_of, filed, is_at, kind_of, unfiled}
+use Rattle.mesh_spans.specs.Index.{GroupEntry, IsGroup, group_at, is_open}
 
 tied_same : (v : ℕ) → eq_by_cmp nat_cmp v v ≡ true
 tied_same v = unsigned_tied v v ∙ elim (eqb_tells v v) [ inl same ↦ same.0 | inr other ↦ absurd (other.1 refl) ]
@@ -88,11 +88,11 @@ filed_long bins n None = refl
 filed_long bins n (Some p) = length-set bins p (insert (bin_at bins p) n)
 
 -- the bins after one group changed and was filed anew
-abbrev pub refiled : List (Option GroupEntry) → List (Option GroupEntry) → List (FinSet nat_cmp) → ℕ → List (FinSet nat_cmp)
+abbrev refiled : List (Option GroupEntry) → List (Option GroupEntry) → List (FinSet nat_cmp) → ℕ → List (FinSet nat_cmp)
 refiled groups new bins n = filed (unfiled bins n (file_of (group_at groups n))) n (file_of (group_at new n))
 
 -- groups stay in their bins as one changes and is filed anew
-pub IsFiled_changed : (groups new : List (Option GroupEntry)) (bins : List (FinSet nat_cmp)) (n : ℕ) → IsFiled groups bins
+IsFiled_changed : (groups new : List (Option GroupEntry)) (bins : List (FinSet nat_cmp)) (n : ℕ) → IsFiled groups bins
     → ((m : ℕ) → m ≢ n → group_at new m ≡ group_at groups m) → IsFiled new (refiled groups new bins n)
 IsFiled_changed groups new bins n is others = record {
   sized = filed_long (unfiled bins n old) n now ∙ unfiled_long bins n old ∙ is.sized;
@@ -118,56 +118,6 @@ IsFiled_empty bins sized none = record {
   each = λ place n below. ap (λ (s : FinSet nat_cmp). contains s n) (none place) ∙ contains-empty nat_cmp n;
 }
 
--- the least of two sets
-pub least_of_both : (p q : ℕ → Bool) (from end : ℕ) (a b : Option ℕ) → IsLeast p from end a → IsLeast q from end b → IsLeast (λ n. p n || q n) from end (lower_of a b)
-least_of_both p q from end None None x y = λ m above below. rw (x m above below) (y m above below)
-least_of_both p q from end None (Some b) x y = record {
-  above = y.above;
-  below = y.below;
-  passes = rw (x b y.above y.below) y.passes;
-  first = λ m above below. rw (x m above (let l = y.below in omega (arith, below, l))) (y.first m above below);
-}
-least_of_both p q from end (Some a) None x y = record {
-  above = x.above;
-  below = x.below;
-  passes = rw x.passes refl;
-  first = λ m above below. rw (x.first m above below) (y m above (let l = x.below in omega (arith, below, l)));
-}
-least_of_both p q from end (Some a) (Some b) x y = elim (leb_tells (suc a) b) [
-  | inl less ↦ rw less.0 (record {
-    above = x.above;
-    below = x.below;
-    passes = rw x.passes refl;
-    first = λ m above below. rw (x.first m above below) (y.first m above (let l = less.1 in omega (arith, below, l)));
-  })
-  | inr more ↦ rw more.0 (record {
-    above = y.above;
-    below = y.below;
-    passes = or_true (p b) (q b) y.passes;
-    first = λ m above below. rw (x.first m above (let l = more.1 in omega (arith, below, l))) (y.first m above below);
-  })
-]
-  where
-    or_true : (u v : Bool) → v ≡ true → (u || v) ≡ true
-    or_true true v e = refl
-    or_true false v e = e
-
--- a number of a group is below 65,536
-pub number_fits : (spans : List SpanEntry) (groups : List (Option GroupEntry)) (n : ℕ) → IsIndex spans groups → n < length groups → n < 65536
-number_fits spans groups n sound below =
-    let inside : n < length spans = (let paired = sound.paired in omega (arith, below, paired)) in
-    let few = sound.few n inside in
-    let last = (sound.span n inside).last in
-    omega (arith, few, last)
-
--- there are at most 65,536 groups
-pub few_groups : (spans : List SpanEntry) (groups : List (Option GroupEntry)) → IsIndex spans groups → length groups ≤ 65536
-few_groups spans groups sound = elim (eqb_tells (length groups) 0) [
-  | inl none ↦ let n = none.1 in omega (arith, n)
-  | inr some ↦ let apart = some.1 in
-      let last : length groups - 1 < 65536 = number_fits spans groups (length groups - 1) sound (omega (arith, apart)) in omega (arith, last)
-]
-
 -- groups stay in their bins as one changes that stays in its own
 IsFiled_same : (groups new : List (Option GroupEntry)) (bins : List (FinSet nat_cmp)) (n : ℕ) → IsFiled groups bins
     → file_of (group_at new n) ≡ file_of (group_at groups n) → ((m : ℕ) → m ≢ n → group_at new m ≡ group_at groups m) → IsFiled new bins
@@ -179,20 +129,23 @@ IsFiled_same groups new bins n is same others = record {
   ]));
 }
 
--- groups stay in their bins as one changes and is filed anew
-pub refiled_is : (groups new groups0 new0 : List (Option GroupEntry)) (bins after : List (FinSet nat_cmp)) (n : ℕ) (before : Option ℕ) → IsFiled groups bins
-    → groups0 ≡ groups → new0 ≡ new → before ≡ file_of (group_at groups0 n) → AreMoved bins after n before (file_of (group_at new0 n))
-    → ((m : ℕ) → m ≢ n → group_at new m ≡ group_at groups m) → IsFiled new after
-refiled_is groups new groups0 new0 bins after n before is old now was moves others =
-    let b : before ≡ file_of (group_at groups n) = was ∙ ap (λ (gs : List (Option GroupEntry)). file_of (group_at gs n)) old in
-    let to : file_of (group_at new0 n) ≡ file_of (group_at new n) = ap (λ (gs : List (Option GroupEntry)). file_of (group_at gs n)) now in
-    elim moves [
-      | inl stays ↦ rw stays.1 (IsFiled_same groups new bins n is (sym to ∙ sym stays.0 ∙ b) others)
-      | inr refiles ↦
-          let a : after ≡ refiled groups new bins n = refiles ∙ ap (λ (f : Option ℕ). filed (unfiled bins n f) n (file_of (group_at new0 n))) b
-          ∙ ap (λ (f : Option ℕ). filed (unfiled bins n (file_of (group_at groups n))) n f) to in
-          rw a (IsFiled_changed groups new bins n is others)
-    ]
+-- groups stay in their bins as one changes and is moved to its bin
+pub IsFiled_moved : (groups new : List (Option GroupEntry)) (bins after : List (FinSet nat_cmp)) (n : ℕ) → IsFiled groups bins
+    → AreMoved bins after n (file_of (group_at groups n)) (file_of (group_at new n)) → ((m : ℕ) → m ≢ n → group_at new m ≡ group_at groups m) → IsFiled new after
+IsFiled_moved groups new bins after n is moves others = elim moves [
+  | inl stays ↦ rw stays.1 (IsFiled_same groups new bins n is (sym stays.0) others)
+  | inr refiles ↦ rw refiles (IsFiled_changed groups new bins n is others)
+]
+
+-- two tests that pass the same numbers pass the same number first
+least_same : (p q : ℕ → Bool) (from end : ℕ) (r : Option ℕ) → ((n : ℕ) → p n ≡ q n) → IsLeast p from end r → IsLeast q from end r
+least_same p q from end None same h = λ m above below. sym (same m) ∙ h m above below
+least_same p q from end (Some n) same h = record {
+  above = h.above;
+  below = h.below;
+  passes = sym (same n) ∙ h.passes;
+  first = λ m above below. sym (same m) ∙ h.first m above below;
+}
 
 -- the size of the class at a place of the class table
 abbrev pub size_at : ℕ → ℕ
@@ -330,40 +283,16 @@ position_is test groups (Some n) none few least = elim (leb_tells (suc (position
     ]
 
 -- the lowest open group, by the bins
-pub open_position : (spans : List SpanEntry) (groups : List (Option GroupEntry)) (bins bins0 : List (FinSet nat_cmp)) (class : ℕ) (r : Option ℕ) → bins0 ≡ bins
-    → IsFiled groups bins → IsIndex spans groups → IsClass class → class_place class < 10
+pub open_position : (groups : List (Option GroupEntry)) (bins bins0 : List (FinSet nat_cmp)) (class : ℕ) (r : Option ℕ) → bins0 ≡ bins
+    → length groups ≤ 65536 → IsFiled groups bins → ((n : ℕ) (g : GroupEntry) → group_at groups n ≡ Some g → IsGroup g) → IsClass class → class_place class < 10
     → IsLeast (λ n. contains (bin_at bins0 (3 * class_place class)) n || contains (bin_at bins0 (3 * class_place class + 1)) n) 0 65536 r
-    → position (λ o. is_open o class) groups ≡ r
-open_position spans groups bins bins0 class r same is sound y low least =
-    position_is (λ (o : Option GroupEntry). is_open o class) groups r refl (few_groups spans groups sound) (moved r least)
+    → r ≡ position (λ o. is_open o class) groups
+open_position groups bins bins0 class r same few is each y low least =
+    sym (position_is (λ (o : Option GroupEntry). is_open o class) groups r refl few (least_same _ _ 0 65536 r tells least))
   where
     tells : (n : ℕ) → (contains (bin_at bins0 (3 * class_place class)) n || contains (bin_at bins0 (3 * class_place class + 1)) n) ≡ is_open (group_at groups n) class
     tells n = ap (λ (bs : List (FinSet nat_cmp)). contains (bin_at bs (3 * class_place class)) n || contains (bin_at bs (3 * class_place class + 1)) n) same
-        ∙ open_filed groups bins class n is y low (sound.each n)
-
-    moved : (r : Option ℕ) → IsLeast (λ n. contains (bin_at bins0 (3 * class_place class)) n || contains (bin_at bins0 (3 * class_place class + 1)) n) 0 65536 r
-        → IsLeast (λ n. is_open (group_at groups n) class) 0 65536 r
-    moved None h = λ m above below. sym (tells m) ∙ h m above below
-    moved (Some n) h = record { above = h.above; below = h.below; passes = sym (tells n) ∙ h.passes; first = λ m above below. sym (tells m) ∙ h.first m above below }
-
--- a group added after the others leaves them
-pub added_others : (groups : List (Option GroupEntry)) (x : Option GroupEntry) (m : ℕ) → m ≢ length groups → group_at (groups ++ x ∷ []) m ≡ group_at groups m
-added_others [] x zero apart = absurd (apart refl)
-added_others [] x (suc m) apart = refl
-added_others (y ∷ groups) x zero apart = refl
-added_others (y ∷ groups) x (suc m) apart = added_others groups x m (λ e. apart (ap suc e))
-
--- two groups of one index are refiled as one is merged into the other
-pub merged_filed : (groups middle after groups0 middle0 middle1 after0 : List (Option GroupEntry)) (bins between last : List (FinSet nat_cmp)) (s d : ℕ) (x y : Option GroupEntry)
-    (from before : Option ℕ) → IsFiled groups bins → middle ≡ slice_set groups s x → after ≡ slice_set middle d y
-    → groups0 ≡ groups → middle0 ≡ middle → middle1 ≡ middle → after0 ≡ after
-    → from ≡ file_of (group_at groups0 s) → AreMoved bins between s from (file_of (group_at middle0 s))
-    → before ≡ file_of (group_at middle1 d) → AreMoved between last d before (file_of (group_at after0 d)) → IsFiled after last
-merged_filed groups middle after groups0 middle0 middle1 after0 bins between last s d x y from before is one two e0 e1 e2 e3 was refiles was' refiles' =
-    refiled_is middle after middle1 after0 between last d before
-    (refiled_is groups middle groups0 middle0 bins between s from is e0 e1 was refiles
-    (λ m apart. ap (λ (gs : List (Option GroupEntry)). group_at gs m) one ∙ get_or-set_other groups s m x None apart))
-    e2 e3 was' refiles' (λ m apart. ap (λ (gs : List (Option GroupEntry)). group_at gs m) two ∙ get_or-set_other middle d m y None apart)
+        ∙ open_filed groups bins class n is y low (each n)
 
 -- whether a group is partly filled, by its bin
 partial_plain : (m : Bool) (count total of class : ℕ) → 2 ≤ total → IsClass of → IsClass class
@@ -389,7 +318,7 @@ partial_plain false count total of class some x y = elim (eqb_tells of class) [
 pub partial_least : (groups : List (Option GroupEntry)) (bins bins0 : List (FinSet nat_cmp)) (class from : ℕ) (r : Option ℕ) → bins0 ≡ bins
     → IsFiled groups bins → ((n : ℕ) (g : GroupEntry) → group_at groups n ≡ Some g → IsGroup g) → IsClass class → class_place class < 10
     → IsLeast (contains (bin_at bins0 (3 * class_place class + 1))) from 65536 r → IsLeast (λ n. is_partial (group_at groups n) class) from 65536 r
-partial_least groups bins bins0 class from r same is each y low least = moved r least
+partial_least groups bins bins0 class from r same is each y low least = least_same _ _ from 65536 r told least
   where
     tells : (o : Option GroupEntry) → ((g : GroupEntry) → o ≡ Some g → IsGroup g) → is_at (file_of o) (3 * class_place class + 1) ≡ is_partial o class
     tells None sound = refl
@@ -401,17 +330,3 @@ partial_least groups bins bins0 class from r same is each y low least = moved r 
     told : (n : ℕ) → contains (bin_at bins0 (3 * class_place class + 1)) n ≡ is_partial (group_at groups n) class
     told n = ap (λ (bs : List (FinSet nat_cmp)). contains (bin_at bs (3 * class_place class + 1)) n) same
         ∙ is.each (3 * class_place class + 1) n (omega (arith, low)) ∙ tells (group_at groups n) (each n)
-
-    moved : (r : Option ℕ) → IsLeast (contains (bin_at bins0 (3 * class_place class + 1))) from 65536 r → IsLeast (λ n. is_partial (group_at groups n) class) from 65536 r
-    moved None h = λ m above below. sym (told m) ∙ h m above below
-    moved (Some n) h = record { above = h.above; below = h.below; passes = sym (told n) ∙ h.passes; first = λ m above below. sym (told m) ∙ h.first m above below }
-
-refiled_sized : (bins : List (FinSet nat_cmp)) (n : ℕ) (from to : Option ℕ) → length (filed (unfiled bins n from) n to) ≡ length bins
-refiled_sized bins n from to = filed_long (unfiled bins n from) n to ∙ unfiled_long bins n from
-
--- there are as many bins after a number is moved
-pub moved_sized : (bins new : List (FinSet nat_cmp)) (n : ℕ) (from to : Option ℕ) → length bins ≡ 30 → AreMoved bins new n from to → length new ≡ 30
-moved_sized bins new n from to sized moves = elim moves [
-  | inl stays ↦ rw stays.1 sized
-  | inr refiles ↦ rw refiles (refiled_sized bins n from to ∙ sized)
-]

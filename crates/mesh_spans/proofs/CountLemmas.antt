@@ -1,20 +1,17 @@
 -- What groups count, as one of them changes.
-use Rattle.std.proofs.Common.{◌≡◌, ℕ, suc, ◌+◌, ◌-◌, ◌*◌, ◌<◌, ◌≤◌, if◌then◌else◌, count_by, true, false, List, [], ◌∷◌, ◌++◌, Option, Some, None, is_some, length, replicate, slice_index_or, slice_set, ap, refl, ◌∙◌, arith}
+use Rattle.std.proofs.Common.{◌≡◌, ℕ, suc, ◌+◌, ◌-◌, ◌*◌, ◌<◌, ◌≤◌, if◌then◌else◌, count_by, false, List, [], ◌∷◌, ◌++◌, Option, Some, None, is_some, length, replicate, slice_index_or, slice_set, ap, refl, ◌∙◌, arith}
 use Rattle.std.specs.Prelude.{sum_by}
-use Rattle.std.specs.Option.{option_map}
-use Rattle.std.proofs.Math.Seq.{get_or-append_seam}
 use Rattle.std.proofs.Math.Nat.{mul-le-mul_right}
-use Rattle.std.proofs.lemmas.List.{get_or-set_same, get_or_default, length-map}
+use Rattle.std.proofs.lemmas.List.{get_or_default, length-map}
 use Rattle.std.proofs.lemmas.List.Folds.{sum_by-replicate}
 use Rattle.std.proofs.lemmas.List.Sums.{count_by-le-length, get_or-le-sum_by, sum_by-cons, sum_by-set, sum_by_push}
 use Rattle.mesh_class.specs.Classes.{pages_of}
 use Rattle.model_heap.specs.Mesh.{do_overlap, page_count, united}
 use Rattle.model_heap.specs.Table.{Group, Slot, len_in, object_count}
-use Rattle.mesh_spans.specs.Counts.{IsCounted, IsPart, IsWithin, byte_count, bytes_in, counts_of, mapped_in, objects_in, recounted, with_object, without_object}
+use Rattle.mesh_spans.specs.Counts.{IsCounted, IsPart, IsWithin, byte_count, bytes_in, counts_of, mapped_in, objects_in, with_group, without_group}
 use Rattle.mesh_spans.specs.declared.totals.Totals.{Totals}
 use Rattle.mesh_spans.specs.Groups.{first_of, groups_from, groups_of, table_group}
-use Rattle.mesh_spans.specs.Index.{GroupEntry, Index, IsGroup, IsIndex, IsObject, SpanEntry, group_at, slot_in, with_entry, with_slot}
-use Rattle.mesh_spans.proofs.BinLemmas.{few_groups}
+use Rattle.mesh_spans.specs.Index.{GroupEntry, Index, IsGroup, IsObject, SpanEntry, group_at}
 
 -- terms of at most c sum to at most c for each
 sum_few : {X : Type 0} (f : X → ℕ) (d : X) (c : ℕ) (xs : List X) → ((k : ℕ) → f (slice_index_or xs k d) ≤ c) → sum_by f xs ≤ length xs * c
@@ -58,35 +55,40 @@ counts_few None each = record { objects = omega arith; bytes = omega arith; mapp
 counts_few (Some group) each = group_few group (each group refl)
 
 -- what all groups count at most
-pub totals_few : (spans : List SpanEntry) (groups : List (Option GroupEntry)) (totals : Totals) → IsIndex spans groups → IsCounted groups totals
-    → IsWithin 65536 totals
-totals_few spans groups totals sound is =
-    let long = few_groups spans groups sound in
-    let one : (n : ℕ) → IsWithin 1 (counts_of (group_at groups n)) = λ n. counts_few (group_at groups n) (sound.each n) in
+pub totals_few : (groups : List (Option GroupEntry)) (totals : Totals) → length groups ≤ 65536
+    → ((n : ℕ) (group : GroupEntry) → group_at groups n ≡ Some group → IsGroup group) → IsCounted groups totals → IsWithin 65536 totals
+totals_few groups totals few each is =
+    let one : (n : ℕ) → IsWithin 1 (counts_of (group_at groups n)) = λ n. counts_few (group_at groups n) (each n) in
     record {
-      objects = let sum = sum_few objects_in None 256 groups (λ n. (one n).objects) in let all = is.objects in omega (arith, sum, all, long);
-      bytes = let sum = sum_few bytes_in None 12288 groups (λ n. (one n).bytes) in let all = is.bytes in omega (arith, sum, all, long);
-      mapped = let sum = sum_few mapped_in None 24 groups (λ n. (one n).mapped) in let all = is.mapped in omega (arith, sum, all, long);
+      objects = let sum = sum_few objects_in None 256 groups (λ n. (one n).objects) in let all = is.objects in omega (arith, sum, all, few);
+      bytes = let sum = sum_few bytes_in None 12288 groups (λ n. (one n).bytes) in let all = is.bytes in omega (arith, sum, all, few);
+      mapped = let sum = sum_few mapped_in None 24 groups (λ n. (one n).mapped) in let all = is.mapped in omega (arith, sum, all, few);
     }
+
+-- nor do fewer count more
+pub fewer_within : (totals group : Totals) → IsWithin 65536 totals → IsWithin 65536 (without_group totals group)
+fewer_within totals group few = record {
+  objects = let all = few.objects in omega (arith, all);
+  bytes = let all = few.bytes in omega (arith, all);
+  mapped = let all = few.mapped in omega (arith, all);
+}
 
 -- the counts over no group
 pub counted_none : IsCounted [] (counts_of None)
 counted_none = record { objects = refl; bytes = refl; mapped = refl }
 
 -- what one group counts is a part of what all do
-pub part_is : (groups groups0 : List (Option GroupEntry)) (n : ℕ) (totals before : Totals) → IsCounted groups totals → n < length groups
-    → groups0 ≡ groups → before ≡ counts_of (group_at groups0 n) → IsPart before totals
-part_is groups groups0 n totals before is below same was =
-    let was' : before ≡ counts_of (group_at groups n) = was ∙ ap (λ (gs : List (Option GroupEntry)). counts_of (group_at gs n)) same in
-    rw was' (record {
-      objects = let at = get_or-le-sum_by objects_in groups n None below in let all = is.objects in omega (arith, at, all);
-      bytes = let at = get_or-le-sum_by bytes_in groups n None below in let all = is.bytes in omega (arith, at, all);
-      mapped = let at = get_or-le-sum_by mapped_in groups n None below in let all = is.mapped in omega (arith, at, all);
-    })
+pub part_is : (groups : List (Option GroupEntry)) (n : ℕ) (totals : Totals) → IsCounted groups totals → n < length groups
+    → IsPart (counts_of (group_at groups n)) totals
+part_is groups n totals is below = record {
+  objects = let at = get_or-le-sum_by objects_in groups n None below in let all = is.objects in omega (arith, at, all);
+  bytes = let at = get_or-le-sum_by bytes_in groups n None below in let all = is.bytes in omega (arith, at, all);
+  mapped = let at = get_or-le-sum_by mapped_in groups n None below in let all = is.mapped in omega (arith, at, all);
+}
 
 -- the counts stay right as one group changes and is counted anew
-IsCounted_changed : (groups : List (Option GroupEntry)) (n : ℕ) (y : Option GroupEntry) (totals : Totals) → n < length groups → IsCounted groups totals
-    → IsCounted (slice_set groups n y) (recounted totals (counts_of (group_at groups n)) (counts_of y))
+pub IsCounted_changed : (groups : List (Option GroupEntry)) (n : ℕ) (y : Option GroupEntry) (totals : Totals) → n < length groups → IsCounted groups totals
+    → IsCounted (slice_set groups n y) (with_group (without_group totals (counts_of (group_at groups n))) (counts_of y))
 IsCounted_changed groups n y totals below is = record {
   objects = changed objects_in totals.objects is.objects;
   bytes = changed bytes_in totals.bytes is.bytes;
@@ -100,34 +102,31 @@ IsCounted_changed groups n y totals below is = record {
         let at = get_or-le-sum_by f groups n None below in
         omega (arith, all, set, at)
 
--- so where they are named apart
-pub recounted_is : (groups new groups0 new0 : List (Option GroupEntry)) (n : ℕ) (y : Option GroupEntry) (totals after before : Totals) → IsCounted groups totals
-    → n < length groups → new ≡ slice_set groups n y → groups0 ≡ groups → new0 ≡ new → before ≡ counts_of (group_at groups0 n)
-    → after ≡ recounted totals before (counts_of (group_at new0 n)) → IsCounted new after
-recounted_is groups new groups0 new0 n y totals after before is below set old now was recounts =
-    let was' : before ≡ counts_of (group_at groups n) = was ∙ ap (λ (gs : List (Option GroupEntry)). counts_of (group_at gs n)) old in
-    let is' : group_at new0 n ≡ y = ap (λ (gs : List (Option GroupEntry)). group_at gs n) (now ∙ set) ∙ get_or-set_same groups n y None below in
-    rw (recounts, is', was', set) (IsCounted_changed groups n y totals below is)
-
--- nothing is a part
-pub none_is : (totals before : Totals) → before ≡ counts_of None → IsPart before totals
-none_is totals before is = rw is (record { objects = omega arith; bytes = omega arith; mapped = omega arith })
-
-counted_push : (groups : List (Option GroupEntry)) (y : Option GroupEntry) (totals : Totals) → IsCounted groups totals
-    → IsCounted (groups ++ y ∷ []) (recounted totals (counts_of None) (counts_of y))
-counted_push groups y totals is = record {
-  objects = let push = sum_by_push objects_in groups y in let all = is.objects in omega (arith, push, all);
-  bytes = let push = sum_by_push bytes_in groups y in let all = is.bytes in omega (arith, push, all);
-  mapped = let push = sum_by_push mapped_in groups y in let all = is.mapped in omega (arith, push, all);
+-- as one is taken out
+pub IsCounted_taken : (groups : List (Option GroupEntry)) (n : ℕ) (totals : Totals) → n < length groups → IsCounted groups totals
+    → IsCounted (slice_set groups n None) (without_group totals (counts_of (group_at groups n)))
+IsCounted_taken groups n totals below is = let changed = IsCounted_changed groups n None totals below is in record {
+  objects = omega (arith, changed.objects);
+  bytes = omega (arith, changed.bytes);
+  mapped = omega (arith, changed.mapped);
 }
 
--- the counts stay right as a group is added after the others
-pub counted_added : (groups new0 : List (Option GroupEntry)) (y : Option GroupEntry) (n : ℕ) (totals after before : Totals) → IsCounted groups totals
-    → n ≡ length groups → new0 ≡ groups ++ y ∷ [] → before ≡ counts_of None → after ≡ recounted totals before (counts_of (group_at new0 n))
-    → IsCounted (groups ++ y ∷ []) after
-counted_added groups new0 y n totals after before is last now none recounts =
-    let at : group_at new0 n ≡ y = rw (now, last) (get_or-append_seam groups y [] None) in
-    rw (recounts, none, at) (counted_push groups y totals is)
+-- as one comes to be where none was
+pub IsCounted_back : (groups : List (Option GroupEntry)) (n : ℕ) (y : Option GroupEntry) (totals : Totals) → n < length groups → group_at groups n ≡ None
+    → IsCounted groups totals → IsCounted (slice_set groups n y) (with_group totals (counts_of y))
+IsCounted_back groups n y totals below none is = let changed = IsCounted_changed groups n y totals below is in record {
+  objects = omega (arith, changed.objects, ap objects_in none);
+  bytes = omega (arith, changed.bytes, ap bytes_in none);
+  mapped = omega (arith, changed.mapped, ap mapped_in none);
+}
+
+-- a number that is no group counts nothing
+pub IsCounted_none : (groups : List (Option GroupEntry)) (totals : Totals) → IsCounted groups totals → IsCounted (groups ++ None ∷ []) totals
+IsCounted_none groups totals is = record {
+  objects = let push = sum_by_push objects_in groups None in let all = is.objects in omega (arith, push, all);
+  bytes = let push = sum_by_push bytes_in groups None in let all = is.bytes in omega (arith, push, all);
+  mapped = let push = sum_by_push mapped_in groups None in let all = is.mapped in omega (arith, push, all);
+}
 
 in_table : (f : Group → ℕ) (h : Option GroupEntry → ℕ) (spans : List SpanEntry) (b : ℕ) (groups : List (Option GroupEntry)) → h None ≡ 0
     → ((n : ℕ) (group : GroupEntry) → f (table_group spans n group) ≡ h (Some group)) → sum_by h groups ≡ sum_by f (groups_from spans b groups)
@@ -207,80 +206,3 @@ bytes_united (Some x ∷ xs) (None ∷ ys) long apart =
     let a = sum_by-cons len_in (Some x) xs in let b = sum_by-cons len_in None ys in let c = sum_by-cons len_in (Some x) (united ys xs) in
     omega (arith, rest, a, b, c)
 bytes_united (Some x ∷ xs) (Some y ∷ ys) long apart = absurd (cc apart)
-
--- what is summed over the slots of groups, as one entry of a group changes
-entry_sum : (h : Option GroupEntry → ℕ) (f : Option Slot → ℕ) (groups : List (Option GroupEntry)) (n k : ℕ) (group : GroupEntry) (entry : Option Slot)
-    → ((g : GroupEntry) → h (Some g) ≡ sum_by f g.slots) → group_at groups n ≡ Some group → n < length groups → k < length group.slots
-    → sum_by h (with_entry groups n k entry) + f (slice_index_or group.slots k None) ≡ sum_by h groups + f entry
-entry_sum h f groups n k group entry is at below inside =
-    let new : with_entry groups n k entry ≡ slice_set groups n (Some (with_slot k entry group))
-    = ap (λ (o : Option GroupEntry). slice_set groups n (option_map (with_slot k entry) o)) at in
-    let outer = sum_by-set h groups n (Some (with_slot k entry group)) None below in
-    let inner = sum_by-set f group.slots k entry None inside in
-    let old : h (group_at groups n) ≡ sum_by f group.slots = ap h at ∙ is group in
-    let now : h (Some (with_slot k entry group)) ≡ sum_by f (slice_set group.slots k entry) = is (with_slot k entry group) in
-    rw new (omega (arith, outer, inner, old, now))
-
--- as many pages are mapped
-entry_mapped : (groups : List (Option GroupEntry)) (n k : ℕ) (group : GroupEntry) (entry : Option Slot) → group_at groups n ≡ Some group → n < length groups
-    → sum_by mapped_in (with_entry groups n k entry) ≡ sum_by mapped_in groups
-entry_mapped groups n k group entry at below =
-    let new : with_entry groups n k entry ≡ slice_set groups n (Some (with_slot k entry group))
-    = ap (λ (o : Option GroupEntry). slice_set groups n (option_map (with_slot k entry) o)) at in
-    let outer = sum_by-set mapped_in groups n (Some (with_slot k entry group)) None below in
-    let old : mapped_in (group_at groups n) ≡ mapped_in (Some (with_slot k entry group)) = ap mapped_in at in
-    rw new (omega (arith, outer, old))
-
--- the counts stay right as an object is put into a free slot
-pub counted_more : (groups new : List (Option GroupEntry)) (n k : ℕ) (group : GroupEntry) (entry : Slot) (totals before after : Totals) → IsCounted groups totals
-    → before ≡ totals → after ≡ with_object before entry.len → group_at groups n ≡ Some group → n < length groups → k < length group.slots
-    → slice_index_or group.slots k None ≡ None → new ≡ with_entry groups n k (Some entry) → IsCounted new after
-counted_more groups new n k group entry totals before after is same counts at below inside free put =
-    let objects = entry_sum objects_in (λ (o : Option Slot). if is_some o then 1 else 0) groups n k group (Some entry) (λ g. refl) at below inside in
-    let bytes = entry_sum bytes_in len_in groups n k group (Some entry) (λ g. refl) at below inside in
-    let mapped = entry_mapped groups n k group (Some entry) at below in
-    let none : ◌≡◌ {A = ℕ} (if is_some (slice_index_or group.slots k None) then 1 else 0) 0 = rw free refl in
-    let empty : len_in (slice_index_or group.slots k None) ≡ 0 = rw free refl in
-    rw (counts, same, put) (record {
-      objects = let all = is.objects in omega (arith, objects, none, all);
-      bytes = let all = is.bytes in omega (arith, bytes, empty, all);
-      mapped = let all = is.mapped in omega (arith, mapped, all);
-    })
-
--- there is an object to take away where one stands in a slot
-pub record HasObject (totals : Totals) (len : ℕ) : Type 0 where
-  pub some : 1 ≤ totals.objects
-  pub part : len ≤ totals.bytes
-
-pub has_object : (groups : List (Option GroupEntry)) (n k len : ℕ) (group : GroupEntry) (totals before : Totals) → IsCounted groups totals → before ≡ totals
-    → group_at groups n ≡ Some group → n < length groups → k < length group.slots → is_some (slice_index_or group.slots k None) ≡ true
-    → len ≡ len_in (slot_in (group_at groups n) k) → HasObject before len
-has_object groups n k len group totals before is same at below inside filled measured =
-    let objects = get_or-le-sum_by objects_in groups n None below in
-    let bytes = get_or-le-sum_by bytes_in groups n None below in
-    let own : objects_in (group_at groups n) ≡ count_by is_some group.slots = ap objects_in at in
-    let own_bytes : bytes_in (group_at groups n) ≡ sum_by len_in group.slots = ap bytes_in at in
-    let one = get_or-le-sum_by (λ (o : Option Slot). if is_some o then 1 else 0) group.slots k None inside in
-    let one_bytes = get_or-le-sum_by len_in group.slots k None inside in
-    let there : ◌≡◌ {A = ℕ} (if is_some (slice_index_or group.slots k None) then 1 else 0) 1 = rw filled refl in
-    let length_is : len ≡ len_in (slice_index_or group.slots k None) = measured ∙ ap (λ (o : Option GroupEntry). len_in (slot_in o k)) at in
-    rw same (record {
-      some = let all = is.objects in omega (arith, objects, own, one, there, all);
-      part = let all = is.bytes in omega (arith, bytes, own_bytes, one_bytes, length_is, all);
-    })
-
--- the counts stay right as it is taken away
-pub counted_less : (groups new : List (Option GroupEntry)) (n k len : ℕ) (group : GroupEntry) (totals before after : Totals) → IsCounted groups totals
-    → before ≡ totals → after ≡ without_object before len → group_at groups n ≡ Some group → n < length groups → k < length group.slots
-    → is_some (slice_index_or group.slots k None) ≡ true → len ≡ len_in (slot_in (group_at groups n) k) → new ≡ with_entry groups n k None → IsCounted new after
-counted_less groups new n k len group totals before after is same counts at below inside filled measured put =
-    let objects = entry_sum objects_in (λ (o : Option Slot). if is_some o then 1 else 0) groups n k group None (λ g. refl) at below inside in
-    let bytes = entry_sum bytes_in len_in groups n k group None (λ g. refl) at below inside in
-    let mapped = entry_mapped groups n k group None at below in
-    let there : ◌≡◌ {A = ℕ} (if is_some (slice_index_or group.slots k None) then 1 else 0) 1 = rw filled refl in
-    let length_is : len ≡ len_in (slice_index_or group.slots k None) = measured ∙ ap (λ (o : Option GroupEntry). len_in (slot_in o k)) at in
-    rw (counts, same, put) (record {
-      objects = let all = is.objects in omega (arith, objects, there, all);
-      bytes = let all = is.bytes in omega (arith, bytes, length_is, all);
-      mapped = let all = is.mapped in omega (arith, mapped, all);
-    })

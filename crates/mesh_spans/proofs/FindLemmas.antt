@@ -9,8 +9,7 @@ use Rattle.std.specs.Prelude.{IfNone, IfSome, IsSomeAnd}
 use Rattle.mesh_spans.specs.GroupBins.{candidate_from, candidates_from, is_partial}
 use Rattle.mesh_spans.specs.Groups.{groups_from, groups_of, is_closed, table_group}
 use Rattle.mesh_spans.specs.Index.{GroupEntry, Index, IsIndex, SpanEntry, group_at}
-use Rattle.mesh_spans.proofs.BinLemmas.{number_fits}
-use Rattle.mesh_spans.proofs.IndexLemmas.{group_below}
+use Rattle.mesh_spans.proofs.IndexLemmas.{group_below, number_fits}
 
 -- the first group that a test passes
 find_first : (test : Group → Bool) (spans : List SpanEntry) (b n m : ℕ) (groups : List (Option GroupEntry)) (x : GroupEntry)

@@ -6,9 +6,10 @@ use Rattle.std.proofs.Math.ListN.{length-set}
 use Rattle.std.proofs.lemmas.Bool.Decides.{eqb_tells, leb_tells}
 use Rattle.std.proofs.lemmas.List.{get_or_past, get_or-set_other, get_or-set_same}
 use Rattle.mesh_class.specs.Classes.{pages_of}
+use Rattle.model_heap.specs.Table.{Slot}
 use Rattle.mesh_spans.specs.Changes.{with_flag, with_mesh}
 use Rattle.mesh_spans.specs.Groups.{is_in_mesh}
-use Rattle.mesh_spans.specs.Index.{GroupEntry, IsGroup, IsIndex, IsMember, IsOwned, SpanEntry, group_at, span_at}
+use Rattle.mesh_spans.specs.Index.{GroupEntry, IsGroup, IsIndex, IsMember, IsOwned, SpanEntry, group_at, span_at, with_entry, with_slot}
 
 -- the group of the number was another one with the same class and members
 pub record WasLike (groups : List (Option GroupEntry)) (n : ℕ) (now : GroupEntry) : Type 0 where
@@ -31,7 +32,7 @@ like groups new n m now is at = elim (eqb_tells m n) [
 ]
 
 -- an index stays one
-pub IsIndex_replaced : (spans : List SpanEntry) (groups new : List (Option GroupEntry)) (n : ℕ) → Replaces groups new n → IsIndex spans groups → IsIndex spans new
+IsIndex_replaced : (spans : List SpanEntry) (groups new : List (Option GroupEntry)) (n : ℕ) → Replaces groups new n → IsIndex spans groups → IsIndex spans new
 IsIndex_replaced spans groups new n is sound = record {
   span = sound.span;
   few = sound.few;
@@ -46,13 +47,19 @@ IsIndex_replaced spans groups new n is sound = record {
   classes = λ i now below at. let was = like groups new n (span_at spans i).group now is at in was.class ∙ sound.classes i was.group below was.there;
 }
 
-pub IsOwned_replaced : (spans : List SpanEntry) (groups new : List (Option GroupEntry)) (owners : List (Option ℕ)) (n : ℕ) → Replaces groups new n
+IsOwned_replaced : (spans : List SpanEntry) (groups new : List (Option GroupEntry)) (owners : List (Option ℕ)) (n : ℕ) → Replaces groups new n
     → IsOwned spans groups owners → IsOwned spans new owners
 IsOwned_replaced spans groups new owners n is own = record {
   owned = λ m place j now at below page. let was = like groups new n m now is at in
       subst (λ (xs : List ℕ). slice_index_or owners ((span_at spans (slice_index xs place)).first + j) None ≡ Some (slice_index xs place)) (sym was.members)
       (own.owned m place j was.group was.there (subst (λ (xs : List ℕ). place < length xs) was.members below) (subst (λ (c : ℕ). j < pages_of c) was.class page));
 }
+
+-- so do index and owners
+pub replaced_keeps : (spans : List SpanEntry) (groups new : List (Option GroupEntry)) (owners : List (Option ℕ)) (n : ℕ) → Replaces groups new n
+    → IsIndex spans groups × IsOwned spans groups owners → IsIndex spans new × IsOwned spans new owners
+replaced_keeps spans groups new owners n is sound =
+    (IsIndex_replaced spans groups new n is sound.0, IsOwned_replaced spans groups new owners n is sound.1)
 
 -- a group taken out
 pub replaced_none : (groups : List (Option GroupEntry)) (n : ℕ) → n < length groups → Replaces groups (slice_set groups n None) n
@@ -117,4 +124,22 @@ pub none_flag : (groups : List (Option GroupEntry)) (n m : ℕ) → n < length g
 none_flag groups n m below = elim (eqb_tells m n) [
   | inl same ↦ rw (same.0, same.1) (ap is_in_mesh (get_or-set_same groups n None None below))
   | inr other ↦ rw other.0 (ap is_in_mesh (get_or-set_other groups n m None None other.1))
+]
+
+with_entry_closed : (o : Option GroupEntry) (k : ℕ) (entry : Option Slot) → is_in_mesh (option_map (with_slot k entry) o) ≡ is_in_mesh o
+with_entry_closed None k entry = refl
+with_entry_closed (Some group) k entry = refl
+
+-- which groups are in a mesh stays so as an entry changes
+pub entry_closed : (groups : List (Option GroupEntry)) (n k m : ℕ) (entry : Option Slot)
+    → is_in_mesh (group_at (with_entry groups n k entry) m) ≡ is_in_mesh (group_at groups m)
+entry_closed groups n k m entry = elim (eqb_tells m n) [
+  | inr other ↦ ap is_in_mesh (get_or-set_other groups n m (option_map (with_slot k entry) (group_at groups n)) None other.1)
+  | inl same ↦ elim (leb_tells (length groups) n) [
+    | inr below ↦ rw same.1 (ap is_in_mesh (get_or-set_same groups n (option_map (with_slot k entry) (group_at groups n)) None below.1)
+        ∙ with_entry_closed (group_at groups n) k entry)
+    | inl past ↦ rw same.1 (ap is_in_mesh (get_or_past (with_entry groups n k entry) n None
+        (let far = past.1 in omega (arith, far, length-set groups n (option_map (with_slot k entry) (group_at groups n))))
+        ∙ sym (get_or_past groups n None past.1)))
+  ]
 ]

@@ -9,7 +9,7 @@ use Rattle.std.proofs.lemmas.Bool.Decides.{eqb_tells, leb_tells}
 use Rattle.std.proofs.lemmas.Option.{get_or_from_slice_get, slice_get-get_or, slice_get_within}
 use Rattle.mesh_class.specs.Classes.{pages_of, slots_of}
 use Rattle.model_heap.specs.Table.{Slot, slot_address}
-use Rattle.mesh_spans.specs.Index.{SpanEntry, GroupEntry, Index, span_at, group_at, no_span, with_entry, with_slot, new_span, new_group, address_in, IsGroup, IsSpan, IsIndex, IsMember, IsObject, IsOwned, IsVacant, IsFoundAt, IsRecorded, AreUnused, named_in, record_at, span_record, slot_in}
+use Rattle.mesh_spans.specs.Index.{SpanEntry, GroupEntry, Index, span_at, group_at, no_span, with_entry, with_slot, new_span, new_group, IsGroup, IsSpan, IsIndex, IsMember, IsObject, IsOwned, IsVacant, IsLedTo, IsRecorded, AreUnused, Fits, named_in, record_at, span_record, slot_in}
 use Rattle.mesh_spans.proofs.SlotLemmas.{IsGroup_new, IsGroup_put}
 
 -- no group stands at any place of an empty list
@@ -79,10 +79,6 @@ entry_was groups n k entry m now e = elim (eqb_tells m n) [
           (sym (get_or-set_same groups n (option_map (with_slot k entry) (group_at groups n)) None within.1) ∙ at)
     ]
 
--- the entry fits into each group of the number
-abbrev pub Fits : List (Option GroupEntry) → ℕ → ℕ → Option Slot → Type 0
-Fits groups n k entry = (group : GroupEntry) → group_at groups n ≡ Some group → (k < slots_of group.class) × IsObject group.class entry
-
 IsGroup_was : (groups : List (Option GroupEntry)) (n k : ℕ) (entry : Option Slot) (m : ℕ) (now : GroupEntry) → Fits groups n k entry
     → ((group : GroupEntry) → group_at groups m ≡ Some group → IsGroup group) → Was groups n k entry m now → IsGroup now
 IsGroup_was groups n k entry m now fits sound was = go was.is
@@ -143,6 +139,22 @@ below_unused spans groups first some unused sound = elim (eqb_tells (length span
       let page : 1 ≤ pages_of (span_at spans (length spans - 1)).class = (sound.span (length spans - 1) below).class.some_page in
       omega arith
 ]
+
+-- so there is a number for one group more
+pub one_more_fits : (spans : List SpanEntry) (groups : List (Option GroupEntry)) (first pages : ℕ) → 1 ≤ first → first + pages ≤ 65536
+    → AreUnused (record { spans = spans; groups = groups }) first → IsIndex spans groups → length groups < 65536
+one_more_fits spans groups first pages some last unused sound =
+    let below = below_unused spans groups first some unused sound in
+    let paired = sound.paired in
+    omega (arith, below, paired, last)
+
+-- a number of a group is below 65,536
+pub number_fits : (spans : List SpanEntry) (groups : List (Option GroupEntry)) (n : ℕ) → IsIndex spans groups → n < length groups → n < 65536
+number_fits spans groups n sound below =
+    let inside : n < length spans = (let paired = sound.paired in omega (arith, below, paired)) in
+    let few = sound.few n inside in
+    let last = (sound.span n inside).last in
+    omega (arith, few, last)
 
 -- a group of a longer list is the new one or one that was there
 added_was : (groups : List (Option GroupEntry)) (new : GroupEntry) (n : ℕ) (group : GroupEntry) → group_at (groups ++ Some new ∷ []) n ≡ Some group
@@ -288,26 +300,41 @@ page_within first size slots pages k o addr below small full at =
     (omega (arith, at), omega (arith, end, full, small))
 
 -- an address in a slot of a member belongs to the member's page, so the member owns it
-pub address_owned : (spans : List SpanEntry) (groups : List (Option GroupEntry)) (owners : List (Option ℕ)) (n place k o addr : ℕ) (group : GroupEntry)
+address_owned : (spans : List SpanEntry) (groups : List (Option GroupEntry)) (owners : List (Option ℕ)) (n place k o addr : ℕ) (group : GroupEntry)
     → IsIndex spans groups → IsOwned spans groups owners → group_at groups n ≡ Some group → place < length group.members → k < slots_of group.class
-    → o < group.class → address_in (span_at spans (slice_index group.members place)) k + o ≡ addr
+    → o < group.class → slot_address (span_at spans (slice_index group.members place)).first group.class k + o ≡ addr
     → slice_index_or owners (addr / 4096) None ≡ Some (slice_index group.members place)
 address_owned spans groups owners n place k o addr group sound own at within below small is =
-    let member = sound.members n place group at within in
     let full = (sound.each n group at).class.full in
     let page = page_within (span_at spans (slice_index group.members place)).first group.class (slots_of group.class) (pages_of group.class) k o addr below small
-    full (subst (λ (size : ℕ). slot_address (span_at spans (slice_index group.members place)).first size k + o ≡ addr) member.same_class is) in
+    full is in
     rw page.0 (own.owned n place ((k * group.class + o) / 4096) group at within page.1)
 
+-- where an address in a slot of a member leads: its page is the member's, and the member's group is this one
+pub record LeadsTo (spans : List SpanEntry) (groups : List (Option GroupEntry)) (owners : List (Option ℕ)) (addr n member : ℕ) (group : GroupEntry) : Type 0 where
+  pub owner : slice_index_or owners (addr / 4096) None ≡ Some member
+  pub got : slice_get spans member ≡ Some (span_at spans member)
+  pub there : group_at groups (span_at spans member).group ≡ Some group
+  pub led : IsLedTo (record { spans = spans; groups = groups }) n member group.class (Some member)
+
+pub leads_to : (spans : List SpanEntry) (groups : List (Option GroupEntry)) (owners : List (Option ℕ)) (n place k o addr : ℕ) (group : GroupEntry)
+    → IsIndex spans groups × IsOwned spans groups owners → group_at groups n ≡ Some group → place < length group.members → k < slots_of group.class
+    → o < group.class → slot_address (span_at spans (slice_index group.members place)).first group.class k + o ≡ addr
+    → LeadsTo spans groups owners addr n (slice_index group.members place) group
+leads_to spans groups owners n place k o addr group sound at within below small is =
+    let member = sound.0.members n place group at within in
+    record {
+      owner = address_owned spans groups owners n place k o addr group sound.0 sound.1 at within below small is;
+      got = slice_get-get_or spans (slice_index group.members place) no_span member.below;
+      there = ap (group_at groups) member.same_group ∙ at;
+      led = record { found_is = refl; below = member.below; group_is = member.same_group; class_is = member.same_class };
+    }
+
 -- index and owners stay so as an entry that fits is put
-pub put_keeps : (index : Index) (spans : List SpanEntry) (groups new : List (Option GroupEntry)) (owners : List (Option ℕ)) (n k : ℕ) (entry : Option Slot)
-    → record { spans = spans; groups = groups } ≡ index → Fits index.groups n k entry → new ≡ with_entry index.groups n k entry
-    → IsIndex spans groups × IsOwned spans groups owners → IsIndex spans new × IsOwned spans new owners
-put_keeps index spans groups new owners n k entry e fits is sound =
-    let at : groups ≡ index.groups = ap (λ (x : Index). x.groups) e in
-    let fits' : Fits groups n k entry = subst (λ (gs : List (Option GroupEntry)). Fits gs n k entry) (sym at) fits in
-    let is' : new ≡ with_entry groups n k entry = is ∙ ap (λ (gs : List (Option GroupEntry)). with_entry gs n k entry) (sym at) in
-    rw is' (IsIndex_put spans groups n k entry fits' sound.0, IsOwned_put spans groups owners n k entry sound.1)
+pub put_keeps : (spans : List SpanEntry) (groups : List (Option GroupEntry)) (owners : List (Option ℕ)) (n k : ℕ) (entry : Option Slot) → Fits groups n k entry
+    → IsIndex spans groups × IsOwned spans groups owners → IsIndex spans (with_entry groups n k entry) × IsOwned spans (with_entry groups n k entry) owners
+put_keeps spans groups owners n k entry fits sound =
+    (IsIndex_put spans groups n k entry fits sound.0, IsOwned_put spans groups owners n k entry sound.1)
 
 -- an object fits where the slot is vacant
 pub vacant_fits : (index : Index) (span k : ℕ) (entry : Slot) → IsVacant index (span_at index.spans span).class span k
@@ -364,13 +391,13 @@ recorded_of index span k (Some entry) at some =
 pub recorded : (index : Index) (span k : ℕ) → IsSome (record_at index span k) → Recorded index span k
 recorded index span k some = recorded_of index span k (slice_get index.spans span) refl some
 
--- nothing fits into any slot
-pub nothing_fits : (index : Index) (spans : List SpanEntry) (groups : List (Option GroupEntry)) (span k : ℕ) → record { spans = spans; groups = groups } ≡ index
-    → IsIndex spans groups → IsSome (record_at index span k) → Fits index.groups (span_at index.spans span).group k None
-nothing_fits index spans groups span k e sound some group at =
+-- nothing fits into a slot with a record
+pub nothing_fits : (index : Index) (span k : ℕ) → IsIndex index.spans index.groups → IsSome (record_at index span k)
+    → Fits index.groups (span_at index.spans span).group k None
+nothing_fits index span k sound some group at =
     let there = recorded index span k some in
     let same : there.group ≡ group = let both : Some there.group ≡ Some group = sym there.there ∙ at in cc both in
-    let is : IsGroup group = sound.each (span_at index.spans span).group group (ap (λ (x : Index). group_at x.groups (span_at index.spans span).group) e ∙ at) in
+    let is : IsGroup group = sound.each (span_at index.spans span).group group at in
     (rw (← is.slots) (subst (λ (g : GroupEntry). k < length g.slots) same there.in_range), tt)
 
 -- the number of a group is below their count
@@ -378,59 +405,6 @@ pub group_below : (groups : List (Option GroupEntry)) (n : ℕ) (group : GroupEn
 group_below [] n group at = absurd (cc at)
 group_below (x ∷ groups) zero group at = omega arith
 group_below (x ∷ groups) (suc n) group at = let below = group_below groups n group at in omega (arith, below)
-
--- so is that of a slot with a record
-pub recorded_inside : (index : Index) (spans : List SpanEntry) (groups : List (Option GroupEntry)) (span k n : ℕ) → record { spans = spans; groups = groups } ≡ index
-    → n ≡ (span_at index.spans span).group → IsSome (record_at index span k) → n < length groups
-recorded_inside index spans groups span k n e is some =
-    let there = recorded index span k some in
-    let same : groups ≡ index.groups = ap (λ (x : Index). x.groups) e in
-    rw (is, same) (group_below index.groups (span_at index.spans span).group there.group there.there)
-
--- the span and the place in it that an address of a slot leads to
-pub owner_found : (index : Index) (spans : List SpanEntry) (groups : List (Option GroupEntry)) (owners : List (Option ℕ)) (n place k o addr : ℕ)
-    (group : GroupEntry) → record { spans = spans; groups = groups } ≡ index → IsIndex spans groups × IsOwned spans groups owners
-    → group_at index.groups n ≡ Some group → place < length group.members → k < slots_of group.class → o < group.class
-    → address_in (span_at index.spans (slice_index group.members place)) k + o ≡ addr
-    → slice_index_or owners (addr / 4096) None ≡ Some (slice_index group.members place)
-owner_found index spans groups owners n place k o addr group e sound at within below small is =
-    let gs : groups ≡ index.groups = ap (λ (x : Index). x.groups) e in
-    let ss : spans ≡ index.spans = ap (λ (x : Index). x.spans) e in
-    address_owned spans groups owners n place k o addr group sound.0 sound.1
-    (ap (λ (xs : List (Option GroupEntry)). group_at xs n) gs ∙ at) within below small
-    (ap (λ (xs : List SpanEntry). address_in (span_at xs (slice_index group.members place)) k + o) ss ∙ is)
-
--- the span of a member is there
-pub member_got : (index : Index) (spans : List SpanEntry) (groups : List (Option GroupEntry)) (n place : ℕ) (group : GroupEntry)
-    → record { spans = spans; groups = groups } ≡ index → IsIndex spans groups → group_at index.groups n ≡ Some group → place < length group.members
-    → slice_get spans (slice_index group.members place) ≡ Some (span_at index.spans (slice_index group.members place))
-member_got index spans groups n place group e sound at within =
-    let gs : groups ≡ index.groups = ap (λ (x : Index). x.groups) e in
-    let ss : spans ≡ index.spans = ap (λ (x : Index). x.spans) e in
-    let member = sound.members n place group (ap (λ (xs : List (Option GroupEntry)). group_at xs n) gs ∙ at) within in
-    slice_get-get_or spans (slice_index group.members place) no_span member.below
-    ∙ ap (λ (xs : List SpanEntry). Some (span_at xs (slice_index group.members place))) ss
-
--- its class is the group's
-pub member_class : (index : Index) (spans : List SpanEntry) (groups : List (Option GroupEntry)) (n place : ℕ) (group : GroupEntry)
-    → record { spans = spans; groups = groups } ≡ index → IsIndex spans groups → group_at index.groups n ≡ Some group → place < length group.members
-    → (span_at index.spans (slice_index group.members place)).class ≡ group.class
-member_class index spans groups n place group e sound at within =
-    let gs : groups ≡ index.groups = ap (λ (x : Index). x.groups) e in
-    let ss : spans ≡ index.spans = ap (λ (x : Index). x.spans) e in
-    let member = sound.members n place group (ap (λ (xs : List (Option GroupEntry)). group_at xs n) gs ∙ at) within in
-    ap (λ (xs : List SpanEntry). (span_at xs (slice_index group.members place)).class) (sym ss) ∙ member.same_class
-
--- and its group is this one
-pub member_there : (index : Index) (spans : List SpanEntry) (groups : List (Option GroupEntry)) (n place : ℕ) (group : GroupEntry)
-    → record { spans = spans; groups = groups } ≡ index → IsIndex spans groups → group_at index.groups n ≡ Some group → place < length group.members
-    → group_at index.groups (span_at index.spans (slice_index group.members place)).group ≡ Some group
-member_there index spans groups n place group e sound at within =
-    let gs : groups ≡ index.groups = ap (λ (x : Index). x.groups) e in
-    let ss : spans ≡ index.spans = ap (λ (x : Index). x.spans) e in
-    let member = sound.members n place group (ap (λ (xs : List (Option GroupEntry)). group_at xs n) gs ∙ at) within in
-    ap (λ (m : ℕ). group_at index.groups m)
-    (ap (λ (xs : List SpanEntry). (span_at xs (slice_index group.members place)).group) (sym ss) ∙ member.same_group) ∙ at
 
 -- what a slot named so holds
 named_is : (member serial len : ℕ) (o : Option Slot) → named_in member o ≡ Some (serial, len)
@@ -482,16 +456,7 @@ recorded_is index spans groups span k serial len e sound is =
       fits = object.1;
     }
 
--- an address of a slot is found where the search for it ends so
-pub found_at : (index : Index) (spans : List SpanEntry) (groups : List (Option GroupEntry)) (n place k o : ℕ) (group : GroupEntry) (found : Option (ℕ × ℕ × ℕ))
-    → record { spans = spans; groups = groups } ≡ index → IsIndex spans groups → group_at index.groups n ≡ Some group → place < length group.members
-    → found ≡ Some (slice_index group.members place, k, o) → IsFoundAt index n (slice_index group.members place) k o found
-found_at index spans groups n place k o group found e sound at within is =
-    let sound' : IsIndex index.spans index.groups = subst (λ (x : Index). IsIndex x.spans x.groups) e sound in
-    let member = sound'.members n place group at within in
-    record { found_is = is; below = member.below; group_is = member.same_group }
-
--- so what a look-up of it answers is recorded
+-- what a look-up answers is recorded
 pub recorded_if : (index : Index) (spans : List SpanEntry) (groups : List (Option GroupEntry)) (span k : ℕ) (result : Option (ℕ × ℕ))
     → record { spans = spans; groups = groups } ≡ index → IsIndex spans groups → result ≡ record_at index span k
     → IfSome result (λ r. IsRecorded index span k r.0 r.1)

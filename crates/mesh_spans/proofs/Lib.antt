@@ -1,12 +1,11 @@
-pub mod Added
 pub mod BinLemmas
 pub mod CountLemmas
 pub mod FindLemmas
 pub mod FlagLemmas
 pub mod IndexLemmas
+pub mod KeptLemmas
 pub mod MergeLemmas
 pub mod MergedIndex
 pub mod MergedTable
-pub mod ReadSpans
 pub mod SlotLemmas
 pub mod TableLemmas

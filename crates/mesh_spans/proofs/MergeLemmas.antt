@@ -1,5 +1,5 @@
 -- What a merge keeps, and what it makes of the table.
-use Rattle.std.proofs.Common.{◌≡◌, ◌≢◌, ℕ, ◌+◌, ◌≤◌, false, find, IfSome, List, Option, Some, None, length, slice_set, ap, subst, sym, ◌∙◌, arith}
+use Rattle.std.proofs.Common.{◌≡◌, ◌≢◌, ℕ, ◌+◌, ◌<◌, ◌≤◌, false, find, IfSome, List, Option, Some, None, length, slice_index, slice_set, ap, subst, sym, ◌∙◌, arith}
 use Rattle.std.proofs.Common.{not, ◌&&◌, nat_eq, inl, inr}
 use Rattle.std.proofs.Math.ListN.{length-set}
 use Rattle.std.proofs.lemmas.Bool.Decides.{eqb_tells}
@@ -13,7 +13,16 @@ use Rattle.mesh_spans.specs.Index.{GroupEntry, Index, IsIndex, IsOwned, SpanEntr
 use Rattle.mesh_spans.proofs.IndexLemmas.{group_below}
 use Rattle.mesh_spans.proofs.MergedIndex.{IsIndex_merged, IsOwned_merged}
 use Rattle.mesh_spans.proofs.MergedTable.{group_found, groups_merged}
-use Rattle.mesh_spans.proofs.ReadSpans.{if_there}
+
+-- what holds of the one group there
+if_there : (groups : List (Option GroupEntry)) (n : ℕ) (group : GroupEntry) (P : GroupEntry → Type 0) → group_at groups n ≡ Some group → P group → IfSome (group_at groups n) P
+if_there groups n group P at holds = subst (λ (o : Option GroupEntry). IfSome o P) (sym at) holds
+
+-- the members of a group are spans
+pub members_below : (spans : List SpanEntry) (groups : List (Option GroupEntry)) (n : ℕ) (group : GroupEntry) (members : List ℕ) → IsIndex spans groups
+    → group_at groups n ≡ Some group → members ≡ group.members → (place : ℕ) → place < length members → slice_index members place < length spans
+members_below spans groups n group members sound at same place below =
+    rw same (sound.members n place group at (omega (arith, below, ap (λ (xs : List ℕ). length xs) same))).below
 
 -- the groups after one was taken out and another one took its members and slots
 abbrev pub absorbed : List (Option GroupEntry) → ℕ → ℕ → GroupEntry → List (Option GroupEntry)

@@ -1,8 +1,8 @@
 -- The free slots of a group, and the set of those that are taken.
-use Rattle.std.proofs.Common.{◌≡◌, ℕ, zero, suc, ◌+◌, ◌<◌, ◌≤◌, ◌-◌, ◌%◌, inl, inr, nat_lt, Bool, true, false, not, if◌then◌else◌, List, [], ◌∷◌, Option, Some, None, is_some, length, map, take, count_by, replicate, slice_get, slice_index, slice_index_or, ap, refl, sym, ◌∙◌, arith}
+use Rattle.std.proofs.Common.{◌≡◌, ℕ, zero, suc, ◌+◌, ◌<◌, ◌-◌, ◌%◌, inl, inr, Bool, true, false, not, if◌then◌else◌, List, [], ◌∷◌, Option, Some, None, is_some, length, map, take, count_by, replicate, slice_get, slice_index, slice_index_or, ap, refl, sym, ◌∙◌, arith}
 use Rattle.std.proofs.lemmas.List.{length-map}
 use Rattle.std.proofs.lemmas.List.Sums.{sum_by-cons}
-use Rattle.std.proofs.lemmas.Bool.Decides.{eqb_tells, leb_tells}
+use Rattle.std.proofs.lemmas.Bool.Decides.{eqb_tells}
 use Rattle.mesh_bits.specs.Bits.{is_member, member_count, clear_count}
 use Rattle.model_heap.specs.Table.{Slot, free_from}
 use Rattle.std.proofs.lemmas.List.{get_or-set_other, get_or-set_same, length-set}
@@ -96,15 +96,6 @@ picked slots set word free place i total is long count at before below clear =
     (ap (λ (xs : List Bool). clear_count (take i xs)) (sym is) ∙ before)
     (omega (arith, below, long')) (ap (λ (xs : List Bool). is_member xs i) (sym is) ∙ clear) in
     rw same (rw (← at) (let plain : 0 + i ≡ i = omega arith in sym (found ∙ plain)))
-
--- where every number is in the set, no slot is free
-pub all_filled : (slots : List (Option Slot)) (set : List Bool) (total : ℕ) → set ≡ map is_some slots → length slots ≡ total
-    → total ≤ member_count set → nat_lt (count_by is_some slots) (length slots) ≡ false
-all_filled slots set total is long full = elim (leb_tells (suc (count_by is_some slots)) (length slots)) [
-  | inr none ↦ none.0
-  | inl some ↦ absurd (let count : member_count set ≡ count_by is_some slots = ap member_count is ∙ filled_count slots in
-      omega (arith, count, long, full, some.1))
-]
 
 -- a new group is one
 pub IsGroup_new : (class member : ℕ) (pages : List ℕ) → IsClass class → length pages ≡ pages_of class → IsGroup (new_group class member pages)

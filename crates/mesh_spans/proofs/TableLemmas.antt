@@ -141,11 +141,6 @@ none_open closed spans b class (Some one ∷ groups) tells none =
     = open_same closed spans b class one groups tells ∙ none 0 (omega arith) in
     rw test (none_open closed spans (b + 1) class groups (later closed b (Some one) groups tells) (λ j h. none (suc j) (omega (arith, h))))
 
--- an index of equal lists is the same
-pub index_is : (spans spans' : List SpanEntry) (groups groups' : List (Option GroupEntry)) → spans ≡ spans' → groups ≡ groups'
-    → ◌≡◌ {A = Index} (record { spans = spans; groups = groups }) (record { spans = spans'; groups = groups' })
-index_is spans spans' groups groups' s g = rw (s, g) refl
-
 -- a new span and its group are added to the table as a fresh group
 pub table_added : (spans : List SpanEntry) (groups : List (Option GroupEntry)) (first class : ℕ) (pages : List ℕ) → IsIndex spans groups
     → groups_of (record {

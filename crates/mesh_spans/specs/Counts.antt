@@ -28,21 +28,21 @@ mapped_in (Some group) = length group.members * pages_of group.class
 abbrev pub counts_of : Option GroupEntry → Totals
 counts_of group = record { objects = objects_in group; bytes = bytes_in group; mapped = mapped_in group }
 
--- the counts with those of one group before a change taken out, and those after it added
-abbrev pub recounted : Totals → Totals → Totals → Totals
-recounted totals before now = record {
-  objects = totals.objects - before.objects + now.objects;
-  bytes = totals.bytes - before.bytes + now.bytes;
-  mapped = totals.mapped - before.mapped + now.mapped;
+-- the counts with those of one group added
+abbrev pub with_group : Totals → Totals → Totals
+with_group totals group = record {
+  objects = totals.objects + group.objects;
+  bytes = totals.bytes + group.bytes;
+  mapped = totals.mapped + group.mapped;
 }
 
--- the counts with one object of this length more
-abbrev pub with_object : Totals → ℕ → Totals
-with_object totals len = record { objects = totals.objects + 1; bytes = totals.bytes + len; mapped = totals.mapped }
-
--- the counts without one object of this length
-abbrev pub without_object : Totals → ℕ → Totals
-without_object totals len = record { objects = totals.objects - 1; bytes = totals.bytes - len; mapped = totals.mapped }
+-- the counts with those of one group taken out
+abbrev pub without_group : Totals → Totals → Totals
+without_group totals group = record {
+  objects = totals.objects - group.objects;
+  bytes = totals.bytes - group.bytes;
+  mapped = totals.mapped - group.mapped;
+}
 
 -- no count of the part is above that of the whole
 pub record IsPart (part whole : Totals) : Type 0 where

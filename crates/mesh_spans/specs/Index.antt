@@ -143,6 +143,10 @@ with_slot k entry group = record group { slots = slice_set group.slots k entry }
 abbrev pub with_entry : List (Option GroupEntry) → ℕ → ℕ → Option Slot → List (Option GroupEntry)
 with_entry groups n k entry = slice_set groups n (option_map (with_slot k entry) (group_at groups n))
 
+-- the entry fits into the slot of the group of the number
+abbrev pub Fits : List (Option GroupEntry) → ℕ → ℕ → Option Slot → Type 0
+Fits groups n k entry = (group : GroupEntry) → group_at groups n ≡ Some group → (k < slots_of group.class) × IsObject group.class entry
+
 -- spans and groups fit together
 pub record IsIndex (spans : List SpanEntry) (groups : List (Option GroupEntry)) : Type 0 where
   pub span : (i : ℕ) → i < length spans → IsSpan (span_at spans i)
@@ -190,6 +194,13 @@ pub record IsFoundAt (index : Index) (n span k o : ℕ) (found : Option (ℕ × 
   pub found_is : found ≡ Some (span, k, o)
   pub below : span < length index.spans
   pub group_is : (span_at index.spans span).group ≡ n
+
+-- a look-up finds the group's member, which is a span of this group and of its class
+pub record IsLedTo (index : Index) (n span class : ℕ) (found : Option ℕ) : Type 0 where
+  pub found_is : found ≡ Some span
+  pub below : span < length index.spans
+  pub group_is : (span_at index.spans span).group ≡ n
+  pub class_is : (span_at index.spans span).class ≡ class
 
 -- the span owns the virtual pages from the first one up to another, and those below are as they were
 pub record OwnsUpTo (old new : List (Option ℕ)) (first end span : ℕ) : Type 0 where

@@ -6,3 +6,4 @@ pub mod Counts
 pub mod GroupBins
 pub mod Groups
 pub mod Index
+pub mod Kept

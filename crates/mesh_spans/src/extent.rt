@@ -89,7 +89,8 @@ impl Extent {
     /// The address of a slot.
     pub fn address(&self, slot: Slot) -> u32
         requires { slot < slots_of self.now.class }
-        ensures { result ≡ address_in self.now slot }
+        ensures value { result ≡ address_in self.now slot }
+        ensures sound { IsSpan self.now }
     {
         self.first * PAGE_BYTES + slot.number() * self.class.size()
     }

@@ -1,11 +1,11 @@
-//! How groups are filed: for each class the bins of those in no mesh that are empty, partly filled and full, and the counts over all groups.
-ghost use Rattle.std.specs.Prelude.{◌≡◌, ℕ, ◌+◌, ◌*◌, ◌<◌, ◌≤◌, ◌||◌, length, IfOk, IfSome, None, replicate};
+//! How a group is filed: the bin of its class and fullness in which its number is, and what it counts.
+ghost use Rattle.std.specs.Prelude.{◌≡◌, ℕ, ◌+◌, ◌*◌, ◌<◌, ◌≤◌, ◌||◌, length, IfOk, IfSome};
 ghost use Rattle.std.specs.FinSet as set;
 ghost use Rattle.mesh_bins.specs.Words.{IsLeast};
 ghost use Rattle.mesh_class.specs.Classes.{IsClass};
-ghost use Rattle.mesh_spans.specs.Counts.{IsPart, IsWithin, counts_of, recounted};
+ghost use Rattle.mesh_spans.specs.Counts.{IsWithin, counts_of};
 ghost use Rattle.mesh_spans.specs.GroupBins.{AreMoved, bin_at, class_place, file_of, filed, lower_of, unfiled};
-ghost use Rattle.mesh_spans.specs.Index.{group_at};
+ghost use Rattle.mesh_spans.specs.Index.{IsGroup};
 
 use crate::Totals;
 use crate::group::Group;
@@ -15,15 +15,6 @@ use std::alloc::{AllocError, Global};
 
 // How many bins there are: three for each of the ten classes.
 const BINS: usize = 30;
-
-/// How all groups are filed.
-#[derive(Debug, Drop)]
-pub(crate) struct Files {
-    /// For each class three bins: of the groups in no mesh that are empty, partly filled and full.
-    pub bins: Vec<Bin>,
-    /// The counts over all groups.
-    pub totals: Totals,
-}
 
 /// How a group is filed.
 #[derive(Clone, Copy)]
@@ -35,14 +26,17 @@ pub(crate) struct Filed {
 }
 
 impl Filed {
-    /// How a number is filed that is no group.
-    pub fn none() -> Filed
-        ensures bin { result.bin ≡ None }
-        ensures counts { result.counts ≡ counts_of None }
+    /// How a group is to be filed, or a number that is none.
+    pub fn of(group: &Option<Group>) -> Filed
+        ensures bin { result.bin ≡ file_of group.now }
+        ensures place { IfSome result.bin (λ place. place < 30) }
+        ensures counts { result.counts ≡ counts_of group.now }
+        ensures few { IsWithin 1 result.counts }
+        ensures sound { IfSome group.now (λ g. IsGroup g) }
     {
         Filed {
-            bin: None,
-            counts: Totals::none(),
+            bin: bin_of(group),
+            counts: counts_of(group),
         }
     }
 }
@@ -96,6 +90,7 @@ fn bin_of(group: &Option<Group>) -> Option<u32>
 fn counts_of(group: &Option<Group>) -> Totals
     ensures counts { result ≡ counts_of group.now }
     ensures few { IsWithin 1 result }
+    ensures sound { IfSome group.now (λ g. IsGroup g) }
 {
     match group {
         None => Totals::none(),
@@ -107,67 +102,22 @@ fn counts_of(group: &Option<Group>) -> Totals
     }
 }
 
-/// The bin in which the group of a number is to be.
-pub(crate) fn bin_for(groups: &[Option<Group>], n: u32) -> Option<u32>
-    requires { n < length groups.now }
-    ensures bin { result ≡ file_of (group_at groups.now n) }
-    ensures place { IfSome result (λ place. place < 30) }
+/// Moves a number from one bin to another. Nothing is written where both are one.
+pub(crate) fn rebin(bins: &mut Vec<Bin>, n: u32, from: Option<u32>, to: Option<u32>)
+    requires number { n < 65536 }
+    requires sized { length bins.old.items ≡ 30 }
+    requires from { IfSome from (λ place. place < 30) }
+    requires to { IfSome to (λ place. place < 30) }
+    ensures { AreMoved bins.old.items bins.new.items n from to }
 {
-    bin_of(&groups[n as usize])
-}
-
-/// How the group of a number is to be filed.
-pub(crate) fn file_at(groups: &[Option<Group>], n: u32) -> Filed
-    requires { n < length groups.now }
-    ensures bin { result.bin ≡ file_of (group_at groups.now n) }
-    ensures place { IfSome result.bin (λ place. place < 30) }
-    ensures counts { result.counts ≡ counts_of (group_at groups.now n) }
-    ensures few { IsWithin 1 result.counts }
-{
-    let group = &groups[n as usize];
-    Filed {
-        bin: bin_of(group),
-        counts: counts_of(group),
+    if from != to {
+        unfile(bins, n, from);
+        file(bins, n, to);
     }
 }
 
-impl Files {
-    /// Files a group anew after a change, or a new one: its number goes from the bin where it was into that of the group, and what it
-    /// counted before gives way to what it counts.
-    pub fn refile(&mut self, groups: &[Option<Group>], n: u32, before: Filed)
-        requires there { n < length groups.now }
-        requires number { n < 65536 }
-        requires sized { length self.old.bins.items ≡ 30 }
-        requires place { IfSome before.bin (λ place. place < 30) }
-        requires part { IsPart before.counts self.old.totals }
-        requires few { IsWithin 65536 self.old.totals }
-        ensures bins { AreMoved self.old.bins.items self.new.bins.items n before.bin (file_of (group_at groups.now n)) }
-        ensures totals { self.new.totals ≡ recounted self.old.totals before.counts (counts_of (group_at groups.now n)) }
-    {
-        self.rebin(groups, n, before.bin);
-        let now = counts_of(&groups[n as usize]);
-        self.totals = self.totals.recounted(before.counts, now);
-    }
-
-    /// Moves a group's number from the bin where it was into that of the group. Nothing is written where both are one.
-    pub fn rebin(&mut self, groups: &[Option<Group>], n: u32, before: Option<u32>)
-        requires there { n < length groups.now }
-        requires number { n < 65536 }
-        requires sized { length self.old.bins.items ≡ 30 }
-        requires place { IfSome before (λ place. place < 30) }
-        ensures bins { AreMoved self.old.bins.items self.new.bins.items n before (file_of (group_at groups.now n)) }
-        ensures totals { self.new.totals ≡ self.old.totals }
-    {
-        let now = bin_for(groups, n);
-        if before != now {
-            unfile(&mut self.bins, n, before);
-            file(&mut self.bins, n, now);
-        }
-    }
-}
-
-// Takes a number out of a bin.
-fn unfile(bins: &mut Vec<Bin>, n: u32, place: Option<u32>)
+/// Takes a number out of a bin.
+pub(crate) fn unfile(bins: &mut Vec<Bin>, n: u32, place: Option<u32>)
     requires number { n < 65536 }
     requires sized { length bins.old.items ≡ 30 }
     requires few { IfSome place (λ p. p < 30) }
@@ -179,8 +129,8 @@ fn unfile(bins: &mut Vec<Bin>, n: u32, place: Option<u32>)
     }
 }
 
-// Puts a number into a bin.
-fn file(bins: &mut Vec<Bin>, n: u32, place: Option<u32>)
+/// Puts a number into a bin.
+pub(crate) fn file(bins: &mut Vec<Bin>, n: u32, place: Option<u32>)
     requires number { n < 65536 }
     requires sized { length bins.old.items ≡ 30 }
     requires few { IfSome place (λ p. p < 30) }

@@ -5,7 +5,7 @@ ghost use Rattle.mesh_class.specs.Classes.{pages_of, slots_of};
 ghost use Rattle.model_heap.specs.Table.{changed_at, fresh_group, len_in, object_count, slot_address, with_object_in, emptied_at, takes_objects};
 ghost use Rattle.mesh_spans.specs.Counts.{IsPart, IsWithin, byte_count};
 ghost use Rattle.mesh_spans.specs.Groups.{IsPicked, groups_of, is_closed, table_group};
-ghost use Rattle.mesh_spans.specs.Index.{AreUnused, GroupEntry, IsFoundAt, IsIndex, IsObject, IsRecorded, IsSpan, IsVacant, address_in, group_at, has_room, is_open, new_group, new_span, record_at, slot_in, span_at, with_entry};
+ghost use Rattle.mesh_spans.specs.Index.{AreUnused, GroupEntry, IsFoundAt, IsIndex, IsLedTo, IsObject, IsRecorded, IsSpan, IsVacant, address_in, group_at, has_room, is_open, new_group, new_span, record_at, slot_in, span_at, with_entry};
 ghost use Rattle.model_heap.specs.Mesh.{do_overlap, merged, page_count};
 ghost use Rattle.model_heap.specs.Table.{Group as TableGroup, has_number};
 ghost use Rattle.mesh_bins.specs.Words.{IsLeast};
@@ -13,8 +13,8 @@ ghost use Rattle.mesh_spans.specs.GroupBins.{candidate_from, candidates_from, is
 ghost use Rattle.mesh_spans.specs.Changes.{IsMergeable, Merges, Regroups, merged_entry, merged_groups, with_flag};
 
 use crate::extent::Extent;
-use crate::filing::{Filed, Files, bin_for, file_at, lowest_open, lowest_partial, new_bins};
 use crate::group::Group;
+use crate::groups::Groups;
 use crate::occupant::Occupant;
 use crate::owners::Owners;
 use crate::{Slot, Span, Totals};
@@ -30,12 +30,10 @@ use std::marker::Model;
 pub struct Spans {
     // By number.
     spans: Vec<Extent>,
-    // By number; None where the number is no group any more.
-    groups: Vec<Option<Group>>,
+    // By number, and found by their fullness.
+    groups: Groups,
     // By virtual page the span that has it.
     owners: Owners,
-    // In which bin each group is, and what all of them count.
-    files: Files,
 }
 
 impl Model for Spans {
@@ -43,13 +41,9 @@ impl Model for Spans {
 
     ghost Value = { Index };
 
-    ghost view = { λ s. record { spans = s.spans.items; groups = s.groups.items } };
+    ghost view = { λ s. record { spans = s.spans.items; groups = s.groups } };
 
-    ghost use Rattle.mesh_spans.specs.Counts.{IsCounted};
-    ghost use Rattle.mesh_spans.specs.GroupBins.{IsFiled};
-
-    ghost invariant = { λ s. (IsIndex s.spans.items s.groups.items × IsOwned s.spans.items s.groups.items s.owners)
-        × IsFiled s.groups.items s.files.bins.items × IsCounted s.groups.items s.files.totals };
+    ghost invariant = { λ s. IsIndex s.spans.items s.groups × IsOwned s.spans.items s.groups s.owners };
 }
 
 impl Spans {
@@ -59,15 +53,11 @@ impl Spans {
         ensures groups { IfOk result (λ s. s.groups ≡ []) }
     {
         let owners = Owners::new(alloc)?;
-        let bins = new_bins(alloc)?;
+        let groups = Groups::new(alloc)?;
         Ok(Spans {
             spans: Vec::new(alloc),
-            groups: Vec::new(alloc),
+            groups,
             owners,
-            files: Files {
-                bins,
-                totals: Totals::none(),
-            },
         })
     }
 
@@ -103,12 +93,9 @@ impl Spans {
         let span = Span::numbered(number);
         let group = Group::new(alloc, class, span, pages)?;
         self.spans.reserve(1)?;
-        self.groups.reserve(1)?;
+        self.groups.push(group)?;
         self.spans.push_reserved(Extent::new(first, class, number));
-        self.groups.push_reserved(Some(group));
         self.owners.own(first, class.pages(), span);
-        self.files
-            .refile(self.groups.as_slice(), number, Filed::none());
         Ok(span)
     }
 
@@ -120,7 +107,7 @@ impl Spans {
         ensures vacant { IfSome result (λ r. IsVacant self.now class r.0 r.1) }
         ensures none { IfNone result (find (takes_objects (is_closed self.now) class) (groups_of self.now) ≡ None) }
     {
-        let open = lowest_open(self.files.bins.as_slice(), class)?;
+        let open = self.groups.lowest_open(class)?;
         let group = self.group(open)?;
         let slot = group.free_slot(word)?;
         Some((group.first_member(), slot))
@@ -134,7 +121,7 @@ impl Spans {
             candidates_from self.now class from ≡ table_group self.now.spans n group ∷ candidates_from self.now class (n + 1))) }
         ensures none { IfNone result (candidates_from self.now class from ≡ []) }
     {
-        lowest_partial(self.files.bins.as_slice(), class, from)
+        self.groups.lowest_partial(class, from)
     }
 
     /// Records an object of `len` bytes in a slot.
@@ -150,17 +137,14 @@ impl Spans {
             (groups_of self.old) }
         ensures closed { (n : ℕ) → is_closed self.new n ≡ is_closed self.old n }
     {
-        let extent = &self.spans[span.index()];
+        let extent = self.extent(span);
+        let group = extent.group();
         let object = Occupant {
             member: extent.first(),
             serial,
             len,
         };
-        let group = extent.group();
-        let before = bin_for(self.groups.as_slice(), group);
-        put(&mut self.groups, group, slot, Some(object));
-        self.files.rebin(self.groups.as_slice(), group, before);
-        self.files.totals = self.files.totals.with_object(len);
+        self.groups.put(group, slot, Some(object));
     }
 
     /// Takes the record of a slot out.
@@ -171,11 +155,8 @@ impl Spans {
         ensures table { groups_of self.new ≡ map (changed_at (span_at self.old.spans span).group (emptied_at slot)) (groups_of self.old) }
         ensures closed { (n : ℕ) → is_closed self.new n ≡ is_closed self.old n }
     {
-        let group = self.spans[span.index()].group();
-        let before = bin_for(self.groups.as_slice(), group);
-        let len = put(&mut self.groups, group, slot, None);
-        self.files.rebin(self.groups.as_slice(), group, before);
-        self.files.totals = self.files.totals.without_object(len);
+        let group = self.extent(span).group();
+        self.groups.put(group, slot, None);
     }
 
     /// Says that a group is in a mesh: it takes no new objects.
@@ -186,9 +167,7 @@ impl Spans {
         ensures table { groups_of self.new ≡ groups_of self.old }
         ensures closed { (m : ℕ) → is_closed self.new m ≡ (nat_eq m n || is_closed self.old m) }
     {
-        let before = file_at(self.groups.as_slice(), n);
-        flag(&mut self.groups, n, true);
-        self.files.refile(self.groups.as_slice(), n, before);
+        self.set_in_mesh(n, true);
     }
 
     /// Says that a group is in no mesh.
@@ -199,9 +178,7 @@ impl Spans {
         ensures table { groups_of self.new ≡ groups_of self.old }
         ensures closed { (m : ℕ) → is_closed self.new m ≡ (not (nat_eq m n) && is_closed self.old m) }
     {
-        let before = file_at(self.groups.as_slice(), n);
-        flag(&mut self.groups, n, false);
-        self.files.refile(self.groups.as_slice(), n, before);
+        self.set_in_mesh(n, false);
     }
 
     /// Merges the group `src` into `dst`: its members and objects are those of `dst`, after its own, on the pages of `dst`. The number
@@ -214,12 +191,8 @@ impl Spans {
             → groups_of self.new ≡ merged (groups_of self.old) a dst }
         ensures closed { (m : ℕ) → is_closed self.new m ≡ (not (nat_eq m src) && is_closed self.old m) }
     {
-        let from = file_at(self.groups.as_slice(), src);
-        if let Some(source) = remove(&mut self.groups, src) {
-            self.files.refile(self.groups.as_slice(), src, from);
-            let before = file_at(self.groups.as_slice(), dst);
-            absorb(&mut self.groups, dst, &source);
-            self.files.refile(self.groups.as_slice(), dst, before);
+        if let Some(source) = self.groups.take(src) {
+            self.groups.absorb(dst, &source);
             regroup(&mut self.spans, source.members(), dst);
         }
     }
@@ -232,9 +205,7 @@ impl Spans {
         ensures table { groups_of self.new ≡ filter (λ g. not (has_number n g)) (groups_of self.old) }
         ensures closed { (m : ℕ) → is_closed self.new m ≡ (not (nat_eq m n) && is_closed self.old m) }
     {
-        let before = file_at(self.groups.as_slice(), n);
-        remove(&mut self.groups, n);
-        self.files.refile(self.groups.as_slice(), n, before);
+        self.groups.take(n);
     }
 
     /// What the groups count together: their live objects, the bytes of these, and the virtual pages of their members.
@@ -245,7 +216,7 @@ impl Spans {
         ensures bytes { result.bytes ≡ sum_by byte_count (groups_of self.now) }
         ensures mapped { result.mapped ≡ sum_by page_count (groups_of self.now) }
     {
-        self.files.totals
+        self.groups.totals()
     }
 
     /// Serial and length of the object that stands in a slot of a span. None only where none of its objects does.
@@ -254,7 +225,7 @@ impl Spans {
         ensures object { IfSome result (λ r. IsRecorded self.now span slot r.0 r.1) }
     {
         let extent = self.spans.get(span.index())?;
-        let group = self.groups.get(extent.group() as usize)?.as_ref()?;
+        let group = self.groups.get(extent.group())?;
         group.object_of(extent.first(), slot)
     }
 
@@ -272,10 +243,8 @@ impl Spans {
             → slot_address (span_at self.now.spans (slice_index group.members place)).first group.class k + o ≡ addr
             → IsFoundAt self.now n (slice_index group.members place) k o result }
     {
-        let span = self.owners.of(addr)?;
-        let extent = self.spans.get(span.index())?;
-        self.group(extent.group())?;
-        let (slot, offset) = extent.find(addr)?;
+        let span = self.live_span(addr)?;
+        let (slot, offset) = self.extent(span).find(addr)?;
         Some((span, slot, offset))
     }
 
@@ -285,7 +254,7 @@ impl Spans {
         ensures value { result ≡ (span_at self.now.spans span).first }
         ensures sound { IsSpan (span_at self.now.spans span) }
     {
-        self.spans[span.index()].first()
+        self.extent(span).first()
     }
 
     /// The address of a slot of a span.
@@ -295,60 +264,47 @@ impl Spans {
         ensures value { result ≡ address_in (span_at self.now.spans span) slot }
         ensures sound { IsSpan (span_at self.now.spans span) }
     {
-        self.spans[span.index()].address(slot)
+        self.extent(span).address(slot)
     }
 
     /// The group of a number. None only where the number is no group now.
     pub fn group(&self, number: u32) -> Option<&Group>
         ensures { option_copied result ≡ group_at self.now.groups number }
     {
-        self.groups.get(number as usize)?.as_ref()
+        self.groups.get(number)
     }
-}
 
-// Lets an object stand in a slot of a group, or nothing. Gives the length of the object that stood there, 0 where none did.
-fn put(groups: &mut Vec<Option<Group>>, number: u32, slot: Slot, object: Option<Occupant>) -> u32
-    requires group { number < length groups.old.items }
-    requires slot { IfSome (group_at groups.old.items number) (λ g. slot < slots_of g.class) }
-    requires fits { IfSome (group_at groups.old.items number) (λ g. IsObject g.class object) }
-    ensures length { result ≡ len_in (slot_in (group_at groups.old.items number) slot) }
-    ensures groups { groups.new.items ≡ with_entry groups.old.items number slot object }
-{
-    match &mut groups[number as usize] {
-        Some(group) => group.put(slot, object),
-        None => 0,
+    // The span that has the virtual page of an address, where its group is one now.
+    fn live_span(&self, addr: u32) -> Option<Span>
+        ensures span { IfSome result (λ span. span < length self.now.spans) }
+        ensures live { IfSome result (λ span. IsSome (group_at self.now.groups (span_at self.now.spans span).group)) }
+        ensures found { (n place k o : ℕ) (group : GroupEntry) → group_at self.now.groups n ≡ Some group → place < length group.members
+            → k < slots_of group.class → o < group.class
+            → slot_address (span_at self.now.spans (slice_index group.members place)).first group.class k + o ≡ addr
+            → IsLedTo self.now n (slice_index group.members place) group.class result }
+    {
+        let span = self.owners.of(addr)?;
+        let extent = self.spans.get(span.index())?;
+        self.group(extent.group())?;
+        Some(span)
     }
-}
 
-// Says of a group that it is in a mesh, or in none.
-fn flag(groups: &mut Vec<Option<Group>>, n: u32, in_mesh: bool)
-    requires { n < length groups.old.items }
-    ensures { groups.new.items ≡ with_flag groups.old.items n in_mesh }
-{
-    if let Some(group) = &mut groups[n as usize] {
-        group.set_in_mesh(in_mesh);
+    // Where a span lies.
+    fn extent(&self, span: Span) -> &Extent
+        requires { span < length self.now.spans }
+        ensures { result.now ≡ span_at self.now.spans span }
+    {
+        &self.spans[span.index()]
     }
-}
 
-// Takes a group out.
-fn remove(groups: &mut Vec<Option<Group>>, n: u32) -> Option<Group>
-    requires { n < length groups.old.items }
-    ensures result { result ≡ group_at groups.old.items n }
-    ensures groups { groups.new.items ≡ slice_set groups.old.items n None }
-{
-    groups[n as usize].take()
-}
-
-// Lets a group take members and objects of another one.
-fn absorb(groups: &mut Vec<Option<Group>>, n: u32, source: &Group)
-    requires there { n < length groups.old.items }
-    requires class { IfSome (group_at groups.old.items n) (λ g. source.now.class ≡ g.class) }
-    requires few { IfSome (group_at groups.old.items n) (λ g. length source.now.members + length g.members ≤ 8) }
-    requires apart { IfSome (group_at groups.old.items n) (λ g. do_overlap source.now.slots g.slots ≡ false) }
-    ensures { groups.new.items ≡ slice_set groups.old.items n (option_map (merged_entry source.now) (group_at groups.old.items n)) }
-{
-    if let Some(group) = &mut groups[n as usize] {
-        group.absorb(source);
+    // Says that a group is in a mesh, or in none.
+    fn set_in_mesh(&mut self, n: u32, in_mesh: bool)
+        requires { IsSome (group_at self.old.groups n) }
+        ensures spans { self.new.spans ≡ self.old.spans }
+        ensures groups { self.new.groups ≡ with_flag self.old.groups n in_mesh }
+        ensures table { groups_of self.new ≡ groups_of self.old }
+    {
+        self.groups.set_in_mesh(n, in_mesh);
     }
 }
 

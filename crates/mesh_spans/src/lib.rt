@@ -8,6 +8,7 @@
 mod extent;
 mod filing;
 mod group;
+mod groups;
 mod index;
 mod names;
 mod occupant;

@@ -1,6 +1,6 @@
 //! `Totals`, what groups count together.
 ghost use Rattle.std.specs.Prelude.{◌≡◌, ◌≤◌, None};
-ghost use Rattle.mesh_spans.specs.Counts.{IsPart, IsWithin, counts_of, recounted, with_object, without_object};
+ghost use Rattle.mesh_spans.specs.Counts.{IsPart, IsWithin, counts_of, with_group, without_group};
 
 /// What groups count together.
 #[derive(Clone, Copy, Debug, PartialEq, Eq)]
@@ -25,43 +25,28 @@ impl Totals {
         }
     }
 
-    /// The counts after one group changed, by what it counted before and counts now.
-    pub(crate) fn recounted(self, before: Totals, now: Totals) -> Totals
-        requires part { IsPart before self }
+    /// The counts with those of one group added.
+    pub(crate) fn with_group(self, group: Totals) -> Totals
         requires few { IsWithin 65536 self }
-        requires one { IsWithin 1 now }
-        ensures { result ≡ recounted self before now }
+        requires one { IsWithin 1 group }
+        ensures { result ≡ with_group self group }
     {
         Totals {
-            objects: self.objects - before.objects + now.objects,
-            bytes: self.bytes - before.bytes + now.bytes,
-            mapped: self.mapped - before.mapped + now.mapped,
+            objects: self.objects + group.objects,
+            bytes: self.bytes + group.bytes,
+            mapped: self.mapped + group.mapped,
         }
     }
 
-    /// The counts with one object of this length more.
-    pub(crate) fn with_object(self, len: u32) -> Totals
-        requires few { IsWithin 65536 self }
-        requires short { len ≤ 2048 }
-        ensures { result ≡ with_object self len }
+    /// The counts with those of one group taken out.
+    pub(crate) fn without_group(self, group: Totals) -> Totals
+        requires { IsPart group self }
+        ensures { result ≡ without_group self group }
     {
         Totals {
-            objects: self.objects + 1,
-            bytes: self.bytes + len,
-            mapped: self.mapped,
-        }
-    }
-
-    /// The counts without one object of this length.
-    pub(crate) fn without_object(self, len: u32) -> Totals
-        requires some { 1 ≤ self.objects }
-        requires part { len ≤ self.bytes }
-        ensures { result ≡ without_object self len }
-    {
-        Totals {
-            objects: self.objects - 1,
-            bytes: self.bytes - len,
-            mapped: self.mapped,
+            objects: self.objects - group.objects,
+            bytes: self.bytes - group.bytes,
+            mapped: self.mapped - group.mapped,
         }
     }
 }
