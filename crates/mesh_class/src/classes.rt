@@ -1,5 +1,6 @@
 //! `Class`, and the class of a request.
-ghost use Rattle.std.specs.Prelude.{◌≡◌, ◌<◌, ◌≤◌, ◌↔◌, ◌⊎◌, Err, Some, map, IfOk, OnOk, IfErr};
+ghost use Rattle.std.specs.Prelude.{◌≡◌, ℕ, ◌<◌, ◌≤◌, ◌↔◌, ◌⊎◌, Err, Some, map, IfOk, OnOk, IfErr};
+ghost use Rattle.mesh_class.specs.Class.{class_index, size_at};
 ghost use Rattle.model_words.specs.Classes.{row, row_of, pages_of, slots_of, class_for, table, IsClass};
 
 use model_words::Refusal;
@@ -8,6 +9,8 @@ use std::marker::Model;
 /// A size class: its slots have one size, and its spans one number of pages and of slots.
 #[derive(Clone, Copy, Debug, PartialEq, Eq)]
 pub struct Class {
+    // The place in the class table.
+    index: u32,
     // The bytes of a slot.
     size: u32,
     // The pages of a span.
@@ -33,12 +36,47 @@ impl Model for Class {
 }
 
 impl Class {
-    // A row of the class table.
-    fn row(size: u32, pages: u32, slots: u32) -> Class
-        requires { row_of size ≡ Some (row size pages slots) }
+    // The row of a place of the class table.
+    fn row(index: u32, size: u32, pages: u32, slots: u32) -> Class
+        requires row { row_of size ≡ Some (row size pages slots) }
+        requires index { class_index size ≡ index }
         ensures { result ≡ size }
     {
-        Class { size, pages, slots }
+        Class {
+            index,
+            size,
+            pages,
+            slots,
+        }
+    }
+
+    // The class at a place of the class table. This is the table.
+    #[tactic(auto, unfolding(crate::specs::Class::class_index))]
+    fn at(index: u32) -> Class
+        requires { index < 10 }
+        ensures { result ≡ size_at index }
+    {
+        match index {
+            0 => Class::row(0, 16, 1, 256),
+            1 => Class::row(1, 32, 1, 128),
+            2 => Class::row(2, 64, 1, 64),
+            3 => Class::row(3, 128, 1, 32),
+            4 => Class::row(4, 256, 1, 16),
+            5 => Class::row(5, 384, 3, 32),
+            6 => Class::row(6, 512, 1, 8),
+            7 => Class::row(7, 1024, 1, 4),
+            8 => Class::row(8, 1536, 3, 8),
+            _ => Class::row(9, 2048, 1, 2),
+        }
+    }
+
+    /// The place in the table of the classes by size, 0 to 9.
+    pub fn index(self) -> u32
+        ensures value { result ≡ class_index self }
+        ensures few { result < 10 }
+        ensures one { (size : ℕ) → IsClass size → class_index size ≡ result → size ≡ self }
+    {
+        self.index
     }
 
     /// The bytes of a slot, 16 to 2,048.
@@ -69,7 +107,7 @@ impl Class {
 /// The default, the least class, only fills places that are not in use.
 impl Default for Class {
     fn default() -> Class {
-        Class::row(16, 1, 256)
+        Class::at(0)
     }
 }
 
@@ -86,16 +124,16 @@ pub fn class_of(len: u32) -> Result<Class, Refusal>
 {
     match len {
         0 => Err(Refusal::Zero),
-        1..=16 => Ok(Class::row(16, 1, 256)),
-        17..=32 => Ok(Class::row(32, 1, 128)),
-        33..=64 => Ok(Class::row(64, 1, 64)),
-        65..=128 => Ok(Class::row(128, 1, 32)),
-        129..=256 => Ok(Class::row(256, 1, 16)),
-        257..=384 => Ok(Class::row(384, 3, 32)),
-        385..=512 => Ok(Class::row(512, 1, 8)),
-        513..=1024 => Ok(Class::row(1024, 1, 4)),
-        1025..=1536 => Ok(Class::row(1536, 3, 8)),
-        1537..=2048 => Ok(Class::row(2048, 1, 2)),
+        1..=16 => Ok(Class::at(0)),
+        17..=32 => Ok(Class::at(1)),
+        33..=64 => Ok(Class::at(2)),
+        65..=128 => Ok(Class::at(3)),
+        129..=256 => Ok(Class::at(4)),
+        257..=384 => Ok(Class::at(5)),
+        385..=512 => Ok(Class::at(6)),
+        513..=1024 => Ok(Class::at(7)),
+        1025..=1536 => Ok(Class::at(8)),
+        1537..=2048 => Ok(Class::at(9)),
         _ => Err(Refusal::TooLarge),
     }
 }
@@ -105,15 +143,15 @@ pub fn all_classes() -> [Class; 10]
     ensures { result ≡ map (λ r. r.size) table }
 {
     [
-        Class::row(16, 1, 256),
-        Class::row(32, 1, 128),
-        Class::row(64, 1, 64),
-        Class::row(128, 1, 32),
-        Class::row(256, 1, 16),
-        Class::row(384, 3, 32),
-        Class::row(512, 1, 8),
-        Class::row(1024, 1, 4),
-        Class::row(1536, 3, 8),
-        Class::row(2048, 1, 2),
+        Class::at(0),
+        Class::at(1),
+        Class::at(2),
+        Class::at(3),
+        Class::at(4),
+        Class::at(5),
+        Class::at(6),
+        Class::at(7),
+        Class::at(8),
+        Class::at(9),
     ]
 }

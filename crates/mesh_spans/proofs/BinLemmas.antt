@@ -11,8 +11,9 @@ use Rattle.std.specs.Ordering.{nat_cmp, eq_by_cmp}
 use Rattle.std.specs.Cmp.{unsigned_tied, nat_cmp_total}
 use Rattle.std.specs.FinSet.{FinSet, contains, insert, remove, empty, contains-insert, contains-remove, contains-empty}
 use Rattle.mesh_bins.specs.Words.{IsLeast}
-use Rattle.mesh_class.specs.Classes.{IsClass, slots_of}
-use Rattle.mesh_spans.specs.GroupBins.{AreMoved, IsFiled, is_partial, bin_at, class_place, file_of, filed, is_at, kind_of, unfiled}
+use Rattle.mesh_class.specs.Class.{class_index}
+use Rattle.mesh_class.specs.Classes.{IsClass}
+use Rattle.mesh_spans.specs.GroupBins.{AreMoved, IsFiled, is_partial, bin_at, file_of, filed, is_at, kind_of, unfiled}
 use Rattle.mesh_spans.specs.Index.{GroupEntry, IsGroup, group_at, is_open}
 
 tied_same : (v : ℕ) → eq_by_cmp nat_cmp v v ≡ true
@@ -147,61 +148,9 @@ least_same p q from end (Some n) same h = record {
   first = λ m above below. sym (same m) ∙ h.first m above below;
 }
 
--- the size of the class at a place of the class table
-abbrev pub size_at : ℕ → ℕ
-size_at n =
-    if nat_eq n 0 then 16 else (if nat_eq n 1 then 32 else (if nat_eq n 2 then 64 else (if nat_eq n 3 then 128 else (if nat_eq n 4 then 256 else
-    (if nat_eq n 5 then 384 else (if nat_eq n 6 then 512 else (if nat_eq n 7 then 1024 else (if nat_eq n 8 then 1536 else 2048))))))))
-
--- each class has its own place
-pub size_is : (size : ℕ) → IsClass size → size_at (class_place size) ≡ size
-unfolding class_place slots_of
-size_is size is =
-    let some = is.some_slot in
-    elim (eqb_tells size 16) [
-      | inl e ↦ rw (e.0) (sym e.1)
-      | inr n16 ↦
-          elim (eqb_tells size 32) [
-            | inl e ↦ rw (n16.0, e.0) (sym e.1)
-            | inr n32 ↦
-                elim (eqb_tells size 64) [
-                  | inl e ↦ rw (n16.0, n32.0, e.0) (sym e.1)
-                  | inr n64 ↦
-                      elim (eqb_tells size 128) [
-                        | inl e ↦ rw (n16.0, n32.0, n64.0, e.0) (sym e.1)
-                        | inr n128 ↦
-                            elim (eqb_tells size 256) [
-                              | inl e ↦ rw (n16.0, n32.0, n64.0, n128.0, e.0) (sym e.1)
-                              | inr n256 ↦
-                                  elim (eqb_tells size 384) [
-                                    | inl e ↦ rw (n16.0, n32.0, n64.0, n128.0, n256.0, e.0) (sym e.1)
-                                    | inr n384 ↦
-                                        elim (eqb_tells size 512) [
-                                          | inl e ↦ rw (n16.0, n32.0, n64.0, n128.0, n256.0, n384.0, e.0) (sym e.1)
-                                          | inr n512 ↦
-                                              elim (eqb_tells size 1024) [
-                                                | inl e ↦ rw (n16.0, n32.0, n64.0, n128.0, n256.0, n384.0, n512.0, e.0) (sym e.1)
-                                                | inr n1024 ↦
-                                                    elim (eqb_tells size 1536) [
-                                                      | inl e ↦ rw (n16.0, n32.0, n64.0, n128.0, n256.0, n384.0, n512.0, n1024.0, e.0) (sym e.1)
-                                                      | inr n1536 ↦
-                                                          elim (eqb_tells size 2048) [
-                                                            | inl e ↦ rw (n16.0, n32.0, n64.0, n128.0, n256.0, n384.0, n512.0, n1024.0, n1536.0) (sym e.1)
-                                                            | inr n2048 ↦
-                                                                absurd (let none : slots_of size ≡ 0 = rw (nat_eq_other 16 size (λ x. n16.1 (sym x)), nat_eq_other 32 size (λ x. n32.1 (sym x)), nat_eq_other 64 size (λ x. n64.1 (sym x)), nat_eq_other 128 size (λ x. n128.1 (sym x)), nat_eq_other 256 size (λ x. n256.1 (sym x)), nat_eq_other 384 size (λ x. n384.1 (sym x)), nat_eq_other 512 size (λ x. n512.1 (sym x)), nat_eq_other 1024 size (λ x. n1024.1 (sym x)), nat_eq_other 1536 size (λ x. n1536.1 (sym x)), nat_eq_other 2048 size (λ x. n2048.1 (sym x))) refl in omega (arith, some, none))
-                                                          ]
-                                                    ]
-                                              ]
-                                        ]
-                                  ]
-                            ]
-                      ]
-                ]
-          ]
-    ]
-
-pub same_place : (a b : ℕ) → IsClass a → IsClass b → class_place a ≡ class_place b → a ≡ b
-same_place a b x y same = sym (size_is a x) ∙ ap size_at same ∙ size_is b y
+-- no other class has the place of this one
+abbrev IsOnly : ℕ → Type 0
+IsOnly class = (size : ℕ) → IsClass size → class_index size ≡ class_index class → size ≡ class
 
 kind_few : (count total : ℕ) → kind_of count total ≤ 2
 kind_few count total = elim (eqb_tells count 0) [
@@ -210,43 +159,43 @@ kind_few count total = elim (eqb_tells count 0) [
 ]
 
 -- whether a group is open, by its bin
-open_plain : (m : Bool) (count total of class : ℕ) → 2 ≤ total → IsClass of → IsClass class
-    → (is_at (if m then None else Some (3 * class_place of + kind_of count total)) (3 * class_place class)
-    || is_at (if m then None else Some (3 * class_place of + kind_of count total)) (3 * class_place class + 1))
+open_plain : (m : Bool) (count total of class : ℕ) → 2 ≤ total → IsClass of → IsOnly class
+    → (is_at (if m then None else Some (3 * class_index of + kind_of count total)) (3 * class_index class)
+    || is_at (if m then None else Some (3 * class_index of + kind_of count total)) (3 * class_index class + 1))
     ≡ (nat_eq of class && not m && nat_lt count total)
 open_plain true count total of class some x y = elim (eqb_tells of class) [ inl e ↦ rw e.0 refl | inr e ↦ rw e.0 refl ]
 open_plain false count total of class some x y = elim (eqb_tells of class) [
-  | inl e ↦ let same : class_place of ≡ class_place class = ap class_place e.1 in
+  | inl e ↦ let same : class_index of ≡ class_index class = ap class_index e.1 in
       elim (eqb_tells count 0) [
         | inl z ↦ let room = z.1 in elim (leb_tells (suc count) total) [
-          | inl l ↦ rw (e.0, z.0, l.0) (let t : nat_eq (3 * class_place of + 0) (3 * class_place class) ≡ true = (let at : 3 * class_place of + 0 ≡ 3 * class_place class = omega (arith, same) in rw at (nat_eq_same (3 * class_place class))) in rw t refl)
+          | inl l ↦ rw (e.0, z.0, l.0) (let t : nat_eq (3 * class_index of + 0) (3 * class_index class) ≡ true = (let at : 3 * class_index of + 0 ≡ 3 * class_index class = omega (arith, same) in rw at (nat_eq_same (3 * class_index class))) in rw t refl)
           | inr l ↦ absurd (let low = l.1 in omega (arith, low, room, some))
         ]
         | inr z ↦ elim (leb_tells (suc count) total) [
-          | inl l ↦ rw (e.0, z.0, l.0) (let t : nat_eq (3 * class_place of + 1) (3 * class_place class + 1) ≡ true = (let at : 3 * class_place of + 1 ≡ 3 * class_place class + 1 = omega (arith, same) in rw at (nat_eq_same (3 * class_place class + 1))) in
-              rw (nat_eq_other (3 * class_place of + 1) (3 * class_place class) (omega (arith, same)), t) refl)
+          | inl l ↦ rw (e.0, z.0, l.0) (let t : nat_eq (3 * class_index of + 1) (3 * class_index class + 1) ≡ true = (let at : 3 * class_index of + 1 ≡ 3 * class_index class + 1 = omega (arith, same) in rw at (nat_eq_same (3 * class_index class + 1))) in
+              rw (nat_eq_other (3 * class_index of + 1) (3 * class_index class) (omega (arith, same)), t) refl)
           | inr l ↦ rw (e.0, z.0, l.0) (rw (
-            nat_eq_other (3 * class_place of + 2) (3 * class_place class) (omega (arith, same)),
-            nat_eq_other (3 * class_place of + 2) (3 * class_place class + 1) (omega (arith, same)),
+            nat_eq_other (3 * class_index of + 2) (3 * class_index class) (omega (arith, same)),
+            nat_eq_other (3 * class_index of + 2) (3 * class_index class + 1) (omega (arith, same)),
           ) refl)
         ]
       ]
-  | inr e ↦ let apart : class_place of ≢ class_place class = λ p. e.1 (same_place of class x y p) in
+  | inr e ↦ let apart : class_index of ≢ class_index class = λ p. e.1 (y of x p) in
       rw e.0 (rw (
-        nat_eq_other (3 * class_place of + kind_of count total) (3 * class_place class) (λ p. apart (let k = kind_few count total in omega (arith, p, k))),
-        nat_eq_other (3 * class_place of + kind_of count total) (3 * class_place class + 1) (λ p. apart (let k = kind_few count total in omega (arith, p, k))),
+        nat_eq_other (3 * class_index of + kind_of count total) (3 * class_index class) (λ p. apart (let k = kind_few count total in omega (arith, p, k))),
+        nat_eq_other (3 * class_index of + kind_of count total) (3 * class_index class + 1) (λ p. apart (let k = kind_few count total in omega (arith, p, k))),
       ) refl)
 ]
 
 -- a group is open where it is in one of two bins
-pub open_filed : (groups : List (Option GroupEntry)) (bins : List (FinSet nat_cmp)) (class n : ℕ) → IsFiled groups bins → IsClass class → class_place class < 10
+pub open_filed : (groups : List (Option GroupEntry)) (bins : List (FinSet nat_cmp)) (class n : ℕ) → IsFiled groups bins → IsOnly class → class_index class < 10
     → ((g : GroupEntry) → group_at groups n ≡ Some g → IsGroup g)
-    → (contains (bin_at bins (3 * class_place class)) n || contains (bin_at bins (3 * class_place class + 1)) n) ≡ is_open (group_at groups n) class
+    → (contains (bin_at bins (3 * class_index class)) n || contains (bin_at bins (3 * class_index class + 1)) n) ≡ is_open (group_at groups n) class
 open_filed groups bins class n is y low each =
-    rw (is.each (3 * class_place class) n (omega (arith, low)), is.each (3 * class_place class + 1) n (omega (arith, low))) (tells (group_at groups n) each)
+    rw (is.each (3 * class_index class) n (omega (arith, low)), is.each (3 * class_index class + 1) n (omega (arith, low))) (tells (group_at groups n) each)
   where
     tells : (o : Option GroupEntry) → ((g : GroupEntry) → o ≡ Some g → IsGroup g)
-        → (is_at (file_of o) (3 * class_place class) || is_at (file_of o) (3 * class_place class + 1)) ≡ is_open o class
+        → (is_at (file_of o) (3 * class_index class) || is_at (file_of o) (3 * class_index class + 1)) ≡ is_open o class
     tells None sound = refl
     tells (Some g) sound =
         let x = sound g refl in
@@ -284,49 +233,49 @@ position_is test groups (Some n) none few least = elim (leb_tells (suc (position
 
 -- the lowest open group, by the bins
 pub open_position : (groups : List (Option GroupEntry)) (bins bins0 : List (FinSet nat_cmp)) (class : ℕ) (r : Option ℕ) → bins0 ≡ bins
-    → length groups ≤ 65536 → IsFiled groups bins → ((n : ℕ) (g : GroupEntry) → group_at groups n ≡ Some g → IsGroup g) → IsClass class → class_place class < 10
-    → IsLeast (λ n. contains (bin_at bins0 (3 * class_place class)) n || contains (bin_at bins0 (3 * class_place class + 1)) n) 0 65536 r
+    → length groups ≤ 65536 → IsFiled groups bins → ((n : ℕ) (g : GroupEntry) → group_at groups n ≡ Some g → IsGroup g) → IsOnly class → class_index class < 10
+    → IsLeast (λ n. contains (bin_at bins0 (3 * class_index class)) n || contains (bin_at bins0 (3 * class_index class + 1)) n) 0 65536 r
     → r ≡ position (λ o. is_open o class) groups
 open_position groups bins bins0 class r same few is each y low least =
     sym (position_is (λ (o : Option GroupEntry). is_open o class) groups r refl few (least_same _ _ 0 65536 r tells least))
   where
-    tells : (n : ℕ) → (contains (bin_at bins0 (3 * class_place class)) n || contains (bin_at bins0 (3 * class_place class + 1)) n) ≡ is_open (group_at groups n) class
-    tells n = ap (λ (bs : List (FinSet nat_cmp)). contains (bin_at bs (3 * class_place class)) n || contains (bin_at bs (3 * class_place class + 1)) n) same
+    tells : (n : ℕ) → (contains (bin_at bins0 (3 * class_index class)) n || contains (bin_at bins0 (3 * class_index class + 1)) n) ≡ is_open (group_at groups n) class
+    tells n = ap (λ (bs : List (FinSet nat_cmp)). contains (bin_at bs (3 * class_index class)) n || contains (bin_at bs (3 * class_index class + 1)) n) same
         ∙ open_filed groups bins class n is y low (each n)
 
 -- whether a group is partly filled, by its bin
-partial_plain : (m : Bool) (count total of class : ℕ) → 2 ≤ total → IsClass of → IsClass class
-    → is_at (if m then None else Some (3 * class_place of + kind_of count total)) (3 * class_place class + 1)
+partial_plain : (m : Bool) (count total of class : ℕ) → 2 ≤ total → IsClass of → IsOnly class
+    → is_at (if m then None else Some (3 * class_index of + kind_of count total)) (3 * class_index class + 1)
     ≡ (nat_eq of class && not m && nat_lt 0 count && nat_lt count total)
 partial_plain true count total of class some x y = elim (eqb_tells of class) [ inl e ↦ rw e.0 refl | inr e ↦ rw e.0 refl ]
 partial_plain false count total of class some x y = elim (eqb_tells of class) [
-  | inl e ↦ let same : class_place of ≡ class_place class = ap class_place e.1 in
+  | inl e ↦ let same : class_index of ≡ class_index class = ap class_index e.1 in
       elim (eqb_tells count 0) [
         | inl z ↦ let none : nat_lt 0 count ≡ false = (let zero = z.1 in rw zero refl) in
-            rw (e.0, none, z.0) (nat_eq_other (3 * class_place of + 0) (3 * class_place class + 1) (omega (arith, same)))
+            rw (e.0, none, z.0) (nat_eq_other (3 * class_index of + 0) (3 * class_index class + 1) (omega (arith, same)))
         | inr z ↦ let more : nat_lt 0 count ≡ true = (elim (leb_tells 1 count) [ inl l ↦ l.0 | inr l ↦ absurd (let a = z.1 in let b = l.1 in omega (arith, a, b)) ]) in
             elim (leb_tells (suc count) total) [
-              | inl l ↦ rw (e.0, more, z.0, l.0) (let at : 3 * class_place of + 1 ≡ 3 * class_place class + 1 = omega (arith, same) in rw at (nat_eq_same (3 * class_place class + 1)))
-              | inr l ↦ rw (e.0, more, z.0, l.0) (nat_eq_other (3 * class_place of + 2) (3 * class_place class + 1) (omega (arith, same)))
+              | inl l ↦ rw (e.0, more, z.0, l.0) (let at : 3 * class_index of + 1 ≡ 3 * class_index class + 1 = omega (arith, same) in rw at (nat_eq_same (3 * class_index class + 1)))
+              | inr l ↦ rw (e.0, more, z.0, l.0) (nat_eq_other (3 * class_index of + 2) (3 * class_index class + 1) (omega (arith, same)))
             ]
       ]
-  | inr e ↦ let apart : class_place of ≢ class_place class = λ p. e.1 (same_place of class x y p) in
-      rw e.0 (nat_eq_other (3 * class_place of + kind_of count total) (3 * class_place class + 1) (λ p. apart (let k = kind_few count total in omega (arith, p, k))))
+  | inr e ↦ let apart : class_index of ≢ class_index class = λ p. e.1 (y of x p) in
+      rw e.0 (nat_eq_other (3 * class_index of + kind_of count total) (3 * class_index class + 1) (λ p. apart (let k = kind_few count total in omega (arith, p, k))))
 ]
 
 -- the lowest partly filled group, by its bin
 pub partial_least : (groups : List (Option GroupEntry)) (bins bins0 : List (FinSet nat_cmp)) (class from : ℕ) (r : Option ℕ) → bins0 ≡ bins
-    → IsFiled groups bins → ((n : ℕ) (g : GroupEntry) → group_at groups n ≡ Some g → IsGroup g) → IsClass class → class_place class < 10
-    → IsLeast (contains (bin_at bins0 (3 * class_place class + 1))) from 65536 r → IsLeast (λ n. is_partial (group_at groups n) class) from 65536 r
+    → IsFiled groups bins → ((n : ℕ) (g : GroupEntry) → group_at groups n ≡ Some g → IsGroup g) → IsOnly class → class_index class < 10
+    → IsLeast (contains (bin_at bins0 (3 * class_index class + 1))) from 65536 r → IsLeast (λ n. is_partial (group_at groups n) class) from 65536 r
 partial_least groups bins bins0 class from r same is each y low least = least_same _ _ from 65536 r told least
   where
-    tells : (o : Option GroupEntry) → ((g : GroupEntry) → o ≡ Some g → IsGroup g) → is_at (file_of o) (3 * class_place class + 1) ≡ is_partial o class
+    tells : (o : Option GroupEntry) → ((g : GroupEntry) → o ≡ Some g → IsGroup g) → is_at (file_of o) (3 * class_index class + 1) ≡ is_partial o class
     tells None sound = refl
     tells (Some g) sound =
         let x = sound g refl in
         let slots = x.slots in let two = x.class.some_slot in
         partial_plain g.in_mesh (count_by is_some g.slots) (length g.slots) g.class class (omega (arith, slots, two)) x.class y
 
-    told : (n : ℕ) → contains (bin_at bins0 (3 * class_place class + 1)) n ≡ is_partial (group_at groups n) class
-    told n = ap (λ (bs : List (FinSet nat_cmp)). contains (bin_at bs (3 * class_place class + 1)) n) same
-        ∙ is.each (3 * class_place class + 1) n (omega (arith, low)) ∙ tells (group_at groups n) (each n)
+    told : (n : ℕ) → contains (bin_at bins0 (3 * class_index class + 1)) n ≡ is_partial (group_at groups n) class
+    told n = ap (λ (bs : List (FinSet nat_cmp)). contains (bin_at bs (3 * class_index class + 1)) n) same
+        ∙ is.each (3 * class_index class + 1) n (omega (arith, low)) ∙ tells (group_at groups n) (each n)

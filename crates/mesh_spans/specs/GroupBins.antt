@@ -2,16 +2,11 @@
 use Rattle.std.specs.Prelude.{◌≡◌, ◌⊎◌, ℕ, ◌+◌, ◌*◌, ◌<◌, Bool, false, not, ◌&&◌, if◌then◌else◌, nat_eq, nat_le, nat_lt, count_by, is_some, filter, List, Option, Some, None, length, slice_index_or, slice_set}
 use Rattle.std.specs.Ordering.{nat_cmp}
 use Rattle.std.specs.FinSet as set
+use Rattle.mesh_class.specs.Class.{class_index}
 use Rattle.model_search.specs.Search.{may_be_paired}
 use Rattle.model_heap.specs.Table.{Group}
 use Rattle.mesh_spans.specs.Groups.{groups_of, is_closed}
 use Rattle.mesh_spans.specs.Index.{GroupEntry, Index, group_at}
-
--- the place of a class in the class table
-unfoldable pub class_place : ℕ → ℕ
-class_place size =
-    if nat_eq size 16 then 0 else (if nat_eq size 32 then 1 else (if nat_eq size 64 then 2 else (if nat_eq size 128 then 3 else (if nat_eq size 256 then 4 else
-    (if nat_eq size 384 then 5 else (if nat_eq size 512 then 6 else (if nat_eq size 1024 then 7 else (if nat_eq size 1536 then 8 else 9))))))))
 
 -- how full a group is
 abbrev pub kind_of : ℕ → ℕ → ℕ
@@ -21,7 +16,7 @@ kind_of count total = if nat_eq count 0 then 0 else (if nat_lt count total then 
 abbrev pub file_of : Option GroupEntry → Option ℕ
 file_of None = None
 file_of (Some group) =
-    if group.in_mesh then None else Some (3 * class_place group.class + kind_of (count_by is_some group.slots) (length group.slots))
+    if group.in_mesh then None else Some (3 * class_index group.class + kind_of (count_by is_some group.slots) (length group.slots))
 
 -- the bin is the one at the place
 abbrev pub is_at : Option ℕ → ℕ → Bool

@@ -2,9 +2,10 @@
 ghost use Rattle.std.specs.Prelude.{◌≡◌, ℕ, ◌+◌, ◌*◌, ◌<◌, ◌≤◌, ◌||◌, length, IfOk, IfSome};
 ghost use Rattle.std.specs.FinSet as set;
 ghost use Rattle.mesh_bins.specs.Words.{IsLeast};
+ghost use Rattle.mesh_class.specs.Class.{class_index};
 ghost use Rattle.mesh_class.specs.Classes.{IsClass};
 ghost use Rattle.mesh_spans.specs.Counts.{IsWithin, counts_of};
-ghost use Rattle.mesh_spans.specs.GroupBins.{AreMoved, bin_at, class_place, file_of, filed, lower_of, unfiled};
+ghost use Rattle.mesh_spans.specs.GroupBins.{AreMoved, bin_at, file_of, filed, lower_of, unfiled};
 ghost use Rattle.mesh_spans.specs.Index.{IsGroup};
 
 use crate::Totals;
@@ -53,27 +54,6 @@ pub(crate) fn new_bins(alloc: Global) -> Result<Vec<Bin>, AllocError>
     Ok(bins)
 }
 
-/// The place of a class in the class table.
-#[tactic(auto, unfolding(crate::specs::GroupBins::class_place))]
-pub(crate) fn class_place(class: Class) -> u32
-    ensures value { result ≡ class_place class }
-    ensures few { result < 10 }
-    ensures class { IsClass class }
-{
-    match class.size() {
-        16 => 0,
-        32 => 1,
-        64 => 2,
-        128 => 3,
-        256 => 4,
-        384 => 5,
-        512 => 6,
-        1024 => 7,
-        1536 => 8,
-        _ => 9,
-    }
-}
-
 // The bin of a group.
 fn bin_of(group: &Option<Group>) -> Option<u32>
     ensures bin { result ≡ file_of group.now }
@@ -83,7 +63,7 @@ fn bin_of(group: &Option<Group>) -> Option<u32>
     if group.in_mesh() {
         return None;
     }
-    Some(3 * group.class_place() + group.kind())
+    Some(3 * group.class().index() + group.kind())
 }
 
 // What a group counts, nothing where there is none.
@@ -145,11 +125,11 @@ pub(crate) fn file(bins: &mut Vec<Bin>, n: u32, place: Option<u32>)
 /// The lowest group of the class that is in no mesh and has a free slot.
 pub(crate) fn lowest_open(bins: &[Bin], class: Class) -> Option<u32>
     requires sized { length bins.now ≡ 30 }
-    ensures class { IsClass class }
-    ensures place { class_place class < 10 }
-    ensures least { IsLeast (λ n. set.contains (bin_at bins.now (3 * class_place class)) n || set.contains (bin_at bins.now (3 * class_place class + 1)) n) 0 65536 result }
+    ensures place { class_index class < 10 }
+    ensures one { (size : ℕ) → IsClass size → class_index size ≡ class_index class → size ≡ class }
+    ensures least { IsLeast (λ n. set.contains (bin_at bins.now (3 * class_index class)) n || set.contains (bin_at bins.now (3 * class_index class + 1)) n) 0 65536 result }
 {
-    let place = 3 * class_place(class) as usize;
+    let place = 3 * class.index() as usize;
     let empty = bins[place].least(0);
     let partial = bins[place + 1].least(0);
     lower(empty, partial)
@@ -158,11 +138,11 @@ pub(crate) fn lowest_open(bins: &[Bin], class: Class) -> Option<u32>
 /// The lowest group of the class from a number on that is in no mesh, not empty and not full.
 pub(crate) fn lowest_partial(bins: &[Bin], class: Class, from: u32) -> Option<u32>
     requires sized { length bins.now ≡ 30 }
-    ensures class { IsClass class }
-    ensures place { class_place class < 10 }
-    ensures least { IsLeast (set.contains (bin_at bins.now (3 * class_place class + 1))) from 65536 result }
+    ensures place { class_index class < 10 }
+    ensures one { (size : ℕ) → IsClass size → class_index size ≡ class_index class → size ≡ class }
+    ensures least { IsLeast (set.contains (bin_at bins.now (3 * class_index class + 1))) from 65536 result }
 {
-    let place = 3 * class_place(class) as usize;
+    let place = 3 * class.index() as usize;
     bins[place + 1].least(from)
 }
 

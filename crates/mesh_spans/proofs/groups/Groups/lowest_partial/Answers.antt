@@ -9,5 +9,5 @@ pub returns : goal.returns
 returns c =
     subst (λ (gs : List (Option GroupEntry)). IsLeast (λ n. is_partial (group_at gs n) c.args.class) c.args.from 65536 c.lowest_partial.result) c.self.view_is
     (partial_least c.self.inside.entries.items c.self.inside.bins.items c.as_slice.result.now c.args.class c.args.from c.lowest_partial.result
-    c.as_slice.ensures.value c.self.invariant.filed c.self.invariant.each c.lowest_partial.ensures.class c.lowest_partial.ensures.place
+    c.as_slice.ensures.value c.self.invariant.filed c.self.invariant.each c.lowest_partial.ensures.one c.lowest_partial.ensures.place
     c.lowest_partial.ensures.least)
