@@ -109,6 +109,22 @@ set_of-zeros k = same_set nat_cmp_total nat_cmp-IsAntisymmetric _ _ (λ q. conta
 pub refilled : (len : ℕ) (old new : List ℕ) → len ≡ length old → length new ≡ length old → take len (new ++ drop (length new) old) ≡ new
 refilled len old new is long = rw (is, ← long) (take-append_seam new (drop (length new) old))
 
+-- words that were lent as a slice are those that were written there
+pub written_is : (len : ℕ) (old lent new : List ℕ) → len ≡ length old → lent ≡ old → length new ≡ length lent → take len (new ++ drop (length new) old) ≡ new
+written_is len old lent new is same long = refilled len old new is (long ∙ ap length same)
+
+-- so a number was added to their set
+pub inserted_is : (len n : ℕ) (old lent new : List ℕ) (set : FinSet nat_cmp) → len ≡ length old → lent ≡ old → length new ≡ length lent → PutsBit lent new n true
+    → set_of old ≡ set → set_of (take len (new ++ drop (length new) old)) ≡ insert set n
+inserted_is len n old lent new set is same long puts at =
+    ap set_of (written_is len old lent new is same long) ∙ set_of-insert old new n (rw same at puts) ∙ ap (λ (s : FinSet nat_cmp). insert s n) at
+
+-- or taken out of it
+pub removed_is : (len n : ℕ) (old lent new : List ℕ) (set : FinSet nat_cmp) → len ≡ length old → lent ≡ old → length new ≡ length lent → PutsBit lent new n false
+    → set_of old ≡ set → set_of (take len (new ++ drop (length new) old)) ≡ remove set n
+removed_is len n old lent new set is same long puts at =
+    ap set_of (written_is len old lent new is same long) ∙ set_of-remove old new n (rw same at puts) ∙ ap (λ (s : FinSet nat_cmp). remove s n) at
+
 -- one word with one bit put
 pub puts_in_word : (words : List ℕ) (n word : ℕ) (value : Bool) → n / 64 < length words → bit word (n % 64) ≡ value
     → ((k : ℕ) → k < 64 → k ≢ n % 64 → bit_at word k ≡ bit_at (slice_index words (n / 64)) k) → PutsBit words (slice_set words (n / 64) word) n value
