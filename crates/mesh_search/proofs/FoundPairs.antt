@@ -1,6 +1,5 @@
 -- What the search of a view finds.
 use Rattle.std.proofs.Common.{◌≡◌, ℕ, suc, ◌*◌, ◌/◌, ◌<◌, ◌≤◌, List, [], ◌∷◌, All, IfOk, Result, Ok, Err, length, map, slice_index_or, ap, subst, refl, ◌∙◌, arith, inl, inr}
-use Rattle.std.specs.declared.alloc.AllocError.{AllocError}
 use Rattle.std.specs.List.{Contains}
 use Rattle.std.proofs.lemmas.Bool.Decides.{eqb_tells}
 use Rattle.std.proofs.lemmas.List.Elements.{All-cons, All-contains, All-head, All-nil, All-tail}
@@ -42,7 +41,7 @@ meshable_among order list within (p ∷ ps) all =
     (meshable_among order list within ps (All-tail (IsMeshableIn order) p ps all))
 
 -- what the search of a view finds
-pub found_in : (view : View) (words : List ℕ) (t : ℕ) (r : Result Found AllocError) → IsView view → IfOk r (λ f. f ≡ search view words t)
+pub found_in : (view : View) (words : List ℕ) (t : ℕ) {E : Type 0} (r : Result Found E) → IsView view → IfOk r (λ f. f ≡ search view words t)
     → IfOk r (λ f. f.probes ≤ t * (length view.candidates / 2)) × IfOk r (λ f. All (IsMeshableIn view.candidates) f.pairs)
     × IfOk r (λ f. (n : ℕ) → times_paired n f.pairs ≤ 1)
 found_in view words t (Err e) sound is = (tt, tt, tt)
