@@ -3,6 +3,7 @@ pub mod Copies
 pub mod Emptied
 pub mod GroupNumbers
 pub mod GrowthLemmas
+pub mod Insides
 pub mod MadeObjects
 pub mod MayBegin
 pub mod MeshEnds

@@ -2,20 +2,11 @@ use Rattle.std.proofs.Common.{◌≡◌, ℕ, List, ◌+◌, ◌≤◌, length, 
 use Rattle.mesh_arena.specs.Pages.{free_count}
 use Rattle.mesh_class.specs.Classes.{pages_of}
 use Rattle.mesh_layout.specs.Growth.{MapsFirst, given_back}
+use Rattle.mesh_steps.proofs.Insides.{seen_of}
 use Rattle.mesh_steps.proofs.NewPlaces.{IsAdded, IsFreshSpan_added, grown, page_heap_is, room_is}
 use Rattle.mesh_steps.specs.PageHeap.{PageHeap, table_in}
 use Rattle.mesh_steps.proofs.page_heap.PageHeap.add_span.Goals as goal
 use Rattle.mesh_steps.proofs.page_heap.PageHeap.add_span.Goals.{After-self-1}
-
--- the page heap before the span was added, and after
-abbrev before : After-self-1 → PageHeap
-before c = record {
-  arena = c.self.inside.store.arena;
-  map = c.self.inside.store.map;
-  index = c.self.inside.spans;
-  next_page = c.self.inside.next_page;
-  meshes = c.self.inside.meshes.items;
-}
 
 abbrev after : After-self-1 → PageHeap
 after c = record {
@@ -27,7 +18,7 @@ after c = record {
 }
 
 -- the span was added over the pages that were taken and mapped
-added : (c : After-self-1) → IsAdded (before c) (after c) c.args.class c.in-Ok.span c.take_pages-pages.result.items
+added : (c : After-self-1) → IsAdded (seen_of c.self.inside) (after c) c.args.class c.in-Ok.span c.take_pages-pages.result.items
 added c =
     let pages : List ℕ = c.take_pages-pages.result.items in
     let size : c.pages-count.result ≡ pages_of c.args.class = c.pages-count.ensures.value in
@@ -49,7 +40,7 @@ added c =
 
 pub invariant_of-self : goal.invariant_of-self
 invariant_of-self c =
-    (grown (before c) (after c) c.args.class c.in-Ok.span c.take_pages-pages.result.items c.pages-count.ensures.class c.self.invariant c.sound.ensures
+    (grown (seen_of c.self.inside) (after c) c.args.class c.in-Ok.span c.take_pages-pages.result.items c.pages-count.ensures.class c.self.invariant c.sound.ensures
     (added c)).0
 
 pub invariant_of-self-in-Err : goal.invariant_of-self-in-Err
@@ -61,7 +52,7 @@ invariant_of-self-in-Err c =
 
 pub returns-in-Ok-clause-ok : goal.returns-in-Ok-clause-ok
 returns-in-Ok-clause-ok c =
-    rw (← c.self.view_is) (IsFreshSpan_added (before c) (after c) c.args.class c.in-Ok.span c.take_pages-pages.result.items c.pages-count.ensures.class
+    rw (← c.self.view_is) (IsFreshSpan_added (seen_of c.self.inside) (after c) c.args.class c.in-Ok.span c.take_pages-pages.result.items c.pages-count.ensures.class
     c.self.invariant c.sound.ensures (added c))
 
 pub returns-in-Err-clause-err : goal.returns-in-Err-clause-err
@@ -73,13 +64,7 @@ returns-in-Err-clause-err c =
     let last : c.self.inside.next_page + pages_of c.args.class ≤ 65536 = omega (arith, size, c.self.invariant.most) in
     let room : pages_of c.args.class ≤ free_count c.self.inside.store.arena = omega (arith, size, c.free_pages.ensures) in
     rw (← c.self.view_is) (record {
-      room = room_is (table_in (record {
-        arena = c.self.inside.store.arena;
-        map = c.self.inside.store.map;
-        index = c.self.inside.spans;
-        next_page = c.self.inside.next_page;
-        meshes = c.self.inside.meshes.items;
-      })) c.args.class room last;
+      room = room_is (table_in (seen_of c.self.inside)) c.args.class room last;
       same = page_heap_is c.self.inside.store.map c.self.inside.next_page c.self.inside.meshes.items c.give_pages.new.arena c.self.inside.store.arena c.add_span.new.self
           c.self.inside.spans back c.in-Err.ensures.err;
     })

@@ -3,6 +3,7 @@ use Rattle.mesh_layout.proofs.PageHeapBytes.{slot_backed}
 use Rattle.model_heap.specs.Sound.{IsSound}
 use Rattle.mesh_spans.specs.Index.{span_at}
 use Rattle.mesh_steps.specs.PageHeap.{IsFreeSlot, PageHeap, group_number, table_with_object}
+use Rattle.mesh_steps.proofs.Insides.{seen_of}
 use Rattle.mesh_steps.proofs.Slots.{free_covered, free_open, put_keeps, put_paged, put_saved}
 use Rattle.mesh_steps.proofs.page_heap.PageHeap.put.Goals as goal
 
@@ -26,25 +27,13 @@ clear-requires-clause-backed c =
 
 pub clear-requires-clause-writable : goal.clear-requires-clause-writable
 clear-requires-clause-writable c =
-    free_open (record {
-      arena = c.self.inside.store.arena;
-      map = c.self.inside.store.map;
-      index = c.self.inside.spans;
-      next_page = c.self.inside.next_page;
-      meshes = c.self.inside.meshes.items;
-    }) (span_at c.self.inside.spans.spans c.args.span).class c.args.span c.args.slot c.address-addr.result c.args.len c.sound.ensures c.self.invariant
+    free_open (seen_of c.self.inside) (span_at c.self.inside.spans.spans c.args.span).class c.args.span c.args.slot c.address-addr.result c.args.len c.sound.ensures c.self.invariant
     (free_inside _ _ c.args.span c.args.slot c.self.view_is c.requires.free) c.address-addr.ensures.value
     (fits_inside _ _ c.args.span c.args.len c.self.view_is c.requires.fits)
 
 pub invariant_of-self : goal.invariant_of-self
 invariant_of-self c =
-    rw c.clear.ensures.map (put_paged (record {
-      arena = c.self.inside.store.arena;
-      map = c.self.inside.store.map;
-      index = c.self.inside.spans;
-      next_page = c.self.inside.next_page;
-      meshes = c.self.inside.meshes.items;
-    }) c.clear.new.store.arena c.occupy.new.self (span_at c.self.inside.spans.spans c.args.span).class c.args.span c.args.slot c.args.serial c.args.len
+    rw c.clear.ensures.map (put_paged (seen_of c.self.inside) c.clear.new.store.arena c.occupy.new.self (span_at c.self.inside.spans.spans c.args.span).class c.args.span c.args.slot c.args.serial c.args.len
     c.address-addr.result c.sound.ensures c.sound-2.ensures c.self.invariant
     (free_inside _ _ c.args.span c.args.slot c.self.view_is c.requires.free) c.address-addr.ensures.value
     (fits_inside _ _ c.args.span c.args.len c.self.view_is c.requires.fits)
@@ -54,25 +43,13 @@ invariant_of-self c =
 
 pub returns-clause-table : goal.returns-clause-table
 returns-clause-table c =
-    rw (← c.self.view_is) (put_saved (record {
-      arena = c.self.inside.store.arena;
-      map = c.self.inside.store.map;
-      index = c.self.inside.spans;
-      next_page = c.self.inside.next_page;
-      meshes = c.self.inside.meshes.items;
-    }) c.clear.new.store.arena c.occupy.new.self c.args.span c.args.slot c.args.serial c.args.len
+    rw (← c.self.view_is) (put_saved (seen_of c.self.inside) c.clear.new.store.arena c.occupy.new.self c.args.span c.args.slot c.args.serial c.args.len
     (record { spans = c.occupy.ensures.spans; groups = c.occupy.ensures.groups; table = c.occupy.ensures.table; closed = c.occupy.ensures.closed })
     c.clear.ensures.saves.same_free)
 
 pub returns-clause-others : goal.returns-clause-others
 returns-clause-others c =
-    rw (← c.self.view_is, c.clear.ensures.map) (put_keeps (record {
-      arena = c.self.inside.store.arena;
-      map = c.self.inside.store.map;
-      index = c.self.inside.spans;
-      next_page = c.self.inside.next_page;
-      meshes = c.self.inside.meshes.items;
-    }) c.clear.new.store.arena c.occupy.new.self (span_at c.self.inside.spans.spans c.args.span).class c.args.span c.args.slot c.args.serial c.args.len
+    rw (← c.self.view_is, c.clear.ensures.map) (put_keeps (seen_of c.self.inside) c.clear.new.store.arena c.occupy.new.self (span_at c.self.inside.spans.spans c.args.span).class c.args.span c.args.slot c.args.serial c.args.len
     c.address-addr.result c.sound.ensures c.sound-2.ensures c.self.invariant
     (free_inside _ _ c.args.span c.args.slot c.self.view_is c.requires.free) c.address-addr.ensures.value
     (fits_inside _ _ c.args.span c.args.len c.self.view_is c.requires.fits)
