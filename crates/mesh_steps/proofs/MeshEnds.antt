@@ -25,7 +25,7 @@ use Rattle.mesh_spans.specs.Groups.{groups_of, is_closed, table_group}
 use Rattle.mesh_spans.specs.Index.{GroupEntry, Index, SpanEntry, group_at, span_at}
 use Rattle.mesh_steps.proofs.GroupNumbers.{group_below}
 use Rattle.mesh_steps.proofs.MeshRuns.{Runs, sides}
-use Rattle.mesh_steps.specs.Meshes.{IsCancelled, IsStepped, OpensBoth}
+use Rattle.mesh_steps.specs.Meshes.{IsCancelled, IsStepped, IsWoundBack, OpensBoth}
 use Rattle.mesh_steps.specs.PageHeap.{PageHeap, table_in}
 
 -- a count that isn't 0
@@ -139,7 +139,7 @@ module _ (g : PageHeap) (place : ℕ) (this : Mesh) (runs : Runs g place this) w
       rw is' (ends.paged, record { table = ends.stepped; kept = ends.kept; mesh = this; running = runs.found; effect = effect })
 
   -- an unprotect of a cancelled mesh that isn't the last
-  pub unwound_on : (map : Entries) (q u left : ℕ) (new : PageHeap) → this.progress ≡ Unwinding q u → left + (u + 1) ≡ q → 0 < left
+  unwound_on : (map : Entries) (q u left : ℕ) (new : PageHeap) → this.progress ≡ Unwinding q u → left + (u + 1) ≡ q → 0 < left
       → u < page_total (layout_of g.index) this.source → Protects g.map map (virtual_page (layout_of g.index) this.source u) (prot_of false)
       → new ≡ record g { map = map; meshes = slice_set g.meshes place (record this { progress = Unwinding q (u + 1) }) }
       → IsPageHeap new.arena new.map new.index new.next_page new.meshes × IsStepped g new this.class (record { kind = Unprotect; left = left })
@@ -153,7 +153,7 @@ module _ (g : PageHeap) (place : ℕ) (this : Mesh) (runs : Runs g place this) w
       rw is' (goes.paged, record { table = goes.stepped; kept = goes.kept; mesh = this; running = runs.found; effect = effect })
 
   -- the last one
-  pub unwound_end : (map : Entries) (index : Index) (q u : ℕ) (new : PageHeap) → this.progress ≡ Unwinding q u → u + 1 ≡ q
+  unwound_end : (map : Entries) (index : Index) (q u : ℕ) (new : PageHeap) → this.progress ≡ Unwinding q u → u + 1 ≡ q
       → u < page_total (layout_of g.index) this.source → Protects g.map map (virtual_page (layout_of g.index) this.source u) (prot_of false)
       → OpensBoth g.index index this.source this.destination → new ≡ record g { map = map; index = index; meshes = remove g.meshes place }
       → IsPageHeap new.arena new.map new.index new.next_page new.meshes × IsStepped g new this.class (record { kind = Unprotect; left = 0 })
@@ -166,8 +166,26 @@ module _ (g : PageHeap) (place : ℕ) (this : Mesh) (runs : Runs g place this) w
       let effect = unwinding_has_effect g.index this q u (sides g place this runs).a g.arena g.map map (sides g place this runs).source at below protects in
       rw is' (ends.paged, record { table = ends.stepped; kept = ends.kept; mesh = this; running = runs.found; effect = effect })
 
+  -- an unprotect of a cancelled mesh
+  pub unwound : (map : Entries) (index : Index) (list : List Mesh) (q u left : ℕ) (new : PageHeap) → this.progress ≡ Unwinding q u → left + (u + 1) ≡ q
+      → u < page_total (layout_of g.index) this.source → Protects g.map map (virtual_page (layout_of g.index) this.source u) (prot_of false)
+      → IsWoundBack g.index index g.meshes list place this q (u + 1) → new ≡ record g { map = map; index = index; meshes = list }
+      → IsPageHeap new.arena new.map new.index new.next_page new.meshes × IsStepped g new this.class (record { kind = Unprotect; left = left })
+  unwound map index list q u left new at left_is below protects back is = elim (eqb_tells (u + 1) q) [
+    | inl last ↦
+        let end = back.over last.1 in
+        let none : left ≡ 0 = (let e = last.1 in omega (arith, e, left_is)) in
+        rw none (unwound_end map index q u new at last.1 below protects end.0
+        (is ∙ ap (λ (ms : List Mesh). record g { map = map; index = index; meshes = ms }) end.1))
+    | inr early ↦
+        let on = back.more early.1 in
+        unwound_on map q u left new at left_is (let e = early.1 in omega (arith, e, left_is)) below protects (is
+        ∙ ap (λ (i : Index). record g { map = map; index = i; meshes = list }) on.0
+        ∙ ap (λ (ms : List Mesh). record g { map = map; meshes = ms }) on.1)
+  ]
+
   -- a cancel of a mesh that had protected pages
-  pub held : (d q : ℕ) (new : PageHeap) → this.progress ≡ Made d → 0 < q → min d (page_total (layout_of g.index) this.source) ≡ q
+  held : (d q : ℕ) (new : PageHeap) → this.progress ≡ Made d → 0 < q → min d (page_total (layout_of g.index) this.source) ≡ q
       → d ≤ page_total (layout_of g.index) this.source + slots_of ((layout_of g.index).class this.source)
       → new ≡ record g { meshes = slice_set g.meshes place (record this { progress = Unwinding q 0 }) }
       → IsPageHeap new.arena new.map new.index new.next_page new.meshes × IsCancelled g new this.class q
@@ -180,7 +198,7 @@ module _ (g : PageHeap) (place : ℕ) (this : Mesh) (runs : Runs g place this) w
       rw is' (holds.paged, record { table = holds.cancelled; arena = refl; map = refl })
 
   -- a cancel of one that had protected none
-  pub stopped : (index : Index) (d : ℕ) (new : PageHeap) → this.progress ≡ Made d → d ≡ 0 → OpensBoth g.index index this.source this.destination
+  stopped : (index : Index) (d : ℕ) (new : PageHeap) → this.progress ≡ Made d → d ≡ 0 → OpensBoth g.index index this.source this.destination
       → new ≡ record g { index = index; meshes = remove g.meshes place }
       → IsPageHeap new.arena new.map new.index new.next_page new.meshes × IsCancelled g new this.class 0
   stopped index d new at none opens is =
@@ -189,3 +207,20 @@ module _ (g : PageHeap) (place : ℕ) (this : Mesh) (runs : Runs g place this) w
       let list = without_at (table_in g) g.meshes place this runs.paged.sound.meshes runs.paged.sound.one_a_class runs.at in
       let is' : new ≡ record g { index = index; meshes = without_mesh g.meshes this } = is ∙ ap (λ (ms : List Mesh). record g { index = index; meshes = ms }) list in
       rw is' (stops.paged, record { table = stops.cancelled; arena = refl; map = refl })
+
+  -- a cancel before the first remap
+  pub cancelled : (index : Index) (list : List Mesh) (d q : ℕ) (new : PageHeap) → this.progress ≡ Made d → min d (page_total (layout_of g.index) this.source) ≡ q
+      → d ≤ page_total (layout_of g.index) this.source + slots_of ((layout_of g.index).class this.source) → 0 < page_total (layout_of g.index) this.source
+      → IsWoundBack g.index index g.meshes list place this q 0 → new ≡ record g { index = index; meshes = list }
+      → IsPageHeap new.arena new.map new.index new.next_page new.meshes × IsCancelled g new this.class q
+  cancelled index list d q new at least early some back is = elim (eqb_tells 0 q) [
+    | inl none ↦
+        let end = back.over none.1 in
+        subst (λ (n : ℕ). IsPageHeap new.arena new.map new.index new.next_page new.meshes × IsCancelled g new this.class n) none.1
+        (stopped index d new at (let e = none.1 in omega (arith, e, least, some)) end.0 (is ∙ ap (λ (ms : List Mesh). record g { index = index; meshes = ms }) end.1))
+    | inr more ↦
+        let on = back.more more.1 in
+        held d q new at (let e = more.1 in omega (arith, e)) least early (is
+        ∙ ap (λ (i : Index). record g { index = i; meshes = list }) on.0
+        ∙ ap (λ (ms : List Mesh). record g { meshes = ms }) on.1)
+  ]

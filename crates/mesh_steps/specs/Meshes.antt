@@ -1,10 +1,11 @@
 -- How meshes begin, go on, are cancelled and end.
-use Rattle.std.specs.Prelude.{◌≡◌, ◌≢◌, ℕ, Bool, false, Ok, Some, slice_get}
+use Rattle.std.specs.Prelude.{◌≡◌, ◌≢◌, ℕ, Bool, false, List, Ok, Some, slice_get, slice_set}
+use Rattle.std.specs.List.{remove}
 use Rattle.mesh_layout.specs.Effects.{HasEffect}
 use Rattle.mesh_layout.specs.Indexes.{class_in, layout_of, members_in, pages_in, slots_in}
 use Rattle.mesh_layout.specs.Steps.{Keeps}
 use Rattle.model_heap.specs.Mesh.{Pair, any_mesh, begin, cancel, may_begin, mesh_in, mesh_of_class, step}
-use Rattle.model_heap.specs.Table.{Mesh, Table}
+use Rattle.model_heap.specs.Table.{Mesh, Table, Unwinding}
 use Rattle.mesh_spans.specs.Groups.{groups_of, is_closed}
 use Rattle.mesh_spans.specs.Index.{Index, group_at}
 use Rattle.mesh_steps.specs.PageHeap.{PageHeap, table_in}
@@ -59,3 +60,8 @@ pub record OpensBoth (old new : Index) (source destination : ℕ) : Type 0 where
   pub closed : (n : ℕ) → n ≢ source → n ≢ destination → is_closed new n ≡ is_closed old n
   pub closed_source : is_closed new source ≡ false
   pub closed_destination : is_closed new destination ≡ false
+
+-- a cancelled mesh with so many of its protected pages writable again: with all of them it is out of the list, and its two groups are open
+pub record IsWoundBack (old new : Index) (list left : List Mesh) (place : ℕ) (mesh : Mesh) (protected unprotected : ℕ) : Type 0 where
+  pub over : unprotected ≡ protected → OpensBoth old new mesh.source mesh.destination × (left ≡ remove list place)
+  pub more : unprotected ≢ protected → (new ≡ old) × (left ≡ slice_set list place (record mesh { progress = Unwinding protected unprotected }))
