@@ -1,5 +1,5 @@
 -- What a running mesh of a page heap needs for its next step, and what the step leaves.
-use Rattle.std.proofs.Common.{◌≡◌, ℕ, ◌+◌, ◌-◌, ◌*◌, ◌<◌, ◌≤◌, true, false, nat_eq, length, position, slice_get, slice_index_or, IsSome, Option, Some, None, Ok, Err, ap, subst, refl, sym, ◌∙◌, arith, inl, inr}
+use Rattle.std.proofs.Common.{◌≡◌, ℕ, ◌+◌, ◌-◌, ◌*◌, ◌<◌, ◌≤◌, true, false, nat_eq, length, position, slice_get, slice_index_or, IsSome, List, Option, Some, None, Ok, Err, ap, subst, refl, sym, ◌∙◌, arith, inl, inr}
 use Rattle.std.proofs.lemmas.Bool.Decides.{eqb_tells}
 use Rattle.std.proofs.lemmas.Option.{get_or_from_slice_get, slice_get_within}
 use Rattle.mesh_class.specs.Classes.{pages_of, slots_of}
@@ -61,11 +61,19 @@ running_at g class place this at is =
     class_told a b h = elim (eqb_tells a b) [ inl same ↦ same.1 | inr other ↦ absurd (let two : false ≡ true = sym other.0 ∙ h in cc two) ]
 
 -- the same of the page heap that is seen
-pub running_seen : (inside seen : PageHeap) (class place : ℕ) (this : Mesh) → inside ≡ seen
+running_seen : (inside seen : PageHeap) (class place : ℕ) (this : Mesh) → inside ≡ seen
     → position (λ mesh. nat_eq mesh.class class) inside.meshes ≡ Some place → this ≡ slice_index_or inside.meshes place this
     → IsRunning seen place this × (this.class ≡ class)
 running_seen inside seen class place this same at is =
     let own = running_at inside class place this at is in (subst (λ (g : PageHeap). IsRunning g place this) same own.0, own.1)
+
+-- the same where the place was found in a slice of the meshes, and the mesh read from another
+pub running_found : (inside seen : PageHeap) (class place : ℕ) (this : Mesh) (sought read : List Mesh) (found : Option ℕ) → inside ≡ seen
+    → sought ≡ inside.meshes → found ≡ position (λ mesh. nat_eq mesh.class class) sought → found ≡ Some place
+    → read ≡ inside.meshes → this ≡ slice_index_or read place this → IsRunning seen place this × (this.class ≡ class)
+running_found inside seen class place this sought read found same sought_is found_is is read_is at =
+    running_seen inside seen class place this same (ap (position (λ mesh. nat_eq mesh.class class)) (sym sought_is) ∙ sym found_is ∙ is)
+    (subst (λ (ms : List Mesh). this ≡ slice_index_or ms place this) read_is at)
 
 -- where there is no place of a mesh of the class none runs
 pub none_running : (inside seen : PageHeap) (class : ℕ) → inside ≡ seen → position (λ mesh. nat_eq mesh.class class) inside.meshes ≡ None
