@@ -18,9 +18,9 @@ use crate::attempts::{address, get, peek, perform};
 use crate::journal::Journal;
 use crate::roots::Roots;
 use crate::{Attempt, Command, Reply};
+use mesh_steps::Heap;
 use model_jobs::job_laws::answered_is_step;
 use model_memory::history_laws::legal_histories;
-use mesh_steps::Heap;
 use std::alloc::{AllocError, Global};
 use std::marker::Model;
 

@@ -6,4 +6,7 @@
 
 mod rows;
 
-pub use rows::{abandoned, cancels, faults, interleavings, mutators, searches, small_steps, version_2, whole_meshes};
+pub use rows::{
+    abandoned, cancels, faults, interleavings, mutators, searches, small_steps, version_2,
+    whole_meshes,
+};

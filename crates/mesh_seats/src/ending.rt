@@ -8,9 +8,9 @@ use crate::faults::FinishError;
 use crate::missing::missing;
 use crate::seat::Seat;
 use crate::walk::weave;
-use model_memory::read_laws::{built_has_calls, built_is_legal};
 use mesh_mutator::{Book, Entry, Roots};
 use mesh_steps::Heap;
+use model_memory::read_laws::{built_has_calls, built_is_legal};
 use std::alloc::Global;
 
 /// What is handed out at the end.

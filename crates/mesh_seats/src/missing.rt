@@ -6,8 +6,8 @@ ghost use Rattle.model_memory.specs.Seats.{missing_seat};
 ghost use Rattle.mesh_seats.specs.Seat.{numbers_of};
 
 use crate::seat::Seat;
-use model_memory::seat_laws::missing_seat_is_least;
 use mesh_mutator::Journal;
+use model_memory::seat_laws::missing_seat_is_least;
 
 // The seat that is missing: the least place whose seat hasn't the place's number; or the count, where there are more seats or an entry of a
 // worker without a seat.

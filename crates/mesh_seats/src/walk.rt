@@ -11,9 +11,9 @@ use crate::faults::FinishError;
 use crate::reads::take_all;
 use crate::rest::Rest;
 use crate::seat::Seat;
-use model_memory::read_laws::few_are_made;
 use mesh_mutator::{Entry, Journal};
 use mesh_plain::Plain;
+use model_memory::read_laws::few_are_made;
 use std::alloc::{AllocError, Global};
 
 // The history of a journal and seats whose recorded calls are its entries, built in one walk of the journal; or the first wrong read. After a

@@ -6,11 +6,10 @@ ghost use Rattle.mesh_mutator.specs.declared.attempts.Attempt.{Attempt};
 ghost use Rattle.mesh_seats.specs.Seat.{IsNew, IsStore, IsTaken};
 
 use crate::guarded::{act, look};
-use mesh_seats::is_read;
-use mesh_seats::Seat;
 use crate::shared::Shared;
 use mesh_mutator::{Attempt, Command};
 use mesh_search::{Actor, Gate, Point};
+use mesh_seats::{Seat, is_read};
 use std::sync::Wait;
 
 impl Shared {

@@ -14,10 +14,10 @@ ghost use Rattle.mesh_seats.specs.Seat.{IsNew, IsNoted, IsStore, noted};
 ghost use Rattle.mesh_steps.specs.HeapMeshes.{IsMeshBegun, IsStepMade};
 
 use crate::calls::Calls;
-use mesh_seats::Seat;
 use mesh_class::Class;
 use mesh_mutator::{Attempt, Book, Command, Refusal, Reply};
 use mesh_search::Pair;
+use mesh_seats::Seat;
 use mesh_steps::StepDone;
 
 // One attempt of a seat's mutator at a command that is recorded, under the number of its seat. The seat keeps it where it is done.

@@ -8,11 +8,9 @@ ghost use Rattle.mesh_mutator.specs.Book.{memory_in};
 ghost use Rattle.mesh_seats.specs.Seat.{IsEmptySeats, IsTaken};
 ghost use Rattle.mesh_seats.specs.Settle.{IsEnd, IsFault};
 
-use mesh_seats::{Ended, settle};
-use mesh_seats::{FinishError, OpenError};
-use mesh_seats::Seat;
 use mesh_mutator::{Attempt, Book, Command};
 use mesh_search::NoGate;
+use mesh_seats::{Ended, FinishError, OpenError, Seat, settle};
 use std::alloc::{AllocError, Global};
 use std::sync::{RwLock, Wait};
 

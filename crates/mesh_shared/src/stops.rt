@@ -4,8 +4,8 @@ ghost use Rattle.mesh_shared.specs.Stops.{either_stop, error_of, first_of, stop_
 ghost use Rattle.mesh_shared.specs.declared.stops.RunError.{RunError};
 ghost use Rattle.mesh_shared.specs.declared.stops.Stop.{Stop};
 
-use mesh_seats::{FinishError, OpenError};
 use mesh_search::SearchError;
+use mesh_seats::{FinishError, OpenError};
 use std::alloc::AllocError;
 use std::thread::SpawnError;
 use thiserror::Error;

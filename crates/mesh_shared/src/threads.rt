@@ -8,15 +8,14 @@ ghost use Rattle.mesh_shared.specs.MesherRuns.{AreMeshed, HasMeshed};
 ghost use Rattle.mesh_shared.specs.Runs.{AreServed, HasBegun, HasRun, HasWorked};
 ghost use Rattle.mesh_shared.specs.Stops.{first_stop};
 
-use mesh_seats::Ended;
 use crate::mesher::{Meshed, Mesher, Meshes};
 use crate::plan::{MeshPlan, Patience};
-use mesh_seats::Seat;
 use crate::shared::Shared;
 use crate::stops::{RunError, Stop, either_stop};
 use crate::worker::{Served, Works, serve};
 use mesh_mutator::{Book, Command};
 use mesh_search::Gate;
+use mesh_seats::{Ended, Seat};
 use std::alloc::{AllocError, Global};
 use std::sync::Wait;
 use std::thread;

@@ -5,11 +5,11 @@ ghost use Rattle.model_words.specs.Commands.{IsInRange};
 ghost use Rattle.mesh_shared.specs.Runs.{HasWorked};
 
 use crate::calling::counted;
-use mesh_seats::Seat;
 use crate::shared::Shared;
 use crate::stops::Stop;
 use mesh_mutator::{Attempt, Command};
 use mesh_search::{Actor, Gate, Point};
+use mesh_seats::Seat;
 use std::sync::Wait;
 use std::thread::Promise;
 

@@ -1,6 +1,6 @@
 //! What the heap's calls answer.
-use model_words::{Refusal, StepKind};
 use mesh_spans::{Slot, Span};
+use model_words::{Refusal, StepKind};
 use thiserror::Error;
 
 /// A reference to an object: its serial and its address. It is stale once the record at that address hasn't that serial.

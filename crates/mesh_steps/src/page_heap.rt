@@ -22,10 +22,10 @@ use crate::growth::{give_pages, map_pages, take_pages};
 use crate::running::{MAX_MESHES, Running};
 use arrayvec::ArrayVec;
 use mesh_class::Class;
-use model_words::Refusal;
 use mesh_search::{ClassView, class_view};
 use mesh_spans::{Slot, Span, Spans};
 use mesh_store::Store;
+use model_words::Refusal;
 use std::alloc::{AllocError, Global};
 use std::marker::Model;
 

@@ -5,8 +5,8 @@ ghost use Rattle.mesh_layout.specs.Steps.{IsStepAt};
 ghost use Rattle.mesh_spans.specs.Index.{group_at};
 ghost use Rattle.mesh_steps.specs.Plans.{IsPlan, IsPlanOf, plan_steps};
 
-use model_words::StepKind;
 use mesh_spans::Spans;
+use model_words::StepKind;
 
 /// How many steps of each kind a mesh makes.
 #[derive(Clone, Copy)]

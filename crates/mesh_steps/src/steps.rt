@@ -8,10 +8,10 @@ ghost use Rattle.mesh_layout.specs.Steps.{Copies, CopiesSlot, Makes};
 ghost use Rattle.mesh_steps.specs.Steps.{CanCopy, HaveBothPages, IsReady};
 
 use mesh_arena::{Arena, Page};
-use model_words::StepKind;
 use mesh_pagemap::Prot;
 use mesh_spans::{Slot, Spans};
 use mesh_store::Store;
+use model_words::StepKind;
 
 // How many bytes a page has.
 const PAGE_BYTES: u32 = 4096;

@@ -6,8 +6,8 @@ mod mesher;
 
 use hex::encode_to_slice;
 use itoa::Buffer;
-use model_words::{MAX_BYTES, Refusal, Reply};
 pub(crate) use mesher::{add_counted, add_found, add_report, add_step};
+use model_words::{MAX_BYTES, Refusal, Reply};
 use std::alloc::AllocError;
 
 /// Adds what a reply's line says.

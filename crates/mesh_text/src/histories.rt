@@ -6,8 +6,8 @@ ghost use Rattle.model_jobs.specs.Texts.{ended};
 ghost use Rattle.mesh_text.specs.Histories.{count_line, history_text, told_text, worker_line, worker_text};
 
 use crate::answers::{add_decimal, add_reply};
-use model_words::Reply;
 use mesh_mutator::Entry;
+use model_words::Reply;
 use std::alloc::{AllocError, Global};
 
 /// The lines of a history of so many workers, each with its end: for each worker, ascending, `worker W` and the answers to its

@@ -10,10 +10,10 @@ ghost use Rattle.mesh_text.specs.Turns.{IsCall, IsReport};
 
 use mesh_class::Class;
 use mesh_job::Search;
-use model_words::{Refusal, Version};
 use mesh_mutator::Book;
 use mesh_search::{Found, search_one};
 use mesh_steps::{Report, StepDone};
+use model_words::{Refusal, Version};
 use std::alloc::{AllocError, Global};
 
 /// Searches a class for pairs. Nothing changes; an error is want of memory.

@@ -12,9 +12,9 @@ ghost use Rattle.mesh_steps.specs.PageHeap.{counts_told};
 
 use super::Book;
 use mesh_class::Class;
-use model_words::Refusal;
 use mesh_search::ClassView;
 use mesh_steps::{Report, StepDone};
+use model_words::Refusal;
 use std::alloc::{AllocError, Global};
 
 impl Book {

@@ -1,7 +1,7 @@
 //! A gate that holds threads at points of a run.
 
-use model_words::StepKind;
 use mesh_shared::{Actor, Gate, Point};
+use model_words::StepKind;
 use std::rt::Clock;
 use std::sync::atomic::AtomicBool;
 use std::sync::atomic::Ordering::SeqCst;

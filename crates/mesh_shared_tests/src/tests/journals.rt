@@ -3,8 +3,8 @@ ghost use Rattle.std.specs.Prelude.{◌≡◌, length};
 ghost use Rattle.model_words.specs.Commands.{IsInRange};
 
 use arrayvec::ArrayVec;
-use model_words::Refusal;
 use mesh_mutator::{Attempt, Book, Command, Entry, Reply, reply_again};
+use model_words::Refusal;
 use std::alloc::AllocError;
 
 // Whether the book answers a command of worker 7 so, and its journal's last entry tells it.

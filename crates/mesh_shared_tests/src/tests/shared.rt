@@ -4,10 +4,10 @@ ghost use Rattle.model_words.specs.Commands.{IsInRange};
 
 use arrayvec::ArrayVec;
 use mesh_class::{Class, class_of};
-use model_words::{Refusal, StepKind};
 use mesh_mutator::{Attempt, Book, Command, Reply};
 use mesh_shared::{Ended, FinishError, Seat, Shared};
 use mesh_steps::{Report, StepDone};
+use model_words::{Refusal, StepKind};
 use std::alloc::{AllocError, Global};
 use std::rt::Clock;
 use std::sync::Wait;

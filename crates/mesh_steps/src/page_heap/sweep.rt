@@ -10,9 +10,9 @@ use super::PageHeap;
 use crate::growth::give_pages;
 use crate::plan::Plan;
 use crate::steps::virtual_page;
-use model_words::Refusal;
 use mesh_pagemap::PageMap;
 use mesh_spans::Spans;
+use model_words::Refusal;
 
 impl PageHeap {
     /// Takes an empty group out, unmaps its virtual pages, gives its physical pages back, and tells how many these are.

@@ -5,8 +5,8 @@ ghost use Rattle.model_words.specs.Commands.{IsInRange};
 use crate::tests::calls::{Answer, Call, MAX_OBJECTS, freed, left, number};
 use arrayvec::ArrayVec;
 use mesh_class::class_of;
-use model_words::{Command, MAX_BYTES, Reply};
 use mesh_mutator::{Attempt, Book};
+use model_words::{Command, MAX_BYTES, Reply};
 use std::alloc::{AllocError, Global};
 
 /// More entries than any test's calls are.

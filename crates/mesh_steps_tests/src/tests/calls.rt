@@ -4,8 +4,8 @@ ghost use Rattle.std.specs.Prelude.{◌≤◌};
 use crate::tests::books::TriedBook;
 use arrayvec::ArrayVec;
 use mesh_class::class_of;
-use model_words::{MAX_BYTES, Refusal, StepKind};
 use mesh_steps::{Heap, NewFault, Ref, Stored};
+use model_words::{MAX_BYTES, Refusal, StepKind};
 use std::process::Abort;
 
 /// A call of a heap. It names an object by its serial, and a class by its size.

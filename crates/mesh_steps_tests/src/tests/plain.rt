@@ -2,8 +2,8 @@
 ghost use Rattle.std.specs.Prelude.{◌≤◌, length};
 
 use arrayvec::ArrayVec;
-use model_words::{Command, Refusal, Reply};
 use mesh_plain::{Plain, PlainFault};
+use model_words::{Command, Refusal, Reply};
 use std::process::Abort;
 
 // Cell 0 names 8 bytes at 0x1000, and cell 1 names 4 bytes at 0x1010. They are 1 to 8, and 9 to 12.

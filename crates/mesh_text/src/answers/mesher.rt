@@ -6,9 +6,9 @@ ghost use Rattle.mesh_steps.specs.PageHeap.{counts_told};
 ghost use Rattle.mesh_text.specs.Answers.{counted_text, step_told};
 
 use super::{add_decimal, add_refusal};
-use model_words::{Refusal, StepKind};
 use mesh_search::{Found, Pair};
 use mesh_steps::{Report, StepDone};
+use model_words::{Refusal, StepKind};
 use std::alloc::AllocError;
 
 /// Adds words and the number behind them that a call answered, or its refusal.
