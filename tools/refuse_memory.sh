@@ -17,7 +17,7 @@ case $crates in
     *) crates=$PWD/$crates ;;
 esac
 cd "$(dirname "$0")/.." || exit 2
-small=$crates/want_of_memory/out/want_of_memory
+small=$crates/mesh_memory_tests/out/mesh_memory_tests
 meshrun=$crates/meshrun/out/meshrun
 for program in "$small" "$meshrun"; do
     if [ ! -x "$program" ]; then

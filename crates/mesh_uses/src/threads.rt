@@ -1,32 +1,19 @@
-//! Two mutators that share one heap, each on a thread of its own.
-//!
-//! An example of the lock: each thread makes an object, stores two bytes in it and loads them again. Then all that the two were answered is
-//! settled as one history, and the program prints how many entries it has.
-#![tactic(auto)]
-
+//! Two mutators that share one book, each on a thread of its own.
+use crate::faults::Fault;
 use arrayvec::ArrayVec;
-use mesh_mutator::{Book, Command};
-use mesh_shared::{FinishError, Seat, Shared};
-use std::io;
+use mesh::{Book, Command, Seat, Shared};
 use std::sync::Wait;
 use std::thread::{Threads, join};
 
-fn main(rt: HostRuntime) -> io::Result<()> {
-    match share(&rt) {
-        Ok(entries) => println!(rt; "one history of {entries} entries"),
-        Err(error) => println!(rt; "{error}"),
-    }
-}
-
 /// Lets two threads use one heap of 16 pages, and gives the length of their one history.
-fn share<R: AllocGlobal + Threads + Wait + Sync>(rt: &R) -> Result<usize, FinishError> {
+pub(crate) fn share<R: AllocGlobal + Threads + Wait + Sync>(rt: &R) -> Result<usize, Fault> {
     let alloc = rt.alloc();
     let book = Book::open(alloc, 16, 64)?;
-    let (shared, mut seats) = Shared::open(alloc, book, &[3, 3]).map_err(|_| FinishError::Memory)?;
+    let (shared, mut seats) = Shared::open(alloc, book, &[3, 3])?;
     let second = seats.pop();
     let first = seats.pop();
     let (Some(mut first), Some(mut second)) = (first, second) else {
-        return Err(FinishError::SeatMissing(0));
+        return Err(Fault::Answer("another count of seats"));
     };
     join(
         rt,

@@ -1,0 +1,35 @@
+//! A book, whose journal is a legal history of a plain memory of separate objects.
+ghost use Rattle.model_words.specs.Commands.{IsInRange};
+
+use crate::faults::Fault;
+use arrayvec::ArrayVec;
+use mesh::{Attempt, Book, Command};
+
+/// Does commands of two workers with a mesh between them, and gives how many entries the journal has.
+pub(crate) fn keep_a_journal(book: &mut Book) -> Result<usize, Fault> {
+    let mut bytes = ArrayVec::new();
+    bytes.push(b'h');
+    bytes.push(b'i');
+    act(book, 0, &Command::New(0, 2048, 0))?;
+    act(book, 0, &Command::New(1, 2048, 0))?;
+    act(book, 1, &Command::New(2, 2048, 0))?;
+    act(book, 0, &Command::Free(0))?;
+    act(book, 1, &Command::Put(2, 0, bytes))?;
+    let _ = book.mesh_whole(1, 0)?;
+    act(book, 1, &Command::Get(2, 0, 2))?;
+    act(book, 1, &Command::Addr(2))?;
+    act(book, 0, &Command::Get(0, 0, 1))?;
+    Ok(book.journal().len())
+}
+
+/// Lets a worker do a command.
+fn act(book: &mut Book, worker: u32, command: &Command) -> Result<(), Fault>
+    requires { IsInRange command.now }
+{
+    match book.act(worker, command) {
+        Attempt::Done(_) => Ok(()),
+        Attempt::Blocked => Err(Fault::Answer("a store that is held back")),
+        Attempt::HistoryFull => Err(Fault::Answer("a full journal")),
+        Attempt::OutOfMemory => Err(Fault::Memory),
+    }
+}

@@ -1,0 +1,56 @@
+//! Five uses of the library, each in a file of its own, and a line of what each comes to.
+#![tactic(auto)]
+
+mod cancelled;
+mod faults;
+mod journal;
+mod objects;
+mod spans;
+mod stepwise;
+mod threads;
+
+use crate::faults::Fault;
+use mesh::{Book, Heap};
+use std::io;
+use std::sync::Wait;
+use std::thread::Threads;
+
+/// What is done with a heap of its own.
+#[derive(Clone, Copy)]
+enum HeapUse {
+    Spans,
+    Stepwise,
+    Cancelled,
+}
+
+fn main(rt: HostRuntime) -> io::Result<()> {
+    tell(&rt, "pages that came free", use_heap(&rt, HeapUse::Spans))?;
+    tell(&rt, "stores held back", use_heap(&rt, HeapUse::Stepwise))?;
+    tell(&rt, "steps to unwind", use_heap(&rt, HeapUse::Cancelled))?;
+    tell(&rt, "entries of a journal", use_book(&rt))?;
+    tell(&rt, "entries of two threads", threads::share(&rt))
+}
+
+/// Prints a line of what a use came to.
+fn tell<R: Print>(rt: &R, what: &str, came: Result<usize, Fault>) -> io::Result<()> {
+    match came {
+        Ok(count) => println!(rt; "{what}: {count}"),
+        Err(fault) => println!(rt; "{what}: {fault}"),
+    }
+}
+
+/// Opens a heap of 16 pages, and uses it.
+fn use_heap<R: AllocGlobal>(rt: &R, usage: HeapUse) -> Result<usize, Fault> {
+    let mut heap = Heap::open(rt.alloc(), 16)?;
+    match usage {
+        HeapUse::Spans => spans::mesh_two_spans(&mut heap),
+        HeapUse::Stepwise => stepwise::store_between_steps(&mut heap),
+        HeapUse::Cancelled => cancelled::cancel_a_mesh(&mut heap),
+    }
+}
+
+/// Opens a book over 16 pages, and uses it.
+fn use_book<R: AllocGlobal>(rt: &R) -> Result<usize, Fault> {
+    let mut book = Book::open(rt.alloc(), 16, 64)?;
+    journal::keep_a_journal(&mut book)
+}

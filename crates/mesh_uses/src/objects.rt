@@ -1,0 +1,39 @@
+//! Two groups that can be meshed, with an object in each.
+use crate::faults::Fault;
+use mesh::{Heap, Ref, Stored};
+
+/// The objects of two groups with no common occupied slot.
+#[derive(Clone, Copy)]
+pub(crate) struct Objects {
+    /// The object in slot 1 of group 0.
+    pub high: Ref,
+    /// The object in slot 0 of group 1.
+    pub low: Ref,
+}
+
+/// Makes three objects of the class 2,048, of which two fill group 0, and frees the first.
+pub(crate) fn two_groups(heap: &mut Heap) -> Result<Objects, Fault> {
+    let freed = make(heap)?;
+    let high = make(heap)?;
+    let low = make(heap)?;
+    heap.free(freed)?;
+    Ok(Objects { high, low })
+}
+
+/// Makes an object of 2,048 bytes, in the first free slot.
+fn make(heap: &mut Heap) -> Result<Ref, Fault> {
+    if heap.is_full() {
+        return Err(Fault::Answer("no serial is left"));
+    }
+    let object = heap.new(2048, 0)?;
+    Ok(object)
+}
+
+/// Whether a store was done and not held back.
+pub(crate) fn is_done(stored: Stored) -> Result<bool, Fault> {
+    match stored {
+        Stored::Done => Ok(true),
+        Stored::Blocked => Ok(false),
+        Stored::Refused(refusal) => Err(Fault::Refused(refusal)),
+    }
+}
