@@ -1,5 +1,7 @@
 //! The history of a book and its seats.
-ghost use Rattle.std.specs.Prelude.{◌≡◌, ℕ, ◌<◌, ◌≤◌, IfErr, IfOk, OnOk};
+ghost use Rattle.std.specs.Prelude.{◌≡◌, ◌≤◌, length, IfErr, IfOk};
+ghost use Rattle.model_memory.specs.Memory.{Memory};
+ghost use Rattle.model_memory.specs.Plain.{IsLegal};
 ghost use Rattle.mesh_mutator.specs.Book.{memory_in};
 ghost use Rattle.mesh_seats.specs.Settle.{IsEnd, IsFault};
 
@@ -8,7 +10,7 @@ use crate::faults::FinishError;
 use crate::missing::missing;
 use crate::seat::Seat;
 use crate::walk::weave;
-use mesh_mutator::{Book, Entry, Roots};
+use mesh_mutator::{Book, Entry, Journal, Roots};
 use mesh_steps::Heap;
 use model_memory::read_laws::{built_has_calls, built_is_legal};
 use std::alloc::Global;
@@ -41,19 +43,34 @@ pub fn settle(alloc: Global, book: Book, count: u32, seats: Vec<Seat>) -> Result
     ensures roots { IfOk result (λ ended. ended.roots ≡ book.cells) }
     ensures fault { IfErr result (IsFault count seats.items book.entries) }
 {
-    built_is_legal();
-    built_has_calls();
-    if let Some(seat) = missing(seats.as_slice(), count, book.journal()) {
-        return Err(FinishError::SeatMissing(seat));
-    }
-    if let Some((seat, call)) = differing(seats.as_slice(), book.journal()) {
-        return Err(FinishError::SeatDiffers { seat, call });
-    }
-    let history = weave(alloc, seats.as_slice(), book.journal())?;
+    let history = history_of(alloc, seats.as_slice(), count, book.journal())?;
     let (heap, roots, _journal) = book.into_parts();
     Ok(Ended {
         heap,
         roots,
         history,
     })
+}
+
+/// The one history of a journal and the seats of its mutators.
+fn history_of(
+    alloc: Global,
+    seats: &[Seat],
+    count: u32,
+    journal: &Journal,
+) -> Result<Vec<Entry>, FinishError>
+    requires { length journal.now.entries ≤ 65536 }
+    ensures ended { IfOk result (λ history. (memory : Memory) → IsLegal journal.now.entries memory → IsEnd count seats.now journal.now.entries history.items memory) }
+    ensures fault { IfErr result (IsFault count seats.now journal.now.entries) }
+{
+    built_is_legal();
+    built_has_calls();
+    if let Some(seat) = missing(seats, count, journal) {
+        return Err(FinishError::SeatMissing(seat));
+    }
+    if let Some((seat, call)) = differing(seats, journal) {
+        return Err(FinishError::SeatDiffers { seat, call });
+    }
+    let history = weave(alloc, seats, journal)?;
+    Ok(history)
 }
