@@ -11,14 +11,19 @@ use std::alloc::Global;
 /// Makes meshes step by step, with commands between the steps. The two lines that it prints bound the stretch without an allocation.
 pub(crate) fn mesh<R: Print>(rt: &R, alloc: Global) -> End {
     let mut book = Book::open(alloc, 16, 400)?;
-    set_up(&mut book)?;
+    mesh_in(rt, &mut book)
+}
+
+/// Makes the meshes of a fresh book.
+fn mesh_in<R: Print>(rt: &R, book: &mut Book) -> End {
+    set_up(book)?;
     let (Ok(large), Ok(small)) = (class_of(2048), class_of(1024)) else {
         return Err(Fault::Wrong("no class"));
     };
     if print!(rt; "mesh: a stretch begins in which nothing takes memory\n").is_err() {
         return Err(Fault::Wrong("a line can't be written"));
     }
-    let end = go_through(&mut book, large, small);
+    let end = go_through(book, large, small);
     if print!(rt; "mesh: the stretch ends\n").is_err() {
         return Err(Fault::Wrong("a line can't be written"));
     }

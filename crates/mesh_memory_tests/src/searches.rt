@@ -15,6 +15,11 @@ static WORDS: [u64; 3] = [2, 0, 5];
 /// The views of the worked groups.
 fn worked(alloc: Global) -> Result<Vec<ClassView>, Fault> {
     let mut book = Book::open(alloc, 16, 64)?;
+    views_of(alloc, &mut book)
+}
+
+/// The views of a fresh book, once the worked groups stand in it.
+fn views_of(alloc: Global, book: &mut Book) -> Result<Vec<ClassView>, Fault> {
     for cell in 0..8u8 {
         if book.act(0, &Command::New(cell, 2048, 0)) == Attempt::OutOfMemory {
             return Err(Fault::Memory);

@@ -19,9 +19,19 @@ const FIRST_CELLS: [u8; 2] = [0, 128];
 
 /// Two scripts of 200 commands on threads of their own, beside two meshers with two searchers each.
 pub(crate) fn run_scripts<R: Threads + Wait + Sync>(rt: &R, alloc: Global) -> End {
-    let book = Book::open(alloc, 64, 400)?;
     let one = script(alloc, FIRST_CELLS[0])?;
     let other = script(alloc, FIRST_CELLS[1])?;
+    run_both(rt, alloc, &both(&one, &other))
+}
+
+/// Runs two scripts on a fresh book.
+fn run_both<'a, R: Threads + Wait + Sync>(
+    rt: &R,
+    alloc: Global,
+    scripts: &[&'a [Command]; 2],
+) -> End
+    requires { All (λ script. All IsInRange script.now) scripts.now }
+{
     let plan = MeshPlan {
         t: 8,
         rounds: 3,
@@ -29,15 +39,26 @@ pub(crate) fn run_scripts<R: Threads + Wait + Sync>(rt: &R, alloc: Global) -> En
         words: Vec::new(alloc),
         meshers: 2,
     };
-    match run_threads(rt, alloc, book, &both(&one, &other), &plan, &NoGate) {
-        Ok(ended) => {
-            expect(ended.history.len() == 400, "another count of entries")?;
-            Ok(0)
-        }
-        Err(RunError::Memory) => Err(Fault::Memory),
-        Err(RunError::Thread) => Err(Fault::Thread),
-        Err(RunError::Finish(error)) => Err(error.into()),
-        Err(RunError::History) => Err(Fault::Wrong("a history that is full")),
+    let book = Book::open(alloc, 64, 400)?;
+    match run_threads(rt, alloc, book, scripts, &plan, &NoGate) {
+        Ok(ended) => end_of(ended.history.len()),
+        Err(error) => Err(fault_of(error)),
+    }
+}
+
+/// How a run ends whose history has so many entries.
+fn end_of(entries: usize) -> End {
+    expect(entries == 400, "another count of entries")?;
+    Ok(0)
+}
+
+/// What ends a run that stopped.
+fn fault_of(error: RunError) -> Fault {
+    match error {
+        RunError::Memory => Fault::Memory,
+        RunError::Thread => Fault::Thread,
+        RunError::Finish(error) => error.into(),
+        RunError::History => Fault::Wrong("a history that is full"),
     }
 }
 

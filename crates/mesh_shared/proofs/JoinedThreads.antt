@@ -1,10 +1,11 @@
 -- What joined threads gave back, by the promises of their handles.
-use Rattle.std.proofs.Common.{◌≡◌, ℕ, zero, suc, ◌<◌, List, [], ◌∷◌, ◌++◌, ◌+◌, Option, None, Result, Ok, Err, IfOk, OnOk, length, map, slice_index_or, ap, subst, refl, sym, ◌∙◌, arith}
+use Rattle.std.proofs.Common.{◌≡◌, ℕ, zero, suc, ◌<◌, List, [], ◌∷◌, ◌++◌, ◌+◌, Option, None, Some, Result, Ok, Err, IfOk, OnOk, length, map, slice_index_or, ap, subst, refl, sym, ◌∙◌, arith}
+use Rattle.std.specs.Option.{option_or}
 use Rattle.std.proofs.lemmas.List.{length-map}
 use Rattle.std.specs.declared.thread.PromisedHandle.{PromisedHandle}
 use Rattle.model_memory.specs.Reads.{Kept, kept_by}
 use Rattle.model_words.specs.declared.commands.Command.{Command}
-use Rattle.mesh_shared.specs.Joined.{HaveMeshed, HaveServed}
+use Rattle.mesh_shared.specs.Joined.{AreAtWork, AreMeshing, HaveMeshed, HaveServed}
 use Rattle.mesh_shared.specs.MesherRuns.{AreMeshed, HasMeshed}
 use Rattle.mesh_shared.specs.Runs.{AreServed, HasWorked, script_of}
 use Rattle.mesh_seats.specs.Seat.{Seat, calls_of_seats}
@@ -78,39 +79,40 @@ there [] k below = absurd (omega (arith, below))
 there (x ∷ xs) zero below = x
 there (x ∷ xs) (suc k) below = there xs k (omega (arith, below))
 
--- where each script has a handle, all are served
+-- where neither of two things is told, neither was
+pub none_of_both : {A : Type 0} (a b : Option A) → option_or a b ≡ None → (a ≡ None) × (b ≡ None)
+none_of_both None b none = (refl, none)
+none_of_both (Some x) b none = absurd (cc none)
+
+-- where all scripts are at work, all are served
 pub all_served : (tries : Option ℕ) (scripts : List (List Command)) (handles : List (PromisedHandle Served Works)) (seats : List Seat)
-    → HaveServed handles seats → length handles ≡ length scripts
-    → ((w : ℕ) (h : PromisedHandle Served Works) → w < length handles
-    → ((slice_index_or handles w h).promise.tries ≡ tries) × ((slice_index_or handles w h).promise.script.now ≡ script_of scripts w))
-    → AreServed tries scripts seats
-all_served tries scripts handles seats have many promised = record {
-  many = have.many ∙ many;
+    → HaveServed handles seats → AreAtWork tries scripts handles → AreServed tries scripts seats
+all_served tries scripts handles seats have work = record {
+  many = have.many ∙ work.many;
   begun = λ w below. (at w below).begun;
   whole = λ no_end w below. (at w below).whole no_end refl;
 }
   where
     at : (w : ℕ) → w < length scripts → HasWorked tries (script_of scripts w) (kept_by (calls_of_seats seats) w) None
     at w below =
+        let many = work.many in
         let within : w < length handles = omega (arith, many, below) in
         let h : PromisedHandle Served Works = there handles w within in
-        let its = promised w h within in
+        let its = work.each w h within in
         subst (λ (s : List Command). HasWorked tries s (kept_by (calls_of_seats seats) w) None) its.1
         (subst (λ (t : Option ℕ). HasWorked t (slice_index_or handles w h).promise.script.now (kept_by (calls_of_seats seats) w) None) its.0 (have.kept w h within))
 
--- where each number has a handle, all mesh
+-- where all meshers mesh, each tells what it did
 pub all_meshed : (plan : MeshPlan) (most : Option ℕ) (handles : List (PromisedHandle Meshed Meshes)) (told : List Meshed)
-    → HaveMeshed handles told → length handles ≡ plan.meshers
-    → ((q : ℕ) (h : PromisedHandle Meshed Meshes) → q < length handles
-    → (slice_index_or handles q h).promise ≡ record { rounds = plan.rounds; number = q; most = most })
-    → AreMeshed plan most told
-all_meshed plan most handles told have many promised = record {
-  many = have.many ∙ many;
+    → HaveMeshed handles told → AreMeshing plan most handles → AreMeshed plan most told
+all_meshed plan most handles told have meshing = record {
+  many = have.many ∙ meshing.many;
   each = λ q d below.
+      let many = meshing.many in
       let within : q < length handles = omega (arith, many, below) in
       let h : PromisedHandle Meshed Meshes = there handles q within in
-      subst (λ (p : Meshes). HasMeshed p.rounds p.number p.most (slice_index_or told q d)) (promised q h within) (have.kept q h d within);
-  unstopped = λ q d below. have.unstopped q d (omega (arith, many, below));
+      subst (λ (p : Meshes). HasMeshed p.rounds p.number p.most (slice_index_or told q d)) (meshing.each q h within) (have.kept q h d within);
+  unstopped = λ q d below. let many = meshing.many in have.unstopped q d (omega (arith, many, below));
 }
 
 -- one more mesher was started, under the next number

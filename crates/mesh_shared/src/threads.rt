@@ -1,9 +1,9 @@
 //! Scripts on threads, with meshers at work between their commands.
-ghost use Rattle.std.specs.Prelude.{◌≡◌, ◌≤◌, ◌++◌, ◌∷◌, [], None, length, map, vec_len, IfOk, OnOk};
+ghost use Rattle.std.specs.Prelude.{◌≡◌, ◌≤◌, ◌++◌, ◌∷◌, [], None, length, map, vec_capacity, vec_len, IfOk, OnOk};
 ghost use Rattle.std.specs.List.{All};
 ghost use Rattle.model_words.specs.Commands.{IsInRange};
 ghost use Rattle.mesh_mutator.specs.Book.{memory_in};
-ghost use Rattle.mesh_shared.specs.Joined.{HaveMeshed, HaveServed};
+ghost use Rattle.mesh_shared.specs.Joined.{AreAtWork, AreMeshing, HaveMeshed, HaveServed};
 ghost use Rattle.mesh_shared.specs.MesherRuns.{AreMeshed, HasMeshed};
 ghost use Rattle.mesh_shared.specs.Runs.{AreServed, HasBegun, HasRun, HasWorked};
 ghost use Rattle.mesh_shared.specs.Stops.{first_stop};
@@ -19,7 +19,7 @@ use mesh_seats::{Ended, Seat};
 use std::alloc::{AllocError, Global};
 use std::sync::Wait;
 use std::thread;
-use std::thread::{Promise, PromisedHandle, Threads};
+use std::thread::{Promise, PromisedHandle, Scope, Threads};
 
 /// Runs 1 to 64 scripts, each in a thread of its own, on a book with an empty journal, and meshes meanwhile as the plan says, each mesher in a
 /// thread of its own. Hands out heap, root cells and the one history, in which each worker's entries are its whole script.
@@ -175,43 +175,100 @@ fn serve_all<R: Threads + Wait + Sync, G: Gate + Sync>(
         {
             let mut workers = Vec::with_capacity(alloc, seats.len())?;
             let mut meshers = Vec::with_capacity(alloc, plan.meshers as usize)?;
-            let mut refused = None;
-            for seat in seats {
-                let script = scripts[workers.len()];
-                let tries = patience.tries;
-                let job = move || -> Served
-                    requires { (seat.calls ≡ []) × All IsInRange script.now }
-                    ensures { HasWorked tries script.entry.now result.seat.calls result.stop }
-                { serve(rt, gate, shared, seat, script, tries) };
-                match scope.spawn_with(Works { script, tries }, job) {
-                    Ok(handle) => workers.push_reserved(handle),
-                    Err(unstarted) => {
-                        refused = Some(unstarted.into());
-                        break;
-                    }
-                }
-            }
-            let (rounds, most) = (plan.rounds, patience.calls);
-            for number in 0..plan.meshers {
-                let job = move || -> Meshed
-                    requires { (1 ≤ plan.now.workers) × (plan.now.workers ≤ 16) × (1 ≤ plan.now.meshers) }
-                    ensures { HasMeshed plan.entry.now.rounds number most result }
-                { mesh(rt, alloc, gate, shared, plan, number, most) };
-                match scope.spawn_with(
-                    Meshes {
-                        rounds,
-                        number,
-                        most,
-                    },
-                    job,
-                ) {
-                    Ok(handle) => meshers.push_reserved(handle),
-                    Err(unstarted) => refused = Some(unstarted.into()),
-                }
-            }
+            let tries = patience.tries;
+            let unserved = start_workers(
+                scope,
+                rt,
+                gate,
+                shared,
+                seats,
+                scripts,
+                tries,
+                &mut workers,
+            );
+            let unmeshed = start_meshers(
+                scope,
+                rt,
+                alloc,
+                gate,
+                shared,
+                plan,
+                patience.calls,
+                &mut meshers,
+            );
+            let refused = unmeshed.or(unserved);
             join_all(rt, alloc, refused, workers, meshers)
         },
     )
+}
+
+/// Starts a thread for each seat, which serves its script, until one is refused: what refused it is told.
+fn start_workers<'s, E, R: Threads + Wait + Sync, G: Gate + Sync>(
+    scope: &'s Scope<'s, E>,
+    rt: &'s R,
+    gate: &'s G,
+    shared: &'s Shared,
+    seats: Vec<Seat>,
+    scripts: &'s [&'s [Command]],
+    tries: Option<u32>,
+    workers: &mut Vec<PromisedHandle<Served, Works<'s>>>,
+) -> Option<Stop>
+    requires many { vec_len seats ≡ length scripts.now }
+    requires empty { All (λ seat. seat.calls ≡ []) seats.items }
+    requires range { All (λ script. All IsInRange script.now) scripts.now }
+    requires room { length scripts.now ≤ vec_capacity workers.old }
+    requires none { workers.old.items ≡ [] }
+    ensures { result ≡ None → AreAtWork tries (map (λ script. script.now) scripts.now) workers.new.items }
+{
+    for seat in seats {
+        let script = scripts[workers.len()];
+        let job = move || -> Served
+            requires { (seat.calls ≡ []) × All IsInRange script.now }
+            ensures { HasWorked tries script.entry.now result.seat.calls result.stop }
+        { serve(rt, gate, shared, seat, script, tries) };
+        match scope.spawn_with(Works { script, tries }, job) {
+            Ok(handle) => workers.push_reserved(handle),
+            Err(unstarted) => return Some(unstarted.into()),
+        }
+    }
+    None
+}
+
+/// Starts a thread for each mesher, and tells what refused the last that was refused.
+fn start_meshers<'s, E, R: Threads + Wait + Sync, G: Gate + Sync>(
+    scope: &'s Scope<'s, E>,
+    rt: &'s R,
+    alloc: Global,
+    gate: &'s G,
+    shared: &'s Shared,
+    plan: &'s MeshPlan,
+    most: Option<u32>,
+    meshers: &mut Vec<PromisedHandle<Meshed, Meshes>>,
+) -> Option<Stop>
+    requires searchers { (1 ≤ plan.now.workers) × (plan.now.workers ≤ 16) }
+    requires meshers { (1 ≤ plan.now.meshers) × (plan.now.meshers ≤ 10) }
+    requires room { plan.now.meshers ≤ vec_capacity meshers.old }
+    requires none { meshers.old.items ≡ [] }
+    ensures { result ≡ None → AreMeshing plan.now most meshers.new.items }
+{
+    let mut refused = None;
+    let rounds = plan.rounds;
+    for number in 0..plan.meshers {
+        let job = move || -> Meshed
+            requires { (1 ≤ plan.now.workers) × (plan.now.workers ≤ 16) × (1 ≤ plan.now.meshers) }
+            ensures { HasMeshed plan.entry.now.rounds number most result }
+        { mesh(rt, alloc, gate, shared, plan, number, most) };
+        let meshes = Meshes {
+            rounds,
+            number,
+            most,
+        };
+        match scope.spawn_with(meshes, job) {
+            Ok(handle) => meshers.push_reserved(handle),
+            Err(unstarted) => refused = Some(unstarted.into()),
+        }
+    }
+    refused
 }
 
 // Joins all threads. Gives what they gave back where each was started and none was stopped, else tells the first stop.

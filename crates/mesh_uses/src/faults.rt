@@ -4,7 +4,7 @@ use std::alloc::{AllocError, AllocFailed};
 use thiserror::Error;
 
 /// What ends a use.
-#[derive(Debug, Drop, Error)]
+#[derive(Clone, Copy, Debug, Error)]
 pub(crate) enum Fault {
     /// A call of the heap was refused.
     #[error("{0}")]
@@ -12,9 +12,6 @@ pub(crate) enum Fault {
     /// An allocation failed.
     #[error("out of memory")]
     Memory,
-    /// The seats and the journal make no history.
-    #[error("{0}")]
-    Finish(FinishError),
     /// A call was answered otherwise than it is here.
     #[error("another answer: {0}")]
     Answer(&'static str),
@@ -55,6 +52,9 @@ impl From<OpenError> for Fault {
 
 impl From<FinishError> for Fault {
     fn from(error: FinishError) -> Fault {
-        Fault::Finish(error)
+        match error {
+            FinishError::Memory => Fault::Memory,
+            _ => Fault::Answer("seats and journal make no history"),
+        }
     }
 }

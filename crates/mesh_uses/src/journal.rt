@@ -28,8 +28,7 @@ fn act(book: &mut Book, worker: u32, command: &Command) -> Result<(), Fault>
 {
     match book.act(worker, command) {
         Attempt::Done(_) => Ok(()),
-        Attempt::Blocked => Err(Fault::Answer("a store that is held back")),
-        Attempt::HistoryFull => Err(Fault::Answer("a full journal")),
         Attempt::OutOfMemory => Err(Fault::Memory),
+        _ => Err(Fault::Answer("a command that isn't done")),
     }
 }

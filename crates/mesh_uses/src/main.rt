@@ -39,14 +39,21 @@ fn tell<R: Print>(rt: &R, what: &str, came: Result<usize, Fault>) -> io::Result<
     }
 }
 
+impl HeapUse {
+    /// Uses a heap.
+    fn of(self, heap: &mut Heap) -> Result<usize, Fault> {
+        match self {
+            HeapUse::Spans => spans::mesh_two_spans(heap),
+            HeapUse::Stepwise => stepwise::store_between_steps(heap),
+            HeapUse::Cancelled => cancelled::cancel_a_mesh(heap),
+        }
+    }
+}
+
 /// Opens a heap of 16 pages, and uses it.
 fn use_heap<R: AllocGlobal>(rt: &R, usage: HeapUse) -> Result<usize, Fault> {
     let mut heap = Heap::open(rt.alloc(), 16)?;
-    match usage {
-        HeapUse::Spans => spans::mesh_two_spans(&mut heap),
-        HeapUse::Stepwise => stepwise::store_between_steps(&mut heap),
-        HeapUse::Cancelled => cancelled::cancel_a_mesh(&mut heap),
-    }
+    usage.of(&mut heap)
 }
 
 /// Opens a book over 16 pages, and uses it.

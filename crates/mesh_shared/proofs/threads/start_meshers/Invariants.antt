@@ -1,0 +1,10 @@
+use Rattle.std.proofs.Common.{◌≡◌, ◌≤◌, ◌<◌, ℕ, None, slice_index_or, vec_len, vec_capacity}
+use Rattle.mesh_shared.proofs.threads.start_meshers.Given as goal
+
+-- as many meshers as there is room for; where each thread was started, one for each of the first numbers
+abbrev pub invariant-loop-number : goal.invariant-loop-number
+invariant-loop-number g l =
+    (vec_len l.meshers ≤ l.number) × (l.plan.meshers ≤ vec_capacity l.meshers)
+    × (l.refused ≡ None → vec_len l.meshers ≡ l.number)
+    × (l.refused ≡ None → (q : ℕ) (d : _) → q < l.number
+    → (slice_index_or l.meshers.items q d).promise ≡ record { rounds = l.rounds; number = q; most = l.most })
