@@ -47,24 +47,10 @@ IsReplayed row = replayed row.file ≡ row.answer
 """
 
 
-def text(content):
-    """The text as an antt term: a string, or a run where it is one byte again and again."""
-    if not content:
-        return "[]"
-    body = content.rstrip("\n")
-    if len(body) > 100 and len(set(body)) == 1:
-        end = " ++ 10 ∷ []" * (len(content) - len(body))
-        return f"replicate {len(body)} {ord(body[0])}{end}"
-    pieces = [piece for piece in re.split("([^ -~\n])", content) if piece]
-    return " ".join(piece_text(piece, is_last) for piece, is_last in zip(pieces, [False] * (len(pieces) - 1) + [True]))
-
-
-def piece_text(piece, is_last):
-    """A part of a text, as what stands before the next one: the number of a byte that can't be printed, or a string."""
-    if not re.fullmatch("[ -~\n]+", piece):
-        return f"{ord(piece)} ∷" + " []" * is_last
-    escaped = piece.replace("\\", "\\\\").replace('"', '\\"').replace("\n", "\\n")
-    return f'codes "{escaped}"' + " ++" * (not is_last)
+def literal(content):
+    """The text as a string of Rust, and of antt."""
+    escaped = content.replace("\\", "\\\\").replace('"', '\\"').replace("\n", "\\n")
+    return '"' + re.sub("[^ -~]", lambda byte: f"\\x{ord(byte[0]):02x}", escaped) + '"'
 
 
 def file_text(row):
@@ -76,7 +62,7 @@ def expected(row):
     """What the row's file is replayed to, as an antt term."""
     fault = row.with_suffix(".err")
     if not fault.exists():
-        return f"Ok ({text(row.with_suffix('.out').read_text())})"
+        return f"Ok (codes {literal(row.with_suffix('.out').read_text())})"
     line, kind = fault.read_text().split(" ", 1)[1].strip().split(": ")
     return f"Err (record {{ line = {line}; kind = {KINDS[kind]} }})"
 
@@ -92,17 +78,14 @@ def rows_of(folder):
 
 def write_subject(name, rows):
     faults = any(row.with_suffix(".err").exists() for row in rows)
-    words = ["Err" if faults else "Ok", "codes"]
-    if faults:
-        words += ["[]", "◌∷◌", "◌++◌", "replicate"]
     spec = [f"-- Worked rows: {name.replace('_', ' ')}. Written by tools/write_rows.py from jobs/rows/{name}.",
-            f"use Rattle.std.specs.Prelude.{{{', '.join(words)}}}",
+            f"use Rattle.std.specs.Prelude.{{{'Err' if faults else 'Ok'}, codes}}",
             "use Rattle.mesh_rows.specs.Rows.{Row}"]
     if faults:
         used = sorted({KINDS[row.with_suffix(".err").read_text().strip().split(": ")[1]] for row in rows})
         spec.append(f"use Rattle.model_words.specs.declared.faults.FaultKind.TheVariants.{{{', '.join(used)}}}")
     for row in rows:
-        spec += ["", f"abbrev pub {row.stem} : Row", f"{row.stem} = record {{ file = {text(file_text(row))}; answer = {expected(row)} }}"]
+        spec += ["", f"abbrev pub {row.stem} : Row", f"{row.stem} = record {{ file = codes {literal(file_text(row))}; answer = {expected(row)} }}"]
     (CRATE / "specs" / f"{camel(name)}.antt").write_text("\n".join(spec) + "\n")
     write_proof(name, rows)
 
@@ -133,12 +116,6 @@ def write_functions(subjects):
     (CRATE / "src" / "rows.rt").write_text("\n".join(lines) + "\n")
 
 
-def literal(content):
-    """The text as a string of Rust."""
-    escaped = content.replace("\\", "\\\\").replace('"', '\\"').replace("\n", "\\n")
-    return '"' + re.sub("[^ -~]", lambda byte: f"\\x{ord(byte[0]):02x}", escaped) + '"'
-
-
 def table(name, doc, rows, suffix):
     """These rows as a table of Rust: name, file, and what is expected."""
     lines = [f"/// {doc}", f"pub(crate) static {name}: [(&str, &str, &str); {len(rows)}] = ["]
@@ -161,7 +138,6 @@ def write_tables():
     faults = [row for row in sorted(ROWS.glob("*/*.job")) if row.with_suffix(".err").exists() and len(file_text(row)) < 1000]
     lines += table("FAULTS", "For each short file that is no job its name, its bytes and the line of its fault.", faults, ".err")
     (TESTS / "src" / "tests" / "files.rt").write_text("\n".join(lines))
-    subprocess.run(["rt", "fmt"], cwd=TESTS, check=True)
 
 
 def main():
@@ -180,6 +156,8 @@ def main():
     (CRATE / "specs" / "Rows.antt").write_text(ROW)
     (CRATE / "specs" / "Lib.antt").write_text("\n".join(f"pub mod {name}" for name in sorted([camel(name) for name in subjects] + ["Rows"])) + "\n")
     write_tables()
+    for crate in (CRATE, TESTS):
+        subprocess.run(["rt", "fmt"], cwd=crate, check=True)
 
 
 if __name__ == "__main__":
