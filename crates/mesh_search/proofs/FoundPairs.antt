@@ -9,7 +9,7 @@ use Rattle.model_search.specs.SearchLaws.{IsMeshableIn, times_paired}
 use Rattle.model_search.specs.Search.{Candidate, Found, Pairing, View, search, shuffle, split_search}
 use Rattle.model_heap.specs.Sound.{times_in}
 use Rattle.mesh_search.proofs.Shuffled.{length-shuffle, map-shuffle}
-use Rattle.mesh_search.specs.Views.{IsView, no_candidate}
+use Rattle.mesh_search.specs.Views.{IsView, chosen, no_candidate}
 
 -- a number below all of them is none of them
 none_above : (n : ℕ) (cs : List Candidate) → ((j : ℕ) → j < length cs → n < (slice_index_or cs j no_candidate).number) → times_in n (map (λ (c : Candidate). c.number) cs) ≡ 0
@@ -39,6 +39,12 @@ meshable_among order list within (p ∷ ps) all =
     All-cons (IsMeshableIn list) p ps
     (h.0, h.1, All-contains (Contains list) order h.0 within h.2, All-contains (Contains list) order h.1 within h.3, h.4, h.5, h.6)
     (meshable_among order list within ps (All-tail (IsMeshableIn order) p ps all))
+
+-- what is found over places is found over their candidates
+pub found_over : {E : Type 0} (view : View) (slice places : List ℕ) (cs : List Candidate) (t : ℕ) (r : Result Found E) → slice ≡ places → chosen view places ≡ cs
+    → IfOk r (λ f. f ≡ split_search (chosen view slice) t) → IfOk r (λ f. f ≡ split_search cs t)
+found_over view slice places cs t r same is found =
+    subst (λ (order : List Candidate). IfOk r (λ f. f ≡ split_search order t)) (ap (λ (ps : List ℕ). chosen view ps) same ∙ is) found
 
 -- what the search of a view finds
 pub found_in : (view : View) (words : List ℕ) (t : ℕ) {E : Type 0} (r : Result Found E) → IsView view → IfOk r (λ f. f ≡ search view words t)

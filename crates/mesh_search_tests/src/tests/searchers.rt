@@ -17,9 +17,8 @@ use std::thread::Threads;
 use std::time::Duration;
 
 // Whether a search by workers finds in each view what one thread finds.
-fn agrees<R: Threads + Wait + Sync>(
+fn agrees<R: Threads + Wait + Sync + AllocGlobal>(
     rt: &R,
-    alloc: Global,
     views: &[ClassView],
     words: &[u64],
     t: u32,
@@ -28,9 +27,9 @@ fn agrees<R: Threads + Wait + Sync>(
     requires some { 1 ≤ workers }
     requires most { workers ≤ 16 }
 {
-    let found = search(rt, alloc, views, words, t, workers, &NoGate)?;
+    let found = search(rt, rt.alloc(), views, words, t, workers, &NoGate)?;
     for k in 0..views.len() {
-        let one = search_one(alloc, &views[k], words, t)?;
+        let one = search_one(rt.alloc(), &views[k], words, t)?;
         let Some(other) = found.get(k) else {
             return Ok(false);
         };
@@ -46,9 +45,9 @@ fn workers_find_the_worked_pairs(rt: HostRuntime) -> Result<(), Fail> {
     let alloc = rt.alloc();
     let views = views_of(alloc, 2048, &WORKED)?;
     for t in 0..3 {
-        let one = agrees(&rt, alloc, views.as_slice(), &WORDS, t, 1).expect(&rt, "search");
-        let three = agrees(&rt, alloc, views.as_slice(), &WORDS, t, 3).expect(&rt, "search");
-        let most = agrees(&rt, alloc, views.as_slice(), &WORDS, t, 16).expect(&rt, "search");
+        let one = agrees(&rt, views.as_slice(), &WORDS, t, 1).expect(&rt, "search");
+        let three = agrees(&rt, views.as_slice(), &WORDS, t, 3).expect(&rt, "search");
+        let most = agrees(&rt, views.as_slice(), &WORDS, t, 16).expect(&rt, "search");
         assert!(rt; one && three && most, "in {t} rounds");
     }
     Ok(())
@@ -102,7 +101,7 @@ fn workers_find_what_one_thread_finds(rt: HostRuntime) -> Result<(), Fail> {
         let one = views.as_slice().get(4..5).expect(&rt, "a class");
         most = one[0].len().max(most);
         for workers in 1..17 {
-            let same = agrees(&rt, alloc, one, words.as_slice(), t, workers).expect(&rt, "search");
+            let same = agrees(&rt, one, words.as_slice(), t, workers).expect(&rt, "search");
             assert!(rt; same, "list {list} by {workers} workers");
         }
     }
