@@ -2,7 +2,9 @@
 
 mod books;
 mod calls;
+mod heaps;
 mod memory;
 mod meshes;
 mod plain;
 mod searches;
+mod tried;

@@ -2,9 +2,9 @@
 ghost use Rattle.std.specs.Prelude.{◌≤◌};
 ghost use Rattle.model_words.specs.Commands.{IsInRange};
 
-use crate::tests::calls::{Answer, Call, MAX_OBJECTS, freed, left, number};
+use crate::tests::calls::{Answer, number};
+use crate::tests::heaps::MAX_OBJECTS;
 use arrayvec::ArrayVec;
-use mesh_class::class_of;
 use mesh_mutator::{Attempt, Book};
 use model_words::{Command, MAX_BYTES, Reply};
 use std::alloc::{AllocError, Global};
@@ -15,7 +15,7 @@ const ROOM: u32 = 400;
 /// A book, and how many objects it has made.
 #[derive(Drop)]
 pub(crate) struct TriedBook {
-    book: Book,
+    pub(crate) book: Book,
     objects: u8,
 }
 
@@ -31,47 +31,8 @@ impl TriedBook {
         })
     }
 
-    /// Makes a call.
-    pub(crate) fn answer(&mut self, call: Call) -> Answer {
-        match call {
-            Call::New(len, word) => self.make(len, word),
-            Call::Read(serial, off, len) => self.read(serial, off, len),
-            Call::Write(serial, off, bytes) => self.write(serial, off, bytes),
-            Call::Copy(to, to_off, from, from_off, len) => self.copy(
-                to, to_off, from, from_off, len,
-            ),
-            Call::Peek(addr) => self.act(&Command::Peek(addr)),
-            Call::Poke(addr, byte) => self.act(&Command::Poke(addr, byte)),
-            Call::Free(serial) => match self.cell(serial) {
-                Some(cell) => self.act(&Command::Free(cell)),
-                None => Answer::Unmade,
-            },
-            Call::Begin(source, destination) => left(self.book.begin(source, destination)),
-            Call::BeginAlone(source, destination) => left(
-                self.book.begin_alone(source, destination),
-            ),
-            Call::Step(size) => self.step(size),
-            Call::Cancel(size) => self.cancel(size),
-            Call::Whole(source, destination) => freed(self.book.mesh_whole(source, destination)),
-            Call::WholeAlone(source, destination) => freed(
-                self.book.whole_alone(source, destination),
-            ),
-            Call::Sweep(group) => freed(self.book.sweep(group)),
-            Call::Running(size) => self.running(size),
-            Call::Report => {
-                let counts = self.book.report();
-                Answer::Counts(
-                    counts.objects,
-                    counts.bytes,
-                    counts.mapped,
-                    counts.taken,
-                    counts.saved,
-                )
-            },
-        }
-    }
-
-    fn act(&mut self, command: &Command) -> Answer
+    /// Makes a command's attempt.
+    pub(crate) fn act(&mut self, command: &Command) -> Answer
         requires { IsInRange command.now }
     {
         match self.book.act(0, command) {
@@ -92,7 +53,14 @@ impl TriedBook {
         }
     }
 
-    fn make(&mut self, len: u32, word: u64) -> Answer {
+    pub(crate) fn free(&mut self, serial: u32) -> Answer {
+        match self.cell(serial) {
+            Some(cell) => self.act(&Command::Free(cell)),
+            None => Answer::Unmade,
+        }
+    }
+
+    pub(crate) fn make(&mut self, len: u32, word: u64) -> Answer {
         if usize::from(self.objects) >= MAX_OBJECTS {
             return Answer::Unmade;
         }
@@ -103,14 +71,14 @@ impl TriedBook {
         answer
     }
 
-    fn read(&mut self, serial: u32, off: u32, len: u32) -> Answer {
+    pub(crate) fn read(&mut self, serial: u32, off: u32, len: u32) -> Answer {
         match self.cell(serial) {
             Some(cell) if 1 <= len && len <= 32 => self.act(&Command::Get(cell, off, len)),
             _ => Answer::Unmade,
         }
     }
 
-    fn write(&mut self, serial: u32, off: u32, bytes: &[u8]) -> Answer {
+    pub(crate) fn write(&mut self, serial: u32, off: u32, bytes: &[u8]) -> Answer {
         let Some(cell) = self.cell(serial) else {
             return Answer::Unmade;
         };
@@ -121,38 +89,15 @@ impl TriedBook {
         self.act(&Command::Put(cell, off, stored))
     }
 
-    fn copy(&mut self, to: u32, to_off: u32, from: u32, from_off: u32, len: u32) -> Answer {
-        let (Some(target), Some(source)) = (self.cell(to), self.cell(from)) else {
+    /// Copies to an object's offset, from an object's offset.
+    pub(crate) fn copy(&mut self, to: (u32, u32), from: (u32, u32), len: u32) -> Answer {
+        let (Some(target), Some(source)) = (self.cell(to.0), self.cell(from.0)) else {
             return Answer::Unmade;
         };
         if len < 1 || len > 32 {
             return Answer::Unmade;
         }
-        self.act(&Command::Copy(target, to_off, source, from_off, len))
-    }
-
-    fn step(&mut self, size: u32) -> Answer {
-        let Ok(class) = class_of(size) else {
-            return Answer::Unmade;
-        };
-        match self.book.step(class) {
-            Ok(done) => Answer::Stepped(done.kind, done.left),
-            Err(refusal) => Answer::Refused(refusal),
-        }
-    }
-
-    fn cancel(&mut self, size: u32) -> Answer {
-        let Ok(class) = class_of(size) else {
-            return Answer::Unmade;
-        };
-        left(self.book.cancel(class))
-    }
-
-    fn running(&self, size: u32) -> Answer {
-        let Ok(class) = class_of(size) else {
-            return Answer::Unmade;
-        };
-        Answer::Runs(self.book.running(class))
+        self.act(&Command::Copy(target, to.1, source, from.1, len))
     }
 }
 
