@@ -22,6 +22,7 @@ pub use faults::SearchError;
 pub use from_index::class_view;
 pub use gate::{Actor, Gate, NoGate, Point};
 pub use model_words::StepKind;
+pub use parallel::drop_results;
 pub use parts::part;
 pub use picking::shuffle;
 pub use rounds::Found;

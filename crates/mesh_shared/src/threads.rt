@@ -14,12 +14,12 @@ use crate::shared::Shared;
 use crate::stops::{RunError, Stop, either_stop};
 use crate::worker::{Served, Works, serve};
 use mesh_mutator::{Book, Command};
-use mesh_search::Gate;
+use mesh_search::{Gate, drop_results};
 use mesh_seats::{Ended, Seat};
 use std::alloc::{AllocError, Global};
 use std::sync::Wait;
 use std::thread;
-use std::thread::{Promise, PromisedHandle, Scope, Threads};
+use std::thread::{PromisedHandle, Scope, Threads};
 
 /// Runs 1 to 64 scripts, each in a thread of its own, on a book with an empty journal, and meshes meanwhile as the plan says, each mesher in a
 /// thread of its own. Hands out heap, root cells and the one history, in which each worker's entries are its whole script.
@@ -306,14 +306,6 @@ fn join_all<'a, R: Threads>(
         seats,
         meshers: meshed,
     })
-}
-
-// Joins threads whose results nobody wants. The thread of a handle that is dropped would keep its result, and might free its own block only
-// after the scope has ended.
-fn drop_results<R: Threads, T: Drop, P: Promise<T>>(rt: &R, handles: Vec<PromisedHandle<T, P>>) {
-    for handle in handles {
-        let _ = handle.join(rt);
-    }
 }
 
 // The meshing of one mesher.
