@@ -1,11 +1,13 @@
 -- One round of the walk, and its end.
-use Rattle.std.proofs.Common.{◌≡◌, ℕ, zero, suc, ◌+◌, ◌<◌, ◌≤◌, List, [], ◌∷◌, ◌++◌, length, take, drop, slice_index_or, ap, subst, refl, sym, ◌∙◌, arith, Option, Some, None}
+use Rattle.std.proofs.Common.{◌≡◌, ℕ, zero, suc, ◌+◌, ◌<◌, ◌≤◌, List, [], ◌∷◌, ◌++◌, length, take, drop, slice_index_or, ap, subst, refl, sym, ◌∙◌, arith, Option, Some, None, Result, Ok, Err, IfOk, IfErr, OnOk}
 use Rattle.std.proofs.Math.Seq.{drop-cons, take-append_seam}
 use Rattle.model_memory.specs.Memory.{Memory, empty_memory}
 use Rattle.model_memory.specs.Plain.{Entry}
-use Rattle.model_memory.specs.Reads.{Kept, left_by, memory_after}
-use Rattle.mesh_seats.specs.Walk.{AreLeft, AreTaken, IsFirstLeft, IsStep, IsStepped, Tells, Walks, left_of}
-use Rattle.mesh_seats.proofs.WalkPlaces.{Looks, looks_last, looks_stepped, looks_taken}
+use Rattle.model_memory.specs.Reads.{AreRight, Kept, left_by, memory_after}
+use Rattle.mesh_seats.specs.declared.faults.FinishError.{FinishError}
+use Rattle.mesh_seats.specs.declared.faults.FinishError.TheVariants.{ReadDiffers as ReadError}
+use Rattle.mesh_seats.specs.Walk.{AreLeft, AreTaken, IsFirstLeft, IsStep, IsStepped, IsWalkFault, Tells, Walks, left_of}
+use Rattle.mesh_seats.proofs.WalkPlaces.{Looks, looks_last, looks_right, looks_stepped, looks_taken, looks_wrong}
 use Rattle.mesh_seats.proofs.BuiltHistories.{ComesTo, comes_more, comes_to_end, drop_all}
 
 -- the items of a vector whose slice was written
@@ -55,6 +57,20 @@ pub record Takes (seats : List (List Kept)) (n : ℕ) (plain : Memory) (rests le
   pub taken : wrong ≡ None → AreTaken n 0 plain rests lefts history history'
   pub many : length lefts ≡ length rests
   pub tells : Tells seats wrong lefts rests' told told'
+
+-- reads taken in the slice of a vector, and the seat that was found
+pub taken_in : (seats : List (List Kept)) (n : ℕ) (plain : Memory) (rests slice lefts rests' : List (List Kept)) (len : ℕ) (history history' : List Entry) (wrong : Option ℕ)
+    (told told' : Option (ℕ × ℕ)) → slice ≡ rests → len ≡ length rests → length lefts ≡ length slice → AreLeft n plain slice lefts wrong
+    → (wrong ≡ None → AreTaken n 0 plain slice lefts history history') → Tells seats wrong (take len (lefts ++ drop (length lefts) rests)) rests' told told'
+    → Takes seats n plain rests lefts rests' history history' wrong told told'
+taken_in seats n plain rests slice lefts rests' len history history' wrong told told' is ok many left taken tells =
+    let same : length lefts ≡ length rests = many ∙ ap (λ (l : List (List Kept)). length l) is in
+    record {
+      left = subst (λ (l : List (List Kept)). AreLeft n plain l lefts wrong) is left;
+      taken = λ none. subst (λ (l : List (List Kept)). AreTaken n 0 plain l lefts history history') is (taken none);
+      many = same;
+      tells = subst (λ (l : List (List Kept)). Tells seats wrong l rests' told told') (written_back rests lefts len ok same) tells;
+    }
 
 -- one entry more
 pub goes_on : (seats : List (List Kept)) (entries : List Entry) (entry : Entry) (n : ℕ) (plain plain' : Memory) (rests lefts rests' mids rests'' : List (List Kept))
@@ -114,3 +130,16 @@ goes_to_end seats entries n k plain rests lefts rests' rests'' history history' 
           comes_to_end empty_memory plain seats rests lefts entries n history history' (omega (arith, end)) (goes.comes soon.not_told) (takes.taken soon.not_found)
           (λ w. ap (λ (x : List (List Kept)). left_of x w) (sym soon.same ∙ sym after.same) ∙ last.1 w);
     }
+
+-- what the end hands out: the history, or the read that was told
+pub ended : {A : Type 0} (items : A → List Entry) (seats : List (List Kept)) (entries : List Entry) (n : ℕ) (rests : List (List Kept)) (history : List Entry)
+    (told : Option (ℕ × ℕ)) (r : Result A FinishError) → Ends seats entries n rests history told
+    → IfOk r (λ whole. (told ≡ None) × (items whole ≡ history)) → IfErr r (λ error. (w i : ℕ) × ((told ≡ Some (w, i)) × (error ≡ ReadError w i)))
+    → IfOk r (λ whole. Walks 0 empty_memory seats entries [] (items whole)) × (OnOk r (AreRight seats entries) × IfErr r (IsWalkFault seats entries))
+ended items seats entries n rests history told (Ok whole) ends ok fault = (
+  subst (λ (es : List Entry). Walks 0 empty_memory seats entries [] es) (sym ok.1) (ends.walks ok.0),
+  (looks_right seats entries n rests (subst (λ (t : Option (ℕ × ℕ)). Looks seats entries n rests t) ok.0 ends.looks) ends.none_left, tt),
+)
+ended items seats entries n rests history told (Err error) ends ok (w, i, (is, same)) =
+    let differs = looks_wrong seats entries n w i rests (subst (λ (t : Option (ℕ × ℕ)). Looks seats entries n rests t) is ends.looks) ends.none_left in
+    (tt, (tt, subst (λ (e : FinishError). IsWalkFault seats entries e) (sym same) differs))

@@ -51,6 +51,14 @@ pub fn weave(alloc: Global, seats: &[Seat], journal: &Journal) -> Result<Vec<Ent
     tell(seats, &mut rests, wrong, &mut told);
     let late = first_left(rests.as_slice());
     tell(seats, &mut rests, late, &mut told);
+    unless_told(history, told)
+}
+
+// The history, where no read was told.
+fn unless_told(history: Vec<Entry>, told: Option<(u32, usize)>) -> Result<Vec<Entry>, FinishError>
+    ensures ok { IfOk result (λ whole. (told ≡ None) × (whole.items ≡ history.items)) }
+    ensures fault { IfErr result (λ error. (seat call : ℕ) × ((told ≡ Some (seat, call)) × (error ≡ FinishError.ReadDiffers seat call))) }
+{
     match told {
         None => Ok(history),
         Some((seat, call)) => Err(FinishError::ReadDiffers { seat, call }),

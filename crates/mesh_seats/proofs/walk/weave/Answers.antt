@@ -1,10 +1,10 @@
-use Rattle.std.proofs.Common.{◌≡◌, ℕ, ◌<◌, [], List, ◌∷◌, ◌++◌, length, sym, ◌∙◌, ap, subst, arith, None, Option, slice_index_or}
+use Rattle.std.proofs.Common.{rules, ◌≡◌, ◌<◌, [], List, ◌∷◌, ◌++◌, length, sym, ◌∙◌, ap, subst, arith, None, slice_index_or}
 use Rattle.model_memory.specs.Plain.{Entry}
 use Rattle.model_memory.specs.Reads.{Kept}
 use Rattle.mesh_seats.specs.Seat.{calls_of_seats}
-use Rattle.mesh_seats.specs.Walk.{AreLeft, AreTaken, IsFirstLeft, IsStep, Tells}
-use Rattle.mesh_seats.proofs.WalkPlaces.{Looks, looks_first, looks_right, looks_wrong}
-use Rattle.mesh_seats.proofs.WalkRounds.{Takes, goes_on, goes_to_end, written_back}
+use Rattle.mesh_seats.specs.Walk.{IsFirstLeft, IsStep, Tells}
+use Rattle.mesh_seats.proofs.WalkPlaces.{Looks, looks_first}
+use Rattle.mesh_seats.proofs.WalkRounds.{ended, goes_on, goes_to_end, taken_in, written_back}
 use Rattle.mesh_seats.proofs.MadeSeats.{calls_many}
 use Rattle.mesh_seats.proofs.BuiltHistories.{comes_first}
 use Rattle.mesh_seats.proofs.walk.weave.Goals as goal
@@ -30,15 +30,9 @@ loop-n-preserved c =
     let at : slice_index_or c.args.journal.now.entries c.loop-n.n entry ≡ entry = sym (c.entry-next.ensures entry) ∙ sym c.next.view_is in
     let known : entry.worker < length seats =
     (let k = subst (λ (e : Entry). e.worker < length c.args.seats.now) at (c.requires.known c.loop-n.n entry below) in let m = calls_many c.args.seats.now in omega (arith, k, m)) in
-    let many : length c.take_all.new.rests ≡ length rests = c.in_ok-wrong.ensures.length ∙ ap (λ (l : List (List Kept)). length l) c.as_mut_slice.ensures.value in
-    let back = written_back rests c.take_all.new.rests c.loop-n.rests.len c.loop-n.rests.ok.0 many in
-    let takes : Takes seats c.loop-n.n plain rests c.take_all.new.rests c.tell.new.rests.items c.loop-n.history.items c.take_all.new.history.items c.in_ok-wrong.wrong c.loop-n.told c.tell.new.told = record {
-      left = subst (λ (l : List (List Kept)). AreLeft c.loop-n.n plain l c.take_all.new.rests c.in_ok-wrong.wrong) c.as_mut_slice.ensures.value c.in_ok-wrong.ensures.left;
-      taken = λ none. subst (λ (l : List (List Kept)). AreTaken c.loop-n.n 0 plain l c.take_all.new.rests c.loop-n.history.items c.take_all.new.history.items) c.as_mut_slice.ensures.value
-          (c.in_ok-wrong.ensures.taken none);
-      many = many;
-      tells = subst (λ (l : List (List Kept)). Tells seats c.in_ok-wrong.wrong l c.tell.new.rests.items c.loop-n.told c.tell.new.told) back c.tell.ensures;
-    } in
+    let takes = taken_in seats c.loop-n.n plain rests c.as_mut_slice.result.now c.take_all.new.rests c.tell.new.rests.items c.loop-n.rests.len c.loop-n.history.items
+    c.take_all.new.history.items c.in_ok-wrong.wrong c.loop-n.told c.tell.new.told c.as_mut_slice.ensures.value c.loop-n.rests.ok.0 c.in_ok-wrong.ensures.length
+    c.in_ok-wrong.ensures.left c.in_ok-wrong.ensures.taken c.tell.ensures in
     let stepped : IsStep entry.worker c.tell.new.rests.items c.step-early.new.rests c.step-early.result =
     subst (λ (l : List (List Kept)). IsStep entry.worker l c.step-early.new.rests c.step-early.result) c.as_mut_slice-in-loop-n.ensures.value c.step-early.ensures.step in
     let many' : length c.step-early.new.rests ≡ length c.tell.new.rests.items =
@@ -52,73 +46,19 @@ loop-n-preserved c =
     c.loop-n.history.items c.take_all.new.history.items c.push.new.self.items c.in_ok-wrong.wrong c.step-early.result c.loop-n.told c.tell.new.told c.tell-in-loop-n.new.told
     below at known c.loop-n.invariant takes stepped many' told c.in_ok-apply.ensures.done pushed
 
-pub returns-in-None-clause-walked : goal.returns-in-None-clause-walked
-returns-in-None-clause-walked c =
+pub returns : goal.returns
+returns c =
     let seats = calls_of_seats c.args.seats.now in
-    let rests = c.loop-n.rests.items in
-    let end : length c.args.journal.now.entries ≡ c.loop-n.n = (let m = c.len-n-end.ensures.value in let a = c.loop-n-test.false in let b = c.loop-n.auto.n-end in omega (arith, m, a, b)) in
-    let seen : c.len.result ≡ c.loop-n.n = c.len.ensures.value ∙ end in
-    let many : length c.take_all-2.new.rests ≡ length rests = c.in_ok-wrong-2.ensures.length ∙ ap (λ (l : List (List Kept)). length l) c.as_mut_slice-2.ensures.value in
-    let back = written_back rests c.take_all-2.new.rests c.loop-n.rests.len c.loop-n.rests.ok.0 many in
-    let takes : Takes seats c.len.result c.loop-n.plain rests c.take_all-2.new.rests c.tell-2.new.rests.items c.loop-n.history.items c.take_all-2.new.history.items c.in_ok-wrong-2.wrong
-    c.loop-n.told c.tell-2.new.told = record {
-      left = subst (λ (l : List (List Kept)). AreLeft c.len.result c.loop-n.plain l c.take_all-2.new.rests c.in_ok-wrong-2.wrong) c.as_mut_slice-2.ensures.value c.in_ok-wrong-2.ensures.left;
-      taken = λ none. subst (λ (l : List (List Kept)). AreTaken c.len.result 0 c.loop-n.plain l c.take_all-2.new.rests c.loop-n.history.items c.take_all-2.new.history.items)
-          c.as_mut_slice-2.ensures.value (c.in_ok-wrong-2.ensures.taken none);
-      many = many;
-      tells = subst (λ (l : List (List Kept)). Tells seats c.in_ok-wrong-2.wrong l c.tell-2.new.rests.items c.loop-n.told c.tell-2.new.told) back c.tell-2.ensures;
-    } in
+    let entries = c.args.journal.now.entries in
+    let end : length entries ≡ c.loop-n.n = (let m = c.len-n-end.ensures.value in let a = c.loop-n-test.false in let b = c.loop-n.auto.n-end in omega (arith, m, a, b)) in
+    let takes = taken_in seats c.len.result c.loop-n.plain c.loop-n.rests.items c.as_mut_slice-2.result.now c.take_all-2.new.rests c.tell-2.new.rests.items c.loop-n.rests.len
+    c.loop-n.history.items c.take_all-2.new.history.items c.in_ok-wrong-2.wrong c.loop-n.told c.tell-2.new.told c.as_mut_slice-2.ensures.value c.loop-n.rests.ok.0
+    c.in_ok-wrong-2.ensures.length c.in_ok-wrong-2.ensures.left c.in_ok-wrong-2.ensures.taken c.tell-2.ensures in
     let first : IsFirstLeft c.tell-2.new.rests.items c.first_left-late.result =
     subst (λ (l : List (List Kept)). IsFirstLeft l c.first_left-late.result) c.as_slice.ensures.value c.first_left-late.ensures in
-    let ends = goes_to_end seats c.args.journal.now.entries c.loop-n.n c.len.result c.loop-n.plain rests c.take_all-2.new.rests c.tell-2.new.rests.items c.tell-3.new.rests.items
-    c.loop-n.history.items c.take_all-2.new.history.items c.in_ok-wrong-2.wrong c.first_left-late.result c.loop-n.told c.tell-2.new.told c.tell-3.new.told end seen c.loop-n.invariant takes first
-    c.tell-3.ensures in
-    ends.walks c.in-None.is
-
-pub returns-in-None-clause-right : goal.returns-in-None-clause-right
-returns-in-None-clause-right c =
-    let seats = calls_of_seats c.args.seats.now in
-    let rests = c.loop-n.rests.items in
-    let end : length c.args.journal.now.entries ≡ c.loop-n.n = (let m = c.len-n-end.ensures.value in let a = c.loop-n-test.false in let b = c.loop-n.auto.n-end in omega (arith, m, a, b)) in
-    let seen : c.len.result ≡ c.loop-n.n = c.len.ensures.value ∙ end in
-    let many : length c.take_all-2.new.rests ≡ length rests = c.in_ok-wrong-2.ensures.length ∙ ap (λ (l : List (List Kept)). length l) c.as_mut_slice-2.ensures.value in
-    let back = written_back rests c.take_all-2.new.rests c.loop-n.rests.len c.loop-n.rests.ok.0 many in
-    let takes : Takes seats c.len.result c.loop-n.plain rests c.take_all-2.new.rests c.tell-2.new.rests.items c.loop-n.history.items c.take_all-2.new.history.items c.in_ok-wrong-2.wrong
-    c.loop-n.told c.tell-2.new.told = record {
-      left = subst (λ (l : List (List Kept)). AreLeft c.len.result c.loop-n.plain l c.take_all-2.new.rests c.in_ok-wrong-2.wrong) c.as_mut_slice-2.ensures.value c.in_ok-wrong-2.ensures.left;
-      taken = λ none. subst (λ (l : List (List Kept)). AreTaken c.len.result 0 c.loop-n.plain l c.take_all-2.new.rests c.loop-n.history.items c.take_all-2.new.history.items)
-          c.as_mut_slice-2.ensures.value (c.in_ok-wrong-2.ensures.taken none);
-      many = many;
-      tells = subst (λ (l : List (List Kept)). Tells seats c.in_ok-wrong-2.wrong l c.tell-2.new.rests.items c.loop-n.told c.tell-2.new.told) back c.tell-2.ensures;
-    } in
-    let first : IsFirstLeft c.tell-2.new.rests.items c.first_left-late.result =
-    subst (λ (l : List (List Kept)). IsFirstLeft l c.first_left-late.result) c.as_slice.ensures.value c.first_left-late.ensures in
-    let ends = goes_to_end seats c.args.journal.now.entries c.loop-n.n c.len.result c.loop-n.plain rests c.take_all-2.new.rests c.tell-2.new.rests.items c.tell-3.new.rests.items
-    c.loop-n.history.items c.take_all-2.new.history.items c.in_ok-wrong-2.wrong c.first_left-late.result c.loop-n.told c.tell-2.new.told c.tell-3.new.told end seen c.loop-n.invariant takes first
-    c.tell-3.ensures in
-    looks_right seats c.args.journal.now.entries c.loop-n.n c.tell-3.new.rests.items
-    (subst (λ (t : Option (ℕ × ℕ)). Looks seats c.args.journal.now.entries c.loop-n.n c.tell-3.new.rests.items t) c.in-None.is ends.looks) ends.none_left
-
-pub returns-clause-fault : goal.returns-clause-fault
-returns-clause-fault c =
-    let seats = calls_of_seats c.args.seats.now in
-    let rests = c.loop-n.rests.items in
-    let end : length c.args.journal.now.entries ≡ c.loop-n.n = (let m = c.len-n-end.ensures.value in let a = c.loop-n-test.false in let b = c.loop-n.auto.n-end in omega (arith, m, a, b)) in
-    let seen : c.len.result ≡ c.loop-n.n = c.len.ensures.value ∙ end in
-    let many : length c.take_all-2.new.rests ≡ length rests = c.in_ok-wrong-2.ensures.length ∙ ap (λ (l : List (List Kept)). length l) c.as_mut_slice-2.ensures.value in
-    let back = written_back rests c.take_all-2.new.rests c.loop-n.rests.len c.loop-n.rests.ok.0 many in
-    let takes : Takes seats c.len.result c.loop-n.plain rests c.take_all-2.new.rests c.tell-2.new.rests.items c.loop-n.history.items c.take_all-2.new.history.items c.in_ok-wrong-2.wrong
-    c.loop-n.told c.tell-2.new.told = record {
-      left = subst (λ (l : List (List Kept)). AreLeft c.len.result c.loop-n.plain l c.take_all-2.new.rests c.in_ok-wrong-2.wrong) c.as_mut_slice-2.ensures.value c.in_ok-wrong-2.ensures.left;
-      taken = λ none. subst (λ (l : List (List Kept)). AreTaken c.len.result 0 c.loop-n.plain l c.take_all-2.new.rests c.loop-n.history.items c.take_all-2.new.history.items)
-          c.as_mut_slice-2.ensures.value (c.in_ok-wrong-2.ensures.taken none);
-      many = many;
-      tells = subst (λ (l : List (List Kept)). Tells seats c.in_ok-wrong-2.wrong l c.tell-2.new.rests.items c.loop-n.told c.tell-2.new.told) back c.tell-2.ensures;
-    } in
-    let first : IsFirstLeft c.tell-2.new.rests.items c.first_left-late.result =
-    subst (λ (l : List (List Kept)). IsFirstLeft l c.first_left-late.result) c.as_slice.ensures.value c.first_left-late.ensures in
-    let ends = goes_to_end seats c.args.journal.now.entries c.loop-n.n c.len.result c.loop-n.plain rests c.take_all-2.new.rests c.tell-2.new.rests.items c.tell-3.new.rests.items
-    c.loop-n.history.items c.take_all-2.new.history.items c.in_ok-wrong-2.wrong c.first_left-late.result c.loop-n.told c.tell-2.new.told c.tell-3.new.told end seen c.loop-n.invariant takes first
-    c.tell-3.ensures in
-    looks_wrong seats c.args.journal.now.entries c.loop-n.n c.in-Some.seat c.in-Some.call c.tell-3.new.rests.items
-    (subst (λ (t : Option (ℕ × ℕ)). Looks seats c.args.journal.now.entries c.loop-n.n c.tell-3.new.rests.items t) c.in-Some.is ends.looks) ends.none_left
+    let ends = goes_to_end seats entries c.loop-n.n c.len.result c.loop-n.plain c.loop-n.rests.items c.take_all-2.new.rests c.tell-2.new.rests.items c.tell-3.new.rests.items
+    c.loop-n.history.items c.take_all-2.new.history.items c.in_ok-wrong-2.wrong c.first_left-late.result c.loop-n.told c.tell-2.new.told c.tell-3.new.told end
+    (c.len.ensures.value ∙ end) c.loop-n.invariant takes first c.tell-3.ensures in
+    let out = ended (λ whole. whole.items) seats entries c.loop-n.n c.tell-3.new.rests.items c.take_all-2.new.history.items c.tell-3.new.told c.unless_told.result ends
+    c.unless_told.ensures.ok c.unless_told.ensures.fault in
+    record { walked = out.0; right = out.1.0; kept = search rules; fault = out.1.1 }
