@@ -5,40 +5,29 @@ use Rattle.model_memory.specs.Plain.{Entry}
 use Rattle.mesh_shared.specs.Runs.{IsBeginning, commands_by, script_of}
 use Rattle.mesh_shared.specs.RunLaws.{ExchangedIsNoBeginning, ExchangedIsNoRun, FirstAloneIsNoRun, StrangerIsNoBeginning, StrangerIsNoRun, WholeIsRun, WithoutLastIsBegun, WithoutLastIsNoRun, refused_new, two_scripts, whole_run, without_last}
 
+-- what holds of 0 and of 1
+below_two : (P : ℕ → Type 0) → P 0 → P 1 → (w : ℕ) → w < 2 → P w
+below_two P first second zero below = first
+below_two P first second (suc zero) below = second
+below_two P first second (suc (suc w)) below = absurd (omega (arith, below))
+
 pub whole_is_run : WholeIsRun
 whole_is_run = record {
   legal = (empty_memory, (refl, refl), (empty_memory, (refl, refl), (empty_memory, (refl, refl), refl)));
-  whole = own;
+  whole = below_two (λ w. commands_by w whole_run ≡ script_of two_scripts w) refl refl;
   no_other = known;
 }
   where
-    own : (w : ℕ) → w < 2 → commands_by w whole_run ≡ script_of two_scripts w
-    own zero below = refl
-    own (suc zero) below = refl
-    own (suc (suc w)) below = absurd (omega (arith, below))
-
     known : (i : ℕ) (d : Entry) → i < 3 → (slice_index_or whole_run i d).worker < 2
     known zero d below = omega arith
-    known (suc zero) d below = omega arith
-    known (suc (suc zero)) d below = omega arith
-    known (suc (suc (suc i))) d below = absurd (omega (arith, below))
+    known (suc i) d below = below_two (λ k. (slice_index_or whole_run (suc k) d).worker < 2) (omega arith) (omega arith) i (omega (arith, below))
 
 pub without_last_is_begun : WithoutLastIsBegun
 without_last_is_begun = record {
   legal = (empty_memory, (refl, refl), (empty_memory, (refl, refl), refl));
-  begun = own;
-  no_other = known;
+  begun = below_two (λ w. IsBeginning (commands_by w without_last) (script_of two_scripts w)) refl refl;
+  no_other = λ i d. below_two (λ k. (slice_index_or without_last k d).worker < 2) (omega arith) (omega arith) i;
 }
-  where
-    own : (w : ℕ) → w < 2 → IsBeginning (commands_by w without_last) (script_of two_scripts w)
-    own zero below = refl
-    own (suc zero) below = refl
-    own (suc (suc w)) below = absurd (omega (arith, below))
-
-    known : (i : ℕ) (d : Entry) → i < 2 → (slice_index_or without_last i d).worker < 2
-    known zero d below = omega arith
-    known (suc zero) d below = omega arith
-    known (suc (suc i)) d below = absurd (omega (arith, below))
 
 pub without_last_is_no_run : WithoutLastIsNoRun
 without_last_is_no_run end run = let w = run.whole 1 (omega arith) in cc w

@@ -9,12 +9,8 @@ use Rattle.mesh_shared.specs.declared.stops.Stop.TheVariants.{Memory, Thread, Hi
 of_three : (a b c : Stop) → first_of a (first_of b c) ≡ first_of (first_of a b) c
 of_three Memory b c = refl
 of_three Thread Memory c = refl
-of_three Thread Thread Memory = refl
-of_three Thread Thread Thread = refl
-of_three Thread Thread History = refl
-of_three Thread History Memory = refl
-of_three Thread History Thread = refl
-of_three Thread History History = refl
+of_three Thread Thread c = elim c as (λ (x : Stop). first_of Thread (first_of Thread x) ≡ first_of Thread x) [ Memory ↦ refl | Thread ↦ refl | History ↦ refl ]
+of_three Thread History c = refl
 of_three History b c = refl
 
 -- of three ends

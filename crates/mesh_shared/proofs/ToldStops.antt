@@ -5,24 +5,15 @@ use Rattle.mesh_shared.specs.Stops.{either_stop, first_of, first_stop}
 use Rattle.mesh_shared.specs.declared.stops.Stop.{Stop}
 use Rattle.mesh_shared.specs.declared.stops.Stop.TheVariants.{Memory, Thread, History}
 
--- a stop is not before what is told of it and of others
-first_low : (a b : Stop) → place_of (first_of a b) ≤ place_of a
-first_low Memory b = omega arith
-first_low Thread Memory = omega arith
-first_low Thread Thread = omega arith
-first_low Thread History = omega arith
-first_low History Memory = omega arith
-first_low History Thread = omega arith
-first_low History History = omega arith
-
-first_low_too : (a b : Stop) → place_of (first_of a b) ≤ place_of b
-first_low_too Memory b = omega arith
-first_low_too Thread Memory = omega arith
-first_low_too Thread Thread = omega arith
-first_low_too Thread History = omega arith
-first_low_too History Memory = omega arith
-first_low_too History Thread = omega arith
-first_low_too History History = omega arith
+-- neither of two stops is before what is told of them
+first_low : (a b : Stop) → (place_of (first_of a b) ≤ place_of a) × (place_of (first_of a b) ≤ place_of b)
+first_low Memory b = (omega arith, omega arith)
+first_low Thread Memory = (omega arith, omega arith)
+first_low Thread Thread = (omega arith, omega arith)
+first_low Thread History = (omega arith, omega arith)
+first_low History Memory = (omega arith, omega arith)
+first_low History Thread = (omega arith, omega arith)
+first_low History History = (omega arith, omega arith)
 
 -- of two one is told
 one_of_two : (a b c : Stop) → first_of a b ≡ c → (a ≡ c) ⊎ (b ≡ c)
@@ -61,7 +52,7 @@ nothing_is_told_of_none (end ∷ rest) stop (suc i) is at = nothing_is_told_of_n
 -- nothing that stopped a thread comes before what is told
 low_of : (a : Stop) (told : Option Stop) (stop : Stop) → either_stop (Some a) told ≡ Some stop → place_of stop ≤ place_of a
 low_of a None stop is = let same : a ≡ stop = cc is in subst (λ (s : Stop). place_of s ≤ place_of a) same (omega arith)
-low_of a (Some b) stop is = let same : first_of a b ≡ stop = cc is in subst (λ (s : Stop). place_of s ≤ place_of a) same (first_low a b)
+low_of a (Some b) stop is = let same : first_of a b ≡ stop = cc is in subst (λ (s : Stop). place_of s ≤ place_of a) same (first_low a b).0
 
 low_behind : (end : Option Stop) (told : Option Stop) (stop other : Stop) → either_stop end told ≡ Some stop → (told ≡ None → ⊥)
     → ((b : Stop) → told ≡ Some b → place_of b ≤ place_of other) → place_of stop ≤ place_of other
@@ -69,7 +60,7 @@ low_behind None told stop other is some low = low stop is
 low_behind (Some a) None stop other is some low = absurd (some refl)
 low_behind (Some a) (Some b) stop other is some low =
     let same : first_of a b ≡ stop = cc is in
-    let one : place_of (first_of a b) ≤ place_of b = first_low_too a b in
+    let one : place_of (first_of a b) ≤ place_of b = (first_low a b).1 in
     let two : place_of b ≤ place_of other = low b refl in
     subst (λ (s : Stop). place_of s ≤ place_of other) same (omega (arith, one, two))
 

@@ -12,15 +12,22 @@ use mesh_search::{Actor, Gate, Point};
 use mesh_seats::{Seat, is_read};
 use std::sync::Wait;
 
-impl Shared {
-    /// One attempt of a seat's mutator at a command, as `call` tells.
-    pub(crate) fn attempt<R: Wait, G: Gate>(
-        &self,
-        rt: &R,
-        gate: &G,
-        seat: &mut Seat,
-        command: &Command,
-    ) -> Attempt
+/// A mutator of a shared book, past a gate.
+#[derive(Drop)]
+pub(crate) struct Mutator<'a, R, G> {
+    pub rt: &'a R,
+    pub gate: &'a G,
+    pub shared: &'a Shared,
+}
+
+impl<'a, R: Wait, G: Gate> Mutator<'a, R, G> {
+    /// A mutator of this book.
+    pub(crate) fn of(rt: &'a R, gate: &'a G, shared: &'a Shared) -> Mutator<'a, R, G> {
+        Mutator { rt, gate, shared }
+    }
+
+    /// One attempt at a command, as `call` tells.
+    pub(crate) fn attempt(&self, seat: &mut Seat, command: &Command) -> Attempt
         requires { IsInRange command.now }
         ensures taken { IsTaken seat.old seat.new command.now result }
         ensures full { seat.old.room ≤ length seat.old.calls → result ≡ Attempt.HistoryFull }
@@ -30,30 +37,25 @@ impl Shared {
             return Attempt::HistoryFull;
         }
         if is_read(command) {
-            let book = self.book.read(rt);
+            let book = self.shared.book.read(self.rt);
             let call = counted(seat.calls().len());
-            gate.arrive(Actor::Worker(seat.number()), Point::Reading(call));
+            self.gate
+                .arrive(Actor::Worker(seat.number()), Point::Reading(call));
             return Attempt::Done(look(&book, seat, command));
         }
-        act(&mut self.book.write(rt), seat, command)
+        act(&mut self.shared.book.write(self.rt), seat, command)
     }
 
     /// Attempts until one isn't Blocked.
-    pub(crate) fn retry<R: Wait, G: Gate>(
-        &self,
-        rt: &R,
-        gate: &G,
-        seat: &mut Seat,
-        command: &Command,
-    ) -> Attempt
+    pub(crate) fn retry(&self, seat: &mut Seat, command: &Command) -> Attempt
         requires { IsInRange command.now }
         ensures taken { IsTaken seat.old seat.new command.now result }
         ensures full { seat.old.room ≤ length seat.old.calls → result ≡ Attempt.HistoryFull }
         ensures read { is_read command.now ≡ true → (result ≡ Attempt.HistoryFull) ↔ (seat.old.room ≤ length seat.old.calls) }
         ensures not_blocked { result ≡ Attempt.Blocked → ⊥ }
     {
-        for _ in rt.forever() {
-            let attempt = self.attempt(rt, gate, seat, command);
+        for _ in self.rt.forever() {
+            let attempt = self.attempt(seat, command);
             if !is_blocked(&attempt) {
                 return attempt;
             }
@@ -62,43 +64,29 @@ impl Shared {
     }
 
     /// Attempts until one isn't Blocked, or, where there is an end to the tries, until so many were made.
-    pub(crate) fn insist<R: Wait, G: Gate>(
-        &self,
-        rt: &R,
-        gate: &G,
-        seat: &mut Seat,
-        command: &Command,
-        tries: Option<u32>,
-    ) -> Attempt
+    pub(crate) fn insist(&self, seat: &mut Seat, command: &Command, tries: Option<u32>) -> Attempt
         requires { IsInRange command.now }
         ensures taken { IsTaken seat.old seat.new command.now result }
         ensures not_blocked { tries ≡ None → result ≡ Attempt.Blocked → ⊥ }
     {
         match tries {
-            None => self.retry(rt, gate, seat, command),
-            Some(tries) => self.try_up_to(rt, gate, seat, command, tries),
+            None => self.retry(seat, command),
+            Some(tries) => self.try_up_to(seat, command, tries),
         }
     }
 
     // At most so many attempts, and one at least.
-    fn try_up_to<R: Wait, G: Gate>(
-        &self,
-        rt: &R,
-        gate: &G,
-        seat: &mut Seat,
-        command: &Command,
-        tries: u32,
-    ) -> Attempt
+    fn try_up_to(&self, seat: &mut Seat, command: &Command, tries: u32) -> Attempt
         requires { IsInRange command.now }
         ensures { IsTaken seat.old seat.new command.now result }
     {
         for _ in 1..tries {
-            let attempt = self.attempt(rt, gate, seat, command);
+            let attempt = self.attempt(seat, command);
             if !is_blocked(&attempt) {
                 return attempt;
             }
         }
-        self.attempt(rt, gate, seat, command)
+        self.attempt(seat, command)
     }
 }
 

@@ -8,6 +8,7 @@ ghost use Rattle.mesh_mutator.specs.Book.{memory_in};
 ghost use Rattle.mesh_seats.specs.Seat.{IsEmptySeats, IsTaken};
 ghost use Rattle.mesh_seats.specs.Settle.{IsEnd, IsFault};
 
+use crate::calling::Mutator;
 use mesh_mutator::{Attempt, Book, Command};
 use mesh_search::NoGate;
 use mesh_seats::{Ended, FinishError, OpenError, Seat, settle};
@@ -65,7 +66,7 @@ impl Shared {
         ensures full { seat.old.room ≤ length seat.old.calls → result ≡ Attempt.HistoryFull }
         ensures read { is_read command.now ≡ true → (result ≡ Attempt.HistoryFull) ↔ (seat.old.room ≤ length seat.old.calls) }
     {
-        self.attempt(rt, &NoGate, seat, command)
+        Mutator::of(rt, &NoGate, self).attempt(seat, command)
     }
 
     /// The same, again while it is Blocked: it may wait for as long as a page stays read-only.
@@ -76,7 +77,7 @@ impl Shared {
         ensures read { is_read command.now ≡ true → (result ≡ Attempt.HistoryFull) ↔ (seat.old.room ≤ length seat.old.calls) }
         ensures not_blocked { result ≡ Attempt.Blocked → ⊥ }
     {
-        self.retry(rt, &NoGate, seat, command)
+        Mutator::of(rt, &NoGate, self).retry(seat, command)
     }
 
     /// Takes the lock away, and settles its book with the seats.

@@ -4,7 +4,7 @@ ghost use Rattle.std.specs.List.{All};
 ghost use Rattle.model_words.specs.Commands.{IsInRange};
 ghost use Rattle.mesh_shared.specs.Runs.{HasWorked};
 
-use crate::calling::counted;
+use crate::calling::{Mutator, counted};
 use crate::shared::Shared;
 use crate::stops::Stop;
 use mesh_mutator::{Attempt, Command};
@@ -63,8 +63,9 @@ fn work<R: Wait, G: Gate>(
     requires range { All IsInRange script.now }
     ensures { HasWorked tries script.now seat.new.calls result }
 {
+    let mutator = Mutator::of(rt, gate, shared);
     for i in 0..script.len() {
-        match shared.insist(rt, gate, seat, &script[i], tries) {
+        match mutator.insist(seat, &script[i], tries) {
             Attempt::Done(_) => gate.arrive(
                 Actor::Worker(seat.number()),
                 Point::Called(counted(i)),
