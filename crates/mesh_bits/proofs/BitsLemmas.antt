@@ -51,6 +51,12 @@ clear_put old new width i bit h was puts = record {
   clear_above = λ j above below. let apart : j ≢ i = omega arith in puts.others j below apart ∙ was.clear_above j above below;
 }
 
+-- a bit of a set is read
+pub ruleset bit_read = (below_width, member_has)
+
+-- one is put
+pub ruleset bit_put = (below_width, members_put, clear_put)
+
 -- one word with one bit put
 pub puts_in_word : (words : List ℕ) (i word : ℕ) (bit : Bool) → i / 64 < length words → nat_eq (bit_at word (i % 64)) 1 ≡ bit
     → ((k : ℕ) → k < 64 → k ≢ i % 64 → bit_at word k ≡ bit_at (slice_index words (i / 64)) k) → PutsBit words (slice_set words (i / 64) word) i bit

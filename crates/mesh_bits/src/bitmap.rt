@@ -66,6 +66,7 @@ impl Bits {
     }
 
     /// Whether `i` is in the set.
+    #[tactic(auto, using(crate::proofs::BitsLemmas::bit_read))]
     pub fn get(&self, i: u32) -> bool
         requires { i < length self.now }
         ensures { result ≡ is_member self.now i }
@@ -74,6 +75,7 @@ impl Bits {
     }
 
     /// Adds `i` to the set.
+    #[tactic(auto, using(crate::proofs::BitsLemmas::bit_put))]
     pub fn set(&mut self, i: u32)
         requires { i < length self.old }
         ensures { self.new ≡ slice_set self.old i true }
@@ -82,6 +84,7 @@ impl Bits {
     }
 
     /// Takes `i` out of the set.
+    #[tactic(auto, using(crate::proofs::BitsLemmas::bit_put))]
     pub fn clear(&mut self, i: u32)
         requires { i < length self.old }
         ensures { self.new ≡ slice_set self.old i false }

@@ -13,6 +13,13 @@ at_bit words first left place k whole few fits before =
     let bits = rw start at (clear_count_bits words (first / 64) k few fits) in
     omega (arith, bits, before)
 
+-- the place of a bit among the clear numbers
+place_of : (words : List ℕ) (first left place k : ℕ) → first % 64 ≡ 0 → k < 64 → slice_index words (first / 64) < 2 ^ 64
+    → left + clear_count (members words first) ≡ place → low_ones k (bit_not w64 (slice_index words (first / 64))) ≡ left
+    → clear_count (members words (first + k)) ≡ place
+place_of words first left place k whole below fits before ones =
+    let bit = at_bit words first left place k whole (omega (arith, below)) fits before in omega (arith, bit, ones)
+
 -- no more clear numbers are below the width than below a number past it
 up_to : (words : List ℕ) (width i place : ℕ) → width ≤ i → clear_count (members words i) ≤ place → clear_count (members words width) ≤ place
 up_to words width i place above count =
@@ -44,18 +51,11 @@ returns-then-i-width-clause-clear c =
 
 pub returns-then-i-width-clause-place : goal.returns-then-i-width-clause-place
 returns-then-i-width-clause-place c =
-    let fits : slice_index c.args.words.now (c.skip_words-first.result.0 / 64) < 2 ^ 64 = search rules in
-    let few = c.in_ok-i.ensures.one.0 in
-    let bit = at_bit c.args.words.now c.skip_words-first.result.0 c.skip_words-first.result.1 c.args.place c.in_ok-i.field-0
-    c.skip_words-first.ensures.word (omega (arith, few)) fits c.skip_words-first.ensures.place in
-    let place = c.in_ok-i.ensures.place in
-    omega (arith, bit, place)
+    place_of c.args.words.now c.skip_words-first.result.0 c.skip_words-first.result.1 c.args.place c.in_ok-i.field-0
+    c.skip_words-first.ensures.word c.in_ok-i.ensures.one.0 (search rules) c.skip_words-first.ensures.place c.in_ok-i.ensures.place
 
 pub returns-else-i-width-clause-none : goal.returns-else-i-width-clause-none
 returns-else-i-width-clause-none c =
-    let fits : slice_index c.args.words.now (c.skip_words-first.result.0 / 64) < 2 ^ 64 = search rules in
-    let few = c.in_ok-i.ensures.one.0 in
-    let bit = at_bit c.args.words.now c.skip_words-first.result.0 c.skip_words-first.result.1 c.args.place c.in_ok-i.field-0
-    c.skip_words-first.ensures.word (omega (arith, few)) fits c.skip_words-first.ensures.place in
-    let place = c.in_ok-i.ensures.place in
-    up_to c.args.words.now c.args.width _ c.args.place c.if-i-width.false (omega (arith, bit, place))
+    let same = place_of c.args.words.now c.skip_words-first.result.0 c.skip_words-first.result.1 c.args.place c.in_ok-i.field-0
+    c.skip_words-first.ensures.word c.in_ok-i.ensures.one.0 (search rules) c.skip_words-first.ensures.place c.in_ok-i.ensures.place in
+    up_to c.args.words.now c.args.width _ c.args.place c.if-i-width.false (omega (arith, same))

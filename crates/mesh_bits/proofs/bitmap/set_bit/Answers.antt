@@ -1,12 +1,10 @@
-use Rattle.std.proofs.Common.{◌<◌, ◌%◌, ◌/◌, slice_index, length, refl, true, arith, w64}
+use Rattle.std.proofs.Common.{◌%◌, ◌/◌, slice_index, refl, true, arith, w64}
 use Rattle.std.proofs.lemmas.Nat.Bits.{bit_at_set_same, bit_at_set_other}
 use Rattle.mesh_bits.proofs.BitsLemmas.{puts_in_word}
 use Rattle.mesh_bits.proofs.bitmap.set_bit.Goals as goal
 
 pub returns : goal.returns
 returns c =
-    let inside : c.args.i / 64 < length c.args.words.now = omega arith in
-    let bit : c.args.i % 64 < 64 = omega arith in
-    puts_in_word c.args.words.now c.args.i _ true inside
-    (rw (bit_at_set_same w64 (slice_index c.args.words.now (c.args.i / 64)) (c.args.i % 64) bit) refl)
-    (λ k below apart. bit_at_set_other w64 (slice_index c.args.words.now (c.args.i / 64)) (c.args.i % 64) bit k apart)
+    puts_in_word c.args.words.now c.args.i _ true (omega arith)
+    (rw (bit_at_set_same w64 (slice_index c.args.words.now (c.args.i / 64)) (c.args.i % 64) (omega arith)) refl)
+    (λ k below apart. bit_at_set_other w64 (slice_index c.args.words.now (c.args.i / 64)) (c.args.i % 64) (omega arith) k apart)
