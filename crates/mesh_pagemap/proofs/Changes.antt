@@ -7,7 +7,7 @@ use Rattle.std.specs.FinMap.{get, insert, remove, empty, get-insert, get-remove,
 use Rattle.std.proofs.lemmas.Bool.{cases_eq}
 use Rattle.mesh_pagemap.specs.declared.prot.Prot.{Prot}
 use Rattle.mesh_pagemap.specs.Entries.{Entries, is_mapped, IsMapped, page_of, is_read_only, reads_only, page_in, prot_in, Maps, Unmaps, Remaps, Protects}
-use Rattle.mesh_pagemap.proofs.Lookups.{tied_same, tied_other}
+use Rattle.mesh_pagemap.proofs.Lookups.{IsTable-set, get_filled, mapped_within, mapping-set_none, mapping-set_some, place_filled, tied_same, tied_other}
 
 -- whether an entry lets no store through
 abbrev read_only_in : Option (ℕ × Prot) → Bool
@@ -56,40 +56,44 @@ maps m v page prot free = record {
 }
 
 -- a virtual page that was mapped, and is not
-pub unmaps : (m : Entries) (v : ℕ) → IsMapped m v → Unmaps m (remove m v) v
+pub unmaps : (old new : Entries) (v : ℕ) → IsMapped old v → new ≡ remove old v → Unmaps old new v
 unfolding is_mapped page_of is_read_only
-unmaps m v mapped = record {
+unmaps old new v mapped entry = rw entry (record {
   was_mapped = mapped;
-  unmapped = ap is_some (get-remove_same m v);
-  no_page = ap page_in (get-remove_same m v);
-  not_read_only = ap read_only_in (get-remove_same m v);
-  other_mapped = λ q ne. ap is_some (get-remove_other m v q ne);
-  other_pages = λ q ne. ap page_in (get-remove_other m v q ne);
-  other_read_only = λ q ne. ap read_only_in (get-remove_other m v q ne);
-}
+  unmapped = ap is_some (get-remove_same old v);
+  no_page = ap page_in (get-remove_same old v);
+  not_read_only = ap read_only_in (get-remove_same old v);
+  other_mapped = λ q ne. ap is_some (get-remove_other old v q ne);
+  other_pages = λ q ne. ap page_in (get-remove_other old v q ne);
+  other_read_only = λ q ne. ap read_only_in (get-remove_other old v q ne);
+})
 
 -- a mapped virtual page that leads to another physical page
-pub remaps : (m : Entries) (v page : ℕ) → IsMapped m v → Remaps m (insert m v (page, prot_in (get m v))) v page
+pub remaps : (old new : Entries) (v page : ℕ) → IsMapped old v → new ≡ insert old v (page, prot_in (get old v)) → Remaps old new v page
 unfolding is_mapped page_of is_read_only
-remaps m v page mapped =
-    let put : ℕ × Prot = (page, prot_in (get m v)) in
-    record {
+remaps old new v page mapped entry =
+    let put : ℕ × Prot = (page, prot_in (get old v)) in
+    rw entry (record {
       was_mapped = mapped;
-      mapped = ap is_some (get-insert_same m v put);
-      page = ap page_in (get-insert_same m v put);
-      same_read_only = λ q. ⊎_elim (λ (e : q ≡ v). rw e (ap read_only_in (get-insert_same m v put))) (λ (ne : q ≢ v). ap read_only_in (get-insert_other m v q put ne)) (cases_eq q v);
-      other_mapped = λ q ne. ap is_some (get-insert_other m v q put ne);
-      other_pages = λ q ne. ap page_in (get-insert_other m v q put ne);
-    }
+      mapped = ap is_some (get-insert_same old v put);
+      page = ap page_in (get-insert_same old v put);
+      same_read_only = λ q. ⊎_elim (λ (e : q ≡ v). rw e (ap read_only_in (get-insert_same old v put))) (λ (ne : q ≢ v). ap read_only_in (get-insert_other old v q put ne)) (cases_eq q v);
+      other_mapped = λ q ne. ap is_some (get-insert_other old v q put ne);
+      other_pages = λ q ne. ap page_in (get-insert_other old v q put ne);
+    })
 
 -- a mapped virtual page with another protection
-pub protects : (m : Entries) (v : ℕ) (prot : Prot) → IsMapped m v → Protects m (insert m v (page_in (get m v), prot)) v prot
+pub protects : (old new : Entries) (v : ℕ) (prot : Prot) → IsMapped old v → new ≡ insert old v (page_in (get old v), prot) → Protects old new v prot
 unfolding is_mapped page_of is_read_only
-protects m v prot mapped = record {
-  was_mapped = mapped;
-  mapped = ap is_some (get-insert_same m v _);
-  read_only = ap read_only_in (get-insert_same m v _);
-  same_pages = λ q. ⊎_elim (λ (e : q ≡ v). rw e (ap page_in (get-insert_same m v (page_in (get m v), prot)))) (λ (ne : q ≢ v). ap page_in (get-insert_other m v q _ ne)) (cases_eq q v);
-  other_mapped = λ q ne. ap is_some (get-insert_other m v q _ ne);
-  other_read_only = λ q ne. ap read_only_in (get-insert_other m v q _ ne);
-}
+protects old new v prot mapped entry =
+    rw entry (record {
+      was_mapped = mapped;
+      mapped = ap is_some (get-insert_same old v _);
+      read_only = ap read_only_in (get-insert_same old v _);
+      same_pages = λ q. ⊎_elim (λ (e : q ≡ v). rw e (ap page_in (get-insert_same old v (page_in (get old v), prot)))) (λ (ne : q ≢ v). ap page_in (get-insert_other old v q _ ne)) (cases_eq q v);
+      other_mapped = λ q ne. ap is_some (get-insert_other old v q _ ne);
+      other_read_only = λ q ne. ap read_only_in (get-insert_other old v q _ ne);
+    })
+
+-- the entry of a virtual page is changed or taken out
+pub ruleset entry_changes = (mapped_within, place_filled, get_filled, mapping-set_some, mapping-set_none, IsTable-set)

@@ -46,6 +46,7 @@ impl Model for PageMap {
     ghost invariant = { λ a. IsTable a.table.items × (65536 ≤ vec_capacity a.table) };
 }
 
+#[tactic(auto, using(crate::proofs::Changes::entry_changes))]
 impl PageMap {
     /// The empty map. It takes all the memory that it will ever use.
     pub fn new(alloc: Global) -> Result<PageMap, AllocError>
