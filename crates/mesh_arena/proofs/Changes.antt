@@ -1,7 +1,7 @@
 -- What a change of one page does, by places.
-use Rattle.std.proofs.Common.{◌≡◌, ◌≢◌, ℕ, ◌+◌, ◌<◌, ◌≤◌, ◌++◌, true, false, cond, List, [], Option, Some, None, length, set, get_or, take, drop, replicate, refl, sym, ap, ◌∙◌, arith, rules, length-set, get_or-set_same, get_or-set_other, ⊎_elim}
+use Rattle.std.proofs.Common.{◌≡◌, ◌≢◌, ℕ, ◌+◌, ◌<◌, ◌≤◌, true, false, cond, List, [], Option, Some, None, length, set, get_or, replicate, refl, sym, ap, ◌∙◌, arith, rules, length-set, get_or-set_same, get_or-set_other, ⊎_elim}
 use Rattle.std.specs.Prelude.{not, unwrap_or, slice_range}
-use Rattle.std.proofs.lemmas.List.{length-replicate, take_at, get_or_past, get_or-replicate, places, same_lists}
+use Rattle.std.proofs.lemmas.List.{length-replicate, get_or_past, get_or-replicate, places, same_lists}
 use Rattle.std.proofs.lemmas.List.FromFn.{length-map-range_with_len, get_or-map-range_with_len}
 use Rattle.std.proofs.lemmas.Bool.{cases_lt}
 use Rattle.mesh_arena.specs.Pages.{Pages, IsTaken, is_taken, byte_at, bytes_of, free_count, blank_page, with_run, run_of, Takes, Gives, Writes}

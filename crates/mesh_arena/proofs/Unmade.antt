@@ -1,5 +1,5 @@
 -- Frames that were made, and behind them those that were not.
-use Rattle.std.proofs.Common.{◌≡◌, ℕ, ◌+◌, ◌-◌, ◌<◌, ◌≤◌, ◌++◌, ◌∷◌, [], false, List, Option, None, length, set, get_or, replicate, refl, sym, ap, ◌∙◌, arith, rules, length-set, ⊎_elim}
+use Rattle.std.proofs.Common.{◌≡◌, ℕ, ◌+◌, ◌-◌, ◌<◌, ◌≤◌, ◌++◌, ◌∷◌, [], false, List, Option, None, length, set, get_or, replicate, refl, sym, ap, ◌∙◌, arith, length-set, ⊎_elim}
 use Rattle.std.specs.Prelude.{is_some}
 use Rattle.std.proofs.Math.Seq.{set-append_seam}
 use Rattle.std.proofs.Common.{length-append, add-one}
@@ -7,6 +7,7 @@ use Rattle.std.proofs.lemmas.List.{append_assoc}
 use Rattle.std.proofs.lemmas.List.{length-replicate, get_or_past, get_or-replicate, get_or_append_left, get_or-append_right, set-append_left}
 use Rattle.std.proofs.lemmas.Bool.{cases_lt}
 use Rattle.mesh_arena.specs.Pages.{Pages, IsTaken, is_taken, content}
+use Rattle.mesh_arena.proofs.Taken.{content_read, taken-is_some}
 use Rattle.mesh_arena.specs.Tied.{with_unmade}
 
 nones : (m k : ℕ) → get_or {A = Option (List ℕ)} (replicate m None) k None ≡ None
@@ -67,3 +68,6 @@ set-next a n x h =
     let here : set (a ++ replicate (n - length a) None) (length a) x ≡ a ++ x ∷ rest = ap (λ s. set (a ++ s) (length a) x) (next_of n (length a) h) ∙ set-append_seam a None rest x in
     let there : (a ++ x ∷ []) ++ replicate (n - length (a ++ x ∷ [])) None ≡ a ++ x ∷ rest = ap (λ m. (a ++ x ∷ []) ++ replicate (n - m) None) (length-append a (x ∷ [])) ∙ append_assoc a (x ∷ []) rest in
     there ∙ sym here
+
+-- what a call on a frame rests on that was made
+pub ruleset made_frames = (made-below, taken-made, content-made, content_read, taken-is_some, set-made, length-with_unmade, lowest-made, set-next)

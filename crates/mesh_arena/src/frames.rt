@@ -1,5 +1,6 @@
 //! The frames of an arena.
 ghost use Rattle.std.specs.Prelude.{◌≡◌, ◌≢◌, ℕ, ◌+◌, ◌<◌, ◌≤◌, length, replicate, IfOk, IsSome, false, slice_set, unwrap_or, []};
+ghost use Rattle.mesh_arena.specs.Copies.{MayCopy};
 ghost use Rattle.mesh_arena.specs.Pages.{IsTaken, is_taken, content, bytes_of, blank_page, with_run, with_copy};
 
 use crate::frame::Frame;
@@ -88,6 +89,7 @@ fn copy_between(
     }
 }
 
+#[tactic(auto, using(crate::proofs::Unmade::made_frames))]
 impl Frames {
     /// So many free frames. It takes all the memory that they will ever use, and touches none of it.
     pub(crate) fn new(alloc: Global, count: usize) -> Result<Frames, AllocError>
@@ -164,11 +166,7 @@ impl Frames {
         to_off: usize,
         len: usize,
     )
-        requires from_taken { IsTaken self.old from }
-        requires to_taken { IsTaken self.old to }
-        requires apart { from ≢ to }
-        requires from_fits { from_off + len ≤ 4096 }
-        requires to_fits { to_off + len ≤ 4096 }
+        requires { MayCopy self.old from from_off to to_off len }
         ensures copied { self.new ≡ slice_set self.old to (Some
             (with_copy (bytes_of self.old to) to_off (bytes_of self.old from) from_off len)) }
         ensures from_sized { length (bytes_of self.old from) ≡ 4096 }

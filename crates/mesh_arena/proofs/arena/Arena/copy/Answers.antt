@@ -1,14 +1,11 @@
-use Rattle.std.proofs.Common.{arith}
+use Rattle.std.proofs.Common.{arith, rules}
 use Rattle.mesh_arena.specs.Pages.{run_of, length-run_of, byte_at}
 use Rattle.mesh_arena.proofs.Changes.{writes, part-run_of}
 use Rattle.mesh_arena.proofs.Ties.{tied_by_write}
 use Rattle.mesh_arena.proofs.arena.Arena.copy.Goals as goal
 
-pub copy-requires-clause-from_taken : goal.copy-requires-clause-from_taken
-copy-requires-clause-from_taken c = rw (c.index.ensures, c.self.view_is) c.requires.from_taken
-
-pub copy-requires-clause-to_taken : goal.copy-requires-clause-to_taken
-copy-requires-clause-to_taken c = rw (c.index-2.ensures, c.self.view_is) c.requires.to_taken
+pub copy-requires : goal.copy-requires
+copy-requires c = rw (c.index.ensures, c.index-2.ensures, c.self.view_is) (search rules)
 
 pub invariant_of-self : goal.invariant_of-self
 invariant_of-self c =

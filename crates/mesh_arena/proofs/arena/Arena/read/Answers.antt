@@ -1,4 +1,4 @@
-use Rattle.std.proofs.Common.{◌≡◌, ℕ, ◌+◌, arith, length, List, ap, sym, ◌∙◌}
+use Rattle.std.proofs.Common.{ℕ, ◌+◌, arith, length, List, ap, ◌∙◌}
 use Rattle.std.specs.Prelude.{slice_range}
 use Rattle.mesh_arena.proofs.Changes.{part-run_of}
 use Rattle.mesh_arena.proofs.arena.Arena.read.Goals as goal

@@ -1,5 +1,4 @@
-use Rattle.std.proofs.Common.{◌≡◌, ℕ, ◌<◌, ◌≤◌, false, arith, length, sym, ap, ⊎_elim}
-use Rattle.std.proofs.lemmas.Bool.{cases_lt}
+use Rattle.std.proofs.Common.{◌≡◌, ℕ, ◌<◌, ◌≤◌, false, arith, length, sym}
 use Rattle.mesh_arena.specs.Pages.{Pages, IsTaken, is_taken}
 use Rattle.mesh_arena.specs.Tied.{IsTied}
 use Rattle.mesh_arena.proofs.Counts.{lowest_free-none, lowest_free-is}

@@ -1,5 +1,4 @@
-use Rattle.std.proofs.Common.{◌≡◌, ◌≤◌, subst, arith}
-use Rattle.mesh_arena.specs.Pages.{Pages, free_count}
+use Rattle.std.proofs.Common.{arith}
 use Rattle.mesh_arena.proofs.Counts.{free_count-le-length}
 use Rattle.mesh_arena.proofs.arena.Arena.taken_pages.Goals as goal
 

@@ -1,4 +1,4 @@
-use Rattle.std.proofs.Common.{rules, arith, ap, Some, refl}
+use Rattle.std.proofs.Common.{rules}
 use Rattle.mesh_arena.specs.Pages.{blank_page}
 use Rattle.mesh_arena.proofs.frame.Frame.blank.Goals as goal
 

@@ -1,28 +1,11 @@
-use Rattle.std.proofs.Common.{◌≡◌, ℕ, ◌+◌, ◌-◌, ◌<◌, ◌≤◌, arith, length, sym, ap, ◌∙◌, Some, None, replicate, set, ⊎_elim}
-use Rattle.mesh_arena.proofs.Unmade.{content-made, is_taken-made, is_taken-unmade, made-below, taken-made, lowest-made, length-with_unmade, set-made, set-next}
-use Rattle.mesh_arena.proofs.Taken.{taken-below, taken-is_some, content_read}
-use Rattle.mesh_arena.specs.Pages.{Pages, IsTaken, is_taken, content, bytes_of}
+use Rattle.std.proofs.Common.{◌≡◌, ℕ, arith, length, sym, ap, ◌∙◌, set}
+use Rattle.mesh_arena.proofs.Unmade.{content-made, made-below, set-made}
+use Rattle.mesh_arena.specs.Pages.{Pages, IsTaken, bytes_of}
 use Rattle.mesh_arena.specs.Tied.{with_unmade}
 use Rattle.mesh_arena.proofs.frames.Frames.copy.Goals as goal
 use Rattle.std.proofs.Common.{◌++◌, drop, take, length-set, [], Option, List}
 use Rattle.std.specs.Prelude.{unwrap_or}
 use Rattle.std.proofs.lemmas.List.{take_at}
-
-pub copy_between-requires-clause-from_below : goal.copy_between-requires-clause-from_below
-copy_between-requires-clause-from_below c =
-    rw (c.as_mut_slice.ensures.value) (made-below c.self.inside.made.items c.self.inside.count _ (rw (← c.self.view_is) at c.requires.from_taken))
-
-pub copy_between-requires-clause-to_below : goal.copy_between-requires-clause-to_below
-copy_between-requires-clause-to_below c =
-    rw (c.as_mut_slice.ensures.value) (made-below c.self.inside.made.items c.self.inside.count _ (rw (← c.self.view_is) at c.requires.to_taken))
-
-pub copy_between-requires-clause-from_taken : goal.copy_between-requires-clause-from_taken
-copy_between-requires-clause-from_taken c =
-    rw (c.as_mut_slice.ensures.value) (taken-is_some _ _ (taken-made c.self.inside.made.items c.self.inside.count _ (rw (← c.self.view_is) at c.requires.from_taken)))
-
-pub copy_between-requires-clause-to_taken : goal.copy_between-requires-clause-to_taken
-copy_between-requires-clause-to_taken c =
-    rw (c.as_mut_slice.ensures.value) (taken-is_some _ _ (taken-made c.self.inside.made.items c.self.inside.count _ (rw (← c.self.view_is) at c.requires.to_taken)))
 
 bytes-made : (a : Pages) (n p : ℕ) → IsTaken (with_unmade a n) p → bytes_of (with_unmade a n) p ≡ bytes_of a p
 bytes-made a n p taken = ap (λ (o : Option (List ℕ)). unwrap_or o []) (content-made a n p (made-below a n p taken))
@@ -40,13 +23,3 @@ returns-clause-copied c =
     let from = bytes-made c.self.inside.made.items c.self.inside.count c.args.from from_taken in
     let to = bytes-made c.self.inside.made.items c.self.inside.count c.args.to to_taken in
     rw (whole_of c.self.inside.made.items c.copy_between.new.frames c.self.inside.made.len c.args.to _ count is, ← c.self.view_is, from, to) (set-made c.self.inside.made.items c.self.inside.count c.args.to _ (made-below _ _ _ to_taken))
-
-pub returns-clause-from_sized : goal.returns-clause-from_sized
-returns-clause-from_sized c =
-    let from_taken = rw (← c.self.view_is) at c.requires.from_taken in
-    rw (← c.self.view_is, bytes-made _ _ _ from_taken) (rw (c.as_mut_slice.ensures.value) at c.copy_between.ensures.from_sized)
-
-pub returns-clause-to_sized : goal.returns-clause-to_sized
-returns-clause-to_sized c =
-    let to_taken = rw (← c.self.view_is) at c.requires.to_taken in
-    rw (← c.self.view_is, bytes-made _ _ _ to_taken) (rw (c.as_mut_slice.ensures.value) at c.copy_between.ensures.to_sized)

@@ -1,10 +1,6 @@
-use Rattle.std.proofs.Common.{◌≡◌, ℕ, ◌+◌, ◌-◌, ◌<◌, ◌≤◌, arith, length, sym, ap, ◌∙◌, Some, None, replicate, set, ⊎_elim}
-use Rattle.mesh_arena.proofs.Unmade.{content-made, is_taken-made, is_taken-unmade, made-below, taken-made, lowest-made, length-with_unmade, set-made, set-next}
-use Rattle.mesh_arena.proofs.Taken.{taken-below, taken-is_some, content_read}
-use Rattle.mesh_arena.specs.Pages.{Pages, IsTaken, is_taken, content, bytes_of}
-use Rattle.mesh_arena.specs.Tied.{with_unmade}
+use Rattle.std.proofs.Common.{◌<◌, ◌≤◌, arith, length, ◌∙◌, ⊎_elim}
+use Rattle.mesh_arena.proofs.Unmade.{is_taken-made, is_taken-unmade, lowest-made, length-with_unmade}
 use Rattle.mesh_arena.proofs.frames.Frames.first_free.Goals as goal
-use Rattle.std.proofs.Common.{false}
 use Rattle.std.proofs.lemmas.Bool.{cases_lt}
 
 pub first_free-requires : goal.first_free-requires

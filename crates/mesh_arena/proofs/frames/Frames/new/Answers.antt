@@ -1,7 +1,5 @@
-use Rattle.std.proofs.Common.{◌≡◌, ℕ, ◌+◌, ◌-◌, ◌<◌, ◌≤◌, arith, length, refl, [], sym, ap, ◌∙◌, Some, None, replicate, set, ⊎_elim}
-use Rattle.mesh_arena.proofs.Unmade.{content-made, is_taken-made, is_taken-unmade, made-below, taken-made, lowest-made, length-with_unmade, set-made, set-next}
-use Rattle.mesh_arena.proofs.Taken.{taken-below, taken-is_some, content_read}
-use Rattle.mesh_arena.specs.Pages.{Pages, IsTaken, is_taken, content, bytes_of}
+use Rattle.std.proofs.Common.{◌≡◌, ℕ, ◌-◌, arith, [], ap, None, replicate}
+use Rattle.mesh_arena.specs.Pages.{Pages}
 use Rattle.mesh_arena.specs.Tied.{with_unmade}
 use Rattle.mesh_arena.proofs.frames.Frames.new.Goals as goal
 

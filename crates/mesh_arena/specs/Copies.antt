@@ -1,0 +1,11 @@
+-- What a copy from one page to another asks for.
+use Rattle.std.specs.Prelude.{◌≢◌, ℕ, ◌+◌, ◌≤◌}
+use Rattle.mesh_arena.specs.Pages.{Pages, IsTaken}
+
+-- both pages are taken and not the same, and the bytes are in both
+pub record MayCopy (pages : Pages) (from from_off to to_off len : ℕ) : Type 0 where
+  pub from_taken : IsTaken pages from
+  pub to_taken : IsTaken pages to
+  pub apart : from ≢ to
+  pub from_fits : from_off + len ≤ 4096
+  pub to_fits : to_off + len ≤ 4096
