@@ -3,7 +3,7 @@ ghost use Rattle.std.specs.Prelude.{◌≡◌, ℕ, ◌+◌, ◌<◌, ◌≤◌,
 ghost use Rattle.std.specs.Bool.{OnFalse};
 ghost use Rattle.std.specs.FinMap as map;
 ghost use Rattle.mesh_arena.specs.Pages.{is_taken, free_count, run_of};
-ghost use Rattle.mesh_pagemap.specs.Entries.{is_mapped, IsMapped, page_of, is_read_only};
+ghost use Rattle.mesh_pagemap.specs.Entries.{is_mapped, IsMapped, page_of, is_read_only, reads_only};
 ghost use Rattle.mesh_store.specs.Places.{byte_of, AreBacked, IsBlocked, IsOpen, Saves};
 
 use mesh_arena::{Arena, PAGE_BYTES, Page};
@@ -43,17 +43,15 @@ fn len_in_page(addr: u32, len: usize) -> usize
     len.min(PAGE_BYTES - offset_of(addr) as usize)
 }
 
-/// The physical page of a mapped virtual page.
-fn page_at(map: &PageMap, vpage: u32) -> Page
+/// The physical page and the protection of a mapped virtual page.
+fn entry_of(map: &PageMap, vpage: u32) -> (Page, Prot)
     requires first { 1 ≤ vpage }
     requires last { vpage ≤ 65535 }
     requires mapped { IsMapped map.now vpage }
-    ensures { result ≡ page_of map.now vpage }
+    ensures page { result.0 ≡ page_of map.now vpage }
+    ensures read_only { reads_only result.1 ≡ is_read_only map.now vpage }
 {
-    match map.lookup(vpage) {
-        Some((page, _)) => page,
-        None => unreachable!(),
-    }
+    map.lookup(vpage).unwrap()
 }
 
 /// Whether a mapped virtual page lets no store through.
@@ -63,10 +61,8 @@ fn is_page_read_only(map: &PageMap, vpage: u32) -> bool
     requires mapped { IsMapped map.now vpage }
     ensures { result ≡ is_read_only map.now vpage }
 {
-    match map.lookup(vpage) {
-        Some((_, prot)) => prot == Prot::ReadOnly,
-        None => unreachable!(),
-    }
+    let (_, prot) = entry_of(map, vpage);
+    prot == Prot::ReadOnly
 }
 
 /// Reads bytes that are all in one page.
@@ -77,7 +73,7 @@ fn load_run(arena: &Arena, map: &PageMap, addr: u32, out: &mut [u8])
     ensures { (k : ℕ) → k < length out.old
         → slice_index out.new k ≡ byte_of arena.now map.now (addr + k) }
 {
-    let page = page_at(map, vpage_of(addr));
+    let (page, _) = entry_of(map, vpage_of(addr));
     arena.read(page, offset_of(addr), out);
 }
 
@@ -88,7 +84,7 @@ fn save_run(arena: &mut Arena, map: &PageMap, addr: u32, bytes: &[u8])
     requires backed { AreBacked arena.old map.now addr (length bytes.now) }
     ensures { Saves arena.old arena.new map.now addr bytes.now }
 {
-    let page = page_at(map, vpage_of(addr));
+    let (page, _) = entry_of(map, vpage_of(addr));
     arena.write(page, offset_of(addr), bytes);
 }
 
