@@ -1,5 +1,5 @@
 -- Groups in their bins.
-use Rattle.std.proofs.Common.{◌≡◌, ◌≢◌, ℕ, suc, ◌+◌, ◌*◌, ◌<◌, ◌≤◌, Bool, true, false, not, ◌&&◌, ◌||◌, if◌then◌else◌, nat_eq, nat_lt, count_by, is_some, List, [], Option, Some, None, length, ap, refl, sym, ◌∙◌, arith, inl, inr}
+use Rattle.std.proofs.Common.{◌≡◌, ◌≢◌, ℕ, suc, ◌+◌, ◌*◌, ◌<◌, ◌≤◌, Bool, true, false, not, ◌&&◌, ◌||◌, if◌then◌else◌, nat_eq, nat_lt, count_by, is_some, slice_set, List, [], Option, Some, None, length, ap, refl, sym, ◌∙◌, arith, inl, inr}
 use Rattle.std.proofs.Math.ListN.{length-set}
 use Rattle.std.proofs.lemmas.Bool.Decides.{eqb_tells, leb_tells}
 use Rattle.std.proofs.lemmas.List.{get_or_past, get_or-set_other, get_or-set_same}
@@ -43,22 +43,24 @@ nat_eq_same a = elim (eqb_tells a a) [ inl same ↦ same.0 | inr other ↦ absur
 abbrev Bins : Type 0
 Bins = List (FinSet nat_cmp)
 
--- a number other than the one that is filed or unfiled stays where it is
+-- a number stays where it is as one bin changes that keeps it or keeps it out
+bin_other : (bins : Bins) (m p place : ℕ) (changed : FinSet nat_cmp) → place < length bins → contains changed m ≡ contains (bin_at bins p) m
+    → contains (bin_at (slice_set bins p changed) place) m ≡ contains (bin_at bins place) m
+bin_other bins m p place changed below same = elim (eqb_tells place p) [
+  | inl here ↦ rw (here.1, get_or-set_same bins p changed empty (rw here.1 at below)) same
+  | inr other ↦ ap (λ (s : FinSet nat_cmp). contains s m) (get_or-set_other bins p place changed empty other.1)
+]
+
+-- so does one other than the one that is filed or unfiled
 unfiled_other : (bins : Bins) (n m : ℕ) (file : Option ℕ) (place : ℕ) → place < length bins → m ≢ n
     → contains (bin_at (unfiled bins n file) place) m ≡ contains (bin_at bins place) m
 unfiled_other bins n m None place below apart = refl
-unfiled_other bins n m (Some p) place below apart = elim (eqb_tells place p) [
-  | inl same ↦ rw (← same.1, get_or-set_same bins place (remove (bin_at bins place) n) empty below) (remove_other (bin_at bins place) n m apart)
-  | inr other ↦ ap (λ (s : FinSet nat_cmp). contains s m) (get_or-set_other bins p place (remove (bin_at bins p) n) empty other.1)
-]
+unfiled_other bins n m (Some p) place below apart = bin_other bins m p place _ below (remove_other (bin_at bins p) n m apart)
 
 filed_other : (bins : Bins) (n m : ℕ) (file : Option ℕ) (place : ℕ) → place < length bins → m ≢ n
     → contains (bin_at (filed bins n file) place) m ≡ contains (bin_at bins place) m
 filed_other bins n m None place below apart = refl
-filed_other bins n m (Some p) place below apart = elim (eqb_tells place p) [
-  | inl same ↦ rw (← same.1, get_or-set_same bins place (insert (bin_at bins place) n) empty below) (insert_other (bin_at bins place) n m apart)
-  | inr other ↦ ap (λ (s : FinSet nat_cmp). contains s m) (get_or-set_other bins p place (insert (bin_at bins p) n) empty other.1)
-]
+filed_other bins n m (Some p) place below apart = bin_other bins m p place _ below (insert_other (bin_at bins p) n m apart)
 
 -- a number that is taken out of its bin is in none
 unfiled_same : (bins : Bins) (n : ℕ) (file : Option ℕ) (place : ℕ) → place < length bins → contains (bin_at bins place) n ≡ is_at file place
