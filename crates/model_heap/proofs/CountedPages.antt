@@ -6,8 +6,8 @@ use Rattle.std.proofs.lemmas.Bool.{true≢false}
 use Rattle.std.proofs.lemmas.List.Sums.{sum_by-cons, sum_by_push}
 use Rattle.std.proofs.Math.Nat.{mul-le-mul_left}
 use Rattle.model_heap.proofs.NewObjects.{by_place}
-use Rattle.model_words.proofs.Chains.{went_on, refuse_if_went}
-use Rattle.model_heap.proofs.MayBegin.{may_begin_gives}
+use Rattle.model_words.proofs.Chains.{refuse_if_went}
+use Rattle.model_heap.proofs.MayBegin.{began, meshed}
 use Rattle.model_words.proofs.Tests.{tells}
 use Rattle.model_heap.proofs.GroupLists.{ascend_mapped, changed_number, find_again, find_changed_other, find_more, find_number, find_without_other, first_or_later, without_none}
 use Rattle.model_heap.proofs.MeshLists.{mesh_found, without_fewer, meshes_filtered}
@@ -16,7 +16,7 @@ use Rattle.model_heap.proofs.StepCounts.{merged_keeps}
 use Rattle.model_heap.proofs.TableChanges.{differ, one_group, sweep_went, cancel_went, step_went, found_within}
 use Rattle.model_heap.proofs.WholeMeshes.{free_next}
 use Rattle.model_words.specs.Classes.{pages_of, slots_of}
-use Rattle.model_heap.specs.Mesh.{Stepped, begin, may_begin, cancel, cancelled, cancelled_at, free_after, is_mesh, kind_after, merged, merged_into, mesh_whole, page_count, step, step_count, stepped, with_progress, without_mesh}
+use Rattle.model_heap.specs.Mesh.{Stepped, begin, cancel, cancelled, cancelled_at, free_after, is_mesh, kind_after, merged, merged_into, mesh_whole, page_count, step, step_count, stepped, with_progress, without_mesh}
 use Rattle.model_heap.specs.PageCounts.{AreCounted, released_by, released_pages, span_pages}
 use Rattle.model_heap.specs.Sound.{AreSoundGroups, AreSoundMeshes, AscendBetween, IsSound, IsWithinSteps, meshes_of}
 use Rattle.model_heap.specs.Table.{Counted, Group, Made, Mesh, Placed, Progress, Slot, Table, Unwinding, changed_at, first_member, fresh_group, group_of, group_without, has_number, is_meshing, mapped_count, picked_slot, place_new, placed_in, sweep, takes_part, with_group, with_object_in, with_span, without_object}
@@ -180,15 +180,13 @@ none_given (Some a) = omega arith
 pub begin_counted : (pages : ℕ) (busy : Table → ℕ → Bool) (t : Table) (source destination : ℕ) (x : Counted) → AreCounted pages t
     → begin busy t source destination ≡ Ok x → AreCounted pages x.table
 begin_counted pages busy t source destination x counted h =
-    let pair = went_on (may_begin busy t source destination) _ x h in
-    let done = pair.then in
-    let m : Mesh = record { class = pair.value.source.class; source = source; destination = destination; progress = Made 0 } in
+    let made = began busy t source destination x h in
+    let m : Mesh = record { class = made.pair.source.class; source = source; destination = destination; progress = Made 0 } in
     let u : Table = record t { meshes = t.meshes ++ m ∷ [] } in
-    let is : record { count = step_count pair.value.source; table = u } ≡ x = cc done in
     let more : released_pages u ≡ released_pages t + given t m = sum_by_push (given t) t.meshes m in
     let none : given t m ≡ 0 = none_given (group_of t source) in
     let all : AreCounted pages u = omega (arith, more, none, counted) in
-    subst (λ (y : Counted). AreCounted pages y.table) is all
+    subst (λ (y : Counted). AreCounted pages y.table) made.is all
 
 -- groups of a class that none of the meshes is of are the sources of no released pages
 given_elsewhere : (t u : Table) (class : ℕ) (ms : List Mesh)
@@ -232,26 +230,21 @@ whole_table t a destination = record t { free_pages = t.free_pages + pages_of a.
 pub whole_counted : (pages : ℕ) (busy : Table → ℕ → Bool) (t : Table) (source destination : ℕ) (x : Counted) → IsBusyTest busy t → IsSound t
     → AreCounted pages t → mesh_whole busy t source destination ≡ Ok x → AreCounted pages x.table
 whole_counted pages busy t source destination x test sound counted h =
-    let pair = went_on (may_begin busy t source destination) _ x h in
-    let may = may_begin_gives busy t source destination pair.value pair.is in
-    let done = pair.then in
-    let u : Table = whole_table t pair.value.source destination in
-    let is : record { count = pages_of pair.value.source.class; table = u } ≡ x = cc done in
-    let span = span_merged t pair.value.source pair.value.destination source destination sound may.source_is (differ source destination may.two) in
-    let released : released_pages u ≡ released_pages t = given_elsewhere t u pair.value.source.class t.meshes
-    (λ n g apart at_n. merged_keeps t pair.value.source pair.value.destination source destination n g may.source_is may.destination_is may.class apart at_n)
-    (test pair.value.source.class may.idle) sound.meshes in
+    let made = meshed busy t source destination x h in
+    let may = made.may in
+    let u : Table = whole_table t made.pair.source destination in
+    let span = span_merged t made.pair.source made.pair.destination source destination sound may.source_is (differ source destination may.two) in
+    let released : released_pages u ≡ released_pages t = given_elsewhere t u made.pair.source.class t.meshes
+    (λ n g apart at_n. merged_keeps t made.pair.source made.pair.destination source destination n g may.source_is may.destination_is may.class apart at_n)
+    (test made.pair.source.class may.idle) sound.meshes in
     let all : AreCounted pages u = omega (arith, span, released, counted) in
-    subst (λ (y : Counted). AreCounted pages y.table) is all
+    subst (λ (y : Counted). AreCounted pages y.table) made.is all
 
 -- a whole mesh answers how many pages come free
 pub whole_answers : (busy : Table → ℕ → Bool) (t : Table) (source destination : ℕ) (x : Counted) → mesh_whole busy t source destination ≡ Ok x
     → x.table.free_pages ≡ t.free_pages + x.count
 whole_answers busy t source destination x h =
-    let pair = went_on (may_begin busy t source destination) _ x h in
-    let done = pair.then in
-    let is : record { count = pages_of pair.value.source.class; table = whole_table t pair.value.source destination } ≡ x = cc done in
-    subst (λ (y : Counted). y.table.free_pages ≡ t.free_pages + y.count) is refl
+    subst (λ (y : Counted). y.table.free_pages ≡ t.free_pages + y.count) (meshed busy t source destination x h).is refl
 
 -- a mesh that was found comes to a progress at which it has released as much
 come_counted : (pages : ℕ) (t : Table) (test : Mesh → Bool) (this : Mesh) (progress : Progress) → IsSound t → AreCounted pages t

@@ -2,17 +2,16 @@
 use Rattle.std.proofs.Common.{◌≡◌, ℕ, ◌+◌, Bool, true, false, cond, not, List, [], ◌∷◌, ◌++◌, filter, find, count_by, flat_map, is_some, nat_lt, Option, Some, None, Ok, ap, refl, sym, ◌∙◌, arith, inl, inr}
 use Rattle.std.proofs.lemmas.Bool.Decides.{leb_tells}
 use Rattle.std.proofs.lemmas.List.Sums.{sum_by-cons}
-use Rattle.model_words.proofs.Chains.{went_on}
 use Rattle.model_heap.proofs.GroupLists.{first_or_later, without_none}
 use Rattle.model_heap.proofs.SameRecords.{same_records}
 use Rattle.model_heap.proofs.TableChanges.{step_sound, whole_sound, sweep_went, cancel_went}
-use Rattle.model_heap.proofs.TiedTables.{cancelled_groups, step_tied, whole_tied}
+use Rattle.model_heap.proofs.TiedTables.{begun_groups, cancelled_groups, step_tied, whole_tied}
 use Rattle.model_memory.specs.Memory.{Memory}
-use Rattle.model_heap.specs.Mesh.{Stepped, begin, cancel, may_begin, mesh_whole, step, step_count}
+use Rattle.model_heap.specs.Mesh.{Stepped, begin, cancel, mesh_whole, step}
 use Rattle.model_heap.specs.Places.{Record, record_with, records_from, records_in, records_of}
 use Rattle.model_heap.specs.RecordLaws.{KeepsRecords}
 use Rattle.model_heap.specs.Sound.{AscendBetween, IsSound, IsTied}
-use Rattle.model_heap.specs.Table.{Counted, Group, Made, Mesh, Slot, Table, has_number, object_count, sweep}
+use Rattle.model_heap.specs.Table.{Counted, Group, Mesh, Slot, Table, has_number, object_count, sweep}
 use Rattle.model_heap.specs.TableLaws.{IsBusyTest}
 
 -- a table with the same groups has the same records
@@ -23,15 +22,7 @@ same_groups t u same serial = ap (λ (gs : List Group). record_with serial (flat
 pub begin_records : (busy : Table → ℕ → Bool) (t : Table) (source destination : ℕ) (begun : Counted) → begin busy t source destination ≡ Ok begun
     → KeepsRecords t begun.table
 begin_records busy t source destination begun h =
-    let pair = went_on (may_begin busy t source destination) _ begun h in
-    let done = pair.then in
-    let is : record {
-      count = step_count pair.value.source;
-      table = record t {
-        meshes = t.meshes ++ record { class = pair.value.source.class; source = source; destination = destination; progress = Made 0 } ∷ [];
-      };
-    } ≡ begun = cc done in
-    same_groups t begun.table (ap (λ (x : Counted). x.table.groups) (sym is))
+    same_groups t begun.table (begun_groups busy t source destination begun h)
 
 -- a cancel leaves them
 pub cancel_records : (t : Table) (which : Option Mesh) (x : Counted) → cancel t which ≡ Ok x → KeepsRecords t x.table

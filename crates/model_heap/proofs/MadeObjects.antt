@@ -9,10 +9,10 @@ use Rattle.std.proofs.lemmas.List.FromFn.{map-range_with_len_more}
 use Rattle.model_heap.proofs.Apart.{picked_free}
 use Rattle.model_heap.proofs.GroupLists.{ascend_more, head_found}
 use Rattle.model_heap.proofs.Meanings.{made_same, record_same}
-use Rattle.model_heap.proofs.NewObjects.{last_found, none_from, by_place}
+use Rattle.model_heap.proofs.NewObjects.{by_place}
 use Rattle.model_heap.proofs.Records.{found_later}
 use Rattle.model_heap.proofs.TableChanges.{one_group}
-use Rattle.model_heap.proofs.TiedNewObjects.{fresh_open}
+use Rattle.model_heap.proofs.TiedNewObjects.{fresh_open, spanned_found}
 use Rattle.model_words.specs.Classes.{row_of, slots_of}
 use Rattle.model_memory.specs.Memory.{Memory, Object, with_new}
 use Rattle.model_heap.specs.Places.{Place, Record, Target, byte_of, has_serial, meaning, object_at, records_from, records_of, AreBelow, IsIn, record_in, record_with, records_in}
@@ -137,10 +137,8 @@ spanned_record : (t : Table) (class word serial len : ℕ) → IsSound t → IsS
     → HasNewRecord t (placed_in (with_span t class) (fresh_group t.next_span class t.next_page) word serial len) serial len
 spanned_record t class word serial len sound row =
     let fresh : Group = fresh_group t.next_span class t.next_page in
-    let none : group_of t t.next_span ≡ None = none_from 0 t.next_span t.next_span t.groups sound.numbers (omega arith) in
-    let is : group_of (with_span t class) t.next_span ≡ Some fresh = last_found t.next_span t.groups fresh none refl in
     let same = span_recordless t class in
-    let placed = placed_record (with_span t class) fresh word serial len (ascend_more 0 t.next_span t.groups fresh refl sound.numbers) is
+    let placed = placed_record (with_span t class) fresh word serial len (ascend_more 0 t.next_span t.groups fresh refl sound.numbers) (spanned_found t class sound)
     (fresh_open t.next_span class t.next_page row) in record {
       new = λ none. placed.new (ap (λ (rs : List Record). record_with serial rs) same ∙ none);
       others = λ s apart. placed.others s apart ∙ ap (λ (rs : List Record). record_with s rs) same;

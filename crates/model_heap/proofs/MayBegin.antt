@@ -1,12 +1,13 @@
 -- What holds of two groups whose mesh may begin.
-use Rattle.std.proofs.Common.{◌≡◌, ℕ, ◌+◌, ◌≤◌, Bool, true, false, not, nat_eq, nat_lt, length, Some, Ok, subst, arith, inl, inr, sym, refl}
+use Rattle.std.proofs.Common.{◌≡◌, ℕ, ◌+◌, ◌≤◌, Bool, true, false, not, nat_eq, nat_lt, [], ◌∷◌, ◌++◌, length, Some, Ok, subst, arith, inl, inr, sym, refl}
 use Rattle.std.proofs.lemmas.Bool.Decides.{eqb_tells, leb_tells}
-use Rattle.model_heap.specs.Mesh.{Pair, may_begin, do_overlap}
+use Rattle.model_heap.specs.Mesh.{Pair, begin, do_overlap, may_begin, merged, mesh_whole, step_count}
 use Rattle.model_heap.specs.Sound.{IsSoundMesh, IsWithinSteps}
-use Rattle.model_heap.specs.Table.{Group, Table, group_of, Progress}
+use Rattle.model_heap.specs.Table.{Counted, Group, Made, Progress, Table, group_of}
+use Rattle.model_words.specs.Classes.{pages_of}
 use Rattle.model_words.specs.Words.{◌>>=◌, refuse_if}
 use Rattle.model_words.specs.declared.refusals.Refusal.TheVariants.{NoGroup, Same, Class, Busy, Overlap, Members}
-use Rattle.model_words.proofs.Chains.{or_refuse_went, refuse_if_went}
+use Rattle.model_words.proofs.Chains.{or_refuse_went, refuse_if_went, went_on}
 
 -- what holds of the two groups of a mesh that may begin
 pub record MayBegin (busy : Table → ℕ → Bool) (t : Table) (source destination : ℕ) (pair : Pair) : Type 0 where
@@ -74,3 +75,37 @@ may_begin_sound busy t source destination pair progress may within = record {
   few_members = may.few;
   within = within;
 }
+
+-- a mesh that began
+pub record Began (busy : Table → ℕ → Bool) (t : Table) (source destination : ℕ) (begun : Counted) : Type 0 where
+  pub pair : Pair
+  pub may : MayBegin busy t source destination pair
+  pub is : record {
+    count = step_count pair.source;
+    table = record t {
+      meshes = t.meshes ++ record { class = pair.source.class; source = source; destination = destination; progress = Made 0 } ∷ [];
+    };
+  } ≡ begun
+
+pub began : (busy : Table → ℕ → Bool) (t : Table) (source destination : ℕ) (begun : Counted) → begin busy t source destination ≡ Ok begun
+    → Began busy t source destination begun
+began busy t source destination begun h =
+    let pair = went_on (may_begin busy t source destination) _ begun h in
+    let done = pair.then in
+    record { pair = pair.value; may = may_begin_gives busy t source destination pair.value pair.is; is = cc done }
+
+-- a mesh that was made whole
+pub record Meshed (busy : Table → ℕ → Bool) (t : Table) (source destination : ℕ) (whole : Counted) : Type 0 where
+  pub pair : Pair
+  pub may : MayBegin busy t source destination pair
+  pub is : record {
+    count = pages_of pair.source.class;
+    table = record t { free_pages = t.free_pages + pages_of pair.source.class; groups = merged t.groups pair.source destination };
+  } ≡ whole
+
+pub meshed : (busy : Table → ℕ → Bool) (t : Table) (source destination : ℕ) (whole : Counted) → mesh_whole busy t source destination ≡ Ok whole
+    → Meshed busy t source destination whole
+meshed busy t source destination whole h =
+    let pair = went_on (may_begin busy t source destination) _ whole h in
+    let done = pair.then in
+    record { pair = pair.value; may = may_begin_gives busy t source destination pair.value pair.is; is = cc done }

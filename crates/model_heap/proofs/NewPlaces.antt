@@ -138,7 +138,7 @@ fresh_length from zero = refl
 fresh_length from (suc n) = let rest = fresh_length (from + 1) n in omega (arith, rest)
 
 -- so the word picks of all
-fresh_picked : (number class page word : ℕ) → 1 ≤ slots_of class → picked_slot (fresh_group number class page) word ≡ word % slots_of class
+pub fresh_picked : (number class page word : ℕ) → 1 ≤ slots_of class → picked_slot (fresh_group number class page) word ≡ word % slots_of class
 fresh_picked number class page word some =
     ap (λ (n : ℕ). slice_index (free_from 0 (replicate (slots_of class) None)) (word % n)) (fresh_length 0 (slots_of class))
     ∙ fresh_free 0 (slots_of class) (word % slots_of class) (mod-lt word some) ∙ zero-add (word % slots_of class)

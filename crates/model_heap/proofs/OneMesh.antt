@@ -1,5 +1,5 @@
 -- What a change of one mesh leaves of a list of meshes of which no two are of its class.
-use Rattle.std.proofs.Common.{◌≡◌, ◌≢◌, ℕ, ◌+◌, ◌≤◌, Bool, true, false, nat_eq, List, [], ◌∷◌, ◌++◌, find, sum_by, ap, subst, refl, sym, ◌∙◌, arith, ◌⊎◌, inl, inr, Some, None}
+use Rattle.std.proofs.Common.{◌≡◌, ◌≢◌, ℕ, ◌+◌, ◌≤◌, Bool, true, false, nat_eq, List, [], ◌∷◌, ◌++◌, cond, find, Option, sum_by, ap, subst, refl, sym, ◌∙◌, arith, ◌⊎◌, inl, inr, Some, None}
 use Rattle.std.proofs.lemmas.Bool.Decides.{eqb_tells}
 use Rattle.std.proofs.lemmas.List.Sums.{sum_by-cons}
 use Rattle.model_words.proofs.Tests.{tells}
@@ -156,20 +156,22 @@ found_class class (m ∷ ms) this found = elim (eqb_tells m.class class) [
   | inr other ↦ let later : find (of_class class) ms ≡ Some this = rw other.0 at found in found_class class ms this later
 ]
 
+-- the mesh that it is isn't of a class that it isn't of
+other_class : (t : Table) (class : ℕ) (this m : Mesh) → IsSoundMesh t this → IsSoundMesh t m → is_mesh this m ≡ true → this.class ≢ class
+    → nat_eq m.class class ≡ false
+other_class t class this m sound sound' same apart = elim (eqb_tells m.class class) [
+  | inl clash ↦ absurd (apart (sym (same_class t this m sound sound' same) ∙ clash.1))
+  | inr other ↦ other.0
+]
+
 -- another progress of a mesh of another class changes no mesh that is found
 pub found_beside : (t : Table) (class : ℕ) (this : Mesh) (progress : Progress) (ms : List Mesh) → IsSoundMesh t this → AreSoundMeshes t ms
     → this.class ≢ class → find (of_class class) (with_progress ms this progress) ≡ find (of_class class) ms
 found_beside t class this progress [] sound meshes apart = refl
 found_beside t class this progress (m ∷ ms) sound meshes apart =
     let rest = found_beside t class this progress ms sound meshes.1 apart in elim (tells (is_mesh this m)) [
-      | inl same ↦ elim (eqb_tells m.class class) [
-        | inl clash ↦ absurd (apart (sym (same_class t this m sound meshes.0 same) ∙ clash.1))
-        | inr other ↦ rw (same, other.0) rest
-      ]
-      | inr other ↦ elim (eqb_tells m.class class) [
-        | inl here ↦ rw (other, here.0) refl
-        | inr not_here ↦ rw (other, not_here.0) rest
-      ]
+      | inl same ↦ rw (same, other_class t class this m sound meshes.0 same apart) rest
+      | inr other ↦ rw other (ap (λ (found : Option Mesh). cond (of_class class m) (Some m) found) rest)
     ]
 
 -- nor does its end
@@ -178,14 +180,8 @@ pub found_without : (t : Table) (class : ℕ) (this : Mesh) (ms : List Mesh) →
 found_without t class this [] sound meshes apart = refl
 found_without t class this (m ∷ ms) sound meshes apart =
     let rest = found_without t class this ms sound meshes.1 apart in elim (tells (is_mesh this m)) [
-      | inl same ↦ elim (eqb_tells m.class class) [
-        | inl clash ↦ absurd (apart (sym (same_class t this m sound meshes.0 same) ∙ clash.1))
-        | inr other ↦ rw (same, other.0) rest
-      ]
-      | inr other ↦ elim (eqb_tells m.class class) [
-        | inl here ↦ rw (other, here.0) refl
-        | inr not_here ↦ rw (other, not_here.0) rest
-      ]
+      | inl same ↦ rw (same, other_class t class this m sound meshes.0 same apart) rest
+      | inr other ↦ rw other (ap (λ (found : Option Mesh). cond (of_class class m) (Some m) found) rest)
     ]
 
 -- a mesh of a class that no mesh was of is found

@@ -2,13 +2,13 @@
 use Rattle.std.proofs.Common.{◌≡◌, ◌≢◌, ◌↔◌, ℕ, zero, suc, ◌+◌, ◌-◌, ◌*◌, ◌≤◌, Bool, min, nat_lt, List, [], ◌∷◌, ◌++◌, length, find, map, ap, subst, refl, sym, ◌∙◌, arith, ◌⊎◌, inl, inr, Option, Some, None, Ok}
 use Rattle.std.proofs.lemmas.Bool.Decides.{eqb_tells, leb_tells}
 use Rattle.model_words.proofs.Chains.{went_on, refuse_if_went}
-use Rattle.model_heap.proofs.MayBegin.{may_begin_gives}
+use Rattle.model_heap.proofs.MayBegin.{began}
 use Rattle.model_heap.proofs.GroupLists.{find_number, find_without_other, find_changed_other}
 use Rattle.model_heap.proofs.MeshLists.{mesh_found, without_fewer}
 use Rattle.model_heap.proofs.OneMesh.{at, of_class, found_at, found_beside, found_class, found_more, found_without, none_found}
 use Rattle.model_heap.proofs.TableChanges.{one_group, step_sound, cancel_went, step_went, found_within}
 use Rattle.model_words.specs.Classes.{pages_of, slots_of}
-use Rattle.model_heap.specs.Mesh.{Stepped, begin, may_begin, cancel, cancelled, cancelled_at, left_of, merged, merged_into, mesh_in, page_count, step, step_count, stepped, with_progress, without_mesh}
+use Rattle.model_heap.specs.Mesh.{Stepped, begin, cancel, cancelled, cancelled_at, left_of, merged, merged_into, mesh_in, page_count, step, step_count, stepped, with_progress, without_mesh}
 use Rattle.model_heap.specs.MeshLaws.{left_in, steps_of_class}
 use Rattle.model_heap.specs.Sound.{IsSound, IsSoundMesh, IsWithinSteps}
 use Rattle.model_heap.specs.Table.{Counted, Group, Made, Mesh, Progress, Table, Unwinding, changed_at, group_of, has_number}
@@ -203,12 +203,8 @@ pub begin_answers : (busy : Table → ℕ → Bool) (t : Table) (source destinat
     → begin busy t source destination ≡ Ok begun
     → begun.count ≡ 3 * (length group.members * pages_of group.class) + slots_of group.class + pages_of group.class
 begin_answers busy t source destination group begun is h =
-    let pair = went_on (may_begin busy t source destination) _ begun h in
-    let may = may_begin_gives busy t source destination pair.value pair.is in
-    let done = pair.then in
-    let m : Mesh = record { class = pair.value.source.class; source = source; destination = destination; progress = Made 0 } in
-    let count : record { count = step_count pair.value.source; table = record t { meshes = t.meshes ++ m ∷ [] } } ≡ begun = cc done in
-    ap (λ (x : Counted). x.count) (sym count) ∙ ap (λ (g : Group). step_count g) (one_group t source pair.value.source group may.source_is is)
+    let made = began busy t source destination begun h in
+    ap (λ (x : Counted). x.count) (sym made.is) ∙ ap (λ (g : Group). step_count g) (one_group t source made.pair.source group made.may.source_is is)
 
 -- where no step was made all are to come
 none_made : (a : Group) → left_of a (Made 0) ≡ step_count a
@@ -218,14 +214,12 @@ none_made a = omega arith
 pub begin_leaves : (busy : Table → ℕ → Bool) (t : Table) (source destination : ℕ) (group : Group) (begun : Counted) → IsBusyTest busy t → IsSound t
     → group_of t source ≡ Some group → begin busy t source destination ≡ Ok begun → left_in begun.table group.class ≡ begun.count
 begin_leaves busy t source destination group begun test sound is h =
-    let pair = went_on (may_begin busy t source destination) _ begun h in
-    let may = may_begin_gives busy t source destination pair.value pair.is in
-    let done = pair.then in
-    let m : Mesh = record { class = pair.value.source.class; source = source; destination = destination; progress = Made 0 } in
-    let same : pair.value.source ≡ group = one_group t source pair.value.source group may.source_is is in
+    let made = began busy t source destination begun h in
+    let may = made.may in
+    let m : Mesh = record { class = made.pair.source.class; source = source; destination = destination; progress = Made 0 } in
+    let same : made.pair.source ≡ group = one_group t source made.pair.source group may.source_is is in
     let u : Table = record t { meshes = t.meshes ++ m ∷ [] } in
-    let count : record { count = step_count pair.value.source; table = u } ≡ begun = cc done in
-    let left : left_in u m.class ≡ step_count pair.value.source
-    = left_is u m.class m pair.value.source (found_more m t.meshes (test pair.value.source.class may.idle)) may.source_is ∙ none_made pair.value.source in
-    subst (λ (x : Counted). left_in x.table group.class ≡ x.count) count
-    (subst (λ (c : ℕ). left_in u c ≡ step_count pair.value.source) (ap (λ (g : Group). g.class) same) left)
+    let left : left_in u m.class ≡ step_count made.pair.source
+    = left_is u m.class m made.pair.source (found_more m t.meshes (test made.pair.source.class may.idle)) may.source_is ∙ none_made made.pair.source in
+    subst (λ (x : Counted). left_in x.table group.class ≡ x.count) made.is
+    (subst (λ (c : ℕ). left_in u c ≡ step_count made.pair.source) (ap (λ (g : Group). g.class) same) left)

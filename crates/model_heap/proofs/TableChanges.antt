@@ -4,13 +4,13 @@ use Rattle.std.specs.List.{range_with_len}
 use Rattle.std.specs.Option.{option_map_or}
 use Rattle.std.proofs.lemmas.Bool.Decides.{eqb_tells, leb_tells}
 use Rattle.std.proofs.lemmas.List.{length-map}
-use Rattle.model_words.proofs.Chains.{or_refuse_went, went_on, refuse_if_went}
-use Rattle.model_heap.proofs.MayBegin.{may_begin_gives, may_begin_sound}
+use Rattle.model_words.proofs.Chains.{or_refuse_went, refuse_if_went}
+use Rattle.model_heap.proofs.MayBegin.{began, may_begin_sound, meshed}
 use Rattle.model_words.proofs.Tests.{tells}
 use Rattle.model_heap.proofs.GroupLists.{times_in-append, pages_in, find_number, find_sound, find_again, pages_changed, pages_without, groups_changed, groups_mapped, groups_filtered, pages_mapped, ascend_mapped, ascend_filtered, changed_number, find_changed_other, find_without_other}
 use Rattle.model_heap.proofs.MeshLists.{meshes_kept, meshes_outside, meshes_elsewhere, mesh_found, meshes_filtered, meshes_of-filtered, meshes_of-progress, meshes_progress, without_fewer, meshes_more, meshes_of-more, meshes_emptied, mesh_kept}
 use Rattle.model_words.specs.Classes.{Row, table, row_of, pages_of, slots_of}
-use Rattle.model_heap.specs.Mesh.{Stepped, begin, may_begin, cancel, cancelled, cancelled_at, is_mesh, mesh_whole, merged, merged_into, page_count, step, step_count, stepped, table_after, table_unwound, united, virtual_pages, with_progress, without_mesh, free_after, kind_after}
+use Rattle.model_heap.specs.Mesh.{Stepped, begin, cancel, cancelled, cancelled_at, is_mesh, mesh_whole, merged, merged_into, page_count, step, step_count, stepped, table_after, table_unwound, united, virtual_pages, with_progress, without_mesh, free_after, kind_after}
 use Rattle.model_heap.specs.Sound.{times_in, AreSoundGroups, AscendBetween, AreSoundMeshes, IsSound, IsSoundGroup, IsSoundMesh, IsWithinSteps, meshes_of}
 use Rattle.model_heap.specs.Table.{Slot, Group, Progress, Made, Unwinding, Mesh, Table, Counted, empty_table, group_of, has_number, changed_at, is_meshing, object_count, emptied_of, group_without, without_object, sweep}
 use Rattle.model_heap.specs.TableLaws.{IsBusyTest}
@@ -151,15 +151,12 @@ begun_sound t m sound new none =
 pub begin_sound : (busy : Table → ℕ → Bool) (t : Table) (source destination : ℕ) (begun : Counted) → IsBusyTest busy t → IsSound t
     → begin busy t source destination ≡ Ok begun → IsSound begun.table
 begin_sound busy t source destination begun test sound h =
-    let pair = went_on (may_begin busy t source destination) _ begun h in
-    let may = may_begin_gives busy t source destination pair.value pair.is in
-    let m : Mesh = record { class = pair.value.source.class; source = source; destination = destination; progress = Made 0 } in
-    let done = pair.then in
-    let is : record { count = step_count pair.value.source; table = record t { meshes = t.meshes ++ m ∷ [] } } ≡ begun = cc done in
-    let paged = class_paged pair.value.source.class (find_sound (has_number source) t.groups pair.value.source may.source_is sound.groups).class in
-    subst (λ (x : Counted). IsSound x.table) is
-    (begun_sound t m sound (may_begin_sound busy t source destination pair.value (Made 0) may (omega (arith, paged)))
-    (test pair.value.source.class may.idle))
+    let made = began busy t source destination begun h in
+    let m : Mesh = record { class = made.pair.source.class; source = source; destination = destination; progress = Made 0 } in
+    let paged = class_paged made.pair.source.class (find_sound (has_number source) t.groups made.pair.source made.may.source_is sound.groups).class in
+    subst (λ (x : Counted). IsSound x.table) made.is
+    (begun_sound t m sound (may_begin_sound busy t source destination made.pair (Made 0) made.may (omega (arith, paged)))
+    (test made.pair.source.class made.may.idle))
 
 -- other meshes on the same groups, no more of a class, keep the table sound
 meshes_sound : (t : Table) (free : ℕ) (ms : List Mesh) → IsSound t → AreSoundMeshes t ms → ((class : ℕ) → meshes_of class ms ≤ meshes_of class t.meshes)
@@ -327,16 +324,11 @@ differ m n h = elim (eqb_tells m n) [ inl same ↦ let clash : true ≡ false = 
 pub whole_sound : (busy : Table → ℕ → Bool) (t : Table) (source destination : ℕ) (whole : Counted) → IsBusyTest busy t → IsSound t
     → mesh_whole busy t source destination ≡ Ok whole → IsSound whole.table
 whole_sound busy t source destination whole test sound h =
-    let pair = went_on (may_begin busy t source destination) _ whole h in
-    let may = may_begin_gives busy t source destination pair.value pair.is in
-    let done = pair.then in
-    let is : record {
-      count = pages_of pair.value.source.class;
-      table = record t { free_pages = t.free_pages + pages_of pair.value.source.class; groups = merged t.groups pair.value.source destination };
-    } ≡ whole = cc done in
-    subst (λ (x : Counted). IsSound x.table) is (merged_sound t (t.free_pages + pages_of pair.value.source.class) t.meshes pair.value.source
-    pair.value.destination source destination sound may.source_is may.destination_is (differ source destination may.two) may.class may.few sound.meshes
-    (test pair.value.source.class may.idle) (λ class. omega arith))
+    let made = meshed busy t source destination whole h in
+    let may = made.may in
+    subst (λ (x : Counted). IsSound x.table) made.is (merged_sound t (t.free_pages + pages_of made.pair.source.class) t.meshes made.pair.source
+    made.pair.destination source destination sound may.source_is may.destination_is (differ source destination may.two) may.class may.few sound.meshes
+    (test made.pair.source.class may.idle) (λ class. omega arith))
 
 -- the last step of a mesh keeps the table sound
 last_sound : (t : Table) (free : ℕ) (test : Mesh → Bool) (this : Mesh) (a : Group) → IsSound t → find test t.meshes ≡ Some this

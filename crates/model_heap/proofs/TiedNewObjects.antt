@@ -185,14 +185,17 @@ placed_more t g word serial len is some = record {
   long = refl;
 }
 
+-- the group of a new span is found
+pub spanned_found : (t : Table) (class : ℕ) → IsSound t → group_of (with_span t class) t.next_span ≡ Some (fresh_group t.next_span class t.next_page)
+spanned_found t class sound = last_found t.next_span t.groups (fresh_group t.next_span class t.next_page)
+    (none_from 0 t.next_span t.next_span t.groups sound.numbers (omega arith)) refl
+
 -- an object put into a new span
 spanned_more : (t : Table) (class word serial len : ℕ) → IsSound t → IsSome (row_of class)
     → IsPlaced t (placed_in (with_span t class) (fresh_group t.next_span class t.next_page) word serial len) serial len
 spanned_more t class word serial len sound row =
     let fresh : Group = fresh_group t.next_span class t.next_page in
-    let none : group_of t t.next_span ≡ None = none_from 0 t.next_span t.next_span t.groups sound.numbers (omega arith) in
-    let is : group_of (with_span t class) t.next_span ≡ Some fresh = last_found t.next_span t.groups fresh none refl in
-    let placed = placed_more (with_span t class) fresh word serial len is (fresh_open t.next_span class t.next_page row) in record {
+    let placed = placed_more (with_span t class) fresh word serial len (spanned_found t class sound) (fresh_open t.next_span class t.next_page row) in record {
       class = placed.class;
       k = placed.k;
       slot = placed.slot;

@@ -1,15 +1,15 @@
 -- The mesher keeps table and memory tied: the slots that are filled stay the same.
-use Rattle.std.proofs.Common.{◌≡◌, ◌≢◌, ℕ, zero, suc, ◌+◌, ◌-◌, ◌≤◌, Bool, true, false, cond, not, ◌||◌, min, nat_lt, List, [], ◌∷◌, ◌++◌, map, filter, find, count_by, slice_get, is_some, ap, subst, refl, sym, ◌∙◌, arith, inl, inr, Option, Some, None, Ok}
+use Rattle.std.proofs.Common.{◌≡◌, ◌≢◌, ℕ, zero, suc, ◌+◌, ◌-◌, ◌≤◌, Bool, true, false, cond, not, ◌||◌, min, nat_lt, List, [], ◌∷◌, map, filter, find, count_by, slice_get, is_some, ap, subst, refl, sym, ◌∙◌, arith, inl, inr, Option, Some, None, Ok}
 use Rattle.std.proofs.lemmas.Bool.Decides.{eqb_tells, leb_tells}
 use Rattle.std.proofs.lemmas.List.Sums.{sum_by-cons}
-use Rattle.model_words.proofs.Chains.{went_on, refuse_if_went}
-use Rattle.model_heap.proofs.MayBegin.{may_begin_gives}
+use Rattle.model_words.proofs.Chains.{refuse_if_went}
+use Rattle.model_heap.proofs.MayBegin.{began, meshed}
 use Rattle.model_heap.proofs.GroupLists.{find_number, find_mapped, find_changed_other, find_without_other, changed_number}
 use Rattle.model_heap.proofs.MeshLists.{mesh_found}
 use Rattle.model_heap.proofs.TableChanges.{differ, one_group, united_at, sweep_went, cancel_went, step_went}
-use Rattle.model_words.specs.Classes.{pages_of, slots_of}
+use Rattle.model_words.specs.Classes.{slots_of}
 use Rattle.model_memory.specs.Memory.{Memory}
-use Rattle.model_heap.specs.Mesh.{Stepped, begin, both_occupied, cancel, cancelled, cancelled_at, do_overlap, may_begin, mesh_whole, merged, merged_into, page_count, step, step_count, stepped, table_after, table_unwound, united}
+use Rattle.model_heap.specs.Mesh.{Stepped, begin, both_occupied, cancel, cancelled, cancelled_at, do_overlap, mesh_whole, merged, merged_into, page_count, step, step_count, stepped, table_after, table_unwound, united}
 use Rattle.model_heap.specs.Sound.{IsLiveSlot, IsSound, IsTied}
 use Rattle.model_heap.specs.Table.{Counted, Group, Made, Mesh, Progress, Slot, Table, Unwinding, changed_at, group_of, has_number, object_count, slot_address, sweep}
 use Rattle.model_words.specs.declared.refusals.Refusal.TheVariants.{TooLate}
@@ -222,33 +222,25 @@ merged_tied m t u a b source destination is is' two class apart same tied = tied
       ]
     ]
 
--- a mesh begun keeps table and memory tied
+-- a mesh begun keeps the groups
+pub begun_groups : (busy : Table → ℕ → Bool) (t : Table) (source destination : ℕ) (begun : Counted) → begin busy t source destination ≡ Ok begun
+    → begun.table.groups ≡ t.groups
+begun_groups busy t source destination begun h = ap (λ (x : Counted). x.table.groups) (sym (began busy t source destination begun h).is)
+
+-- so it keeps table and memory tied
 pub begin_tied : (m : Memory) (busy : Table → ℕ → Bool) (t : Table) (source destination : ℕ) (begun : Counted) → IsTied m t
     → begin busy t source destination ≡ Ok begun → IsTied m begun.table
 begin_tied m busy t source destination begun tied h =
-    let pair = went_on (may_begin busy t source destination) _ begun h in
-    let done = pair.then in
-    let is : record {
-      count = step_count pair.value.source;
-      table = record t {
-        meshes = t.meshes ++ record { class = pair.value.source.class; source = source; destination = destination; progress = Made 0 } ∷ [];
-      };
-    } ≡ begun = cc done in
-    tied_groups m t begun.table (ap (λ (x : Counted). x.table.groups) (sym is)) tied
+    tied_groups m t begun.table (begun_groups busy t source destination begun h) tied
 
 -- a whole mesh keeps table and memory tied
 pub whole_tied : (m : Memory) (busy : Table → ℕ → Bool) (t : Table) (source destination : ℕ) (whole : Counted) → IsTied m t
     → mesh_whole busy t source destination ≡ Ok whole → IsTied m whole.table
 whole_tied m busy t source destination whole tied h =
-    let pair = went_on (may_begin busy t source destination) _ whole h in
-    let may = may_begin_gives busy t source destination pair.value pair.is in
-    let done = pair.then in
-    let is : record {
-      count = pages_of pair.value.source.class;
-      table = record t { free_pages = t.free_pages + pages_of pair.value.source.class; groups = merged t.groups pair.value.source destination };
-    } ≡ whole = cc done in
-    merged_tied m t whole.table pair.value.source pair.value.destination source destination may.source_is may.destination_is
-    (differ source destination may.two) may.class may.apart (ap (λ (x : Counted). x.table.groups) (sym is)) tied
+    let made = meshed busy t source destination whole h in
+    let may = made.may in
+    merged_tied m t whole.table made.pair.source made.pair.destination source destination may.source_is may.destination_is
+    (differ source destination may.two) may.class may.apart (ap (λ (x : Counted). x.table.groups) (sym made.is)) tied
 
 -- a cancel of a mesh with so many unprotects left keeps the groups
 cancelled_at_groups : (t : Table) (this : Mesh) (a : Group) (q : ℕ) → (cancelled_at t this a q).table.groups ≡ t.groups
