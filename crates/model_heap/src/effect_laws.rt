@@ -2,6 +2,7 @@
 ghost use Rattle.model_heap.specs.EffectLaws.{ProtectsOnePage, RemapsOnePage, UnprotectsOnePage, ReleasesOnePage, UnwindsOnePage, CopiesNothing, CopiesTwoBytes, CopiesOverPages, CopyLeavesPages, StepsProtect, UnwindingProtects, OthersKeepProtection, ProtectionIsOfOne, LeadIsOfOne, FreeIsOfOne, CopiedAreTheSame, OtherBytesStay};
 
 /// What each kind of step does, of a source of two members of one page and of one of two members of three pages.
+#[tactic(auto, unfolding(model_words::specs::Classes::pages_of, model_words::specs::Classes::slots_of))]
 pub fn steps_have_effects()
     ensures protects { ProtectsOnePage }
     ensures remaps { RemapsOnePage }
@@ -11,6 +12,7 @@ pub fn steps_have_effects()
 {}
 
 /// A copy writes the bytes of the slot's object, over the ends of pages too, and nothing where the slot has none.
+#[tactic(auto, unfolding(model_words::specs::Classes::pages_of, model_words::specs::Classes::slots_of))]
 pub fn copies_have_effects()
     ensures none { CopiesNothing }
     ensures bytes { CopiesTwoBytes }
