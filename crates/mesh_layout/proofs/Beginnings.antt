@@ -1,7 +1,7 @@
 -- The page heap's invariant as a mesh begins, and why none begins.
 use Rattle.std.proofs.Common.{◌≡◌, ℕ, ◌+◌, ◌<◌, ◌≤◌, Bool, true, false, ◌||◌, if◌then◌else◌, nat_eq, nat_lt, List, [], ◌∷◌, ◌++◌, length, slice_index_or, Option, Some, None, Result, Ok, Err, IsSome, ap, subst, refl, sym, ◌∙◌, arith, inl, inr}
 use Rattle.std.specs.Option.{option_map}
-use Rattle.std.proofs.lemmas.Bool.Decides.{eqb_tells, leb_tells}
+use Rattle.std.proofs.lemmas.Bool.Decides.{nat_tests, eqb_tells, leb_tells}
 use Rattle.std.proofs.lemmas.List.{get_or-set_other, get_or-set_same, get_or_past}
 use Rattle.mesh_arena.specs.Pages.{Pages}
 use Rattle.model_words.specs.Classes.{Row, row_of}
@@ -223,21 +223,6 @@ page_heap_begins busy arena m old new next ms pair s d left paged test may close
         → ◌≡◌ {A = Result Counted Refusal} (Ok (record { count = a; table = t })) (Ok (record { count = b; table = u }))
     same_counted a b t u count table = rw (count, table) refl
 
-    turned : (a b : ℕ) → nat_eq a b ≡ nat_eq b a
-    turned a b = elim (eqb_tells a b) [
-      | inl same ↦ rw same.1 refl
-      | inr other ↦ elim (eqb_tells b a) [ inl same ↦ absurd (other.1 (sym same.1)) | inr back ↦ other.0 ∙ sym back.0 ]
-    ]
-
-    ored : (x y z : Bool) → (x || (y || z)) ≡ (z || (y || x))
-    ored true true true = refl
-    ored true true false = refl
-    ored true false true = refl
-    ored true false false = refl
-    ored false true true = refl
-    ored false true false = refl
-    ored false false true = refl
-    ored false false false = refl
-
     either : (s d n : ℕ) (c : Bool) → (nat_eq n d || (nat_eq n s || c)) ≡ (c || (nat_eq s n || nat_eq d n))
-    either s d n c = ap (λ (x : Bool). x || (nat_eq n s || c)) (turned n d) ∙ ap (λ (x : Bool). nat_eq d n || (x || c)) (turned n s) ∙ ored (nat_eq d n) (nat_eq s n) c
+    either s d n true = grind (arith, nat_tests)
+    either s d n false = grind (arith, nat_tests)

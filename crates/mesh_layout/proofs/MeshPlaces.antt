@@ -8,10 +8,11 @@ use Rattle.std.proofs.lemmas.List.Folds.{find_at}
 use Rattle.std.proofs.lemmas.List.Quantifiers.{position-Some}
 use Rattle.std.proofs.lemmas.List.Sums.{position_or_len_is}
 use Rattle.std.proofs.lemmas.Option.{slice_get-get_or, slice_get_past}
+use Rattle.model_heap.proofs.MeshLists.{same_mesh}
 use Rattle.model_heap.specs.Mesh.{is_mesh, with_progress, without_mesh}
 use Rattle.model_heap.specs.Sound.{AreSoundMeshes, IsSoundMesh, meshes_of}
 use Rattle.model_heap.specs.Table.{Made, Mesh, Progress, Table}
-use Rattle.mesh_layout.proofs.MeshList.{same_class, same_mesh}
+use Rattle.mesh_layout.proofs.MeshList.{same_class}
 
 -- what stands at the first place at which a test passes
 pub record IsFirst (test : Mesh → Bool) (ms : List Mesh) (place : ℕ) : Type 0 where

@@ -5,6 +5,7 @@ use Rattle.std.specs.List.{list_any}
 use Rattle.std.proofs.lemmas.Bool.Decides.{eqb_tells}
 use Rattle.mesh_arena.specs.Pages.{Gives, Pages}
 use Rattle.mesh_class.specs.Classes.{pages_of, slots_of}
+use Rattle.model_heap.proofs.MeshLists.{same_mesh}
 use Rattle.model_heap.proofs.TableChanges.{step_sound}
 use Rattle.model_heap.specs.Mesh.{Stepped, is_mesh, step, with_progress, without_mesh}
 use Rattle.model_heap.specs.Sound.{AreSoundMeshes, IsSound, IsSoundMesh, meshes_of}
@@ -19,7 +20,7 @@ use Rattle.mesh_layout.specs.Meshes.{mesh_from, stage_of, stage_with}
 use Rattle.mesh_layout.specs.Steps.{Keeps, Moves}
 use Rattle.mesh_layout.proofs.Changes.{MergesIndex, index_merges, stage_none, stage_same}
 use Rattle.mesh_layout.proofs.Flags.{flags_progress, flags_without}
-use Rattle.mesh_layout.proofs.MeshList.{from_found, one_group, same_mesh, sound_found, without_here, without_moves, without_others}
+use Rattle.mesh_layout.proofs.MeshList.{from_found, one_group, sound_found, without_here, without_moves, without_others}
 use Rattle.mesh_layout.proofs.MapSteps.{protects_all}
 use Rattle.mesh_layout.proofs.Orderly.{no_mesh_from, orderly}
 use Rattle.mesh_layout.proofs.ReadOnly.{Among, among_counted, among_sound}

@@ -6,6 +6,7 @@ use Rattle.std.proofs.lemmas.List.Elements.{filter-append}
 use Rattle.mesh_class.specs.Classes.{pages_of, slots_of}
 use Rattle.model_heap.proofs.MayBegin.{may_begin_gives}
 use Rattle.model_heap.proofs.GroupPages.{found_sound}
+use Rattle.model_heap.proofs.MeshLists.{same_mesh}
 use Rattle.model_heap.proofs.TableChanges.{class_paged}
 use Rattle.model_heap.proofs.WholeMeshes.{free_next}
 use Rattle.model_heap.specs.Mesh.{Pair, Stepped, begin, do_overlap, free_after, is_mesh, kind_after, may_begin, merged, mesh_at, mesh_in, mesh_whole, page_count, step, step_count, stepped, table_after, with_progress, without_mesh}
@@ -15,7 +16,6 @@ use Rattle.model_heap.specs.Table.{Counted, Group, Made, Mesh, Progress, Table, 
 use Rattle.model_heap.specs.TableLaws.{IsBusyTest}
 use Rattle.model_words.specs.Words.{◌>>=◌}
 use Rattle.model_words.specs.declared.refusals.Refusal.{Refusal}
-use Rattle.mesh_layout.proofs.MeshList.{same_mesh}
 use Rattle.mesh_layout.proofs.MeshPlaces.{progress_none, without_none}
 
 -- a mesh behind others, none of which is of its class, is the one that is found

@@ -1,5 +1,5 @@
 -- Where the next object of a class goes.
-use Rattle.std.proofs.Common.{◌≡◌, ℕ, zero, suc, ◌+◌, ◌-◌, ◌%◌, ◌<◌, ◌≤◌, Bool, true, false, not, ◌&&◌, nat_eq, nat_lt, find, List, [], ◌∷◌, ◌++◌, map, Option, Some, None, Result, Ok, IsSome, IsSomeAnd, length, replicate, slice_get, slice_index, slice_index_or, ap, subst, refl, sym, ◌∙◌, arith, inl, inr}
+use Rattle.std.proofs.Common.{◌≡◌, ℕ, zero, suc, ◌+◌, ◌-◌, ◌%◌, ◌<◌, ◌≤◌, Bool, true, false, not, ◌&&◌, nat_eq, nat_lt, find, List, [], ◌∷◌, ◌++◌, map, Option, Some, None, Result, Ok, IsSome, IsSomeAnd, length, slice_get, slice_index, slice_index_or, ap, subst, refl, sym, ◌∙◌, arith, inl, inr}
 use Rattle.std.specs.List.{list_any}
 use Rattle.std.specs.Option.{option_map_or}
 use Rattle.std.proofs.Math.ListN.{get_or-append, length-append}
@@ -17,10 +17,11 @@ use Rattle.mesh_layout.specs.Layout.{IsLiveAt}
 use Rattle.mesh_layout.specs.PageHeap.{IsPageHeap}
 use Rattle.mesh_layout.specs.Steps.{Keeps}
 use Rattle.model_heap.proofs.NewObjects.{span_sound}
+use Rattle.model_heap.proofs.NewPlaces.{fresh_picked}
 use Rattle.model_heap.proofs.OpenGroups.{found_open, open_tests}
 use Rattle.model_words.specs.Classes.{Row, row_of}
 use Rattle.model_heap.specs.Sound.{IsSound}
-use Rattle.model_heap.specs.Table.{Group, Mesh, Slot, Table, free_from, fresh_group, is_open, object_count, picked_slot, place_in, placed_in, room_for_span, slot_address, takes_objects, takes_part, with_span}
+use Rattle.model_heap.specs.Table.{Group, Mesh, Slot, Table, fresh_group, is_open, object_count, place_in, placed_in, room_for_span, slot_address, takes_objects, takes_part, with_span}
 use Rattle.model_words.specs.Words.{◌>>=◌}
 use Rattle.model_words.specs.declared.refusals.Refusal.{Refusal}
 use Rattle.mesh_pagemap.specs.Entries.{Entries}
@@ -79,23 +80,6 @@ place_open g class word span k paged index picked vacant =
     placed_open g class word span k (open_group (table_in g) class) paged index refl
     (subst (λ (o : Option Group). IsSomeAnd o (λ group. IsPicked g.index group word span k)) (open_is g class paged) picked) vacant
 
-free_fresh : (b n i : ℕ) → i < n → slice_index (free_from b (replicate n None)) i ≡ b + i
-free_fresh b zero i h = absurd (omega (arith, h))
-free_fresh b (suc n) zero h = omega arith
-free_fresh b (suc n) (suc i) h = let rest = free_fresh (b + 1) n i (omega (arith, h)) in omega (arith, rest)
-
-free_count_fresh : (b n : ℕ) → length (free_from b (replicate n None)) ≡ n
-free_count_fresh b zero = refl
-free_count_fresh b (suc n) = ap suc (free_count_fresh (b + 1) n)
-
--- in a fresh group the word picks the slot of its remainder
-pub picked_fresh : (number class page word : ℕ) → 1 ≤ slots_of class → word % slots_of class ≡ picked_slot (fresh_group number class page) word
-picked_fresh number class page word some =
-    let long = free_count_fresh 0 (slots_of class) in
-    let at : slice_index (free_from 0 (replicate (slots_of class) None)) (word % slots_of class) ≡ 0 + word % slots_of class
-    = free_fresh 0 (slots_of class) (word % slots_of class) (omega (arith, some)) in
-    rw long (sym (at ∙ (let zeroth : 0 + word % slots_of class ≡ word % slots_of class = omega arith in zeroth)))
-
 -- the remainder's slot of a fresh span is where the next object goes
 pub place_fresh : (old new : PageHeap) (class word span k : ℕ) → IsClass class → open_group (table_in old) class ≡ None → IsFreshSpan old new class span
     → k ≡ word % slots_of class → IsPlace old new class word span k
@@ -112,7 +96,7 @@ place_fresh old new class word span k sound none fresh at =
       picked = record {
         number = fresh.group ∙ fresh.number;
         member = fresh.first;
-        slot = at ∙ picked_fresh (length old.index.spans) class old.next_page word some;
+        slot = at ∙ sym (fresh_picked (length old.index.spans) class old.next_page word some);
       };
       same_class = refl;
       free = fresh.free k within;
