@@ -1,5 +1,5 @@
 -- What a heap means once its page heap was meshed.
-use Rattle.std.proofs.Common.{length, ◌≡◌, ℕ, suc, ◌+◌, ◌-◌, ◌<◌, ◌≤◌, false, nat_eq, find, slice_index, List, Some, Result, Ok, Err, IfOk, IfErr, IsOk, ap, refl, sym, subst, ◌∙◌, arith}
+use Rattle.std.proofs.Common.{length, ◌≡◌, ℕ, suc, ◌+◌, ◌-◌, ◌<◌, false, nat_eq, find, slice_index, List, Some, Result, Ok, Err, IfOk, IfErr, IsOk, ap, refl, sym, subst, ◌∙◌, arith}
 use Rattle.std.specs.Option.{option_map}
 use Rattle.mesh_class.specs.Classes.{pages_of}
 use Rattle.mesh_layout.proofs.Groups.{IsEntry, table_entry}
@@ -12,18 +12,18 @@ use Rattle.mesh_layout.specs.Indexes.{layout_of}
 use Rattle.mesh_layout.specs.Steps.{Keeps}
 use Rattle.model_heap.proofs.TableChanges.{begin_sound, cancel_sound, step_sound, sweep_sound}
 use Rattle.model_heap.proofs.TiedTables.{begin_tied, cancel_tied, step_tied, sweep_tied}
-use Rattle.model_heap.specs.Mesh.{Stepped, mesh_in, page_count, step, virtual_pages}
+use Rattle.model_heap.specs.Mesh.{Stepped, begin, cancel, mesh_in, page_count, step, virtual_pages}
 use Rattle.model_heap.specs.MeshLaws.{steps_of_class}
 use Rattle.model_words.specs.Words.{◌>>=◌}
 use Rattle.model_heap.specs.Sound.{IsSound, IsTied}
-use Rattle.model_heap.specs.Table.{Counted, Group, Table, group_of, has_number}
+use Rattle.model_heap.specs.Table.{Counted, Group, Table, group_of, has_number, sweep}
 use Rattle.model_words.specs.declared.refusals.Refusal.{Refusal}
 use Rattle.mesh_pagemap.specs.Entries.{Entries, is_mapped}
 use Rattle.mesh_spans.specs.Index.{IsIndex}
 use Rattle.mesh_arena.specs.Pages.{Pages}
 use Rattle.mesh_steps.proofs.MayBegin.{busy_tells}
-use Rattle.mesh_steps.specs.Heap.{HasAsManyPages, Heap, IsHeap, plain_of, table_of}
-use Rattle.mesh_steps.specs.HeapMeshes.{IsMeshBegun, IsMeshCancelled, IsMeshed, IsOnItsWay, IsStepMade, IsSwept, MeansTheSame}
+use Rattle.mesh_steps.specs.Heap.{Heap, IsHeap, plain_of, table_of}
+use Rattle.mesh_steps.specs.HeapMeshes.{IsMeshBegun, IsMeshCancelled, IsMeshed, IsOnItsWay, IsStepMade, IsSwept, KeepsMeaning, MeansTheSame}
 use Rattle.mesh_steps.specs.Meshes.{IsBegun, IsCancelled, IsStepped, busy_by}
 use Rattle.mesh_steps.specs.PageHeap.{PageHeap, table_in}
 use Rattle.mesh_steps.specs.Sweeps.{HasGone}
@@ -34,14 +34,17 @@ use Rattle.mesh_steps.specs.declared.busy.Busy.{Busy}
 module _ (pages new : PageHeap) (next : ℕ) (heap : IsHeap (record { pages = pages; next_serial = next })) (sound : IsSound (table_in new))
     (kept : Keeps (layout_of pages.index) pages.arena new.arena pages.map new.map)
     (tied : IsTied (plain_of (record { pages = pages; next_serial = next })) (table_in new)) where
-  pub moved_means : MeansTheSame (record { pages = pages; next_serial = next }) (record { pages = new; next_serial = next })
+  moved_means : MeansTheSame (record { pages = pages; next_serial = next }) (record { pages = new; next_serial = next })
   moved_means = transition_means next pages.index (table_in pages) (table_in new) pages.map new.map pages.arena new.arena heap.sound sound refl kept heap.tied tied
 
-  pub moved_heap : IsHeap (record { pages = new; next_serial = next })
+  moved_heap : IsHeap (record { pages = new; next_serial = next })
   moved_heap = record {
     sound = sound;
     tied = transition_tied next pages.index (table_in pages) (table_in new) pages.map new.map pages.arena new.arena heap.sound sound refl kept heap.tied tied;
   }
+
+  pub moved_kept : KeepsMeaning (record { pages = pages; next_serial = next }) (record { pages = new; next_serial = next })
+  moved_kept = record { memory = moved_means; serial = refl; pages = kept.same_length }
 
 -- where arena and page map stay so do all bytes
 same_kept : (pages new : PageHeap) → new.arena ≡ pages.arena → new.map ≡ pages.map → Keeps (layout_of pages.index) pages.arena new.arena pages.map new.map
@@ -49,79 +52,124 @@ same_kept pages new arena map =
     subst (λ (a : Pages). Keeps (layout_of pages.index) pages.arena a pages.map new.map) (sym arena)
     (subst (λ (m : Entries). Keeps (layout_of pages.index) pages.arena pages.arena pages.map m) (sym map) (record { each = λ n k o x slot live. refl; same_length = refl }))
 
--- what holds of an answer holds of what it is made of
-pub told_of : {X E : Type 0} (r : Result X E) (P Q : X → Type 0) → IfOk r P → ((x : X) → P x → Q x) → IfOk r Q
-told_of (Ok x) P Q h f = f x h
-told_of (Err e) P Q h f = h
+-- what a call leaves: a heap that means what it meant, of which is told what is to be
+pub record Leaves {X : Type 0} (pages new : PageHeap) (next : ℕ) (r : Result X Refusal) (Told : X → Type 0) : Type 0 where
+  pub heap : IsHeap (record { pages = new; next_serial = next })
+  pub kept : KeepsMeaning (record { pages = pages; next_serial = next }) (record { pages = new; next_serial = next })
+  pub told : IfOk r Told
 
 module _ (pages new : PageHeap) (next : ℕ) (heap : IsHeap (record { pages = pages; next_serial = next })) where
-  -- a refusal leaves the heap
-  pub either_heap : {X : Type 0} (r : Result X Refusal) (P : X → Type 0) (Q : Refusal → Type 0) → IfOk r P → IfErr r (λ e. Q e × (new ≡ pages))
-      → ((x : X) → P x → IsHeap (record { pages = new; next_serial = next })) → IsHeap (record { pages = new; next_serial = next })
-  either_heap (Ok x) P Q ok err f = f x ok
-  either_heap (Err e) P Q ok err f = subst (λ (g : PageHeap). IsHeap (record { pages = g; next_serial = next })) (sym err.1) heap
+  -- a call that tells of the page heap what means as much of the heap; a refusal leaves it
+  leaves : {X : Type 0} (r : Result X Refusal) (P Told : X → Type 0) (Q : Refusal → Type 0) → IfOk r P → IfErr r (λ e. Q e × (new ≡ pages))
+      → ((x : X) → P x → IsHeap (record { pages = new; next_serial = next }) × KeepsMeaning (record { pages = pages; next_serial = next }) (record { pages = new; next_serial = next }) × Told x) → Leaves pages new next r Told
+  leaves (Ok x) P Told Q ok err means = let all = means x ok in record { heap = all.0; kept = all.1; told = all.2 }
+  leaves (Err e) P Told Q ok err means = subst (λ (g : PageHeap). Leaves pages g next (Err e) Told) (sym err.1)
+      (record { heap = heap; kept = record { memory = λ roots. refl; serial = refl; pages = refl }; told = ok })
 
   -- a heap in which a mesh began
-  pub begun_means : (busy : Busy) (source destination left : ℕ) → IsBegun busy pages new source destination left
-      → IsHeap (record { pages = new; next_serial = next })
-      × IsMeshBegun (busy_by busy) (record { pages = pages; next_serial = next }) (record { pages = new; next_serial = next }) source destination left
-  begun_means busy source destination left is =
+  pub begun_leaves : (busy : Busy) (source destination : ℕ) (r : Result ℕ Refusal) → IfOk r (IsBegun busy pages new source destination)
+      → IfErr r (λ refusal. (begin (busy_by busy) (table_in pages) source destination ≡ Err refusal) × (new ≡ pages))
+      → Leaves pages new next r (IsMeshBegun (busy_by busy) (record { pages = pages; next_serial = next }) (record { pages = new; next_serial = next }) source destination)
+  begun_leaves busy source destination r ok err =
+      leaves r (IsBegun busy pages new source destination) _ (λ refusal. begin (busy_by busy) (table_in pages) source destination ≡ Err refusal) ok err (λ left is.
       let x : Counted = record { count = left; table = table_in new } in
       let sound = begin_sound (busy_by busy) (table_in pages) source destination x (busy_tells busy (table_in pages)) heap.sound is.table in
       let tied = begin_tied (plain_of (record { pages = pages; next_serial = next })) (busy_by busy) (table_in pages) source destination x heap.tied is.table in
-      let kept = same_kept pages new is.arena is.map in (
+      let kept = same_kept pages new is.arena is.map in
+      let means = moved_kept pages new next heap sound kept tied in (
         moved_heap pages new next heap sound kept tied,
-        record { table = is.table; memory = moved_means pages new next heap sound kept tied; serial = refl; arena = is.arena; map = is.map },
-      )
+        means,
+        record { table = is.table; memory = means.memory; serial = refl; arena = is.arena; map = is.map },
+      ))
 
   -- one of which a mesh made a step
-  pub stepped_means : (class : ℕ) (done : StepDone) → IsStepped pages new class done
-      → IsHeap (record { pages = new; next_serial = next })
-      × IsStepMade (record { pages = pages; next_serial = next }) (record { pages = new; next_serial = next }) class done
-  stepped_means class done is =
+  pub stepped_leaves : (class : ℕ) (r : Result StepDone Refusal) → IfOk r (IsStepped pages new class)
+      → IfErr r (λ refusal. (step (table_in pages) (mesh_in (table_in pages) class) ≡ Err refusal) × (new ≡ pages))
+      → Leaves pages new next r (IsStepMade (record { pages = pages; next_serial = next }) (record { pages = new; next_serial = next }) class)
+  stepped_leaves class r ok err =
+      leaves r (IsStepped pages new class) _ (λ refusal. step (table_in pages) (mesh_in (table_in pages) class) ≡ Err refusal) ok err (λ done is.
       let x : Stepped = record { kind = done.kind; left = done.left; table = table_in new } in
       let sound = step_sound (table_in pages) (λ mesh. nat_eq mesh.class class) x heap.sound is.table in
-      let tied = step_tied (plain_of (record { pages = pages; next_serial = next })) (table_in pages) (λ mesh. nat_eq mesh.class class) x heap.sound heap.tied is.table in (
+      let tied = step_tied (plain_of (record { pages = pages; next_serial = next })) (table_in pages) (λ mesh. nat_eq mesh.class class) x heap.sound heap.tied is.table in
+      let means = moved_kept pages new next heap sound is.kept tied in (
         moved_heap pages new next heap sound is.kept tied,
+        means,
         record {
           table = is.table;
-          memory = moved_means pages new next heap sound is.kept tied;
+          memory = means.memory;
           serial = refl;
           mesh = is.mesh;
           running = is.running;
           effect = is.effect;
-          pages = is.kept.same_length;
+          pages = means.pages;
         },
-      )
+      ))
 
   -- one of which a mesh was cancelled
-  pub cancelled_means : (class left : ℕ) → IsCancelled pages new class left
-      → IsHeap (record { pages = new; next_serial = next })
-      × IsMeshCancelled (record { pages = pages; next_serial = next }) (record { pages = new; next_serial = next }) class left
-  cancelled_means class left is =
+  pub cancelled_leaves : (class : ℕ) (r : Result ℕ Refusal) → IfOk r (IsCancelled pages new class)
+      → IfErr r (λ refusal. (cancel (table_in pages) (mesh_in (table_in pages) class) ≡ Err refusal) × (new ≡ pages))
+      → Leaves pages new next r (IsMeshCancelled (record { pages = pages; next_serial = next }) (record { pages = new; next_serial = next }) class)
+  cancelled_leaves class r ok err =
+      leaves r (IsCancelled pages new class) _ (λ refusal. cancel (table_in pages) (mesh_in (table_in pages) class) ≡ Err refusal) ok err (λ left is.
       let x : Counted = record { count = left; table = table_in new } in
       let sound = cancel_sound (table_in pages) (λ mesh. nat_eq mesh.class class) x heap.sound is.table in
       let tied = cancel_tied (plain_of (record { pages = pages; next_serial = next })) (table_in pages) (mesh_in (table_in pages) class) x heap.tied is.table in
-      let kept = same_kept pages new is.arena is.map in (
+      let kept = same_kept pages new is.arena is.map in
+      let means = moved_kept pages new next heap sound kept tied in (
         moved_heap pages new next heap sound kept tied,
-        record { table = is.table; memory = moved_means pages new next heap sound kept tied; serial = refl; arena = is.arena; map = is.map },
-      )
+        means,
+        record { table = is.table; memory = means.memory; serial = refl; arena = is.arena; map = is.map },
+      ))
+
+  -- one of which a group was swept
+  pub swept_leaves : (n : ℕ) (r : Result ℕ Refusal) → IsIndex pages.index.spans pages.index.groups → IfOk r (HasGone pages new n)
+      → IfErr r (λ refusal. (sweep (table_in pages) n ≡ Err refusal) × (new ≡ pages)) → Leaves pages new next r (IsSwept (record { pages = pages; next_serial = next }) (record { pages = new; next_serial = next }) n)
+  swept_leaves n r index ok err =
+      leaves r (HasGone pages new n) _ (λ refusal. sweep (table_in pages) n ≡ Err refusal) ok err (λ count is.
+      let x : Counted = record { count = count; table = table_in new } in
+      let sound = sweep_sound (table_in pages) n x heap.sound is.table in
+      let tied = sweep_tied (plain_of (record { pages = pages; next_serial = next })) (table_in pages) n x heap.tied is.table in
+      let means = moved_kept pages new next heap sound is.kept tied in (
+        moved_heap pages new next heap sound is.kept tied,
+        means,
+        record {
+          table = is.table;
+          memory = means.memory;
+          serial = refl;
+          unmapped = λ g i there below.
+              let e : IsEntry pages.index n g = table_entry pages.index n g there in
+              let total = pages_counted pages.index n e.entry e.there in
+              let same = ap page_count e.same in
+              let within : i < page_total (layout_of pages.index) n = omega (arith, below, total, same) in
+              subst (λ (v : ℕ). is_mapped new.map v ≡ false)
+              (sym (ap (λ (x : Group). slice_index (virtual_pages x) i) e.same ∙ page_is pages.index n i e.entry e.there within))
+              (is.unmapped i (virtual_page (layout_of pages.index) n i) (record { within = within; at = refl }));
+          pages = means.pages;
+        },
+      ))
+
+-- what is kept twice is kept
+pub kept_on : (old now new : Heap) → KeepsMeaning old now → KeepsMeaning now new → KeepsMeaning old new
+kept_on old now new was is = record {
+  memory = λ roots. is.memory roots ∙ was.memory roots;
+  serial = is.serial ∙ was.serial;
+  pages = is.pages ∙ was.pages;
+}
 
 -- a step of a mesh that has more
 pub gone_on : (old now new : Heap) (class steps made : ℕ) (r : Result StepDone Refusal) → IsOk (steps_of_class class steps (table_of old)) → made < steps
     → IsOnItsWay old now class steps made → IfOk r (IsStepMade now new class)
-    → IfErr r (λ refusal. (step (table_of now) (mesh_in (table_of now) class) ≡ Err refusal) × (new ≡ now)) → IsOnItsWay old new class steps (made + 1)
-gone_on old now new class steps made (Ok done) whole below way ok err = record {
+    → IfErr r (λ refusal. (step (table_of now) (mesh_in (table_of now) class) ≡ Err refusal) × (new ≡ now)) → KeepsMeaning now new
+    → IsOnItsWay old new class steps (made + 1)
+gone_on old now new class steps made (Ok done) whole below way ok err kept = record {
   few = omega (arith, below);
   table =
       let next : steps - made ≡ suc (steps - (made + 1)) = omega (arith, below) in
       sym (ap (λ (r : Result Stepped Refusal). r >>= λ x. steps_of_class class (steps - (made + 1)) x.table) ok.table)
       ∙ sym (ap (λ (n : ℕ). steps_of_class class n (table_of now)) next) ∙ way.table;
-  memory = λ roots. ok.memory roots ∙ way.memory roots;
-  serial = ok.serial ∙ way.serial;
-  pages = ok.pages ∙ way.pages;
+  kept = kept_on old now new way.kept kept;
 }
-gone_on old now new class steps made (Err refusal) whole below way ok err = absurd (
+gone_on old now new class steps made (Err refusal) whole below way ok err kept = absurd (
     let next : steps - made ≡ suc (steps - (made + 1)) = omega (arith, below) in
     let stuck : steps_of_class class (suc (steps - (made + 1))) (table_of now) ≡ Err refusal
     = ap (λ (r : Result Stepped Refusal). r >>= λ x. steps_of_class class (steps - (made + 1)) x.table) err.0 in
@@ -132,21 +180,6 @@ gone_on old now new class steps made (Err refusal) whole below way ok err = absu
     refuted : (r : Result Table Refusal) (refusal : Refusal) → r ≡ Err refusal → IsOk r → ⊥
     refuted (Ok t) refusal is whole = cc is
     refuted (Err e) refusal is whole = cc whole
-
--- none made
-pub set_out : (h : Heap) (class steps : ℕ) → IsOnItsWay h h class steps 0
-set_out h class steps = record {
-  few = omega arith;
-  table = (let all : steps - 0 ≡ steps = omega arith in ap (λ (n : ℕ). steps_of_class class n (table_of h)) all);
-  memory = λ roots. refl;
-  serial = refl;
-  pages = refl;
-}
-
--- all made
-pub arrived : (old now : Heap) (class steps made : ℕ) → steps ≤ made → IsOnItsWay old now class steps made → steps_of_class class steps (table_of old) ≡ Ok (table_of now)
-arrived old now class steps made all way =
-    let none : steps - made ≡ 0 = omega (arith, all) in sym way.table ∙ ap (λ (n : ℕ). steps_of_class class n (table_of now)) none
 
 -- what a mesh that began in a heap comes to
 module _ (busy : Busy) (old new : Heap) (source destination left class : ℕ) (heap : IsHeap old)
@@ -166,44 +199,22 @@ module _ (busy : Busy) (old new : Heap) (source destination left class : ℕ) (h
   has_steps = rw (same_class, all.steps) refl
 
   -- once all its steps are made
-  pub meshed : (end : Heap) (pages : ℕ) → steps_of_class class left (table_of new) ≡ Ok (table_of end) → MeansTheSame new end → end.next_serial ≡ new.next_serial
-      → HasAsManyPages new end → pages ≡ pages_of class → IsMeshed (busy_by busy) old end source destination pages
-  meshed end pages steps memory serial as_many count =
+  pub meshed : (end : Heap) (pages : ℕ) → steps_of_class class left (table_of new) ≡ Ok (table_of end) → KeepsMeaning new end
+      → pages ≡ pages_of class → IsMeshed (busy_by busy) old end source destination pages
+  meshed end pages steps kept count =
       let same : Ok all.ended ≡ Ok (table_of end) = sym all.steps ∙ ap (λ (c : ℕ). steps_of_class c left (table_of new)) (sym same_class) ∙ steps in
       let ended : all.ended ≡ table_of end = cc same in
       let counted : pages_of all.source.class ≡ pages = ap pages_of (sym same_class) ∙ sym count in
       record {
         table = all.whole ∙ both (pages_of all.source.class) pages all.ended (table_of end) counted ended;
-        memory = λ roots. memory roots ∙ begun.memory roots;
-        serial = serial ∙ begun.serial;
-        pages = as_many ∙ ap (λ (a : Pages). length a) begun.arena;
+        memory = λ roots. kept.memory roots ∙ begun.memory roots;
+        serial = kept.serial ∙ begun.serial;
+        pages = kept.pages ∙ ap (λ (a : Pages). length a) begun.arena;
       }
     where
       both : (n n' : ℕ) (t t' : Table) → n ≡ n' → t ≡ t'
           → ◌≡◌ {A = Result Counted Refusal} (Ok (record { count = n; table = t })) (Ok (record { count = n'; table = t' }))
       both n n' t t' count table = rw (count, table) refl
 
--- what a heap means once a group was swept
-module _ (pages new : PageHeap) (next : ℕ) (index : IsIndex pages.index.spans pages.index.groups) (heap : IsHeap (record { pages = pages; next_serial = next })) where
-  pub swept_means : (n count : ℕ) → HasGone pages new n count → IsHeap (record { pages = new; next_serial = next })
-      × IsSwept (record { pages = pages; next_serial = next }) (record { pages = new; next_serial = next }) n count
-  swept_means n count is =
-      let x : Counted = record { count = count; table = table_in new } in
-      let sound = sweep_sound (table_in pages) n x heap.sound is.table in
-      let tied = sweep_tied (plain_of (record { pages = pages; next_serial = next })) (table_in pages) n x heap.tied is.table in (
-        moved_heap pages new next heap sound is.kept tied,
-        record {
-          table = is.table;
-          memory = moved_means pages new next heap sound is.kept tied;
-          serial = refl;
-          unmapped = λ g i there below.
-              let e : IsEntry pages.index n g = table_entry pages.index n g there in
-              let total = pages_counted pages.index n e.entry e.there in
-              let same = ap page_count e.same in
-              let within : i < page_total (layout_of pages.index) n = omega (arith, below, total, same) in
-              subst (λ (v : ℕ). is_mapped new.map v ≡ false)
-              (sym (ap (λ (x : Group). slice_index (virtual_pages x) i) e.same ∙ page_is pages.index n i e.entry e.there within))
-              (is.unmapped i (virtual_page (layout_of pages.index) n i) (record { within = within; at = refl }));
-          pages = is.kept.same_length;
-        },
-      )
+-- what is left of a heap by a mesher's calls
+pub ruleset mesher_calls = (begun_leaves, stepped_leaves, cancelled_leaves, swept_leaves)

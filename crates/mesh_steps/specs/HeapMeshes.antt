@@ -12,6 +12,12 @@ use Rattle.mesh_steps.specs.declared.answers.StepDone.{StepDone}
 abbrev pub MeansTheSame : Heap → Heap → Type 0
 MeansTheSame old new = (roots : List (Option ℕ)) → memory_of new roots ≡ memory_of old roots
 
+-- what a call of a mesher keeps, whatever it is answered: what the heap stands for, its next serial, and how many physical pages there are
+pub record KeepsMeaning (old new : Heap) : Type 0 where
+  pub memory : MeansTheSame old new
+  pub serial : new.next_serial ≡ old.next_serial
+  pub pages : HasAsManyPages old new
+
 -- a mesh began: so many steps are to come, and nothing else has changed
 pub record IsMeshBegun (busy : Table → ℕ → Bool) (old new : Heap) (source destination left : ℕ) : Type 0 where
   pub table : begin busy (table_of old) source destination ≡ Ok (record { count = left; table = table_of new })
@@ -58,6 +64,4 @@ pub record IsSwept (old new : Heap) (group count : ℕ) : Type 0 where
 pub record IsOnItsWay (old now : Heap) (class steps made : ℕ) : Type 0 where
   pub few : made ≤ steps
   pub table : steps_of_class class (steps - made) (table_of now) ≡ steps_of_class class steps (table_of old)
-  pub memory : MeansTheSame old now
-  pub serial : now.next_serial ≡ old.next_serial
-  pub pages : HasAsManyPages old now
+  pub kept : KeepsMeaning old now

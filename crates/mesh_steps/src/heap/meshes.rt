@@ -4,8 +4,8 @@ ghost use Rattle.std.specs.Option.{option_map};
 ghost use Rattle.model_heap.specs.Mesh.{any_mesh, begin, cancel, first_mesh, mesh_in, mesh_of_class, mesh_whole, step};
 ghost use Rattle.model_heap.specs.MeshLaws.{steps_of_class};
 ghost use Rattle.model_heap.specs.Table.{sweep};
-ghost use Rattle.mesh_steps.specs.Heap.{HasAsManyPages, table_of};
-ghost use Rattle.mesh_steps.specs.HeapMeshes.{IsMeshBegun, IsMeshCancelled, IsMeshed, IsStepMade, IsSwept, MeansTheSame};
+ghost use Rattle.mesh_steps.specs.Heap.{table_of};
+ghost use Rattle.mesh_steps.specs.HeapMeshes.{IsMeshBegun, IsMeshCancelled, IsMeshed, IsStepMade, IsSwept, KeepsMeaning};
 ghost use Rattle.mesh_steps.specs.Meshes.{busy_by};
 
 use super::Heap;
@@ -14,6 +14,7 @@ use crate::busy::Busy;
 use mesh_class::Class;
 use model_words::Refusal;
 
+#[tactic(auto, using(crate::proofs::MeshHeaps::mesher_calls))]
 impl Heap {
     /// Begins a mesh of the group `source` into the group `destination`, and answers how many steps are to come. Both groups are closed to
     /// new objects until it has ended. It takes no memory.
@@ -23,6 +24,7 @@ impl Heap {
         ensures begun { IfOk result (IsMeshBegun mesh_of_class self.old self.new source destination) }
         ensures refused { IfErr result (λ refusal.
             (begin mesh_of_class (table_of self.old) source destination ≡ Err refusal) × (self.new ≡ self.old)) }
+        ensures kept { KeepsMeaning self.old self.new }
     {
         self.start(source, destination, Busy::OfClass)
     }
@@ -32,6 +34,7 @@ impl Heap {
         ensures begun { IfOk result (IsMeshBegun any_mesh self.old self.new source destination) }
         ensures refused { IfErr result (λ refusal.
             (begin any_mesh (table_of self.old) source destination ≡ Err refusal) × (self.new ≡ self.old)) }
+        ensures kept { KeepsMeaning self.old self.new }
     {
         self.start(source, destination, Busy::Any)
     }
@@ -43,6 +46,7 @@ impl Heap {
         ensures made { IfOk result (IsStepMade self.old self.new class) }
         ensures refused { IfErr result (λ refusal.
             (step (table_of self.old) (mesh_in (table_of self.old) class) ≡ Err refusal) × (self.new ≡ self.old)) }
+        ensures kept { KeepsMeaning self.old self.new }
     {
         self.pages.sound();
         self.pages.step(class)
@@ -56,6 +60,7 @@ impl Heap {
         ensures cancelled { IfOk result (IsMeshCancelled self.old self.new class) }
         ensures refused { IfErr result (λ refusal.
             (cancel (table_of self.old) (mesh_in (table_of self.old) class) ≡ Err refusal) × (self.new ≡ self.old)) }
+        ensures kept { KeepsMeaning self.old self.new }
     {
         self.pages.sound();
         self.pages.cancel(class)
@@ -69,6 +74,7 @@ impl Heap {
         ensures meshed { IfOk result (IsMeshed mesh_of_class self.old self.new source destination) }
         ensures refused { IfErr result (λ refusal.
             (mesh_whole mesh_of_class (table_of self.old) source destination ≡ Err refusal) × (self.new ≡ self.old)) }
+        ensures kept { KeepsMeaning self.old self.new }
     {
         self.whole(source, destination, Busy::OfClass)
     }
@@ -78,6 +84,7 @@ impl Heap {
         ensures meshed { IfOk result (IsMeshed any_mesh self.old self.new source destination) }
         ensures refused { IfErr result (λ refusal.
             (mesh_whole any_mesh (table_of self.old) source destination ≡ Err refusal) × (self.new ≡ self.old)) }
+        ensures kept { KeepsMeaning self.old self.new }
     {
         self.whole(source, destination, Busy::Any)
     }
@@ -89,6 +96,7 @@ impl Heap {
     pub fn sweep(&mut self, group: u32) -> Result<u32, Refusal>
         ensures swept { IfOk result (IsSwept self.old self.new group) }
         ensures refused { IfErr result (λ refusal. (sweep (table_of self.old) group ≡ Err refusal) × (self.new ≡ self.old)) }
+        ensures kept { KeepsMeaning self.old self.new }
     {
         self.pages.sound();
         self.pages.sweep(group)
@@ -113,6 +121,7 @@ impl Heap {
         ensures begun { IfOk result (IsMeshBegun (busy_by busy) self.old self.new source destination) }
         ensures refused { IfErr result (λ refusal.
             (begin (busy_by busy) (table_of self.old) source destination ≡ Err refusal) × (self.new ≡ self.old)) }
+        ensures kept { KeepsMeaning self.old self.new }
     {
         self.pages.sound();
         self.pages.begin(source, destination, busy)
@@ -123,6 +132,7 @@ impl Heap {
         ensures meshed { IfOk result (IsMeshed (busy_by busy) self.old self.new source destination) }
         ensures refused { IfErr result (λ refusal.
             (mesh_whole (busy_by busy) (table_of self.old) source destination ≡ Err refusal) × (self.new ≡ self.old)) }
+        ensures kept { KeepsMeaning self.old self.new }
     {
         self.sound();
         let left = self.start(source, destination, busy)?;
@@ -135,9 +145,7 @@ impl Heap {
     fn finish(&mut self, class: Class, steps: u32)
         requires { IsOk (steps_of_class class steps (table_of self.old)) }
         ensures table { steps_of_class class steps (table_of self.old) ≡ Ok (table_of self.new) }
-        ensures memory { MeansTheSame self.old self.new }
-        ensures serial { self.new.next_serial ≡ self.old.next_serial }
-        ensures pages { HasAsManyPages self.old self.new }
+        ensures kept { KeepsMeaning self.old self.new }
     {
         'steps: for _made in 0..steps {
             let _done = self.step(class);

@@ -2,7 +2,7 @@ use Rattle.std.proofs.Common.{ap, sym, ◌∙◌}
 use Rattle.std.specs.Option.{option_map}
 use Rattle.model_heap.specs.Table.{Group, group_of}
 use Rattle.mesh_steps.specs.Heap.{Heap, table_of}
-use Rattle.mesh_steps.proofs.MeshHeaps.{has_steps, meshed}
+use Rattle.mesh_steps.proofs.MeshHeaps.{has_steps, kept_on, meshed}
 use Rattle.mesh_steps.proofs.heap.Heap.whole.Goals as goal
 
 pub finish-requires : goal.finish-requires
@@ -17,4 +17,7 @@ returns-clause-meshed c =
     meshed c.args.busy c.args.self.now c.start.new.self c.args.source c.args.destination c.in_ok-left.left c.unwrap-class.result c.sound.ensures
     c.in_ok-left.ensures.begun
     (sym c.unwrap-class.ensures ∙ c.class_of.ensures
-    ∙ ap (λ (h : Heap). option_map (λ (g : Group). g.class) (group_of (table_of h) c.args.source)) c.self.view_is) c.finish.new.self c.pages.result c.finish.ensures.table c.finish.ensures.memory c.finish.ensures.serial c.finish.ensures.pages c.pages.ensures.value
+    ∙ ap (λ (h : Heap). option_map (λ (g : Group). g.class) (group_of (table_of h) c.args.source)) c.self.view_is) c.finish.new.self c.pages.result c.finish.ensures.table c.finish.ensures.kept c.pages.ensures.value
+
+pub returns-clause-kept : goal.returns-clause-kept
+returns-clause-kept c = kept_on c.args.self.now c.start.new.self c.finish.new.self c.in_ok-left.ensures.kept c.finish.ensures.kept
