@@ -43,8 +43,8 @@ module _ (pages new : PageHeap) (next : ℕ) (heap : IsHeap (record { pages = pa
     tied = transition_tied next pages.index (table_in pages) (table_in new) pages.map new.map pages.arena new.arena heap.sound sound refl kept heap.tied tied;
   }
 
-  pub moved_kept : KeepsMeaning (record { pages = pages; next_serial = next }) (record { pages = new; next_serial = next })
-  moved_kept = record { memory = moved_means; serial = refl; pages = kept.same_length }
+  pub moved : IsHeap (record { pages = new; next_serial = next }) × KeepsMeaning (record { pages = pages; next_serial = next }) (record { pages = new; next_serial = next })
+  moved = (moved_heap, record { memory = moved_means; serial = refl; pages = kept.same_length })
 
 -- where arena and page map stay so do all bytes
 same_kept : (pages new : PageHeap) → new.arena ≡ pages.arena → new.map ≡ pages.map → Keeps (layout_of pages.index) pages.arena new.arena pages.map new.map
@@ -61,8 +61,8 @@ pub record Leaves {X : Type 0} (pages new : PageHeap) (next : ℕ) (r : Result X
 module _ (pages new : PageHeap) (next : ℕ) (heap : IsHeap (record { pages = pages; next_serial = next })) where
   -- a call that tells of the page heap what means as much of the heap; a refusal leaves it
   leaves : {X : Type 0} (r : Result X Refusal) (P Told : X → Type 0) (Q : Refusal → Type 0) → IfOk r P → IfErr r (λ e. Q e × (new ≡ pages))
-      → ((x : X) → P x → IsHeap (record { pages = new; next_serial = next }) × KeepsMeaning (record { pages = pages; next_serial = next }) (record { pages = new; next_serial = next }) × Told x) → Leaves pages new next r Told
-  leaves (Ok x) P Told Q ok err means = let all = means x ok in record { heap = all.0; kept = all.1; told = all.2 }
+      → ((x : X) → P x → (IsHeap (record { pages = new; next_serial = next }) × KeepsMeaning (record { pages = pages; next_serial = next }) (record { pages = new; next_serial = next })) × Told x) → Leaves pages new next r Told
+  leaves (Ok x) P Told Q ok err means = let all = means x ok in record { heap = all.0.0; kept = all.0.1; told = all.1 }
   leaves (Err e) P Told Q ok err means = subst (λ (g : PageHeap). Leaves pages g next (Err e) Told) (sym err.1)
       (record { heap = heap; kept = record { memory = λ roots. refl; serial = refl; pages = refl }; told = ok })
 
@@ -75,12 +75,8 @@ module _ (pages new : PageHeap) (next : ℕ) (heap : IsHeap (record { pages = pa
       let x : Counted = record { count = left; table = table_in new } in
       let sound = begin_sound (busy_by busy) (table_in pages) source destination x (busy_tells busy (table_in pages)) heap.sound is.table in
       let tied = begin_tied (plain_of (record { pages = pages; next_serial = next })) (busy_by busy) (table_in pages) source destination x heap.tied is.table in
-      let kept = same_kept pages new is.arena is.map in
-      let means = moved_kept pages new next heap sound kept tied in (
-        moved_heap pages new next heap sound kept tied,
-        means,
-        record { table = is.table; memory = means.memory; serial = refl; arena = is.arena; map = is.map },
-      ))
+      let means = moved pages new next heap sound (same_kept pages new is.arena is.map) tied in
+      (means, record { table = is.table; memory = means.1.memory; serial = refl; arena = is.arena; map = is.map }))
 
   -- one of which a mesh made a step
   pub stepped_leaves : (class : ℕ) (r : Result StepDone Refusal) → IfOk r (IsStepped pages new class)
@@ -91,17 +87,16 @@ module _ (pages new : PageHeap) (next : ℕ) (heap : IsHeap (record { pages = pa
       let x : Stepped = record { kind = done.kind; left = done.left; table = table_in new } in
       let sound = step_sound (table_in pages) (λ mesh. nat_eq mesh.class class) x heap.sound is.table in
       let tied = step_tied (plain_of (record { pages = pages; next_serial = next })) (table_in pages) (λ mesh. nat_eq mesh.class class) x heap.sound heap.tied is.table in
-      let means = moved_kept pages new next heap sound is.kept tied in (
-        moved_heap pages new next heap sound is.kept tied,
+      let means = moved pages new next heap sound is.kept tied in (
         means,
         record {
           table = is.table;
-          memory = means.memory;
+          memory = means.1.memory;
           serial = refl;
           mesh = is.mesh;
           running = is.running;
           effect = is.effect;
-          pages = means.pages;
+          pages = means.1.pages;
         },
       ))
 
@@ -114,12 +109,8 @@ module _ (pages new : PageHeap) (next : ℕ) (heap : IsHeap (record { pages = pa
       let x : Counted = record { count = left; table = table_in new } in
       let sound = cancel_sound (table_in pages) (λ mesh. nat_eq mesh.class class) x heap.sound is.table in
       let tied = cancel_tied (plain_of (record { pages = pages; next_serial = next })) (table_in pages) (mesh_in (table_in pages) class) x heap.tied is.table in
-      let kept = same_kept pages new is.arena is.map in
-      let means = moved_kept pages new next heap sound kept tied in (
-        moved_heap pages new next heap sound kept tied,
-        means,
-        record { table = is.table; memory = means.memory; serial = refl; arena = is.arena; map = is.map },
-      ))
+      let means = moved pages new next heap sound (same_kept pages new is.arena is.map) tied in
+      (means, record { table = is.table; memory = means.1.memory; serial = refl; arena = is.arena; map = is.map }))
 
   -- one of which a group was swept
   pub swept_leaves : (n : ℕ) (r : Result ℕ Refusal) → IsIndex pages.index.spans pages.index.groups → IfOk r (HasGone pages new n)
@@ -129,12 +120,11 @@ module _ (pages new : PageHeap) (next : ℕ) (heap : IsHeap (record { pages = pa
       let x : Counted = record { count = count; table = table_in new } in
       let sound = sweep_sound (table_in pages) n x heap.sound is.table in
       let tied = sweep_tied (plain_of (record { pages = pages; next_serial = next })) (table_in pages) n x heap.tied is.table in
-      let means = moved_kept pages new next heap sound is.kept tied in (
-        moved_heap pages new next heap sound is.kept tied,
+      let means = moved pages new next heap sound is.kept tied in (
         means,
         record {
           table = is.table;
-          memory = means.memory;
+          memory = means.1.memory;
           serial = refl;
           unmapped = λ g i there below.
               let e : IsEntry pages.index n g = table_entry pages.index n g there in
@@ -144,7 +134,7 @@ module _ (pages new : PageHeap) (next : ℕ) (heap : IsHeap (record { pages = pa
               subst (λ (v : ℕ). is_mapped new.map v ≡ false)
               (sym (ap (λ (x : Group). slice_index (virtual_pages x) i) e.same ∙ page_is pages.index n i e.entry e.there within))
               (is.unmapped i (virtual_page (layout_of pages.index) n i) (record { within = within; at = refl }));
-          pages = means.pages;
+          pages = means.1.pages;
         },
       ))
 

@@ -26,11 +26,5 @@ stored c =
     c.if-not-has_range.ensures.within c.if-not-has_range-2.ensures.within c.fetch-bytes.ensures.count c.fetch-bytes.ensures.bytes c.as_slice.ensures.value
     c.save.ensures
 
-pub returns-clause-done : goal.returns-clause-done
-returns-clause-done c = (stored c).done
-
-pub returns-clause-blocked : goal.returns-clause-blocked
-returns-clause-blocked c = (stored c).blocked
-
-pub returns-clause-refused : goal.returns-clause-refused
-returns-clause-refused c = (stored c).refused
+pub returns : goal.returns
+returns c = let is = stored c in record { done = is.done; blocked = is.blocked; refused = is.refused }

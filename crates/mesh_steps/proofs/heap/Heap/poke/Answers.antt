@@ -34,11 +34,5 @@ stored c =
     subst (λ (after : Result Memory Refusal). IsStore c.args.self.now c.save.new.self after (is_blocked (table_of c.args.self.now) c.args.addr 1) c.save.result)
     (ap (λ (a : ℕ). stored_in c.args.self.now c.in-Some.held.serial a c.in-Some.held.offset (c.args.byte ∷ [])) at ∙ sym same) whole
 
-pub returns-clause-done : goal.returns-clause-done
-returns-clause-done c = (stored c).done
-
-pub returns-clause-blocked : goal.returns-clause-blocked
-returns-clause-blocked c = (stored c).blocked
-
-pub returns-clause-refused : goal.returns-clause-refused
-returns-clause-refused c = (stored c).refused
+pub returns : goal.returns
+returns c = let is = stored c in record { done = is.done; blocked = is.blocked; refused = is.refused }
