@@ -1,5 +1,5 @@
 -- A decimal field, and the number that it spells.
-use Rattle.std.proofs.Common.{◌≡◌, ℕ, ◌+◌, ◌-◌, ◌*◌, ◌%◌, ◌^◌, ◌<◌, ◌≤◌, true, false, ◌&&◌, if◌then◌else◌, List, [], ◌∷◌, ◌++◌, Ok, Err, length, get_or, take, drop, refl, sym, ap, ◌∙◌, arith, ⊎_elim, add-one, length-append, length-drop}
+use Rattle.std.proofs.Common.{◌≡◌, ℕ, ◌+◌, ◌-◌, ◌*◌, ◌%◌, ◌^◌, ◌<◌, ◌≤◌, true, false, ◌&&◌, if◌then◌else◌, List, [], ◌∷◌, ◌++◌, Ok, Err, length, get_or, take, drop, refl, sym, ap, ◌∙◌, arith, ⊎_elim, add-one, length-append}
 use Rattle.std.specs.Fmt.{decimal}
 use Rattle.std.proofs.Math.Seq.{take-suc}
 use Rattle.std.specs.List.{fold, list_all}
@@ -12,6 +12,7 @@ use Rattle.model_jobs.proofs.FieldReadings.{same_by_test}
 use Rattle.model_jobs.specs.JobFiles.{are_same, is_between, with_decimal, decimal_value, number_in}
 use Rattle.model_words.specs.declared.faults.FaultKind.TheVariants.{Number}
 use Rattle.mesh_job.specs.Reading.{is_decimal_digit}
+use Rattle.mesh_job.proofs.Digits.{front_grows, grows}
 use Rattle.mesh_job.proofs.Sames.{fails, same_bytes, between_by_test}
 
 -- decimal digits give their number back
@@ -73,21 +74,9 @@ zero_first field long lead n small is =
     let at : get_or (decimal n) 0 0 ≡ 48 = ap (λ f. get_or f 0 0) (sym is) ∙ lead in
     ⊎_elim (λ (l : n < 1). omega (arith, first.2 (omega arith), ap length is)) (λ (m : 1 ≤ n). omega (arith, at, first.1 (omega arith))) (cases_lt n 1)
 
--- digits that come behind only make a number greater
-grows : (n : ℕ) (digits : List ℕ) → n ≤ fold with_decimal n digits
-grows n [] = omega arith
-grows n (b ∷ bs) = omega (arith, grows (with_decimal n b) bs)
-
-more_grows : (n : ℕ) (digits : List ℕ) → 1 ≤ length digits → 10 * n ≤ fold with_decimal n digits
-more_grows n [] some = absurd (omega (arith, some))
-more_grows n (b ∷ bs) some = omega (arith, grows (with_decimal n b) bs)
-
 -- the number of the digits before one of them is a tenth at most of that of them all
-pub front_grows : (digits : List ℕ) (i : ℕ) → i < length digits → 10 * decimal_value (take i digits) ≤ decimal_value digits
-front_grows digits i h =
-    let whole : decimal_value (take i digits ++ drop i digits) ≡ decimal_value digits = ap decimal_value (take-append-drop i digits) in
-    let behind = more_grows (decimal_value (take i digits)) (drop i digits) (omega (arith, length-drop i digits)) in
-    omega (arith, fold-append with_decimal 0 (take i digits) (drop i digits))
+pub decimal_front : (digits : List ℕ) (i : ℕ) → i < length digits → 10 * decimal_value (take i digits) ≤ decimal_value digits
+decimal_front = front_grows 10 with_decimal (λ n d. omega arith) (λ n d. omega arith)
 
 -- the number of one digit more
 pub next_value : (digits : List ℕ) (i : ℕ) → i < length digits → decimal_value (take (i + 1) digits) ≡ 10 * decimal_value (take i digits) + (get_or digits i 0 - 48)
@@ -98,7 +87,7 @@ next_value digits i h =
 pub with_one_more : (digits : List ℕ) (i : ℕ) → i < length digits → decimal_value (take (i + 1) digits) ≤ decimal_value digits
 with_one_more digits i h =
     let whole : decimal_value (take (i + 1) digits ++ drop (i + 1) digits) ≡ decimal_value digits = ap decimal_value (take-append-drop (i + 1) digits) in
-    omega (arith, fold-append with_decimal 0 (take (i + 1) digits) (drop (i + 1) digits), grows (decimal_value (take (i + 1) digits)) (drop (i + 1) digits))
+    omega (arith, fold-append with_decimal 0 (take (i + 1) digits) (drop (i + 1) digits), grows 10 with_decimal (λ m d. omega arith) (λ m d. omega arith) (decimal_value (take (i + 1) digits)) (drop (i + 1) digits))
 
 -- a field that spells a number is read as it, in its range
 pub number_spelt : (least most : ℕ) (field : List ℕ) (n : ℕ) → n < 2 ^ 64 → field ≡ decimal n

@@ -1,14 +1,13 @@
 -- Fields of hexadecimal digits: an address, and bytes of two digits each.
-use Rattle.std.proofs.Common.{◌≡◌, ◌≢◌, ℕ, zero, suc, ◌+◌, ◌*◌, ◌/◌, ◌%◌, ◌^◌, ◌<◌, ◌≤◌, true, false, ◌&&◌, if◌then◌else◌, nat_le, Bool, List, [], ◌∷◌, ◌++◌, Option, Some, None, Result, Ok, Err, length, get_or, take, drop, ap, refl, sym, subst, ◌∙◌, arith, inl, inr, append-nil, append_assoc, length-append, length-drop}
+use Rattle.std.proofs.Common.{◌≡◌, ◌≢◌, ℕ, zero, suc, ◌+◌, ◌*◌, ◌/◌, ◌%◌, ◌^◌, ◌<◌, ◌≤◌, true, false, ◌&&◌, if◌then◌else◌, nat_le, Bool, List, [], ◌∷◌, ◌++◌, Option, Some, None, Result, Ok, Err, length, get_or, take, drop, ap, refl, sym, subst, ◌∙◌, arith, inl, inr, append-nil, append_assoc, length-append}
 use Rattle.std.specs.Prelude.{◌⊎◌, is_some}
 use Rattle.std.specs.List.{fold, list_all}
 use Rattle.std.proofs.lemmas.Bool.Decides.{leb_tells}
 use Rattle.std.proofs.lemmas.Bool.{le-leb, lt-leb, and_parts, leb-true, true≢false}
 use Rattle.std.proofs.lemmas.Nat.{div_below}
 use Rattle.std.proofs.lemmas.List.Folds.{list_all-append}
-use Rattle.std.proofs.lemmas.List.Sums.{fold-append}
-use Rattle.std.proofs.lemmas.List.{take-append-drop}
 use Rattle.std.proofs.Math.Nat.{pow-suc}
+use Rattle.model_jobs.proofs.Fields.{value_of_digit}
 use Rattle.model_jobs.proofs.FieldReadings.{digit_told, same_by_test}
 use Rattle.model_jobs.specs.JobFiles.{are_same, hex_value, with_hex, hex_number, address_in, byte_from, bytes_from, bytes_in}
 use Rattle.model_jobs.specs.Texts.{hex_digit, hex_from, address_text}
@@ -16,6 +15,7 @@ use Rattle.model_words.specs.Words.{◌>>=◌, or_refuse}
 use Rattle.model_words.specs.declared.faults.FaultKind.{FaultKind}
 use Rattle.model_words.specs.declared.faults.FaultKind.TheVariants.{Number, Hex}
 use Rattle.mesh_job.specs.Reading.{is_hex_digit}
+use Rattle.mesh_job.proofs.Digits.{front_grows, grows}
 use Rattle.mesh_job.proofs.Sames.{fails, same_bytes}
 
 -- a number with one more hexadecimal digit
@@ -27,16 +27,7 @@ with_digit n d small = elim (leb_tells (suc d) 10) [
 
 -- the spelling of a value is a digit
 digit_is : (d : ℕ) → d < 16 → is_hex_digit (hex_digit d) ≡ true
-digit_is d small = elim (leb_tells (suc d) 10) [
-  | inl low ↦ rw (low.0, le-leb 48 (48 + d) (omega arith), le-leb (48 + d) 57 (omega (arith, low.1))) refl
-  | inr high ↦ rw (
-    high.0,
-    le-leb 48 (87 + d) (omega arith),
-    lt-leb (87 + d) 57 (omega (arith, high.1)),
-    le-leb 97 (87 + d) (omega (arith, high.1)),
-    le-leb (87 + d) 102 (omega (arith, small)),
-  ) refl
-]
+digit_is d small = ap is_some (value_of_digit d small)
 
 -- which branch gave the value
 if_tells : {A : Type 0} (b : Bool) (x y z : A) → (if b then x else y) ≡ z → ((b ≡ true) × (x ≡ z)) ⊎ ((b ≡ false) × (y ≡ z))
@@ -72,11 +63,6 @@ one_more_digit n d some small below =
     let front : (16 * n + d) / 16 ≡ n = omega (arith, below) in let last : (16 * n + d) % 16 ≡ d = omega (arith, below) in
     rw (lt-leb (suc (16 * n + d)) 16 (omega (arith, some)), front, last, fewer_digits 6 n (omega (arith, small))) refl
 
--- digits that come behind only make a number greater
-grows : (n : ℕ) (digits : List ℕ) → n ≤ fold with_hex n digits
-grows n [] = omega arith
-grows n (b ∷ bs) = omega (arith, grows (with_hex n b) bs)
-
 -- digits behind a number above 0 are spelt behind its digits
 digits_behind : (n : ℕ) (digits : List ℕ) → 1 ≤ n → list_all is_hex_digit digits ≡ true → fold with_hex n digits ≤ 268435455
     → hex_from 7 (fold with_hex n digits) ≡ hex_from 7 n ++ digits
@@ -85,23 +71,15 @@ digits_behind n (b ∷ bs) some are small =
     let parts = and_parts (is_hex_digit b) (list_all is_hex_digit bs) are in
     let value = value_of (hex_value b) parts.0 in let told = digit_told b value.0 value.1 in
     let step : with_hex n b ≡ 16 * n + value.0 = ap (λ (c : ℕ). with_hex n c) told.0 ∙ with_digit n value.0 told.1 in
-    let large : 16 * n + value.0 ≤ fold with_hex n (b ∷ bs) = omega (arith, grows (with_hex n b) bs, step) in
+    let large : 16 * n + value.0 ≤ fold with_hex n (b ∷ bs) = omega (arith, grows 16 with_hex (λ m d. omega arith) (λ m d. omega arith) (with_hex n b) bs, step) in
     let later = digits_behind (with_hex n b) bs (omega (arith, step, some)) parts.1 small in
     let one : hex_from 7 (with_hex n b) ≡ hex_from 7 n ++ b ∷ [] =
     ap (hex_from 7) step ∙ one_more_digit n value.0 some (omega (arith, large, small)) told.1 ∙ ap (λ (c : ℕ). hex_from 7 n ++ c ∷ []) (sym told.0) in
     later ∙ ap (λ (front : List ℕ). front ++ bs) one ∙ append_assoc (hex_from 7 n) (b ∷ []) bs
 
--- a digit behind a number makes it sixteen times as great at least
-more_grows : (n : ℕ) (digits : List ℕ) → 1 ≤ length digits → 16 * n ≤ fold with_hex n digits
-more_grows n [] some = absurd (omega (arith, some))
-more_grows n (b ∷ bs) some = omega (arith, grows (with_hex n b) bs)
-
 -- the number of the digits before one of them is a sixteenth at most of that of them all
-pub front_grows : (digits : List ℕ) (i : ℕ) → i < length digits → 16 * hex_number (take i digits) ≤ hex_number digits
-front_grows digits i h =
-    let whole : hex_number (take i digits ++ drop i digits) ≡ hex_number digits = ap hex_number (take-append-drop i digits) in
-    let behind = more_grows (hex_number (take i digits)) (drop i digits) (omega (arith, length-drop i digits)) in
-    omega (arith, fold-append with_hex 0 (take i digits) (drop i digits))
+pub hex_front : (digits : List ℕ) (i : ℕ) → i < length digits → 16 * hex_number (take i digits) ≤ hex_number digits
+hex_front = front_grows 16 with_hex (λ n d. omega arith) (λ n d. omega arith)
 
 -- what isn't the spelling of an address is refused
 refused : (field : List ℕ) → (field ≡ address_text (hex_number field) → hex_number field ≤ 268435455 → ⊥) → address_in field ≡ Err Number

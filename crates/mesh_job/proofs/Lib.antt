@@ -1,4 +1,5 @@
 pub mod Decimals
+mod Digits
 pub mod FewFields
 pub mod FileEnds
 pub mod HexFields

@@ -1,7 +1,7 @@
 mod AnsweredCommands
 mod CommandLines
 pub mod FieldReadings
-mod Fields
+pub mod Fields
 mod JobHistories
 mod JobPages
 mod JobReplies

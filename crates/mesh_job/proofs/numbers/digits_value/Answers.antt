@@ -1,10 +1,10 @@
 use Rattle.std.proofs.Common.{arith, inr}
-use Rattle.mesh_job.proofs.Decimals.{front_grows, next_value, with_one_more}
+use Rattle.mesh_job.proofs.Decimals.{decimal_front, next_value, with_one_more}
 use Rattle.mesh_job.proofs.numbers.digits_value.Goals as goal
 
 pub returns-in_err-checked_mul-clause-none : goal.returns-in_err-checked_mul-clause-none
 returns-in_err-checked_mul-clause-none c = λ _.
-    let grown = front_grows c.args.digits.now c.loop-byte.byte-index c.loop-byte-test.true in
+    let grown = decimal_front c.args.digits.now c.loop-byte.byte-index c.loop-byte-test.true in
     let large = c.in_err-checked_mul.ensures in
     inr (omega (arith, grown, large, c.loop-byte.invariant.value))
 
