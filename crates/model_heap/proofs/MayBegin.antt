@@ -76,36 +76,39 @@ may_begin_sound busy t source destination pair progress may within = record {
   within = within;
 }
 
--- a mesh that began
-pub record Began (busy : Table → ℕ → Bool) (t : Table) (source destination : ℕ) (begun : Counted) : Type 0 where
+-- what a mesh that begins comes to
+abbrev pub begun_of : Table → ℕ → ℕ → Pair → Counted
+begun_of t source destination pair = record {
+  count = step_count pair.source;
+  table = record t {
+    meshes = t.meshes ++ record { class = pair.source.class; source = source; destination = destination; progress = Made 0 } ∷ [];
+  };
+}
+
+-- and one that is made whole
+abbrev pub whole_of : Table → ℕ → ℕ → Pair → Counted
+whole_of t source destination pair = record {
+  count = pages_of pair.source.class;
+  table = record t { free_pages = t.free_pages + pages_of pair.source.class; groups = merged t.groups pair.source destination };
+}
+
+-- a call that came to this, of two groups whose mesh may begin
+pub record CameTo (busy : Table → ℕ → Bool) (t : Table) (source destination : ℕ) (of_pair : Pair → Counted) (x : Counted) : Type 0 where
   pub pair : Pair
   pub may : MayBegin busy t source destination pair
-  pub is : record {
-    count = step_count pair.source;
-    table = record t {
-      meshes = t.meshes ++ record { class = pair.source.class; source = source; destination = destination; progress = Made 0 } ∷ [];
-    };
-  } ≡ begun
+  pub is : of_pair pair ≡ x
+
+came_to : (busy : Table → ℕ → Bool) (t : Table) (source destination : ℕ) (of_pair : Pair → Counted) (x : Counted)
+    → (may_begin busy t source destination >>= λ pair. Ok (of_pair pair)) ≡ Ok x → CameTo busy t source destination of_pair x
+came_to busy t source destination of_pair x h =
+    let pair = went_on (may_begin busy t source destination) _ x h in
+    let done = pair.then in
+    record { pair = pair.value; may = may_begin_gives busy t source destination pair.value pair.is; is = cc done }
 
 pub began : (busy : Table → ℕ → Bool) (t : Table) (source destination : ℕ) (begun : Counted) → begin busy t source destination ≡ Ok begun
-    → Began busy t source destination begun
-began busy t source destination begun h =
-    let pair = went_on (may_begin busy t source destination) _ begun h in
-    let done = pair.then in
-    record { pair = pair.value; may = may_begin_gives busy t source destination pair.value pair.is; is = cc done }
-
--- a mesh that was made whole
-pub record Meshed (busy : Table → ℕ → Bool) (t : Table) (source destination : ℕ) (whole : Counted) : Type 0 where
-  pub pair : Pair
-  pub may : MayBegin busy t source destination pair
-  pub is : record {
-    count = pages_of pair.source.class;
-    table = record t { free_pages = t.free_pages + pages_of pair.source.class; groups = merged t.groups pair.source destination };
-  } ≡ whole
+    → CameTo busy t source destination (begun_of t source destination) begun
+began busy t source destination = came_to busy t source destination (begun_of t source destination)
 
 pub meshed : (busy : Table → ℕ → Bool) (t : Table) (source destination : ℕ) (whole : Counted) → mesh_whole busy t source destination ≡ Ok whole
-    → Meshed busy t source destination whole
-meshed busy t source destination whole h =
-    let pair = went_on (may_begin busy t source destination) _ whole h in
-    let done = pair.then in
-    record { pair = pair.value; may = may_begin_gives busy t source destination pair.value pair.is; is = cc done }
+    → CameTo busy t source destination (whole_of t source destination) whole
+meshed busy t source destination = came_to busy t source destination (whole_of t source destination)
