@@ -1,14 +1,17 @@
 -- The answer lines of a plan, gathered and written.
-use Rattle.std.proofs.Common.{◌≡◌, ℕ, ◌+◌, List, [], ◌∷◌, ◌++◌, Option, append_assoc, append-nil, drop, length, take, take-append-drop, ap, subst, refl, sym, ◌∙◌}
+use Rattle.std.proofs.Common.{◌≡◌, ℕ, ◌+◌, ◌<◌, List, [], ◌∷◌, ◌++◌, Option, append_assoc, append-nil, drop, get_or, length, map, take, take-append-drop, ap, subst, refl, sym, ◌∙◌}
 use Rattle.std.proofs.KnownBytes.{Appends-trans}
 use Rattle.std.proofs.Math.Seq.{take-append_seam}
 use Rattle.std.proofs.lemmas.Grind.{flat_map-append}
 use Rattle.std.specs.Io.KnownBytes.{Appends}
 use Rattle.model_jobs.specs.Jobs.{Answer, Job, Line, State, answer, answers_from, opening, state_after}
 use Rattle.model_jobs.specs.Texts.{answer_text, ended, output}
+use Rattle.mesh_job.specs.Plan.{line_of}
+use Rattle.mesh_job.specs.declared.plan.PlanLine.{PlanLine}
 use Rattle.mesh_mutator.specs.Book.{Book}
 use Rattle.mesh_text.specs.Transfer.{AppendsBeginning}
 use Rattle.mesh_text.specs.Turns.{HasGathered, IsAt, IsTold, lines_of, lines_up_to, state_up_to}
+use Rattle.mesh_text.proofs.PlanLines.{one_more}
 
 -- the answers to two parts of a plan
 answers_after : (job : Job) (state : State) (xs ys : List Line)
@@ -47,12 +50,12 @@ output_after job n =
     ∙ lines_after (answers_from job (opening job) (take n job.plan)) (answers_from job (state_up_to job n) (drop n job.plan))
 
 -- a job stands where its line was answered
-pub next_at : (job : Job) (n : ℕ) (line : Line) (book : Book) (places text text' : List ℕ) → take (n + 1) job.plan ≡ take n job.plan ++ line ∷ []
+next_at : (job : Job) (n : ℕ) (line : Line) (book : Book) (places text text' : List ℕ) → take (n + 1) job.plan ≡ take n job.plan ++ line ∷ []
     → IsTold job (answer job (state_up_to job n) line) book places text text' → IsAt job (state_up_to job (n + 1)) book places
 next_at job n line book places text text' more told = subst (λ state. IsAt job state book places) (sym (state_more job n line more)) told.at
 
 -- the line of an answer is gathered
-pub gathered_more : (job : Job) (n : ℕ) (line : Line) (book : Book) (places : List ℕ) (old new : Option (List ℕ)) (text text' text'' : List ℕ)
+gathered_more : (job : Job) (n : ℕ) (line : Line) (book : Book) (places : List ℕ) (old new : Option (List ℕ)) (text text' text'' : List ℕ)
     → take (n + 1) job.plan ≡ take n job.plan ++ line ∷ [] → IsTold job (answer job (state_up_to job n) line) book places text text'
     → HasGathered job n old new text → text'' ≡ text' ++ 10 ∷ [] → HasGathered job (n + 1) old new text''
 gathered_more job n line book places old new text text' text'' more told so_far end =
@@ -65,6 +68,14 @@ gathered_more job n line book places old new text text' text'' more told so_far 
           ∙ ap (λ front. front ++ ended line') so_far.all
           ∙ sym (lines_more job n line more);
     }
+
+-- so where the plan's next line was answered, and the line's end added, the job stands behind that line, which is gathered
+pub line_gathered : (job : Job) (n : ℕ) (lines : List PlanLine) (line : PlanLine) (book : Book) (places : List ℕ) (old new : Option (List ℕ)) (text text' text'' : List ℕ)
+    → map line_of lines ≡ job.plan → n < length lines → line ≡ get_or lines n line → IsTold job (answer job (state_up_to job n) (line_of line)) book places text text'
+    → HasGathered job n old new text → text'' ≡ text' ++ 10 ∷ [] → HasGathered job (n + 1) old new text'' × IsAt job (state_up_to job (n + 1)) book places
+line_gathered job n lines line book places old new text text' text'' is within this told so_far end =
+    let more = one_more lines job.plan n line line is within this in
+    (gathered_more job n (line_of line) book places old new text text' text'' more told so_far end, next_at job n (line_of line) book places text text' more told)
 
 -- what was gathered is written
 pub all_written : (job : Job) (n : ℕ) (old mid new : Option (List ℕ)) (text : List ℕ) → HasGathered job n old mid text → Appends mid new text

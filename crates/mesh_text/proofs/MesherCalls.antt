@@ -1,17 +1,16 @@
 -- A mesher's call of a book, and what it is to the job.
-use Rattle.std.proofs.Common.{◌≡◌, ℕ, Bool, length, List, [], ◌∷◌, Option, None, Some, Result, Ok, Err, ap, refl, sym, subst, ◌∙◌, inl, inr}
+use Rattle.std.proofs.Common.{◌≡◌, ℕ, length, List, [], ◌∷◌, Option, None, Some, Result, Ok, Err, ap, refl, sym, subst, ◌∙◌, inl, inr}
 use Rattle.std.specs.Prelude.{IfErr, IfOk, find, nat_eq, true}
 use Rattle.std.specs.Option.{option_map}
 use Rattle.std.proofs.lemmas.Bool.Decides.{eqb_tells}
-use Rattle.std.proofs.lemmas.Result.{IfOk-weaker}
-use Rattle.model_jobs.specs.Jobs.{Answer, Job, State, MesherRefused, PagesMeshed, PagesSwept, Reported, StepMade, StepsLeft, counted, step_answered, told}
-use Rattle.model_heap.specs.Mesh.{begin, cancel, first_mesh, mesh_in, mesh_whole, step}
-use Rattle.model_heap.specs.Table.{Counted, Mesh, Table, report_of, sweep}
+use Rattle.model_jobs.specs.Jobs.{Answer, Job, State, MesherRefused, Reported, StepMade, StepsLeft, counted, step_answered, told}
+use Rattle.model_heap.specs.Mesh.{cancel, first_mesh, mesh_in, step}
+use Rattle.model_heap.specs.Table.{Counted, Mesh, Table, report_of}
 use Rattle.model_words.specs.declared.refusals.Refusal.{Refusal}
 use Rattle.model_words.specs.declared.refusals.Refusal.TheVariants.{NoMesh}
 use Rattle.mesh_mutator.specs.Book.{Book, table_of_book}
 use Rattle.mesh_mutator.specs.Mesher.{KeepsBook}
-use Rattle.mesh_steps.specs.HeapMeshes.{IsMeshBegun, IsMeshCancelled, IsMeshed, IsStepMade, IsSwept}
+use Rattle.mesh_steps.specs.HeapMeshes.{IsStepMade}
 use Rattle.mesh_steps.specs.declared.answers.StepDone.{StepDone}
 use Rattle.mesh_text.specs.Answers.{count_told, step_told}
 use Rattle.mesh_steps.specs.Heap.{arena_of}
@@ -33,7 +32,7 @@ stands_after job state old new places at kept = record {
 }
 
 -- a call that answers a count is what the definition of the count says
-counted_call : (say : ℕ → Answer) (what : Table → Result Counted Refusal) (old new : Book)
+pub counted_call : (say : ℕ → Answer) (what : Table → Result Counted Refusal) (old new : Book)
     (count : Result ℕ Refusal) → IfOk count (λ n. what (table_of_book old) ≡ Ok (record { count = n; table = table_of_book new }))
     → IfErr count (λ refusal. (what (table_of_book old) ≡ Err refusal) × (new ≡ old)) → KeepsBook old new
     → IsCall (λ state. counted state say (what state.table)) old new (count_told say count)
@@ -43,36 +42,6 @@ counted_call say what old new (Ok n) made refused kept job state places at =
 counted_call say what old new (Err refusal) made refused kept job state places at =
     subst (λ r. IsNextAt job (counted state say r) new places (MesherRefused refusal)) (sym refused.0 ∙ ap what at.table)
     (record { answer_is = refl; at = subst (λ b. IsAt job state b places) (sym refused.1) at })
-
--- a mesh that began, or didn't
-pub begun_call : (busy : Table → ℕ → Bool) (old new : Book) (source destination : ℕ) (count : Result ℕ Refusal)
-    → IfOk count (IsMeshBegun busy old.heap new.heap source destination)
-    → IfErr count (λ refusal. (begin busy (table_of_book old) source destination ≡ Err refusal) × (new ≡ old)) → KeepsBook old new
-    → IsCall (λ state. counted state StepsLeft (begin busy state.table source destination)) old new (count_told StepsLeft count)
-begun_call busy old new source destination count made refused kept =
-    counted_call StepsLeft (λ t. begin busy t source destination) old new count (IfOk-weaker count _ _ (λ n m. m.table) made) refused kept
-
--- a mesh that was cancelled, or not
-pub cancelled_call : (old new : Book) (class : ℕ) (count : Result ℕ Refusal) → IfOk count (IsMeshCancelled old.heap new.heap class)
-    → IfErr count (λ refusal. (cancel (table_of_book old) (mesh_in (table_of_book old) class) ≡ Err refusal) × (new ≡ old)) → KeepsBook old new
-    → IsCall (λ state. counted state StepsLeft (cancel state.table (mesh_in state.table class))) old new (count_told StepsLeft count)
-cancelled_call old new class count made refused kept =
-    counted_call StepsLeft (λ t. cancel t (mesh_in t class)) old new count (IfOk-weaker count _ _ (λ n m. m.table) made) refused kept
-
--- two groups that were meshed, or not
-pub meshed_call : (busy : Table → ℕ → Bool) (old new : Book) (source destination : ℕ) (count : Result ℕ Refusal)
-    → IfOk count (IsMeshed busy old.heap new.heap source destination)
-    → IfErr count (λ refusal. (mesh_whole busy (table_of_book old) source destination ≡ Err refusal) × (new ≡ old)) → KeepsBook old new
-    → IsCall (λ state. counted state PagesMeshed (mesh_whole busy state.table source destination)) old new (count_told PagesMeshed count)
-meshed_call busy old new source destination count made refused kept =
-    counted_call PagesMeshed (λ t. mesh_whole busy t source destination) old new count (IfOk-weaker count _ _ (λ n m. m.table) made) refused kept
-
--- a group that was swept, or not
-pub swept_call : (old new : Book) (group : ℕ) (count : Result ℕ Refusal) → IfOk count (IsSwept old.heap new.heap group)
-    → IfErr count (λ refusal. (sweep (table_of_book old) group ≡ Err refusal) × (new ≡ old)) → KeepsBook old new
-    → IsCall (λ state. counted state PagesSwept (sweep state.table group)) old new (count_told PagesSwept count)
-swept_call old new group count made refused kept =
-    counted_call PagesSwept (λ t. sweep t group) old new count (IfOk-weaker count _ _ (λ n m. m.table) made) refused kept
 
 -- a step that was made, or not
 pub stepped_call : (old new : Book) (class : ℕ) (done : Result StepDone Refusal) → IfOk done (IsStepMade old.heap new.heap class)

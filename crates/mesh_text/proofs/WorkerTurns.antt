@@ -1,9 +1,12 @@
 -- A worker's turn: what an attempt at its next command is to the job.
-use Rattle.std.proofs.Common.{◌≡◌, ℕ, zero, suc, ◌+◌, ◌<◌, ◌≤◌, Bool, true, false, if◌then◌else◌, nat_le, List, [], ◌∷◌, ◌++◌, Option, Some, None, drop, get_or, length, slice_get, slice_index, slice_index_or, slice_set, ap, subst, refl, sym, ◌∙◌, arith, inl, inr}
+use Rattle.std.proofs.Common.{◌≡◌, ℕ, zero, suc, ◌+◌, ◌<◌, ◌≤◌, Bool, true, false, if◌then◌else◌, nat_le, List, [], ◌∷◌, ◌++◌, Option, Some, None, Result, drop, get_or, length, slice_get, slice_index, slice_index_or, slice_set, ap, subst, refl, sym, ◌∙◌, arith, inl, inr}
 use Rattle.std.proofs.lemmas.Bool.Decides.{eqb_tells, leb_tells}
 use Rattle.std.proofs.lemmas.List.{get_or-set_other, get_or-set_same, get_or_default}
+use Rattle.std.proofs.lemmas.Result.{on_ok_weaker}
 use Rattle.std.proofs.Math.ListN.{length-set}
+use Rattle.std.specs.Prelude.{OnOk}
 use Rattle.model_jobs.specs.Jobs.{Answer, Job, Outcome, Replied, RunWorker, State, JournalFull, ScriptOver, StoreBlocked, answer, answered, attempted, later_commands, run_next, is_held_back}
+use Rattle.model_jobs.specs.Texts.{answer_text}
 use Rattle.model_memory.specs.Memory.{Memory}
 use Rattle.model_memory.specs.Plain.{Entry}
 use Rattle.model_heap.specs.Table.{Table}
@@ -12,7 +15,8 @@ use Rattle.model_words.specs.declared.commands.Reply.{Reply}
 use Rattle.mesh_mutator.specs.Book.{Book, IsAttempt, memory_of_book, table_of_book}
 use Rattle.mesh_mutator.specs.declared.attempts.Attempt.{Attempt}
 use Rattle.mesh_mutator.specs.declared.attempts.Attempt.TheVariants.{Blocked as HeldBack, Done, HistoryFull as NoRoom, OutOfMemory}
-use Rattle.mesh_text.specs.Turns.{IsAt, IsNextAt}
+use Rattle.mesh_text.specs.Turns.{IsAt, IsNextAt, IsTold}
+use Rattle.mesh_text.proofs.LineTexts.{told_at}
 
 -- past the last command none is left
 none_left : (n : ℕ) (script : List Command) → None ≡ slice_get script n → drop n script ≡ []
@@ -172,3 +176,14 @@ turn_taken job state book book' places script worker command attempt at is here 
         subst (λ next. IsNextAt job next book' places JournalFull) (sym whole)
         (record { answer_is = refl; at = subst (λ b. IsAt job state b places) (sym done.1) at })
     go OutOfMemory commands left done some = absurd some
+
+-- where its text was added, what a turn tells of an attempt is told wherever a job stands
+pub turn_told : {E : Type 0} (r : Result (Unit {0}) E) (book book' : Book) (places : List ℕ) (script : List Command) (worker place len : ℕ) (command : Command) (attempt : Attempt)
+    (old new : List ℕ) → len ≡ length places → worker < len → place ≡ get_or places worker place → Some command ≡ slice_get script place → IsAttempt book book' worker command attempt
+    → HasMemory attempt → OnOk r (new ≡ old ++ answer_text (given_to attempt))
+    → OnOk r ((job : Job) (state : State) → IsAt job state book places → len ≡ length job.scripts → script ≡ slice_index_or job.scripts worker []
+    → IsTold job (answer job state (RunWorker worker)) book' (passed_by attempt places worker) old new)
+turn_told r book book' places script worker place len command attempt old new ok low at_worker here done some added =
+    let below : worker < length places = omega (arith, low, ok) in
+    on_ok_weaker r (λ text job state at long is. told_at job (answer job state (RunWorker worker)) book' (passed_by attempt places worker) (given_to attempt) old new
+    (turn_taken job state book book' places script worker command attempt at is (at_place places script worker place (Some command) below at_worker here) (sym ok ∙ long) below done some) text) added

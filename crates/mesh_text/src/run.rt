@@ -47,6 +47,7 @@ pub fn replay<I: Source, O: Sink>(
 }
 
 /// Runs the plan of a job on a fresh heap, and writes its answer lines.
+#[tactic(auto, using(crate::proofs::PlayEnds::never_ok, crate::proofs::PlayEnds::not_write, crate::proofs::PlayEnds::is_memory))]
 fn play<O: Sink>(alloc: Global, job: &Job, output: &mut O) -> Result<(), ReplayError>
     requires { O.has_failed output.old ≡ false }
     ensures ok { OnOk result (O.has_failed output.new ≡ false) }

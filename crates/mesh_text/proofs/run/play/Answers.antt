@@ -7,10 +7,10 @@ use Rattle.model_jobs.specs.Jobs.{Job}
 use Rattle.mesh_job.specs.declared.plan.PlanLine.{PlanLine}
 use Rattle.mesh_job.specs.Plan.{line_of}
 use Rattle.mesh_text.specs.Transfer.{AppendsBeginning}
-use Rattle.mesh_text.specs.Turns.{HasGathered, state_up_to}
-use Rattle.mesh_text.proofs.AnswerLines.{all_written, gathered_more, next_at, output_written, part_written}
-use Rattle.mesh_text.proofs.PlanLines.{all_lines, line_fits, one_more}
-use Rattle.mesh_text.proofs.PlayEnds.{gathered_none, is_memory, is_write, last_fails, last_kind, last_not_memory, last_ok, never_ok, not_memory, not_write, nothing_written}
+use Rattle.mesh_text.specs.Turns.{state_up_to}
+use Rattle.mesh_text.proofs.AnswerLines.{all_written, line_gathered, output_written, part_written}
+use Rattle.mesh_text.proofs.PlanLines.{all_lines, line_fits}
+use Rattle.mesh_text.proofs.PlayEnds.{gathered_none, is_write, last_fails, last_kind, last_not_memory, last_ok, not_memory, nothing_written}
 use Rattle.mesh_text.proofs.run.play.Goals as goal
 use Rattle.mesh_text.proofs.run.play.Goals.{then-len-ge-CHUNK_BYTES+in_ok-write_answers, else-len-ge-CHUNK_BYTES}
 
@@ -26,16 +26,11 @@ answer-requires-clause-workers g c = c.loop-line.invariant.workers
 
 pub loop-line-preserved : goal.loop-line-preserved
 loop-line-preserved g c =
-    let job : Job = c.args.job.now in
-    let i = c.loop-line.line-index in
-    let line : PlanLine = c.line-item.result in
-    let more = one_more c.lines-line-items.result.now job.plan i line line (c.lines-line-items.ensures ∙ ap (λ (j : Job). j.plan) c.job.view_is) c.loop-line-test.true c.line-item.is in
-    let next = c.in_ok-answer.ensures.told (state_up_to job i) c.loop-line.invariant.at in
-    let gathered : HasGathered job (i + 1) (g.O.Sink.written c.args.output.now) (g.O.Sink.written c.loop-line.output) c.extend_from_slice.new.self.items
-    = gathered_more job i (line_of line) c.answer.new.self.book c.answer.new.self.next.items (g.O.Sink.written c.args.output.now)
-    (g.O.Sink.written c.loop-line.output) c.loop-line.text.items c.answer.new.text.items c.extend_from_slice.new.self.items more next c.loop-line.invariant.gathered c.in_ok-extend_from_slice.ensures.items in
+    let line = line_gathered c.args.job.now c.loop-line.line-index c.lines-line-items.result.now c.line-item.result c.answer.new.self.book c.answer.new.self.next.items
+    (g.O.Sink.written c.args.output.now) (g.O.Sink.written c.loop-line.output) c.loop-line.text.items c.answer.new.text.items c.extend_from_slice.new.self.items
+    (c.lines-line-items.ensures ∙ ap (λ (j : Job). j.plan) c.job.view_is) c.loop-line-test.true c.line-item.is
+    (c.in_ok-answer.ensures.told (state_up_to c.args.job.now c.loop-line.line-index) c.loop-line.invariant.at) c.loop-line.invariant.gathered c.in_ok-extend_from_slice.ensures.items in
     let workers = c.in_ok-answer.ensures.workers ∙ c.loop-line.invariant.workers in
-    let at = next_at job i (line_of line) c.answer.new.self.book c.answer.new.self.next.items c.loop-line.text.items c.answer.new.text.items more next in
     elim c.if-len-ge-CHUNK_BYTES.branch [
       | then-len-ge-CHUNK_BYTES+in_ok-write_answers w ↦
           let wrote : Appends (g.O.Sink.written c.loop-line.output) (g.O.Sink.written w.write_answers.new.output) c.extend_from_slice.new.self.items
@@ -43,28 +38,24 @@ loop-line-preserved g c =
           record {
             workers = workers;
             fresh = ap (λ o. g.O.Sink.has_failed o) w.output-is ∙ w.in_ok-write_answers.ensures.fails;
-            at = at;
-            gathered = rw (w.output-is, w.text-is, w.clear.ensures.items) (all_written job (i + 1) _ _ _ c.extend_from_slice.new.self.items gathered wrote);
+            at = line.1;
+            gathered = rw (w.output-is, w.text-is, w.clear.ensures.items) (all_written c.args.job.now (c.loop-line.line-index + 1) _ _ _ c.extend_from_slice.new.self.items line.0 wrote);
           }
       | else-len-ge-CHUNK_BYTES w ↦ record {
         workers = workers;
         fresh = ap (λ o. g.O.Sink.has_failed o) w.output-is ∙ c.loop-line.invariant.fresh;
-        at = at;
-        gathered = rw (w.output-is, w.text-is) gathered;
+        at = line.1;
+        gathered = rw (w.output-is, w.text-is) line.0;
       }
     ]
 
 pub returns-in_err-write_answers-clause-beginning : goal.returns-in_err-write_answers-clause-beginning
 returns-in_err-write_answers-clause-beginning g c is =
-    let job : Job = c.args.job.now in
-    let i = c.loop-line.line-index in
-    let line : PlanLine = c.line-item.result in
-    let more = one_more c.lines-line-items.result.now job.plan i line line (c.lines-line-items.ensures ∙ ap (λ (j : Job). j.plan) c.job.view_is) c.loop-line-test.true c.line-item.is in
-    let next = c.in_ok-answer.ensures.told (state_up_to job i) c.loop-line.invariant.at in
-    let gathered : HasGathered job (i + 1) (g.O.Sink.written c.args.output.now) (g.O.Sink.written c.loop-line.output) c.extend_from_slice.new.self.items
-    = gathered_more job i (line_of line) c.answer.new.self.book c.answer.new.self.next.items (g.O.Sink.written c.args.output.now)
-    (g.O.Sink.written c.loop-line.output) c.loop-line.text.items c.answer.new.text.items c.extend_from_slice.new.self.items more next c.loop-line.invariant.gathered c.in_ok-extend_from_slice.ensures.items in
-    part_written job (i + 1) _ _ _ c.extend_from_slice.new.self.items gathered
+    part_written c.args.job.now (c.loop-line.line-index + 1) _ _ _ c.extend_from_slice.new.self.items
+    (line_gathered c.args.job.now c.loop-line.line-index c.lines-line-items.result.now c.line-item.result c.answer.new.self.book c.answer.new.self.next.items
+    (g.O.Sink.written c.args.output.now) (g.O.Sink.written c.loop-line.output) c.loop-line.text.items c.answer.new.text.items c.extend_from_slice.new.self.items
+    (c.lines-line-items.ensures ∙ ap (λ (j : Job). j.plan) c.job.view_is) c.loop-line-test.true c.line-item.is
+    (c.in_ok-answer.ensures.told (state_up_to c.args.job.now c.loop-line.line-index) c.loop-line.invariant.at) c.loop-line.invariant.gathered c.in_ok-extend_from_slice.ensures.items).0
     (subst (λ bytes. AppendsBeginning (g.O.Sink.written c.loop-line.output) (g.O.Sink.written c.write_answers.new.output) bytes) c.as_slice.ensures.value c.in_err-write_answers.ensures.err)
 
 pub returns-clause-whole : goal.returns-clause-whole
@@ -84,65 +75,14 @@ returns-clause-beginning g c is =
     part_written c.args.job.now c.loop-line.line-index _ _ _ c.loop-line.text.items c.loop-line.invariant.gathered
     (subst (λ bytes. AppendsBeginning (g.O.Sink.written c.loop-line.output) (g.O.Sink.written c.write_answers-2.new.output) bytes) c.as_slice-2.ensures.value part)
 
-pub returns-in_err-turns-clause-ok : goal.returns-in_err-turns-clause-ok
-returns-in_err-turns-clause-ok g c = never_ok _ c.from_residual.result c.from_residual.ensures.0
-
-pub returns-in_err-turns-clause-whole : goal.returns-in_err-turns-clause-whole
-returns-in_err-turns-clause-whole g c = never_ok _ c.from_residual.result c.from_residual.ensures.0
-
-pub returns-in_err-turns-clause-fails : goal.returns-in_err-turns-clause-fails
-returns-in_err-turns-clause-fails g c is = absurd (not_write c.from_residual.result c.from_residual.ensures.1 is)
-
-pub returns-in_err-turns-clause-beginning : goal.returns-in_err-turns-clause-beginning
-returns-in_err-turns-clause-beginning g c is = absurd (not_write c.from_residual.result c.from_residual.ensures.1 is)
-
 pub returns-in_err-turns-clause-lines : goal.returns-in_err-turns-clause-lines
 returns-in_err-turns-clause-lines g c is = (0, nothing_written (g.O.Sink.written c.args.output.now))
-
-pub returns-in_err-turns-clause-kinds : goal.returns-in_err-turns-clause-kinds
-returns-in_err-turns-clause-kinds g c = is_memory c.from_residual.result c.from_residual.ensures.1
-
-pub returns-in_err-answer-clause-ok : goal.returns-in_err-answer-clause-ok
-returns-in_err-answer-clause-ok g c = never_ok _ c.from_residual-in_err-answer.result c.from_residual-in_err-answer.ensures.0
-
-pub returns-in_err-answer-clause-whole : goal.returns-in_err-answer-clause-whole
-returns-in_err-answer-clause-whole g c = never_ok _ c.from_residual-in_err-answer.result c.from_residual-in_err-answer.ensures.0
-
-pub returns-in_err-answer-clause-fails : goal.returns-in_err-answer-clause-fails
-returns-in_err-answer-clause-fails g c is = absurd (not_write c.from_residual-in_err-answer.result c.from_residual-in_err-answer.ensures.1 is)
-
-pub returns-in_err-answer-clause-beginning : goal.returns-in_err-answer-clause-beginning
-returns-in_err-answer-clause-beginning g c is = absurd (not_write c.from_residual-in_err-answer.result c.from_residual-in_err-answer.ensures.1 is)
 
 pub returns-in_err-answer-clause-lines : goal.returns-in_err-answer-clause-lines
 returns-in_err-answer-clause-lines g c is = (c.loop-line.invariant.gathered.lines, c.loop-line.invariant.gathered.wrote)
 
-pub returns-in_err-answer-clause-kinds : goal.returns-in_err-answer-clause-kinds
-returns-in_err-answer-clause-kinds g c = is_memory c.from_residual-in_err-answer.result c.from_residual-in_err-answer.ensures.1
-
-pub returns-in_err-extend_from_slice-clause-ok : goal.returns-in_err-extend_from_slice-clause-ok
-returns-in_err-extend_from_slice-clause-ok g c = never_ok _ c.from_residual-in_err-extend_from_slice.result c.from_residual-in_err-extend_from_slice.ensures.0
-
-pub returns-in_err-extend_from_slice-clause-whole : goal.returns-in_err-extend_from_slice-clause-whole
-returns-in_err-extend_from_slice-clause-whole g c = never_ok _ c.from_residual-in_err-extend_from_slice.result c.from_residual-in_err-extend_from_slice.ensures.0
-
-pub returns-in_err-extend_from_slice-clause-fails : goal.returns-in_err-extend_from_slice-clause-fails
-returns-in_err-extend_from_slice-clause-fails g c is = absurd (not_write c.from_residual-in_err-extend_from_slice.result c.from_residual-in_err-extend_from_slice.ensures.1 is)
-
-pub returns-in_err-extend_from_slice-clause-beginning : goal.returns-in_err-extend_from_slice-clause-beginning
-returns-in_err-extend_from_slice-clause-beginning g c is = absurd (not_write c.from_residual-in_err-extend_from_slice.result c.from_residual-in_err-extend_from_slice.ensures.1 is)
-
 pub returns-in_err-extend_from_slice-clause-lines : goal.returns-in_err-extend_from_slice-clause-lines
 returns-in_err-extend_from_slice-clause-lines g c is = (c.loop-line.invariant.gathered.lines, c.loop-line.invariant.gathered.wrote)
-
-pub returns-in_err-extend_from_slice-clause-kinds : goal.returns-in_err-extend_from_slice-clause-kinds
-returns-in_err-extend_from_slice-clause-kinds g c = is_memory c.from_residual-in_err-extend_from_slice.result c.from_residual-in_err-extend_from_slice.ensures.1
-
-pub returns-in_err-write_answers-clause-ok : goal.returns-in_err-write_answers-clause-ok
-returns-in_err-write_answers-clause-ok g c = never_ok _ c.from_residual-in_err-write_answers.result c.from_residual-in_err-write_answers.ensures.0
-
-pub returns-in_err-write_answers-clause-whole : goal.returns-in_err-write_answers-clause-whole
-returns-in_err-write_answers-clause-whole g c = never_ok _ c.from_residual-in_err-write_answers.result c.from_residual-in_err-write_answers.ensures.0
 
 pub returns-in_err-write_answers-clause-fails : goal.returns-in_err-write_answers-clause-fails
 returns-in_err-write_answers-clause-fails g c is = c.in_err-write_answers.ensures.fails

@@ -1,11 +1,10 @@
-use Rattle.std.proofs.Common.{◌≡◌, ◌∙◌, ◌+◌, ◌<◌, length, slice_index, slice_set, subst, sym, arith}
+use Rattle.std.proofs.Common.{◌≡◌, ◌∙◌, ◌<◌, length, slice_index, sym, arith}
 use Rattle.std.proofs.lemmas.List.{get_or_default}
 use Rattle.std.proofs.lemmas.Result.{on_ok_weaker}
-use Rattle.model_jobs.specs.Jobs.{JournalFull, Replied, RunWorker, ScriptOver, StoreBlocked, answer}
+use Rattle.model_jobs.specs.Jobs.{RunWorker, ScriptOver, answer}
 use Rattle.mesh_mutator.specs.declared.attempts.Attempt.TheVariants.{Blocked, Done, HistoryFull}
-use Rattle.mesh_text.specs.Turns.{IsNextAt}
 use Rattle.mesh_text.proofs.LineTexts.{grew_ok, told_at}
-use Rattle.mesh_text.proofs.WorkerTurns.{at_place, turn_over, turn_taken}
+use Rattle.mesh_text.proofs.WorkerTurns.{at_place, turn_over, turn_told}
 use Rattle.mesh_text.proofs.run.Turns.run.Goals as goal
 
 pub returns-in_default-clause-told : goal.returns-in_default-clause-told
@@ -26,36 +25,18 @@ returns-in-Done-clause-told g =
     let below : worker < length places = omega (arith, g.requires, g.args.self.now.next.ok.0) in
     let place : slice_index places worker ≡ g.index-place.result.now
     = sym (g.index-place.ensures ∙ get_or_default places worker g.index-place.result.now 0 below) in
-    on_ok_weaker g.add_reply.result
-    (λ added job state at long is.
-    told_at job (answer job state (RunWorker worker)) g.act.new.self (slice_set places worker (g.index-place.result.now + 1)) (Replied g.in-Done.reply)
-    g.args.text.now.items g.add_reply.new.text.items
-    (subst (λ n. IsNextAt job (answer job state (RunWorker worker)) g.act.new.self (slice_set places worker (n + 1)) (Replied g.in-Done.reply)) place
-    (turn_taken job state g.args.self.now.book g.act.new.self places g.args.script.now worker g.in-Some.command.now (Done g.in-Done.reply) at is
-    (at_place places g.args.script.now worker g.index-place.result.now _ below g.index-place.ensures g.in-Some.ensures.value)
-    (sym g.args.self.now.next.ok.0 ∙ long) below g.in-Done.ensures.attempt tt)) added)
-    g.add_reply.ensures
+    let told = turn_told g.add_reply.result g.args.self.now.book g.act.new.self places g.args.script.now worker g.index-place.result.now _ g.in-Some.command.now (Done g.in-Done.reply)
+    g.args.text.now.items g.add_reply.new.text.items g.args.self.now.next.ok.0 g.requires g.index-place.ensures g.in-Some.ensures.value g.in-Done.ensures.attempt tt g.add_reply.ensures in
+    rw place at told
 
 pub returns-in-Blocked-clause-told : goal.returns-in-Blocked-clause-told
 returns-in-Blocked-clause-told g =
-    let places = g.args.self.now.next.items in
-    let below : g.args.worker < length places = omega (arith, g.requires, g.args.self.now.next.ok.0) in
-    on_ok_weaker g.extend_from_slice-in-Blocked.result
-    (λ added job state at long is.
-    told_at job (answer job state (RunWorker g.args.worker)) g.act.new.self places StoreBlocked g.args.text.now.items g.extend_from_slice-in-Blocked.new.self.items
-    (turn_taken job state g.args.self.now.book g.act.new.self places g.args.script.now g.args.worker g.in-Some.command.now Blocked at is
-    (at_place places g.args.script.now g.args.worker g.index-place.result.now _ below g.index-place.ensures g.in-Some.ensures.value)
-    (sym g.args.self.now.next.ok.0 ∙ long) below g.in-Blocked.ensures.attempt tt) added)
+    turn_told g.extend_from_slice-in-Blocked.result g.args.self.now.book g.act.new.self g.args.self.now.next.items g.args.script.now g.args.worker g.index-place.result.now _ g.in-Some.command.now Blocked
+    g.args.text.now.items g.extend_from_slice-in-Blocked.new.self.items g.args.self.now.next.ok.0 g.requires g.index-place.ensures g.in-Some.ensures.value g.in-Blocked.ensures.attempt tt
     (grew_ok g.extend_from_slice-in-Blocked.result g.extend_from_slice-in-Blocked.new.self.items _ g.args.text.now.items g.extend_from_slice-in-Blocked.ensures.items)
 
 pub returns-in-HistoryFull-clause-told : goal.returns-in-HistoryFull-clause-told
 returns-in-HistoryFull-clause-told g =
-    let places = g.args.self.now.next.items in
-    let below : g.args.worker < length places = omega (arith, g.requires, g.args.self.now.next.ok.0) in
-    on_ok_weaker g.extend_from_slice-in-HistoryFull.result
-    (λ added job state at long is.
-    told_at job (answer job state (RunWorker g.args.worker)) g.act.new.self places JournalFull g.args.text.now.items g.extend_from_slice-in-HistoryFull.new.self.items
-    (turn_taken job state g.args.self.now.book g.act.new.self places g.args.script.now g.args.worker g.in-Some.command.now HistoryFull at is
-    (at_place places g.args.script.now g.args.worker g.index-place.result.now _ below g.index-place.ensures g.in-Some.ensures.value)
-    (sym g.args.self.now.next.ok.0 ∙ long) below g.in-HistoryFull.ensures.attempt tt) added)
+    turn_told g.extend_from_slice-in-HistoryFull.result g.args.self.now.book g.act.new.self g.args.self.now.next.items g.args.script.now g.args.worker g.index-place.result.now _ g.in-Some.command.now HistoryFull
+    g.args.text.now.items g.extend_from_slice-in-HistoryFull.new.self.items g.args.self.now.next.ok.0 g.requires g.index-place.ensures g.in-Some.ensures.value g.in-HistoryFull.ensures.attempt tt
     (grew_ok g.extend_from_slice-in-HistoryFull.result g.extend_from_slice-in-HistoryFull.new.self.items _ g.args.text.now.items g.extend_from_slice-in-HistoryFull.ensures.items)
