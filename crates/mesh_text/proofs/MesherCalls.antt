@@ -32,14 +32,14 @@ stands_after job state old new places at kept = record {
 }
 
 -- a call that answers a count is what the definition of the count says
-pub counted_call : (say : ℕ → Answer) (what : Table → Result Counted Refusal) (old new : Book)
-    (count : Result ℕ Refusal) → IfOk count (λ n. what (table_of_book old) ≡ Ok (record { count = n; table = table_of_book new }))
+pub counted_call : (say : ℕ → Answer) (what : Table → Result Counted Refusal) (old new : Book) (count : Result ℕ Refusal) {Made : ℕ → Type 0} → IfOk count Made
+    → ((n : ℕ) → Made n → what (table_of_book old) ≡ Ok (record { count = n; table = table_of_book new }))
     → IfErr count (λ refusal. (what (table_of_book old) ≡ Err refusal) × (new ≡ old)) → KeepsBook old new
     → IsCall (λ state. counted state say (what state.table)) old new (count_told say count)
-counted_call say what old new (Ok n) made refused kept job state places at =
-    subst (λ r. IsNextAt job (counted state say r) new places (say n)) (sym made ∙ ap what at.table)
+counted_call say what old new (Ok n) made table refused kept job state places at =
+    subst (λ r. IsNextAt job (counted state say r) new places (say n)) (sym (table n made) ∙ ap what at.table)
     (record { answer_is = refl; at = stands_after job state old new places at kept })
-counted_call say what old new (Err refusal) made refused kept job state places at =
+counted_call say what old new (Err refusal) made table refused kept job state places at =
     subst (λ r. IsNextAt job (counted state say r) new places (MesherRefused refusal)) (sym refused.0 ∙ ap what at.table)
     (record { answer_is = refl; at = subst (λ b. IsAt job state b places) (sym refused.1) at })
 

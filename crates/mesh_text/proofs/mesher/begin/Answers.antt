@@ -1,11 +1,10 @@
-use Rattle.std.proofs.lemmas.Result.{IfOk-weaker}
 use Rattle.model_heap.specs.Mesh.{any_mesh, begin, mesh_of_class}
 use Rattle.model_jobs.specs.Jobs.{StepsLeft}
 use Rattle.mesh_text.proofs.MesherCalls.{counted_call}
 use Rattle.mesh_text.proofs.mesher.begin.Goals as goal
 
 pub returns-in-One : goal.returns-in-One
-returns-in-One c = rw c.in-One.is (counted_call StepsLeft (λ t. begin any_mesh t c.args.source c.args.destination) _ _ c.begin_alone.result (IfOk-weaker c.begin_alone.result _ _ (λ n m. m.table) c.begin_alone.ensures.begun) c.begin_alone.ensures.refused c.begin_alone.ensures.kept)
+returns-in-One c = let e = c.begin_alone.ensures in rw c.in-One.is (counted_call StepsLeft (λ t. begin any_mesh t c.args.source c.args.destination) _ _ c.begin_alone.result e.begun (λ n m. m.table) e.refused e.kept)
 
 pub returns-in-Two : goal.returns-in-Two
-returns-in-Two c = rw c.in-Two.is (counted_call StepsLeft (λ t. begin mesh_of_class t c.args.source c.args.destination) _ _ c.begin.result (IfOk-weaker c.begin.result _ _ (λ n m. m.table) c.begin.ensures.begun) c.begin.ensures.refused c.begin.ensures.kept)
+returns-in-Two c = let e = c.begin.ensures in rw c.in-Two.is (counted_call StepsLeft (λ t. begin mesh_of_class t c.args.source c.args.destination) _ _ c.begin.result e.begun (λ n m. m.table) e.refused e.kept)
