@@ -251,6 +251,17 @@ module _ (arena arena' : Pages) (m m' : Entries) (index : Index) (next : ℕ) (m
           (record (table_with arena index next ms) { free_pages = b; meshes = with_progress ms this (Made n') })
       same_tables a b n n' free made = rw (free, made) refl
 
+  -- a step that isn't the last one
+  goes : (kind : StepKind) (i : ℕ)
+      → IsStepAt (page_total (layout_of index) this.source) (slots_of ((layout_of index).class this.source)) (pages_of ((layout_of index).class this.source)) d kind i
+      → 0 < left → 0 < page_total (layout_of index) this.source → Makes (layout_of index) kind this.source this.destination i arena arena' m m'
+      → GoesOn arena arena' m m' index next ms test this (Made (d + 1)) left kind
+  goes Protect i is more some makes = protect_goes i is.0 is.1 makes
+  goes Copy i is more some makes = copy_goes i is.0 is.1 makes
+  goes Remap i is more some makes = remap_goes i is.0 is.1 makes
+  goes Unprotect i is more some makes = unprotect_goes i is.0 is.1 makes
+  goes Release i is more some makes = let same = is.0 in release_goes i same (omega (arith, left_is, same, more)) some makes
+
 -- a group has a virtual page, and a physical one
 pub some_pages : (index : Index) (n : ℕ) (a : GroupEntry) → IsIndex index.spans index.groups → group_at index.groups n ≡ Some a
     → (0 < page_total (layout_of index) n) × (0 < pages_of ((layout_of index).class n)) × (0 < pages_of a.class)
@@ -272,32 +283,12 @@ pub page_heap_goes : (arena arena' : Pages) (m m' : Entries) (index : Index) (ne
     → 0 < left
     → IsStepAt (page_total (layout_of index) this.source) (slots_of ((layout_of index).class this.source)) (pages_of ((layout_of index).class this.source)) d kind i
     → Makes (layout_of index) kind this.source this.destination i arena arena' m m' → GoesOn arena arena' m m' index next ms test this (Made (d + 1)) left kind
-page_heap_goes arena arena' m m' index next ms test this d left i kind sound paged found at left_is some step_at makes = go kind step_at makes
-  where
-    sides : HasSides index (table_with arena index next ms) this
-    sides = has_sides arena m index next ms test this paged found
-
-    go : (kind : StepKind)
-        → IsStepAt (page_total (layout_of index) this.source) (slots_of ((layout_of index).class this.source)) (pages_of ((layout_of index).class this.source)) d kind i
-        → Makes (layout_of index) kind this.source this.destination i arena arena' m m' → GoesOn arena arena' m m' index next ms test this (Made (d + 1)) left kind
-    go Protect is makes = protect_goes arena arena' m m' index next ms test this d left (table_group index.spans this.source sides.a) sound paged found at left_is
-        sides.source_group (pages_counted index this.source sides.a sides.source) (sym (ap class_in sides.source))
-        (some_pages index this.source sides.a sound sides.source).2 sides.two i is.0 is.1 makes
-    go Copy is makes = copy_goes arena arena' m m' index next ms test this d left (table_group index.spans this.source sides.a) sound paged found at left_is
-        sides.source_group (pages_counted index this.source sides.a sides.source) (sym (ap class_in sides.source))
-        (some_pages index this.source sides.a sound sides.source).2 sides.two i is.0 is.1 makes
-    go Remap is makes = remap_goes arena arena' m m' index next ms test this d left (table_group index.spans this.source sides.a) sound paged found at left_is
-        sides.source_group (pages_counted index this.source sides.a sides.source) (sym (ap class_in sides.source))
-        (some_pages index this.source sides.a sound sides.source).2 sides.two i is.0 is.1 makes
-    go Unprotect is makes = unprotect_goes arena arena' m m' index next ms test this d left (table_group index.spans this.source sides.a) sound paged found at left_is
-        sides.source_group (pages_counted index this.source sides.a sides.source) (sym (ap class_in sides.source))
-        (some_pages index this.source sides.a sound sides.source).2 sides.two i is.0 is.1 makes
-    go Release is makes =
-        let same = is.0 in
-        release_goes arena arena' m m' index next ms test this d left (table_group index.spans this.source sides.a) sound paged found at left_is
-        sides.source_group (pages_counted index this.source sides.a sides.source) (sym (ap class_in sides.source))
-        (some_pages index this.source sides.a sound sides.source).2 sides.two i is.0 (omega (arith, left_is, same, some))
-        (some_pages index this.source sides.a sound sides.source).0 makes
+page_heap_goes arena arena' m m' index next ms test this d left i kind sound paged found at left_is more step_at makes =
+    let sides : HasSides index (table_with arena index next ms) this = has_sides arena m index next ms test this paged found in
+    let some = some_pages index this.source sides.a sound sides.source in
+    goes arena arena' m m' index next ms test this d left (table_group index.spans this.source sides.a) sound paged found at left_is
+    sides.source_group (pages_counted index this.source sides.a sides.source) (sym (ap class_in sides.source)) some.2 sides.two
+    kind i step_at more some.0 makes
 
 -- the index once the source was merged into the destination, which was opened
 pub record Unites (old new : Index) (this : Mesh) (a b : GroupEntry) : Type 0 where

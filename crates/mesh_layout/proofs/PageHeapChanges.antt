@@ -111,22 +111,29 @@ vacated_slot old new m k groups n j slot filled =
 stages_alike : (old new : Index) (ms : List Mesh) → SameGroups old new → (n : ℕ) → stage_of (layout_of new) ms n ≡ stage_of (layout_of old) ms n
 stages_alike old new ms same n = stage_same (layout_of old) (layout_of new) ms n (same.class n) (ap (λ (xs : List ℕ). length xs) (same.members n))
 
+-- a page heap of which slots alone changed, as they may
+slots_changed : (arena : Pages) (m : Entries) (old new : Index) (next : ℕ) (ms : List Mesh) → IsPageHeap arena m old next ms → new.spans ≡ old.spans
+    → ((i : ℕ) → is_closed new i ≡ is_closed old i) → IsLaidOut (layout_of new) (stage_of (layout_of new) ms) m arena
+    → IsSound (table_with arena new next ms) → IsPageHeap arena m new next ms
+slots_changed arena m old new next ms paged spans closed laid_out sound = record {
+  some = paged.some;
+  most = paged.most;
+  unused = subst (λ (xs : List SpanEntry). (i : ℕ) → i < length xs → (span_at xs i).first + pages_of (span_at xs i).class ≤ next) (sym spans) paged.unused;
+  fresh = paged.fresh;
+  laid_out = laid_out;
+  flags = λ i. closed i ∙ paged.flags i;
+  sound = sound;
+}
+
 -- an object taken out of its slot
 pub page_heap_free : (arena : Pages) (m : Entries) (old new : Index) (next : ℕ) (ms : List Mesh) (n k : ℕ) → IsPageHeap arena m old next ms
     → new.spans ≡ old.spans → new.groups ≡ with_entry old.groups n k None → ((i : ℕ) → is_closed new i ≡ is_closed old i)
     → IsSound (table_with arena new next ms) → IsPageHeap arena m new next ms
 page_heap_free arena m old new next ms n k paged spans groups closed sound =
     let same = entry_groups old new n k None spans groups in
-    record {
-      some = paged.some;
-      most = paged.most;
-      unused = subst (λ (xs : List SpanEntry). (i : ℕ) → i < length xs → (span_at xs i).first + pages_of (span_at xs i).class ≤ next) (sym spans) paged.unused;
-      fresh = paged.fresh;
-      laid_out = laid_stages (layout_of new) (stage_of (layout_of old) ms) (stage_of (layout_of new) ms) m arena (stages_alike old new ms same)
-          (free_laid (layout_of old) (layout_of new) (stage_of (layout_of old) ms) m arena paged.laid_out (index_alike old new same) (vacated_slot old new n k groups));
-      flags = λ i. closed i ∙ paged.flags i;
-      sound = sound;
-    }
+    slots_changed arena m old new next ms paged spans closed
+    (laid_stages (layout_of new) (stage_of (layout_of old) ms) (stage_of (layout_of new) ms) m arena (stages_alike old new ms same)
+    (free_laid (layout_of old) (layout_of new) (stage_of (layout_of old) ms) m arena paged.laid_out (index_alike old new same) (vacated_slot old new n k groups))) sound
 
 -- an object put into a slot of an open group
 pub page_heap_put : (arena : Pages) (m : Entries) (old new : Index) (next : ℕ) (ms : List Mesh) (n k : ℕ) (entry : Option Slot) → IsIndex old.spans old.groups
@@ -135,19 +142,12 @@ pub page_heap_put : (arena : Pages) (m : Entries) (old new : Index) (next : ℕ)
 page_heap_put arena m old new next ms n k entry index paged spans groups closed may sound =
     let same = entry_groups old new n k entry spans groups in
     let calm = open_calm (layout_of old) ms n (sym (paged.flags n) ∙ may) in
-    record {
-      some = paged.some;
-      most = paged.most;
-      unused = subst (λ (xs : List SpanEntry). (i : ℕ) → i < length xs → (span_at xs i).first + pages_of (span_at xs i).class ≤ next) (sym spans) paged.unused;
-      fresh = paged.fresh;
-      laid_out = laid_stages (layout_of new) (stage_of (layout_of old) ms) (stage_of (layout_of new) ms) m arena (stages_alike old new ms same)
-          (put_laid (layout_of old) (layout_of new) (stage_of (layout_of old) ms) m arena n (page_heap_orderly arena m old next ms index paged) paged.laid_out
-          (index_alike old new same) calm.0
-          (λ i j slot other filled. sym (ap (λ (o : Option GroupEntry). slice_index_or (slots_in o) j None)
-          (ap (λ (gs : List (Option GroupEntry)). group_at gs i) groups ∙ other_entry old.groups n k entry i other)) ∙ filled));
-      flags = λ i. closed i ∙ paged.flags i;
-      sound = sound;
-    }
+    slots_changed arena m old new next ms paged spans closed
+    (laid_stages (layout_of new) (stage_of (layout_of old) ms) (stage_of (layout_of new) ms) m arena (stages_alike old new ms same)
+    (put_laid (layout_of old) (layout_of new) (stage_of (layout_of old) ms) m arena n (page_heap_orderly arena m old next ms index paged) paged.laid_out
+    (index_alike old new same) calm.0
+    (λ i j slot other filled. sym (ap (λ (o : Option GroupEntry). slice_index_or (slots_in o) j None)
+    (ap (λ (gs : List (Option GroupEntry)). group_at gs i) groups ∙ other_entry old.groups n k entry i other)) ∙ filled))) sound
 
 -- no mesh is from a group that takes part in none
 none_from_open : (ms : List Mesh) (g : ℕ) → list_any (takes_part g) ms ≡ false → mesh_from g ms ≡ None
