@@ -4,7 +4,7 @@ use Rattle.std.specs.Option.{option_map}
 use Rattle.std.proofs.lemmas.Bool.Decides.{nat_tests, eqb_tells, leb_tells}
 use Rattle.std.proofs.lemmas.List.{get_or-set_other, get_or-set_same, get_or_past}
 use Rattle.mesh_arena.specs.Pages.{Pages}
-use Rattle.model_words.specs.Classes.{Row, row_of}
+use Rattle.model_words.specs.Classes.{row_of}
 use Rattle.model_heap.specs.Mesh.{Pair, begin, do_overlap, may_begin, mesh_whole, step_count}
 use Rattle.model_heap.specs.Sound.{AreSoundMeshes, IsSound, IsSoundMesh, meshes_of}
 use Rattle.model_heap.specs.Table.{Counted, Group, Made, Mesh, Slot, Table, group_of, has_number}
@@ -126,37 +126,7 @@ is_one c k = if nat_eq c k then 1 else 0
 one_of_ten : (c : ℕ) → IsSome (row_of c) → is_one c 16 + is_one c 32 + is_one c 64 + is_one c 128 + is_one c 256 + is_one c 384 + is_one c 512 + is_one c 1024
     + is_one c 1536 + is_one c 2048 ≡ 1
 unfolding is_one
-one_of_ten c h = elim (eqb_tells 16 c) [
-  | inl a ↦ rw (← a.1) refl
-  | inr n1 ↦ elim (eqb_tells 32 c) [
-    | inl a ↦ rw (← a.1) refl
-    | inr n2 ↦ elim (eqb_tells 64 c) [
-      | inl a ↦ rw (← a.1) refl
-      | inr n3 ↦ elim (eqb_tells 128 c) [
-        | inl a ↦ rw (← a.1) refl
-        | inr n4 ↦ elim (eqb_tells 256 c) [
-          | inl a ↦ rw (← a.1) refl
-          | inr n5 ↦ elim (eqb_tells 384 c) [
-            | inl a ↦ rw (← a.1) refl
-            | inr n6 ↦ elim (eqb_tells 512 c) [
-              | inl a ↦ rw (← a.1) refl
-              | inr n7 ↦ elim (eqb_tells 1024 c) [
-                | inl a ↦ rw (← a.1) refl
-                | inr n8 ↦ elim (eqb_tells 1536 c) [
-                  | inl a ↦ rw (← a.1) refl
-                  | inr n9 ↦ elim (eqb_tells 2048 c) [
-                    | inl a ↦ rw (← a.1) refl
-                    | inr n10 ↦ absurd (let no : IsSome {T = Row} None = rw (n1.0, n2.0, n3.0, n4.0, n5.0, n6.0, n7.0, n8.0, n9.0, n10.0) at h in cc no)
-                  ]
-                ]
-              ]
-            ]
-          ]
-        ]
-      ]
-    ]
-  ]
-]
+one_of_ten c h = grind (arith, nat_tests)
 
 -- a running mesh is of a class of the table
 mesh_class : (t : Table) (x : Mesh) → IsSound t → IsSoundMesh t x → IsSome (row_of x.class)
