@@ -15,16 +15,27 @@ const ROOM: usize = 40;
 pub(crate) fn share<R: Wait>(rt: &R, alloc: Global) -> End {
     let book = Book::open(alloc, 32, 80)?;
     let (shared, mut seats) = Shared::open(alloc, book, &[ROOM, ROOM])?;
+    let refused = serve_all(rt, &shared, seats.as_mut_slice())?;
+    settle(alloc, shared, seats)?;
+    Ok(refused)
+}
+
+/// Makes the calls of each seat.
+fn serve_all<R: Wait>(rt: &R, shared: &Shared, seats: &mut [Seat]) -> End {
     let mut refused = 0u32;
     let mut first_cell = 0u8;
     for seat in seats.iter_mut() {
-        refused = refused.saturating_add(serve(rt, &shared, seat, first_cell)?);
+        refused = refused.saturating_add(serve(rt, shared, seat, first_cell)?);
         first_cell = 128;
     }
+    Ok(refused)
+}
+
+/// Settles the book: its history has an entry for each call.
+fn settle(alloc: Global, shared: Shared, seats: Vec<Seat>) -> Result<(), Fault> {
     let calls = calls_of(seats.as_slice());
     let ended = shared.finish(alloc, seats)?;
-    expect(ended.history.len() == calls, "another count of entries")?;
-    Ok(refused)
+    expect(ended.history.len() == calls, "another count of entries")
 }
 
 /// How many calls two seats keep.
@@ -43,9 +54,20 @@ fn serve<R: Wait>(rt: &R, shared: &Shared, seat: &mut Seat, first: u8) -> End {
         let cell = first.wrapping_add(k);
         refused = refused.saturating_add(make(rt, shared, seat, &Command::New(cell, 2048, 0))?);
     }
+    call_each(rt, shared, seat, first, first.wrapping_add(1))?;
+    Ok(refused)
+}
+
+/// Makes a call of each other kind, with the objects of two cells.
+fn call_each<R: Wait>(
+    rt: &R,
+    shared: &Shared,
+    seat: &mut Seat,
+    first: u8,
+    next: u8,
+) -> Result<(), Fault> {
     let mut bytes = ArrayVec::new();
     bytes.push(b'w');
-    let next = first.wrapping_add(1);
     call(rt, shared, seat, &Command::Put(first, 0, bytes))?;
     call(rt, shared, seat, &Command::Get(first, 0, 1))?;
     call(rt, shared, seat, &Command::Copy(next, 0, first, 0, 1))?;
@@ -53,8 +75,7 @@ fn serve<R: Wait>(rt: &R, shared: &Shared, seat: &mut Seat, first: u8) -> End {
     call(rt, shared, seat, &Command::Poke(0x1000, b'p'))?;
     call(rt, shared, seat, &Command::Peek(0x1000))?;
     call(rt, shared, seat, &Command::Alias(next, first))?;
-    call(rt, shared, seat, &Command::Free(first))?;
-    Ok(refused)
+    call(rt, shared, seat, &Command::Free(first))
 }
 
 /// Makes a call that takes no memory.

@@ -5,10 +5,18 @@ use Rattle.std.specs.FinSet as set
 use Rattle.mesh_class.specs.Class.{class_index}
 use Rattle.model_search.specs.Search.{may_be_paired}
 use Rattle.model_heap.specs.Table.{Group}
+use Rattle.mesh_spans.specs.declared.fullness.Fullness.{Fullness}
+use Rattle.mesh_spans.specs.declared.fullness.Fullness.TheVariants.{Empty, Full, Partial}
 use Rattle.mesh_spans.specs.Groups.{groups_of, is_closed}
 use Rattle.mesh_spans.specs.Index.{GroupEntry, Index, group_at}
 
--- how full a group is
+-- which of the three bins of a class is for groups that are so full
+abbrev pub fullness_place : Fullness → ℕ
+fullness_place Empty = 0
+fullness_place Partial = 1
+fullness_place Full = 2
+
+-- how full a group is, as the place of its bin among the three of its class
 abbrev pub kind_of : ℕ → ℕ → ℕ
 kind_of count total = if nat_eq count 0 then 0 else (if nat_lt count total then 1 else 2)
 

@@ -5,10 +5,11 @@ ghost use Rattle.mesh_bins.specs.Words.{IsLeast};
 ghost use Rattle.mesh_class.specs.Class.{class_index};
 ghost use Rattle.mesh_class.specs.Classes.{IsClass};
 ghost use Rattle.mesh_spans.specs.Counts.{IsWithin, counts_of};
-ghost use Rattle.mesh_spans.specs.GroupBins.{AreMoved, bin_at, file_of, filed, lower_of, unfiled};
+ghost use Rattle.mesh_spans.specs.GroupBins.{AreMoved, bin_at, file_of, filed, fullness_place, lower_of, unfiled};
 ghost use Rattle.mesh_spans.specs.Index.{IsGroup};
 
 use crate::Totals;
+use crate::fullness::Fullness;
 use crate::group::Group;
 use mesh_bins::Bin;
 use mesh_class::Class;
@@ -63,7 +64,17 @@ fn bin_of(group: &Option<Group>) -> Option<u32>
     if group.in_mesh() {
         return None;
     }
-    Some(3 * group.class().index() + group.kind())
+    Some(bin_place(group.class(), group.fullness()))
+}
+
+// The place of the bin of a class and a fullness among all bins.
+fn bin_place(class: Class, fullness: Fullness) -> u32
+    ensures place { result ≡ 3 * class_index class + fullness_place fullness }
+    ensures few { result < 30 }
+    ensures low { class_index class < 10 }
+    ensures one { (size : ℕ) → IsClass size → class_index size ≡ class_index class → size ≡ class }
+{
+    3 * class.index() + fullness.place()
 }
 
 // What a group counts, nothing where there is none.
@@ -129,10 +140,12 @@ pub(crate) fn lowest_open(bins: &[Bin], class: Class) -> Option<u32>
     ensures one { (size : ℕ) → IsClass size → class_index size ≡ class_index class → size ≡ class }
     ensures least { IsLeast (λ n. set.contains (bin_at bins.now (3 * class_index class)) n || set.contains (bin_at bins.now (3 * class_index class + 1)) n) 0 65536 result }
 {
-    let place = 3 * class.index() as usize;
-    let empty = bins[place].least(0);
-    let partial = bins[place + 1].least(0);
-    lower(empty, partial)
+    let empty = bin_place(class, Fullness::Empty);
+    let partial = bin_place(class, Fullness::Partial);
+    lower(
+        bins[empty as usize].least(0),
+        bins[partial as usize].least(0),
+    )
 }
 
 /// The lowest group of the class from a number on that is in no mesh, not empty and not full.
@@ -142,8 +155,8 @@ pub(crate) fn lowest_partial(bins: &[Bin], class: Class, from: u32) -> Option<u3
     ensures one { (size : ℕ) → IsClass size → class_index size ≡ class_index class → size ≡ class }
     ensures least { IsLeast (set.contains (bin_at bins.now (3 * class_index class + 1))) from 65536 result }
 {
-    let place = 3 * class.index() as usize;
-    bins[place + 1].least(from)
+    let partial = bin_place(class, Fullness::Partial);
+    bins[partial as usize].least(from)
 }
 
 // The lower of two numbers.

@@ -7,6 +7,7 @@
 
 mod extent;
 mod filing;
+mod fullness;
 mod group;
 mod groups;
 mod index;

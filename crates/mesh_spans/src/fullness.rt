@@ -1,0 +1,28 @@
+//! How full a group is.
+ghost use Rattle.std.specs.Prelude.{◌≡◌, ◌≤◌};
+ghost use Rattle.mesh_spans.specs.GroupBins.{fullness_place};
+
+/// How full a group is: a class has a bin for each.
+#[derive(Clone, Copy, Debug, PartialEq, Eq)]
+pub(crate) enum Fullness {
+    /// No slot is occupied.
+    Empty,
+    /// Some slots are occupied, and some are free.
+    Partial,
+    /// Each slot is occupied.
+    Full,
+}
+
+impl Fullness {
+    /// Which of the three bins of a class.
+    pub(crate) fn place(self) -> u32
+        ensures place { result ≡ fullness_place self }
+        ensures few { result ≤ 2 }
+    {
+        match self {
+            Fullness::Empty => 0,
+            Fullness::Partial => 1,
+            Fullness::Full => 2,
+        }
+    }
+}
