@@ -61,37 +61,25 @@ asked_by (Some found) name rows named has =
 abbrev hello : List Text
 hello = codes "meshrun" ∷ codes "replay" ∷ codes "hello.job" ∷ []
 
-hello_is_taken : is_taken hello ≡ true
-unfolding clap_on_literals is_taken
-hello_is_taken = refl
-
-hello_is_asked : asked hello ≡ Some (replay_of (codes "hello.job"))
-unfolding clap_on_literals asked
-hello_is_asked = refl
+hello_is_asked : (is_taken hello ≡ true) × (asked hello ≡ Some (replay_of (codes "hello.job")))
+unfolding clap_on_literals asked is_taken
+hello_is_asked = (refl, refl)
 
 -- without `--meshers` one thread meshes
 abbrev small : List Text
 small = codes "meshrun" ∷ codes "threads" ∷ codes "a.job" ∷ codes "--probe" ∷ codes "2" ∷ codes "--rounds" ∷ codes "3" ∷ codes "--workers" ∷ codes "4" ∷ codes "--seed" ∷ codes "5" ∷ []
 
-small_is_taken : is_taken small ≡ true
-unfolding clap_on_literals is_taken
-small_is_taken = refl
-
-small_is_asked : asked small ≡ Some (threads_of (codes "a.job") (record { probe = 2; rounds = 3; workers = 4; seed = 5; meshers = 1 }))
-unfolding clap_on_literals asked
-small_is_asked = refl
+small_is_asked : (is_taken small ≡ true) × (asked small ≡ Some (threads_of (codes "a.job") (record { probe = 2; rounds = 3; workers = 4; seed = 5; meshers = 1 })))
+unfolding clap_on_literals asked is_taken
+small_is_asked = (refl, refl)
 
 -- options stand in any order, and take the most that they may
 abbrev large : List Text
 large = codes "meshrun" ∷ codes "threads" ∷ codes "--meshers=10" ∷ codes "--seed=18446744073709551615" ∷ codes "--workers=16" ∷ codes "a.job" ∷ codes "--rounds=1000" ∷ codes "--probe=64" ∷ []
 
-large_is_taken : is_taken large ≡ true
-unfolding clap_on_literals is_taken
-large_is_taken = refl
-
-large_is_asked : asked large ≡ Some (threads_of (codes "a.job") (record { probe = 64; rounds = 1000; workers = 16; seed = 18446744073709551615; meshers = 10 }))
-unfolding clap_on_literals asked
-large_is_asked = refl
+large_is_asked : (is_taken large ≡ true) × (asked large ≡ Some (threads_of (codes "a.job") (record { probe = 64; rounds = 1000; workers = 16; seed = 18446744073709551615; meshers = 10 })))
+unfolding clap_on_literals asked is_taken
+large_is_asked = (refl, refl)
 
 -- 17 threads make no search
 abbrev crowded : List Text
