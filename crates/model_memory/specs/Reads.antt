@@ -12,15 +12,10 @@ use Rattle.model_words.specs.declared.refusals.Refusal.{Refusal}
 
 -- the command reads and changes nothing
 abbrev pub is_read : Command → Bool
-is_read (New cell len word) = false
-is_read (Put cell off bytes) = false
 is_read (Get cell off len) = true
-is_read (Free cell) = false
-is_read (Alias to from) = false
 is_read (Addr cell) = true
 is_read (Peek addr) = true
-is_read (Poke addr byte) = false
-is_read (Copy to to_off from from_off len) = false
+is_read command = false
 
 -- what a seat keeps of a call: command, reply, and of a read the journal's length that it saw
 pub record Kept : Type 0 where
