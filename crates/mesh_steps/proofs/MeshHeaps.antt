@@ -73,9 +73,9 @@ module _ (pages new : PageHeap) (next : ℕ) (heap : IsHeap (record { pages = pa
   begun_leaves busy source destination r ok err =
       leaves r (IsBegun busy pages new source destination) _ (λ refusal. begin (busy_by busy) (table_in pages) source destination ≡ Err refusal) ok err (λ left is.
       let x : Counted = record { count = left; table = table_in new } in
-      let sound = begin_sound (busy_by busy) (table_in pages) source destination x (busy_tells busy (table_in pages)) heap.sound is.table in
-      let tied = begin_tied (plain_of (record { pages = pages; next_serial = next })) (busy_by busy) (table_in pages) source destination x heap.tied is.table in
-      let means = moved pages new next heap sound (same_kept pages new is.arena is.map) tied in
+      let means = moved pages new next heap
+      (begin_sound (busy_by busy) (table_in pages) source destination x (busy_tells busy (table_in pages)) heap.sound is.table) (same_kept pages new is.arena is.map)
+      (begin_tied (plain_of (record { pages = pages; next_serial = next })) (busy_by busy) (table_in pages) source destination x heap.tied is.table) in
       (means, record { table = is.table; memory = means.1.memory; serial = refl; arena = is.arena; map = is.map }))
 
   -- one of which a mesh made a step
@@ -107,9 +107,9 @@ module _ (pages new : PageHeap) (next : ℕ) (heap : IsHeap (record { pages = pa
   cancelled_leaves class r ok err =
       leaves r (IsCancelled pages new class) _ (λ refusal. cancel (table_in pages) (mesh_in (table_in pages) class) ≡ Err refusal) ok err (λ left is.
       let x : Counted = record { count = left; table = table_in new } in
-      let sound = cancel_sound (table_in pages) (λ mesh. nat_eq mesh.class class) x heap.sound is.table in
-      let tied = cancel_tied (plain_of (record { pages = pages; next_serial = next })) (table_in pages) (mesh_in (table_in pages) class) x heap.tied is.table in
-      let means = moved pages new next heap sound (same_kept pages new is.arena is.map) tied in
+      let means = moved pages new next heap (cancel_sound (table_in pages) (λ mesh. nat_eq mesh.class class) x heap.sound is.table)
+      (same_kept pages new is.arena is.map)
+      (cancel_tied (plain_of (record { pages = pages; next_serial = next })) (table_in pages) (mesh_in (table_in pages) class) x heap.tied is.table) in
       (means, record { table = is.table; memory = means.1.memory; serial = refl; arena = is.arena; map = is.map }))
 
   -- one of which a group was swept

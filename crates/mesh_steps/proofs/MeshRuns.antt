@@ -236,3 +236,10 @@ module _ (g : PageHeap) (place : ℕ) (this : Mesh) (runs : Runs g place this) w
   pub cancel_again : (q u : ℕ) → this.progress ≡ Unwinding q u → cancel (table_in g) (mesh_in (table_in g) this.class) ≡ Ok (record { count = q - u; table = table_in g })
   cancel_again q u at = unwinding_cancelled g.meshes (table_in g) (λ mesh. nat_eq mesh.class this.class) this (table_group g.index.spans this.source sides.a) q u
       runs.found sides.source_group at
+
+-- both groups of a mesh that runs are there
+pub groups_there : (inside seen : PageHeap) (place : ℕ) (this : Mesh) → inside ≡ seen → IsIndex inside.index.spans inside.index.groups
+    → IsPageHeap inside.arena inside.map inside.index inside.next_page inside.meshes → IsRunning seen place this
+    → IsSome (group_at inside.index.groups this.source) × IsSome (group_at inside.index.groups this.destination)
+groups_there inside seen place this same index paged is =
+    let runs = runs_inside inside seen place this same index paged is in (source_there inside place this runs, destination_there inside place this runs)
