@@ -1,5 +1,6 @@
 //! Bits in a list of words.
 ghost use Rattle.std.specs.Prelude.{◌≡◌, ◌≢◌, ℕ, ◌/◌, ◌^◌, nat_eq, ◌<◌, ◌≤◌, ◌*◌, true, false, length, slice_index};
+ghost use Rattle.mesh_bins.specs.Marks.{MayMark, PutsMarked};
 ghost use Rattle.mesh_bins.specs.Words.{has, bit, IsLeast, IsMarked, PutsBit};
 
 // The bits of a word.
@@ -38,13 +39,8 @@ pub(crate) fn clear_bit(words: &mut [u64], n: u32)
 
 // Sets bit `n` of the words, and marks its word.
 pub(crate) fn mark(words: &mut [u64], marks: &mut [u64], n: u32)
-    requires within { n < 64 * length words.old }
-    requires room { n / 64 < 64 * length marks.old }
-    requires marked { IsMarked words.old marks.old }
-    ensures puts { PutsBit words.old words.new n true }
-    ensures marked { IsMarked words.new marks.new }
-    ensures long { length words.new ≡ length words.old }
-    ensures marks { length marks.new ≡ length marks.old }
+    requires { MayMark words.old marks.old n }
+    ensures { PutsMarked words.old marks.old words.new marks.new n true }
 {
     set_bit(words, n);
     set_bit(marks, n / WORD_BITS);
@@ -52,13 +48,8 @@ pub(crate) fn mark(words: &mut [u64], marks: &mut [u64], n: u32)
 
 // Clears bit `n` of the words, and the mark of its word where that is zero then.
 pub(crate) fn unmark(words: &mut [u64], marks: &mut [u64], n: u32)
-    requires within { n < 64 * length words.old }
-    requires room { n / 64 < 64 * length marks.old }
-    requires marked { IsMarked words.old marks.old }
-    ensures puts { PutsBit words.old words.new n false }
-    ensures marked { IsMarked words.new marks.new }
-    ensures long { length words.new ≡ length words.old }
-    ensures marks { length marks.new ≡ length marks.old }
+    requires { MayMark words.old marks.old n }
+    ensures { PutsMarked words.old marks.old words.new marks.new n false }
 {
     clear_bit(words, n);
     if is_zero(words, n / WORD_BITS) {
