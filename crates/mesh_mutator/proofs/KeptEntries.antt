@@ -6,7 +6,7 @@ use Rattle.std.proofs.lemmas.List.Elements.{All-append, All-cons, All-nil, All-t
 use Rattle.std.specs.List.{All}
 use Rattle.model_words.specs.declared.commands.Command.{Command}
 use Rattle.model_words.specs.declared.commands.Reply.{Reply}
-use Rattle.mesh_mutator.specs.PackedEntries.{IsCommandWithin, IsReplyWithin, IsWithin, Kept, KeepsMore, bytes_at, command_in, entries_in, entry_in, reply_in}
+use Rattle.mesh_mutator.specs.PackedEntries.{IsCommandWithin, IsReplyWithin, IsWithin, SideBytes, KeepsMore, bytes_at, command_in, entries_in, entry_in, reply_in}
 use Rattle.mesh_mutator.specs.declared.packed.PackedCommand.{PackedCommand}
 use Rattle.mesh_mutator.specs.declared.packed.PackedCommand.TheVariants.{New, Put, Get, Free, Alias, Addr, Peek, Poke, Copy}
 use Rattle.mesh_mutator.specs.declared.packed.PackedEntry.{PackedEntry}
@@ -14,10 +14,10 @@ use Rattle.mesh_mutator.specs.declared.packed.PackedReply.{PackedReply}
 use Rattle.mesh_mutator.specs.declared.packed.PackedReply.TheVariants.{Object, Done, Bytes, At, Byte, Refused}
 
 -- bytes stay at their place
-bytes_stay : (kept more : Kept) (place : ℕ) → place < length kept → bytes_at (kept ++ more) place ≡ bytes_at kept place
+bytes_stay : (kept more : SideBytes) (place : ℕ) → place < length kept → bytes_at (kept ++ more) place ≡ bytes_at kept place
 bytes_stay kept more place within = get_or-append kept more (record { items = [] }) place within
 
-command_stays : (kept more : Kept) (command : PackedCommand) → IsCommandWithin (length kept) command → command_in (kept ++ more) command ≡ command_in kept command
+command_stays : (kept more : SideBytes) (command : PackedCommand) → IsCommandWithin (length kept) command → command_in (kept ++ more) command ≡ command_in kept command
 command_stays kept more (New cell len word) within = refl
 command_stays kept more (Put cell off place) within = rw (bytes_stay kept more place within) refl
 command_stays kept more (Get cell off len) within = refl
@@ -28,7 +28,7 @@ command_stays kept more (Peek addr) within = refl
 command_stays kept more (Poke addr byte) within = refl
 command_stays kept more (Copy to from to_off from_off len) within = refl
 
-reply_stays : (kept more : Kept) (reply : PackedReply) → IsReplyWithin (length kept) reply → reply_in (kept ++ more) reply ≡ reply_in kept reply
+reply_stays : (kept more : SideBytes) (reply : PackedReply) → IsReplyWithin (length kept) reply → reply_in (kept ++ more) reply ≡ reply_in kept reply
 reply_stays kept more (Object serial addr) within = refl
 reply_stays kept more Done within = refl
 reply_stays kept more (Bytes place) within = rw (bytes_stay kept more place within) refl
@@ -37,7 +37,7 @@ reply_stays kept more (Byte byte) within = refl
 reply_stays kept more (Refused refusal) within = refl
 
 -- as do all entries
-entries_stay : (kept more : Kept) (entries : List PackedEntry) → All (IsWithin (length kept)) entries → entries_in (kept ++ more) entries ≡ entries_in kept entries
+entries_stay : (kept more : SideBytes) (entries : List PackedEntry) → All (IsWithin (length kept)) entries → entries_in (kept ++ more) entries ≡ entries_in kept entries
 entries_stay kept more [] within = refl
 entries_stay kept more (entry ∷ entries) within =
     let first : IsWithin (length kept) entry = within zero entry (omega arith) in
@@ -68,14 +68,14 @@ reply_within count count' (Byte byte) most within = tt
 reply_within count count' (Refused refusal) most within = tt
 
 -- there are no fewer bytes, and one more at most
-pub kept_more : (kept kept' : Kept) → KeepsMore kept kept' → (length kept ≤ length kept') × (length kept' ≤ length kept + 1)
+pub kept_more : (kept kept' : SideBytes) → KeepsMore kept kept' → (length kept ≤ length kept') × (length kept' ≤ length kept + 1)
 kept_more kept kept' keeps =
     let few = keeps.few in
     let sum : length kept' ≡ length kept + length keeps.more = rw keeps.is (length-append kept keeps.more) in
     (omega (arith, sum), omega (arith, sum, few))
 
 -- so what was within stays within
-pub entries_within : (kept kept' : Kept) (entries : List PackedEntry) → KeepsMore kept kept' → All (IsWithin (length kept)) entries
+pub entries_within : (kept kept' : SideBytes) (entries : List PackedEntry) → KeepsMore kept kept' → All (IsWithin (length kept)) entries
     → All (IsWithin (length kept')) entries
 entries_within kept kept' entries keeps within k entry below =
     let most = (kept_more kept kept' keeps).0 in
@@ -83,7 +83,7 @@ entries_within kept kept' entries keeps within k entry below =
     (command_within (length kept) (length kept') _ most there.0, reply_within (length kept) (length kept') _ most there.1)
 
 -- as does a further entry
-pub all_within : (kept half kept' : Kept) (entries : List PackedEntry) (entry : PackedEntry) → KeepsMore kept half → KeepsMore half kept'
+pub all_within : (kept half kept' : SideBytes) (entries : List PackedEntry) (entry : PackedEntry) → KeepsMore kept half → KeepsMore half kept'
     → All (IsWithin (length kept)) entries → IsCommandWithin (length half) entry.command → IsReplyWithin (length kept') entry.reply
     → All (IsWithin (length kept')) (entries ++ entry ∷ [])
 all_within kept half kept' entries entry first second within command reply =
@@ -92,7 +92,7 @@ all_within kept half kept' entries entry first second within command reply =
     (All-cons (IsWithin (length kept')) entry [] (command_within (length half) (length kept') entry.command most command, reply) (All-nil (IsWithin (length kept'))))
 
 -- an entry whose command was packed, and then its reply, stands behind the others
-pub entries_pushed : (kept half kept' : Kept) (entries : List PackedEntry) (entry : PackedEntry) (command : Command) (reply : Reply) → KeepsMore kept half
+pub entries_pushed : (kept half kept' : SideBytes) (entries : List PackedEntry) (entry : PackedEntry) (command : Command) (reply : Reply) → KeepsMore kept half
     → KeepsMore half kept' → All (IsWithin (length kept)) entries → IsCommandWithin (length half) entry.command → command_in half entry.command ≡ command
     → reply_in kept' entry.reply ≡ reply
     → entries_in kept' (entries ++ entry ∷ []) ≡ entries_in kept entries ++ record { worker = entry.worker; command = command; reply = reply } ∷ []

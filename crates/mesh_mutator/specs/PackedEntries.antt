@@ -13,15 +13,15 @@ use Rattle.mesh_mutator.specs.declared.packed.PackedReply.{PackedReply}
 use Rattle.mesh_mutator.specs.declared.packed.PackedReply.TheVariants.{Object, Done, Bytes, At, Byte, Refused}
 
 -- all bytes that are kept, each at its place
-abbrev pub Kept : Type 0
-Kept = List (ArrayVec ℕ)
+abbrev pub SideBytes : Type 0
+SideBytes = List (ArrayVec ℕ)
 
 -- the bytes that are kept at a place
-abbrev pub bytes_at : Kept → ℕ → ArrayVec ℕ
+abbrev pub bytes_at : SideBytes → ℕ → ArrayVec ℕ
 bytes_at kept place = slice_index_or kept place (record { items = [] })
 
 -- the command that was packed
-abbrev pub command_in : Kept → PackedCommand → Command
+abbrev pub command_in : SideBytes → PackedCommand → Command
 command_in kept (New cell len word) = command.New cell len word
 command_in kept (Put cell off place) = command.Put cell off (bytes_at kept place)
 command_in kept (Get cell off len) = command.Get cell off len
@@ -33,7 +33,7 @@ command_in kept (Poke addr byte) = command.Poke addr byte
 command_in kept (Copy to from to_off from_off len) = command.Copy to to_off from from_off len
 
 -- the reply that was packed
-abbrev pub reply_in : Kept → PackedReply → Reply
+abbrev pub reply_in : SideBytes → PackedReply → Reply
 reply_in kept (Object serial addr) = reply.Object serial addr
 reply_in kept Done = reply.Done
 reply_in kept (Bytes place) = reply.Bytes (bytes_at kept place)
@@ -42,11 +42,11 @@ reply_in kept (Byte byte) = reply.Byte byte
 reply_in kept (Refused refusal) = reply.Refused refusal
 
 -- the entry that was packed
-abbrev pub entry_in : Kept → PackedEntry → Entry
+abbrev pub entry_in : SideBytes → PackedEntry → Entry
 entry_in kept entry = record { worker = entry.worker; command = command_in kept entry.command; reply = reply_in kept entry.reply }
 
 -- all entries that were packed
-abbrev pub entries_in : Kept → List PackedEntry → List Entry
+abbrev pub entries_in : SideBytes → List PackedEntry → List Entry
 entries_in kept entries = map (entry_in kept) entries
 
 -- where a command has bytes, their place is one of so many
@@ -64,7 +64,7 @@ abbrev pub IsWithin : ℕ → PackedEntry → Type 0
 IsWithin count entry = IsCommandWithin count entry.command × IsReplyWithin count entry.reply
 
 -- bytes were kept behind those that were there, once at most
-pub record KeepsMore (kept kept' : Kept) : Type 0 where
-  pub more : Kept
+pub record KeepsMore (kept kept' : SideBytes) : Type 0 where
+  pub more : SideBytes
   pub is : kept' ≡ kept ++ more
   pub few : length more < 2

@@ -23,10 +23,10 @@ use Rattle.mesh_spans.specs.Groups.{first_of, table_group}
 use Rattle.mesh_spans.specs.Index.{GroupEntry, Index, IsIndex, group_at}
 use Rattle.mesh_steps.specs.Meshes.{IsPair, busy_by}
 use Rattle.mesh_steps.specs.PageHeap.{PageHeap, table_in}
-use Rattle.mesh_steps.specs.Plans.{IsPlanOf, plan_steps}
+use Rattle.mesh_steps.specs.StepOrders.{IsStepOrderOf, order_steps}
 use Rattle.mesh_steps.specs.declared.busy.Busy.{Busy}
 use Rattle.mesh_steps.specs.declared.busy.Busy.TheVariants.{Any, OfClass}
-use Rattle.mesh_steps.specs.declared.plan.Plan.{Plan}
+use Rattle.mesh_steps.specs.declared.step_order.StepOrder.{StepOrder}
 
 -- a group of the index inside is one of the page heap that is seen
 pub group_seen : (inside seen : PageHeap) (n : ℕ) (o : Option GroupEntry) → inside ≡ seen → o ≡ group_at inside.index.groups n → group_at seen.index.groups n ≡ o
@@ -146,15 +146,15 @@ pub pair_inside : (busy : Busy) (inside seen : PageHeap) (s d class : ℕ) → i
 pair_inside busy inside seen s d class same is = has_pair busy inside s d class (subst (λ (g : PageHeap). IsPair busy g s d class) (sym same) is)
 
 -- so many steps has a mesh from the source
-pub steps_told : (busy : Busy) (g : PageHeap) (s d class : ℕ) (plan : Plan) → (h : HasPair busy g s d class) → IsPlanOf (layout_of g.index) s plan
-    → step_count h.pair.source ≡ plan_steps plan
-steps_told busy g s d class plan h is =
+pub steps_told : (busy : Busy) (g : PageHeap) (s d class : ℕ) (order : StepOrder) → (h : HasPair busy g s d class) → IsStepOrderOf (layout_of g.index) s order
+    → step_count h.pair.source ≡ order_steps order
+steps_told busy g s d class order h is =
     let total = pages_counted g.index s h.a h.source in
     let same = ap class_in h.source in
     let slots = ap slots_of same in
     let pages = ap pages_of same in
     let t = is.total in let c = is.slots in let p = is.pages in
-    ap step_count h.source_is ∙ (let sum : step_count (table_group g.index.spans s h.a) ≡ plan_steps plan = omega (arith, total, slots, pages, t, c, p) in sum)
+    ap step_count h.source_is ∙ (let sum : step_count (table_group g.index.spans s h.a) ≡ order_steps order = omega (arith, total, slots, pages, t, c, p) in sum)
 
 -- fewer than ten meshes run before one begins
 pub few_running : (busy : Busy) (g : PageHeap) (s d class : ℕ) → IsPageHeap g.arena g.map g.index g.next_page g.meshes → HasPair busy g s d class → length g.meshes < 10

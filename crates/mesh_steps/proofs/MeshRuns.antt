@@ -25,9 +25,9 @@ use Rattle.mesh_spans.specs.Groups.{table_group}
 use Rattle.mesh_spans.specs.Index.{GroupEntry, IsIndex, group_at}
 use Rattle.mesh_steps.specs.Meshes.{IsRunning}
 use Rattle.mesh_steps.specs.PageHeap.{PageHeap, table_in}
-use Rattle.mesh_steps.specs.Plans.{IsPlanOf, plan_steps}
+use Rattle.mesh_steps.specs.StepOrders.{IsStepOrderOf, order_steps}
 use Rattle.mesh_steps.specs.Steps.{HasPage, IsReady}
-use Rattle.mesh_steps.specs.declared.plan.Plan.{Plan}
+use Rattle.mesh_steps.specs.declared.step_order.StepOrder.{StepOrder}
 
 -- a mesh that runs in a page heap
 pub record Runs (g : PageHeap) (place : ℕ) (this : Mesh) : Type 0 where
@@ -81,17 +81,17 @@ pub none_running : (inside seen : PageHeap) (class : ℕ) → inside ≡ seen �
 none_running inside seen class same none =
     subst (λ (g : PageHeap). mesh_in (table_in g) class ≡ None) same (position_none (λ mesh. nat_eq mesh.class class) inside.meshes none)
 
--- the step that a plan tells is the layout's
-pub step_told : (l : Layout) (n : ℕ) (plan : Plan) (made i : ℕ) (kind : StepKind) → IsPlanOf l n plan → IsStepAt plan.total plan.slots plan.pages made kind i
+-- the step that an order tells is the layout's
+pub step_told : (l : Layout) (n : ℕ) (order : StepOrder) (made i : ℕ) (kind : StepKind) → IsStepOrderOf l n order → IsStepAt order.total order.slots order.pages made kind i
     → IsStepAt (page_total l n) (slots_of (l.class n)) (pages_of (l.class n)) made kind i
-step_told l n plan made i kind is at =
+step_told l n order made i kind is at =
     subst (λ (t : ℕ). IsStepAt t (slots_of (l.class n)) (pages_of (l.class n)) made kind i) is.total
-    (subst (λ (s : ℕ). IsStepAt plan.total s (pages_of (l.class n)) made kind i) is.slots
-    (subst (λ (p : ℕ). IsStepAt plan.total plan.slots p made kind i) is.pages at))
+    (subst (λ (s : ℕ). IsStepAt order.total s (pages_of (l.class n)) made kind i) is.slots
+    (subst (λ (p : ℕ). IsStepAt order.total order.slots p made kind i) is.pages at))
 
--- the steps of a plan, counted by the layout
-pub steps_are : (l : Layout) (n : ℕ) (plan : Plan) → IsPlanOf l n plan → plan_steps plan ≡ 3 * page_total l n + slots_of (l.class n) + pages_of (l.class n)
-steps_are l n plan is = let t = is.total in let s = is.slots in let p = is.pages in omega (arith, t, s, p)
+-- the steps of an order, counted by the layout
+pub steps_are : (l : Layout) (n : ℕ) (order : StepOrder) → IsStepOrderOf l n order → order_steps order ≡ 3 * page_total l n + slots_of (l.class n) + pages_of (l.class n)
+steps_are l n order is = let t = is.total in let s = is.slots in let p = is.pages in omega (arith, t, s, p)
 
 module _ (g : PageHeap) (place : ℕ) (this : Mesh) (runs : Runs g place this) where
   -- its place is one of the list
@@ -109,8 +109,8 @@ module _ (g : PageHeap) (place : ℕ) (this : Mesh) (runs : Runs g place this) w
   destination_there = rw sides.destination refl
 
   -- not all of its steps were made
-  pub made_below : (d : ℕ) (plan : Plan) → this.progress ≡ Made d → IsPlanOf (layout_of g.index) this.source plan → d < plan_steps plan
-  made_below d plan at is =
+  pub made_below : (d : ℕ) (order : StepOrder) → this.progress ≡ Made d → IsStepOrderOf (layout_of g.index) this.source order → d < order_steps order
+  made_below d order at is =
       let total = pages_counted g.index this.source sides.a sides.source in
       let class = ap class_in sides.source in
       let slots = ap slots_of class in
@@ -226,9 +226,9 @@ module _ (g : PageHeap) (place : ℕ) (this : Mesh) (runs : Runs g place this) w
   source_pages = (some_pages g.index this.source sides.a runs.index sides.source).0
 
   -- a cancel after its first remap is refused
-  pub late_cancel : (d : ℕ) (plan : Plan) → this.progress ≡ Made d → IsPlanOf (layout_of g.index) this.source plan → plan.total + plan.slots < d
+  pub late_cancel : (d : ℕ) (order : StepOrder) → this.progress ≡ Made d → IsStepOrderOf (layout_of g.index) this.source order → order.total + order.slots < d
       → cancel (table_in g) (mesh_in (table_in g) this.class) ≡ Err TooLate
-  late_cancel d plan at is late =
+  late_cancel d order at is late =
       let t = is.total in let s = is.slots in
       cancel_late g.arena g.map g.index g.next_page g.meshes (λ mesh. nat_eq mesh.class this.class) this d runs.index runs.paged runs.found at (omega (arith, late, t, s))
 

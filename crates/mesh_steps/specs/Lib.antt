@@ -12,7 +12,7 @@ pub mod HeapMeshes
 pub mod Meshes
 pub mod PageHeap
 pub mod Phases
-pub mod Plans
+pub mod StepOrders
 pub mod Running
 pub mod Steps
 pub mod Sweeps

@@ -12,7 +12,7 @@ mod growth;
 mod heap;
 mod page_heap;
 mod phase;
-mod plan;
+mod step_order;
 mod running;
 mod steps;
 
