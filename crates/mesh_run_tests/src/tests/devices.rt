@@ -1,5 +1,5 @@
 //! Devices that give or take one byte a call, and fail at some call, on a file with a mesh.
-ghost use Rattle.std.specs.Prelude.{◌≡◌, None, false};
+ghost use Rattle.std.specs.Prelude.{◌≡◌, ◌≤◌, None, false, length};
 
 use crate::tests::files::{MESH_ANSWERS, MESH_FILE};
 use mesh_run::{DeviceFault, Input, Output, Sink, Source, replay_run};
@@ -9,10 +9,33 @@ use std::io;
 /// More calls than any run makes.
 const ENOUGH: usize = 1000;
 
+/// Bytes that are given one at a time.
+#[derive(Drop)]
+struct Bytes<'a> {
+    left: &'a [u8],
+}
+
+impl Bytes<'_> {
+    /// Gives the first byte, where there is one and there is room for it: how many it gave.
+    fn give(&mut self, buf: &mut [u8]) -> usize
+        ensures { result ≤ length buf.new }
+    {
+        if buf.is_empty() {
+            return 0;
+        }
+        let Some((first, rest)) = self.left.split_first() else {
+            return 0;
+        };
+        buf[0] = *first;
+        self.left = rest;
+        1
+    }
+}
+
 /// A source that gives one byte a call, and fails once its calls are used up.
 #[derive(Drop)]
 pub(crate) struct SlowSource<'a> {
-    bytes: &'a [u8],
+    bytes: Bytes<'a>,
     calls: usize,
     failed: bool,
 }
@@ -23,7 +46,7 @@ impl<'a> SlowSource<'a> {
         ensures { result.failed ≡ false }
     {
         SlowSource {
-            bytes,
+            bytes: Bytes { left: bytes },
             calls,
             failed: false,
         }
@@ -41,15 +64,7 @@ impl Source for SlowSource<'_> {
             return Err(DeviceFault);
         }
         self.calls -= 1;
-        if buf.is_empty() {
-            return Ok(0);
-        }
-        let Some((first, rest)) = self.bytes.split_first() else {
-            return Ok(0);
-        };
-        buf[0] = *first;
-        self.bytes = rest;
-        Ok(1)
+        Ok(self.bytes.give(buf))
     }
 }
 
@@ -189,8 +204,17 @@ fn fails_at_each_write(rt: HostRuntime) {
 /// A reader that fails at its first call, and gives one byte at each later one; a writer that fails at its first call, and takes one byte then.
 #[derive(Drop)]
 struct FailsFirst<'a> {
-    bytes: &'a [u8],
+    bytes: Bytes<'a>,
     fails: bool,
+}
+
+impl<'a> FailsFirst<'a> {
+    fn new(bytes: &'a [u8], fails: bool) -> FailsFirst<'a> {
+        FailsFirst {
+            bytes: Bytes { left: bytes },
+            fails,
+        }
+    }
 }
 
 impl io::Read for FailsFirst<'_> {
@@ -199,15 +223,7 @@ impl io::Read for FailsFirst<'_> {
             self.fails = false;
             return Err(io::ErrorKind::Interrupted.into());
         }
-        if buf.is_empty() {
-            return Ok(0);
-        }
-        let Some((first, rest)) = self.bytes.split_first() else {
-            return Ok(0);
-        };
-        buf[0] = *first;
-        self.bytes = rest;
-        Ok(1)
+        Ok(self.bytes.give(buf))
     }
 }
 
@@ -227,17 +243,11 @@ impl io::Write for FailsFirst<'_> {
 
 #[test]
 fn a_failed_call_is_not_tried_again(rt: HostRuntime) {
-    let mut input = Input::new(FailsFirst {
-        bytes: MESH_FILE.as_bytes(),
-        fails: true,
-    });
+    let mut input = Input::new(FailsFirst::new(MESH_FILE.as_bytes(), true));
     let mut byte = [0];
     assert!(rt; input.read(&mut byte).is_err());
     assert!(rt; input.read(&mut byte).is_err());
-    let mut output = Output::new(FailsFirst {
-        bytes: b"",
-        fails: true,
-    });
+    let mut output = Output::new(FailsFirst::new(b"", true));
     assert!(rt; output.write(b"m").is_err());
     assert!(rt; output.write(b"m").is_err());
 }
@@ -245,10 +255,7 @@ fn a_failed_call_is_not_tried_again(rt: HostRuntime) {
 #[test]
 fn one_byte_a_call_is_no_failure(rt: HostRuntime) {
     let alloc = rt.alloc();
-    let mut input = Input::new(FailsFirst {
-        bytes: MESH_FILE.as_bytes(),
-        fails: false,
-    });
+    let mut input = Input::new(FailsFirst::new(MESH_FILE.as_bytes(), false));
     let mut output = Output::new(Vec::new(alloc));
     let mut errors = Output::new(Vec::new(alloc));
     let status = replay_run(alloc, &mut input, &mut output, &mut errors);

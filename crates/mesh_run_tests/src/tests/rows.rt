@@ -21,38 +21,19 @@ fn wrong_row(alloc: Global, rows: &'static [(&str, &str, &str)]) -> Option<&'sta
 }
 
 #[test]
-fn answers_rows_of_abandoned(rt: HostRuntime) {
-    assert_eq!(rt; wrong_row(rt.alloc(), ABANDONED.as_slice()), None);
-}
-
-#[test]
-fn answers_rows_of_cancels(rt: HostRuntime) {
-    assert_eq!(rt; wrong_row(rt.alloc(), CANCELS.as_slice()), None);
-}
-
-#[test]
-fn answers_rows_of_mutators(rt: HostRuntime) {
-    assert_eq!(rt; wrong_row(rt.alloc(), MUTATORS.as_slice()), None);
-}
-
-#[test]
-fn answers_rows_of_searches(rt: HostRuntime) {
-    assert_eq!(rt; wrong_row(rt.alloc(), SEARCHES.as_slice()), None);
-}
-
-#[test]
-fn answers_rows_of_small_steps(rt: HostRuntime) {
-    assert_eq!(rt; wrong_row(rt.alloc(), SMALL_STEPS.as_slice()), None);
-}
-
-#[test]
-fn answers_rows_of_version_2(rt: HostRuntime) {
-    assert_eq!(rt; wrong_row(rt.alloc(), VERSION_2.as_slice()), None);
-}
-
-#[test]
-fn answers_rows_of_whole_meshes(rt: HostRuntime) {
-    assert_eq!(rt; wrong_row(rt.alloc(), WHOLE_MESHES.as_slice()), None);
+fn answers_the_rows_of_each_subject(rt: HostRuntime) {
+    let subjects = [
+        ABANDONED.as_slice(),
+        CANCELS.as_slice(),
+        MUTATORS.as_slice(),
+        SEARCHES.as_slice(),
+        SMALL_STEPS.as_slice(),
+        VERSION_2.as_slice(),
+        WHOLE_MESHES.as_slice(),
+    ];
+    for rows in subjects {
+        assert_eq!(rt; wrong_row(rt.alloc(), rows), None);
+    }
 }
 
 /// How many lines the long plan has: their answers are more than what is written at once.

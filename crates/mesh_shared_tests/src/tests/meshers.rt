@@ -43,13 +43,23 @@ fn command_of(word: Word) -> Command
     }
 }
 
-// The script of these words.
-fn script_of(alloc: Global, words: &[Word]) -> Result<Script, AllocError> {
+// The script of these words, one part after another.
+fn script_of(alloc: Global, parts: &[&[Word]]) -> Result<Script, AllocError> {
     let mut script = Script::new(alloc);
-    for word in words {
-        script.push(command_of(*word))?;
+    for part in parts {
+        for word in *part {
+            script.push(command_of(*word))?;
+        }
     }
     Ok(script)
+}
+
+// The scripts of a reader, who makes the groups before, and of a writer.
+fn reader_and_writer(alloc: Global) -> Result<(Script, Script), AllocError> {
+    Ok((
+        script_of(alloc, &[&GROUPS, &READS])?,
+        script_of(alloc, &[&WRITER])?,
+    ))
 }
 
 // One script, as a run takes it.
@@ -113,40 +123,26 @@ fn begins_with(heap: &Heap, addresses: Range<u32>, front: u8) -> bool {
     true
 }
 
-// Whether the objects of `STORER` have their bytes.
+// Whether the objects of `GROUPS` have the bytes of `STORES`.
 fn keep_bytes(heap: &Heap) -> bool {
     begins_with(heap, 0x1800..0x2000, 0xab) && begins_with(heap, 0x2000..0x2800, 0xcd)
 }
 
-// Two groups with one object each, and then four reads of the second object.
-static READER: [Word; 10] = [
+// Two groups with one object each.
+static GROUPS: [Word; 6] = [
     Word::New(0, 2048),
     Word::New(1, 2048),
     Word::New(2, 2048),
     Word::New(3, 2048),
     Word::Free(0),
     Word::Free(3),
-    Word::Get(2),
-    Word::Get(2),
-    Word::Get(2),
-    Word::Get(2),
 ];
 
-// The same, with a byte stored in each object before.
-static STORER: [Word; 12] = [
-    Word::New(0, 2048),
-    Word::New(1, 2048),
-    Word::New(2, 2048),
-    Word::New(3, 2048),
-    Word::Put(1, 0xab),
-    Word::Put(2, 0xcd),
-    Word::Free(0),
-    Word::Free(3),
-    Word::Get(2),
-    Word::Get(2),
-    Word::Get(2),
-    Word::Get(2),
-];
+// A byte stored in each of the two objects.
+static STORES: [Word; 2] = [Word::Put(1, 0xab), Word::Put(2, 0xcd)];
+
+// Four reads of the second object.
+static READS: [Word; 4] = [Word::Get(2); 4];
 
 // A read of an empty cell, and a store to the second object.
 static WRITER: [Word; 2] = [Word::Get(9), Word::Put(2, 0xcd)];
@@ -154,7 +150,7 @@ static WRITER: [Word; 2] = [Word::Get(9), Word::Put(2, 0xcd)];
 #[test]
 fn a_reader_runs_during_a_copy(rt: HostRuntime) -> Result<(), Fail> {
     let alloc = rt.alloc();
-    let (reader, writer) = (script_of(alloc, &READER)?, script_of(alloc, &WRITER)?);
+    let (reader, writer) = reader_and_writer(alloc)?;
     let copied = Event::Stepped(0, StepKind::Copy);
     let remapped = Event::Stepped(0, StepKind::Remap);
     let marks = [
@@ -203,7 +199,7 @@ fn a_search_runs_beside_a_script(rt: HostRuntime) -> Result<(), Fail> {
     let alloc = rt.alloc();
     let script = script_of(
         alloc,
-        &[Word::Get(9), Word::Get(9), Word::New(0, 16), Word::Get(0)],
+        &[&[Word::Get(9), Word::Get(9), Word::New(0, 16), Word::Get(0)]],
     )?;
     let marks = [Mark::of(Event::Searching), Mark::of(Event::Called(0, 2))];
     let holds = [
@@ -233,7 +229,7 @@ fn a_book_of_one_page_has_no_second(rt: HostRuntime) -> Result<(), Fail> {
     let alloc = rt.alloc();
     let script = script_of(
         alloc,
-        &[Word::New(0, 2048), Word::New(1, 2048), Word::New(2, 2048)],
+        &[&[Word::New(0, 2048), Word::New(1, 2048), Word::New(2, 2048)]],
     )?;
     let book = Book::open(alloc, 1, 3)?;
     let plan = plan_of(alloc, 1, 1);
@@ -250,10 +246,8 @@ fn a_book_of_one_page_has_no_second(rt: HostRuntime) -> Result<(), Fail> {
 #[test]
 fn two_scripts_read_at_once(rt: HostRuntime) -> Result<(), Fail> {
     let alloc = rt.alloc();
-    let (first, second) = (
-        script_of(alloc, &[Word::Get(9)])?,
-        script_of(alloc, &[Word::Get(9)])?,
-    );
+    let words = [Word::Get(9)];
+    let (first, second) = (script_of(alloc, &[&words])?, script_of(alloc, &[&words])?);
     let marks = [
         Mark::of(Event::Reading(0, 0)),
         Mark::of(Event::Reading(1, 0)),
@@ -276,7 +270,7 @@ fn two_scripts_read_at_once(rt: HostRuntime) -> Result<(), Fail> {
 
 // Groups of two classes that can be meshed: 36 commands.
 fn two_classes(alloc: Global) -> Result<Script, AllocError> {
-    let mut script = script_of(alloc, &READER[..6])?;
+    let mut script = script_of(alloc, &[&GROUPS])?;
     for cell in 4..20 {
         script.push(Command::New(cell, 512, 0))?;
     }
@@ -361,7 +355,7 @@ fn abandoned<R: Clock + Threads + Wait + Sync>(
     alloc: Global,
     calls: u32,
 ) -> Result<Option<Ended>, AllocError> {
-    let reader = script_of(alloc, &STORER)?;
+    let reader = script_of(alloc, &[&GROUPS, &STORES, &READS])?;
     let marks = [Mark::of(Event::Called(0, 7)), Mark::of(Event::Begun(0))];
     let holds = [
         Hold::new(Event::Searching, &[Event::Called(0, 7)]),
@@ -405,7 +399,7 @@ fn a_mesher_is_abandoned_after_each_call(rt: HostRuntime) -> Result<(), Fail> {
 #[test]
 fn a_store_is_given_up(rt: HostRuntime) -> Result<(), Fail> {
     let alloc = rt.alloc();
-    let (reader, writer) = (script_of(alloc, &READER)?, script_of(alloc, &WRITER)?);
+    let (reader, writer) = reader_and_writer(alloc)?;
     let protected = Event::Stepped(0, StepKind::Protect);
     let marks = [
         Mark::of(Event::Called(0, 5)),

@@ -29,12 +29,13 @@ fn opened(alloc: Global, counts: &[usize]) -> Result<(Shared, Vec<Seat>), AllocE
     }
 }
 
-// The two seats of a book, taken apart.
-fn two(mut seats: Vec<Seat>) -> Result<(Seat, Seat), AllocError> {
+// A book behind a lock, and its two seats.
+fn opened_for_two(alloc: Global) -> Result<(Shared, Seat, Seat), AllocError> {
+    let (shared, mut seats) = opened(alloc, &[4, 4])?;
     let second = seats.pop();
     let first = seats.pop();
     match (first, second) {
-        (Some(first), Some(second)) => Ok((first, second)),
+        (Some(first), Some(second)) => Ok((shared, first, second)),
         _ => Err(AllocError),
     }
 }
@@ -88,8 +89,7 @@ fn works<R: Wait>(rt: &R, shared: &Shared, seat: &mut Seat, cell: u8) -> bool {
 #[test]
 fn two_threads_share_a_book(rt: HostRuntime) -> Result<(), AllocError> {
     let alloc = rt.alloc();
-    let (shared, seats) = opened(alloc, &[4, 4])?;
-    let (mut first, mut second) = two(seats)?;
+    let (shared, mut first, mut second) = opened_for_two(alloc)?;
     let (a, b) = join(
         &rt,
         || works(&rt, &shared, &mut first, 0),
@@ -105,8 +105,7 @@ fn two_threads_share_a_book(rt: HostRuntime) -> Result<(), AllocError> {
 fn seats_of_two_books_are_told(rt: HostRuntime) -> Result<(), AllocError> {
     let alloc = rt.alloc();
     let (a, seats_a) = opened(alloc, &[4, 4])?;
-    let (_b, seats_b) = opened(alloc, &[4, 4])?;
-    let (_b1, mut b0) = two(seats_b).map(|pair| (pair.1, pair.0))?;
+    let (_b, mut b0, _b1) = opened_for_two(alloc)?;
     let made = a.call(&rt, &mut b0, &new_object(0));
     assert!(&rt;
         matches!(made, Attempt::Done(Reply::Object(0, 0x1000))),
@@ -123,8 +122,7 @@ fn seats_of_two_books_are_told(rt: HostRuntime) -> Result<(), AllocError> {
 #[test]
 fn seats_in_the_other_order_are_told(rt: HostRuntime) -> Result<(), AllocError> {
     let alloc = rt.alloc();
-    let (a, seats) = opened(alloc, &[4, 4])?;
-    let (a0, a1) = two(seats)?;
+    let (a, a0, a1) = opened_for_two(alloc)?;
     let ended = a.finish(alloc, vec![in alloc; a1, a0]?);
     assert!(&rt; told(&ended) == (1, 0, 0), "in the other order");
     Ok(())
@@ -133,8 +131,7 @@ fn seats_in_the_other_order_are_told(rt: HostRuntime) -> Result<(), AllocError> 
 #[test]
 fn too_few_seats_are_told(rt: HostRuntime) -> Result<(), AllocError> {
     let alloc = rt.alloc();
-    let (a, seats) = opened(alloc, &[4, 4])?;
-    let (a0, _a1) = two(seats)?;
+    let (a, a0, _a1) = opened_for_two(alloc)?;
     let ended = a.finish(alloc, vec![in alloc; a0]?);
     assert!(&rt; told(&ended) == (1, 1, 0), "one of two");
     Ok(())
@@ -143,10 +140,8 @@ fn too_few_seats_are_told(rt: HostRuntime) -> Result<(), AllocError> {
 #[test]
 fn too_many_seats_are_told(rt: HostRuntime) -> Result<(), AllocError> {
     let alloc = rt.alloc();
-    let (a, seats) = opened(alloc, &[4, 4])?;
-    let (a0, a1) = two(seats)?;
-    let (_b, seats) = opened(alloc, &[4, 4])?;
-    let (b0, _b1) = two(seats)?;
+    let (a, a0, a1) = opened_for_two(alloc)?;
+    let (_b, b0, _b1) = opened_for_two(alloc)?;
     let ended = a.finish(alloc, vec![in alloc; a0, a1, b0]?);
     assert!(&rt; told(&ended) == (1, 2, 0), "one more");
     Ok(())
@@ -172,9 +167,8 @@ fn strangers_are_told(rt: HostRuntime) -> Result<(), AllocError> {
 #[test]
 fn calls_in_another_journal_are_told(rt: HostRuntime) -> Result<(), AllocError> {
     let alloc = rt.alloc();
-    let (a, _seats) = opened(alloc, &[4, 4])?;
-    let (b, seats) = opened(alloc, &[4, 4])?;
-    let (mut b0, b1) = two(seats)?;
+    let (a, _a0, _a1) = opened_for_two(alloc)?;
+    let (b, mut b0, b1) = opened_for_two(alloc)?;
     a.call(&rt, &mut b0, &new_object(0));
     a.call(&rt, &mut b0, &get_bytes(0));
     let ended = b.finish(alloc, vec![in alloc; b0, b1]?);
@@ -188,10 +182,8 @@ fn calls_in_another_journal_are_told(rt: HostRuntime) -> Result<(), AllocError> 
 #[test]
 fn reads_of_another_book_are_told(rt: HostRuntime) -> Result<(), AllocError> {
     let alloc = rt.alloc();
-    let (a, seats) = opened(alloc, &[4, 4])?;
-    let (_a0, mut a1) = two(seats)?;
-    let (b, seats) = opened(alloc, &[4, 4])?;
-    let (mut b0, b1) = two(seats)?;
+    let (a, _a0, mut a1) = opened_for_two(alloc)?;
+    let (b, mut b0, b1) = opened_for_two(alloc)?;
     a.call(&rt, &mut a1, &new_object(0));
     a.call(&rt, &mut b0, &get_bytes(0));
     let ended = b.finish(alloc, vec![in alloc; b0, b1]?);
@@ -202,8 +194,7 @@ fn reads_of_another_book_are_told(rt: HostRuntime) -> Result<(), AllocError> {
 #[test]
 fn reads_come_into_the_history(rt: HostRuntime) -> Result<(), AllocError> {
     let alloc = rt.alloc();
-    let (a, seats) = opened(alloc, &[4, 4])?;
-    let (mut a0, a1) = two(seats)?;
+    let (a, mut a0, a1) = opened_for_two(alloc)?;
     a.call(&rt, &mut a0, &new_object(0));
     let alias = a.call(&rt, &mut a0, &Command::Alias(1, 0));
     let bytes = a.call(&rt, &mut a0, &get_bytes(1));
