@@ -10,7 +10,7 @@ use std::marker::Model;
 /// How many pages an arena has at most: 16 MiB. This project's own choice.
 pub const MAX_PAGES: u32 = 4096;
 
-// Contracts name the number.
+/// Contracts name the number.
 const _: () = prove!(MAX_PAGES == 4096);
 
 /// An arena of physical pages, each free or taken.

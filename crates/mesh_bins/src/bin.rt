@@ -9,10 +9,10 @@ use crate::words::{
 use std::alloc::{AllocError, Global};
 use std::marker::Model;
 
-// The words of a set.
+/// The words of a set.
 const WORDS: usize = 1024;
 
-// The words of the summary.
+/// The words of the summary.
 const SUMMARY: usize = 16;
 
 /// A set of numbers below 65,536.

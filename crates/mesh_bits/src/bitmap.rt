@@ -8,10 +8,10 @@ ghost use Rattle.mesh_bits.specs.Bits.{is_member, member_count, clear_count, are
 use std::marker::Model;
 use std::simd::prelude::*;
 
-// The bits of a word.
+/// The bits of a word.
 const WORD_BITS: u32 = 64;
 
-// The words of a set.
+/// The words of a set.
 const WORDS: usize = 4;
 
 /// A set of numbers below a width of 1 to 256.
@@ -132,7 +132,7 @@ impl Bits {
     }
 }
 
-// Whether the words have bit `i`.
+/// Whether the words have bit `i`.
 fn has_bit(words: &[u64; WORDS], i: u32) -> bool
     requires { i < 256 }
     ensures { result ≡ has words.now i }
@@ -140,7 +140,7 @@ fn has_bit(words: &[u64; WORDS], i: u32) -> bool
     (words[(i / WORD_BITS) as usize] >> (i % WORD_BITS)) & 1 == 1
 }
 
-// Sets bit `i` of the words.
+/// Sets bit `i` of the words.
 fn set_bit(words: &mut [u64; WORDS], i: u32)
     requires { i < 256 }
     ensures { PutsBit words.old words.new i true }
@@ -149,7 +149,7 @@ fn set_bit(words: &mut [u64; WORDS], i: u32)
     words[at] |= 1 << (i % WORD_BITS);
 }
 
-// Clears bit `i` of the words.
+/// Clears bit `i` of the words.
 fn clear_bit(words: &mut [u64; WORDS], i: u32)
     requires { i < 256 }
     ensures { PutsBit words.old words.new i false }
@@ -158,7 +158,7 @@ fn clear_bit(words: &mut [u64; WORDS], i: u32)
     words[at] &= !(1 << (i % WORD_BITS));
 }
 
-// The bit at place `place` among the clear bits below the width.
+/// The bit at place `place` among the clear bits below the width.
 fn nth_clear_bit(words: &[u64; WORDS], width: u32, place: u32) -> Option<u32>
     requires { width ≤ 256 }
     ensures clear { IfSome result (λ i. (i < width) × (has words.now i ≡ false)) }
@@ -170,8 +170,8 @@ fn nth_clear_bit(words: &[u64; WORDS], width: u32, place: u32) -> Option<u32>
     if i < width { Some(i) } else { None }
 }
 
-// The first bit of the word in which the clear bit at place `place` is, where it is below the width, and its place
-// in that word. Each word that ends before that bit is passed by the count of its clear bits.
+/// The first bit of the word in which the clear bit at place `place` is, where it is below the width, and its place
+/// in that word. Each word that ends before that bit is passed by the count of its clear bits.
 fn skip_words(words: &[u64; WORDS], width: u32, place: u32) -> (u32, u32)
     requires { width ≤ 256 }
     ensures word { result.0 % 64 ≡ 0 }
@@ -192,7 +192,7 @@ fn skip_words(words: &[u64; WORDS], width: u32, place: u32) -> (u32, u32)
     (first, left)
 }
 
-// The bit at place `place`, from 0, among the set bits of a word, ascending.
+/// The bit at place `place`, from 0, among the set bits of a word, ascending.
 fn nth_one(word: u64, place: u32) -> Option<u32>
     ensures one { IfSome result (λ k. (k < 64) × (bit_at word k ≡ 1)) }
     ensures place { IfSome result (λ k. low_ones k word ≡ place) }
@@ -211,7 +211,7 @@ fn nth_one(word: u64, place: u32) -> Option<u32>
     Some(rest.trailing_zeros())
 }
 
-// How many bits of the words are set.
+/// How many bits of the words are set.
 fn count_bits(words: &[u64; WORDS]) -> u32
     ensures count { result ≡ ones_of words.now }
     ensures words { (j : ℕ) → slice_index words.now j < 2 ^ 64 }
@@ -220,14 +220,14 @@ fn count_bits(words: &[u64; WORDS]) -> u32
     a.count_ones() + b.count_ones() + c.count_ones() + d.count_ones()
 }
 
-// Whether no bit is set in both, four lanes at once.
+/// Whether no bit is set in both, four lanes at once.
 fn share_no_bit(words: [u64; WORDS], others: [u64; WORDS]) -> bool
     ensures { IsTrue result ↔ HaveNoBitInBoth words others }
 {
     any_lane(both_lanes(words, others)) == 0
 }
 
-// The bits that are set in both, lane by lane.
+/// The bits that are set in both, lane by lane.
 fn both_lanes(words: [u64; WORDS], others: [u64; WORDS]) -> [u64; WORDS]
     ensures both { result ≡ zip2 bit_and words others }
     ensures words { (j : ℕ) → slice_index words j < 2 ^ 64 }
@@ -237,14 +237,14 @@ fn both_lanes(words: [u64; WORDS], others: [u64; WORDS]) -> [u64; WORDS]
     (u64x4::from_array(words) & u64x4::from_array(others)).to_array()
 }
 
-// The bits that are set in a lane.
+/// The bits that are set in a lane.
 fn any_lane(lanes: [u64; WORDS]) -> u64
     ensures { result ≡ fold_l bit_or 0 lanes }
 {
     u64x4::from_array(lanes).reduce_or()
 }
 
-// The bits that are set in either.
+/// The bits that are set in either.
 fn either_bits(words: &[u64; WORDS], others: &[u64; WORDS]) -> [u64; WORDS]
     ensures { HasBitsOfEither words.now others.now result }
 {

@@ -36,7 +36,7 @@ impl Model for Class {
 }
 
 impl Class {
-    // The row of a place of the class table.
+    /// The row of a place of the class table.
     fn row(index: u32, size: u32, pages: u32, slots: u32) -> Class
         requires row { row_of size ≡ Some (row size pages slots) }
         requires index { class_index size ≡ index }
@@ -50,7 +50,7 @@ impl Class {
         }
     }
 
-    // The class at a place of the class table. This is the table.
+    /// The class at a place of the class table. This is the table.
     #[tactic(auto, unfolding(crate::specs::Class::class_index))]
     fn at(index: u32) -> Class
         requires { index < 10 }

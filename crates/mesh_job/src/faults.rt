@@ -13,7 +13,7 @@ pub enum ReadFault {
     /// The text has a fault; this is its first.
     #[error("{0}")]
     Text(TextFault),
-    /// A growth of the job was refused for want of memory.
+    /// A growth of the job was refused, since an allocation failed.
     #[error("out of memory")]
     Memory,
 }
@@ -31,7 +31,7 @@ impl From<AllocError> for ReadFault {
 pub(crate) enum LineFault {
     /// The line has a fault.
     Kind(FaultKind),
-    /// A growth of the job was refused for want of memory.
+    /// A growth of the job was refused, since an allocation failed.
     Memory,
 }
 

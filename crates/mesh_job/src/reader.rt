@@ -56,7 +56,7 @@ impl Reading {
 
     /// Takes the whole lines at the beginning of the file's next bytes, and gives how many bytes they are. The bytes that it leaves,
     /// at most 1,024, begin a line: the next call is to have them again, with what follows them. Where the file has a fault or
-    /// its last line was taken, it takes all bytes. An error is want of memory.
+    /// its last line was taken, it takes all bytes. An error is an allocation failure.
     pub fn take(&mut self, bytes: &[u8]) -> Result<usize, AllocError>
         requires sound { IsReading self.old }
         requires most { bytes_taken self.old + length bytes.now ≤ 1048577 }

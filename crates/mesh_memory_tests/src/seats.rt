@@ -84,7 +84,7 @@ fn call<R: Wait>(rt: &R, shared: &Shared, seat: &mut Seat, command: &Command) ->
 {
     expect(
         is_kept(rt, shared, seat, command)?,
-        "a call that met want of memory",
+        "a call whose allocation failed",
     )
 }
 

@@ -21,7 +21,7 @@ pub enum Attempt {
     OutOfMemory,
 }
 
-// One attempt at a command, on heap and roots.
+/// One attempt at a command, on heap and roots.
 pub fn perform(heap: &mut Heap, roots: &mut Roots, command: &Command) -> Attempt
     requires range { IsInRange command.now }
     requires serials { heap.old.next_serial < 2 ^ 32 - 1 }
@@ -47,7 +47,7 @@ pub fn perform(heap: &mut Heap, roots: &mut Roots, command: &Command) -> Attempt
     }
 }
 
-// Makes an object and stores its reference in a cell. A refused one leaves the cell.
+/// Makes an object and stores its reference in a cell. A refused one leaves the cell.
 fn make(heap: &mut Heap, roots: &mut Roots, cell: u8, len: u32, word: u64) -> Attempt
     requires serials { heap.old.next_serial < 2 ^ 32 - 1 }
     requires cells { length roots.old ≡ 256 }
@@ -67,7 +67,7 @@ fn make(heap: &mut Heap, roots: &mut Roots, cell: u8, len: u32, word: u64) -> At
     }
 }
 
-// Stores bytes in the object that a cell names.
+/// Stores bytes in the object that a cell names.
 fn put(heap: &mut Heap, roots: &Roots, cell: u8, off: u32, bytes: &[u8]) -> Attempt
     requires some { 1 ≤ length bytes.now }
     requires few { length bytes.now ≤ 32 }
@@ -82,7 +82,7 @@ fn put(heap: &mut Heap, roots: &Roots, cell: u8, off: u32, bytes: &[u8]) -> Atte
     }
 }
 
-// Copies bytes from the object that one cell names to that of another.
+/// Copies bytes from the object that one cell names to that of another.
 fn copy(
     heap: &mut Heap,
     roots: &Roots,
@@ -108,7 +108,7 @@ fn copy(
     stored(heap.copy(target, to_off, source, from_off, len))
 }
 
-// Stores a byte at an address.
+/// Stores a byte at an address.
 fn poke(heap: &mut Heap, roots: &Roots, addr: u32, byte: u8) -> Attempt
     requires { AreRooted heap.old roots.now }
     ensures performed { IsPerformed heap.old heap.new roots.now roots.now (Command.Poke addr byte) result }
@@ -118,7 +118,7 @@ fn poke(heap: &mut Heap, roots: &Roots, addr: u32, byte: u8) -> Attempt
     stored(heap.poke(addr, byte))
 }
 
-// What a store's answer is to its worker.
+/// What a store's answer is to its worker.
 fn stored(stored: Stored) -> Attempt
     ensures { result ≡ attempt_of stored }
 {
@@ -129,7 +129,7 @@ fn stored(stored: Stored) -> Attempt
     }
 }
 
-// Loads bytes from the object that a cell names.
+/// Loads bytes from the object that a cell names.
 pub fn get(heap: &Heap, roots: &Roots, cell: u8, off: u32, len: u32) -> Reply
     requires some { 1 ≤ len }
     requires few { len ≤ 32 }
@@ -145,7 +145,7 @@ pub fn get(heap: &Heap, roots: &Roots, cell: u8, off: u32, len: u32) -> Reply
     }
 }
 
-// Frees the object that a cell names. The cell keeps its reference.
+/// Frees the object that a cell names. The cell keeps its reference.
 fn free(heap: &mut Heap, roots: &Roots, cell: u8) -> Reply
     requires { AreRooted heap.old roots.now }
     ensures performed { IsPerformed heap.old heap.new roots.now roots.now (Command.Free cell) (Attempt.Done result) }
@@ -161,7 +161,7 @@ fn free(heap: &mut Heap, roots: &Roots, cell: u8) -> Reply
     }
 }
 
-// Stores in one cell the reference of another, where it names a live object.
+/// Stores in one cell the reference of another, where it names a live object.
 fn alias(heap: &Heap, roots: &mut Roots, to: u8, from: u8) -> Reply
     requires cells { length roots.old ≡ 256 }
     requires rooted { AreRooted heap.now roots.old }
@@ -178,7 +178,7 @@ fn alias(heap: &Heap, roots: &mut Roots, to: u8, from: u8) -> Reply
     }
 }
 
-// The address of the object that a cell names.
+/// The address of the object that a cell names.
 pub fn address(heap: &Heap, roots: &Roots, cell: u8) -> Reply
     requires { AreRooted heap.now roots.now }
     ensures { IsLooked heap.now roots.now (Command.Addr cell) result }
@@ -189,7 +189,7 @@ pub fn address(heap: &Heap, roots: &Roots, cell: u8) -> Reply
     }
 }
 
-// The byte at an address.
+/// The byte at an address.
 pub fn peek(heap: &Heap, roots: &Roots, addr: u32) -> Reply
     ensures { IsLooked heap.now roots.now (Command.Peek addr) result }
 {
@@ -199,7 +199,7 @@ pub fn peek(heap: &Heap, roots: &Roots, addr: u32) -> Reply
     }
 }
 
-// The live object that a cell names: EMPTY where the cell holds no reference, FREED where its object isn't live.
+/// The live object that a cell names: EMPTY where the cell holds no reference, FREED where its object isn't live.
 fn live(heap: &Heap, roots: &Roots, cell: u8) -> Result<Ref, Refusal>
     requires { AreRooted heap.now roots.now }
     ensures named { IfOk result (IsNamedBy heap.now roots.now cell) }

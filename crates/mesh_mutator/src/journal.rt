@@ -37,7 +37,7 @@ impl Model for Journal {
 }
 
 impl Journal {
-    /// A journal without an entry, with room for `room` of them, at most 65,536. An error is want of memory.
+    /// A journal without an entry, with room for `room` of them, at most 65,536. An error is an allocation failure.
     pub(crate) fn with_capacity(alloc: Global, room: usize) -> Result<Journal, AllocError>
         requires { room ≤ 65536 }
         ensures entries { IfOk result (λ journal. journal.entries ≡ []) }

@@ -13,7 +13,7 @@ use std::marker::Model;
 /// Both are this project's own choice.
 pub const LAST_VIRTUAL_PAGE: u32 = 65535;
 
-// Contracts name the number.
+/// Contracts name the number.
 const _: () = prove!(LAST_VIRTUAL_PAGE == 65535);
 
 /// How many places the table has room for; the one of virtual page 0 is never used.

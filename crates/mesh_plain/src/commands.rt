@@ -35,7 +35,7 @@ impl Plain {
     }
 
     /// Does what an answered command did. For a `New` its reply tells the address; a reply that names no object changes nothing, nor does a command
-    /// that is refused. The error is want of memory, and comes of a `New` that made an object and of an `Alias` alone.
+    /// that is refused. The error is an allocation failure, and comes of a `New` that made an object and of an `Alias` alone.
     pub fn apply(&mut self, command: &Command, reply: &Reply) -> Result<(), AllocError>
         requires few { next_serial self.old < 2 ^ 32 - 1 }
         ensures done { OnOk result (self.new ≡ left_by self.old command.now reply.now) }
@@ -63,7 +63,7 @@ impl Plain {
     }
 }
 
-// The reply to a command that is refused.
+/// The reply to a command that is refused.
 fn refused(fault: PlainFault) -> Reply
     ensures { (step : Result (Reply × Memory) Refusal) → IsRefusedAs fault step → result ≡ reply_in step }
 {
@@ -76,7 +76,7 @@ fn refused(fault: PlainFault) -> Reply
     })
 }
 
-// Want of memory, where a call comes to it; a refusal is none.
+/// An allocation failure, where a call comes to it; a refusal is none.
 fn only_memory(answer: Result<(), PlainFault>) -> Result<(), AllocError>
     ensures only { OnErr result (answer ≡ Err PlainFault.Memory) }
     ensures told { IfErr answer (λ fault. fault ≡ PlainFault.Memory → IsErr result) }

@@ -12,7 +12,7 @@ use std::alloc::{AllocError, Global};
 use std::collections::BTreeMap;
 use std::mem;
 
-// Adds an object and lets a cell hold its serial.
+/// Adds an object and lets a cell hold its serial.
 pub fn add(
     objects: &mut BTreeMap<u32, Stored>,
     roots: &mut BTreeMap<u8, u32>,
@@ -36,7 +36,7 @@ pub fn add(
     Ok(())
 }
 
-// Lets a cell hold a serial.
+/// Lets a cell hold a serial.
 pub fn point(roots: &mut BTreeMap<u8, u32>, cell: u8, serial: u32) -> Result<(), AllocError>
     ensures done { OnOk result (Updates nat_cmp roots.old roots.new cell (Some serial)) }
     ensures same { OnErr result (IsSameAt (get nat_cmp roots.old) (get nat_cmp roots.new)) }
@@ -47,14 +47,14 @@ pub fn point(roots: &mut BTreeMap<u8, u32>, cell: u8, serial: u32) -> Result<(),
     }
 }
 
-// The least serial whose object has the address.
+/// The least serial whose object has the address.
 pub fn holder(objects: &BTreeMap<u32, Stored>, address: u32) -> Option<u32>
     ensures { IsHolder (get nat_cmp objects.now) address result }
 {
     first_reaching(objects, address)
 }
 
-// The first serial in the map's order whose object has the address.
+/// The first serial in the map's order whose object has the address.
 fn first_reaching(objects: &BTreeMap<u32, Stored>, address: u32) -> Option<u32>
     ensures first { result ≡ first_holder objects.now.entries address }
     ensures ordered { IsOrdered nat_cmp objects.now }
@@ -67,14 +67,14 @@ fn first_reaching(objects: &BTreeMap<u32, Stored>, address: u32) -> Option<u32>
     None
 }
 
-// Whether the object has the address.
+/// Whether the object has the address.
 fn reaches(object: &Stored, address: u32) -> bool
     ensures { result ≡ has_address object.now address }
 {
     object.address <= address && ((address - object.address) as usize) < object.bytes.len()
 }
 
-// Stores bytes in a live object.
+/// Stores bytes in a live object.
 pub fn overwrite(
     objects: &mut BTreeMap<u32, Stored>,
     serial: u32,
@@ -94,7 +94,7 @@ pub fn overwrite(
     Ok(())
 }
 
-// Copies a range of one live object's bytes into another's, or within one.
+/// Copies a range of one live object's bytes into another's, or within one.
 pub fn copy(
     alloc: Global,
     objects: &mut BTreeMap<u32, Stored>,
@@ -121,7 +121,7 @@ pub fn copy(
     Ok(())
 }
 
-// Copies a range of an object's bytes within it.
+/// Copies a range of an object's bytes within it.
 fn copy_in_one(objects: &mut BTreeMap<u32, Stored>, serial: u32, to: usize, from: usize, len: usize)
     requires { HasRange (get nat_cmp objects.old serial) to len × HasRange (get nat_cmp objects.old serial) from len }
     ensures { (x : Object) → get nat_cmp objects.old serial ≡ Some x
@@ -132,7 +132,7 @@ fn copy_in_one(objects: &mut BTreeMap<u32, Stored>, serial: u32, to: usize, from
     }
 }
 
-// Takes the bytes of an object out of it.
+/// Takes the bytes of an object out of it.
 fn take_bytes(alloc: Global, objects: &mut BTreeMap<u32, Stored>, serial: u32) -> Vec<u8>
     ensures { (x : Object) → get nat_cmp objects.old serial ≡ Some x
         → (result.items ≡ x.bytes) × IsSetAt (get nat_cmp objects.old) (get nat_cmp objects.new) serial (Some (record x { bytes = [] })) }
@@ -143,7 +143,7 @@ fn take_bytes(alloc: Global, objects: &mut BTreeMap<u32, Stored>, serial: u32) -
     }
 }
 
-// Gives an object its bytes.
+/// Gives an object its bytes.
 fn give_bytes(objects: &mut BTreeMap<u32, Stored>, serial: u32, bytes: Vec<u8>)
     ensures { (x : Object) → get nat_cmp objects.old serial ≡ Some x
         → IsSetAt (get nat_cmp objects.old) (get nat_cmp objects.new) serial (Some (record x { bytes = bytes.items })) }
@@ -153,7 +153,7 @@ fn give_bytes(objects: &mut BTreeMap<u32, Stored>, serial: u32, bytes: Vec<u8>)
     }
 }
 
-// Copies a range of an object's bytes into another object.
+/// Copies a range of an object's bytes into another object.
 fn copy_between(
     alloc: Global,
     objects: &mut BTreeMap<u32, Stored>,

@@ -84,7 +84,7 @@ pub enum Args<'a> {
 /// Why the program ends before it begins, and what it says.
 #[derive(Drop)]
 pub struct Stop {
-    /// The exit status: 0 for help and for the version, 2 for a fault of the command line, 1 for want of memory.
+    /// The exit status: 0 for help and for the version, 2 for a fault of the command line, 1 for an allocation failure.
     pub status: u8,
     /// What to print, with its line ends: help and version on standard output, the rest on standard error.
     pub text: CowStr<'static, Global>,
@@ -276,7 +276,7 @@ fn stop_of(alloc: Global, error: &Error) -> Stop
     }
 }
 
-/// How the program stops for want of memory.
+/// How the program stops where an allocation failed.
 fn out_of_memory() -> Stop
     ensures { IsOutOfMemory result }
 {

@@ -10,7 +10,7 @@ pub fn statuses_tell_errors_apart()
     ensures spelt { FaultsAreSpelt }
 {}
 
-/// Of what stops a run want of memory is told as such, and so is a thread at fault, and nothing else is.
+/// Of what stops a run an allocation failure is told as such, and so is a thread at fault, and nothing else is.
 pub fn stops_are_told_as_they_are()
     ensures memory { WantOfMemoryIsTold }
     ensures thread { ThreadFaultsAreTold }

@@ -11,7 +11,7 @@ use std::alloc::{AllocError, Global};
 
 /// The candidates of a class in the index: its groups that are in no mesh, not empty and not full, ascending.
 ///
-/// An error is want of memory.
+/// An error is an allocation failure.
 pub fn class_view(alloc: Global, spans: &Spans, class: Class) -> Result<ClassView, AllocError>
     ensures { IfOk result (λ view. view ≡ viewed class (filter (may_be_paired (is_closed spans.now) class) (groups_of spans.now))) }
 {

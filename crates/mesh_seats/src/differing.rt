@@ -11,8 +11,8 @@ use crate::kept::Kept;
 use crate::seat::Seat;
 use mesh_mutator::{Entry, Journal};
 
-// The first seat whose recorded calls aren't its worker's entries, and the place of the first such call among them. For each seat the
-// journal is gone through once, so with 64 seats and a journal of 65,536 entries some 4 million entries are looked at.
+/// The first seat whose recorded calls aren't its worker's entries, and the place of the first such call among them. For each seat the
+/// journal is gone through once, so with 64 seats and a journal of 65,536 entries some 4 million entries are looked at.
 pub fn differing(seats: &[Seat], journal: &Journal) -> Option<(u32, usize)>
     requires few { length seats.now < 2 ^ 32 }
     ensures settled { result ≡ None → AreSettled (length seats.now) (recorded_of seats.now) journal.now.entries }
@@ -27,7 +27,7 @@ pub fn differing(seats: &[Seat], journal: &Journal) -> Option<(u32, usize)>
     None
 }
 
-// The first place at which a seat's recorded calls aren't a worker's entries.
+/// The first place at which a seat's recorded calls aren't a worker's entries.
 fn first_difference(calls: &[Kept], journal: &Journal, worker: u32) -> Option<usize>
     ensures same { result ≡ None → recorded calls.now ≡ calls_of worker journal.now.entries }
     ensures differs { IfSome result (λ place. DifferFirstAt (recorded calls.now) (calls_of worker journal.now.entries) place) }
@@ -49,7 +49,7 @@ fn first_difference(calls: &[Kept], journal: &Journal, worker: u32) -> Option<us
     if rest.is_empty() { None } else { Some(place) }
 }
 
-// The calls from the first recorded one on.
+/// The calls from the first recorded one on.
 fn skip_reads(calls: &[Kept]) -> &[Kept]
     ensures { IsRecordedFirst calls.now result.now }
 {
@@ -63,7 +63,7 @@ fn skip_reads(calls: &[Kept]) -> &[Kept]
     rest
 }
 
-// Whether the entry has the call's command and reply.
+/// Whether the entry has the call's command and reply.
 fn is_of(kept: &Kept, entry: &Entry) -> bool
     ensures { IsTrue result ↔ (call_of kept.now ≡ record { command = entry.now.command; reply = entry.now.reply }) }
 {

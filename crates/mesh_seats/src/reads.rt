@@ -12,7 +12,7 @@ use mesh_mutator::Entry;
 use mesh_plain::Plain;
 use std::alloc::AllocError;
 
-// Takes the reads of all seats that saw `n` entries, the lower seats first, up to the first wrong one: its seat.
+/// Takes the reads of all seats that saw `n` entries, the lower seats first, up to the first wrong one: its seat.
 pub fn take_all<'a>(
     plain: &Plain,
     n: u32,
@@ -34,8 +34,8 @@ pub fn take_all<'a>(
     Ok(None)
 }
 
-// Takes the reads of a seat that saw `n` entries, up to the first call for later, or the first wrong one: what is left, and whether it
-// begins with a wrong one.
+/// Takes the reads of a seat that saw `n` entries, up to the first call for later, or the first wrong one: what is left, and whether it
+/// begins with a wrong one.
 fn take_reads<'a>(
     plain: &Plain,
     worker: u32,
@@ -65,7 +65,7 @@ fn take_reads<'a>(
     Ok((rest, false))
 }
 
-// Whether the read was answered as the memory answers.
+/// Whether the read was answered as the memory answers.
 fn answers(plain: &Plain, kept: &Kept) -> bool
     requires read { is_read kept.now.command ≡ true }
     requires range { IsInRange kept.now.command }

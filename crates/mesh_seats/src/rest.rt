@@ -6,7 +6,7 @@ ghost use Rattle.mesh_seats.specs.Seat.{IsKept};
 use crate::kept::Kept;
 use std::marker::Model;
 
-// What is left of a seat's calls.
+/// What is left of a seat's calls.
 #[derive(Drop)]
 pub struct Rest<'a> {
     calls: &'a [Kept],
@@ -29,7 +29,7 @@ impl<'a> Model for Rest<'a> {
 }
 
 impl<'a> Rest<'a> {
-    // These are left.
+    /// These are left.
     pub(crate) fn of(calls: &'a [Kept]) -> Rest<'a>
         requires { All IsKept calls.now }
         ensures { result ≡ calls.now }
@@ -37,7 +37,7 @@ impl<'a> Rest<'a> {
         Rest { calls }
     }
 
-    // The calls.
+    /// The calls.
     pub(crate) fn calls(&self) -> &'a [Kept]
         ensures calls { result.now ≡ self.now }
         ensures kept { All IsKept result.now }

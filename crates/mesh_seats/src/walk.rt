@@ -16,8 +16,8 @@ use mesh_plain::Plain;
 use model_memory::read_laws::few_are_made;
 use std::alloc::{AllocError, Global};
 
-// The history of a journal and seats whose recorded calls are its entries, built in one walk of the journal; or the first wrong read. After a
-// wrong read only the seats below its own are looked at, since one of theirs would be told in its place.
+/// The history of a journal and seats whose recorded calls are its entries, built in one walk of the journal; or the first wrong read. After a
+/// wrong read only the seats below its own are looked at, since one of theirs would be told in its place.
 pub fn weave(alloc: Global, seats: &[Seat], journal: &Journal) -> Result<Vec<Entry>, FinishError>
     requires few { length seats.now < 2 ^ 32 }
     requires short { length journal.now.entries ≤ 65536 }
@@ -54,7 +54,7 @@ pub fn weave(alloc: Global, seats: &[Seat], journal: &Journal) -> Result<Vec<Ent
     unless_told(history, told)
 }
 
-// The history, where no read was told.
+/// The history, where no read was told.
 fn unless_told(history: Vec<Entry>, told: Option<(u32, usize)>) -> Result<Vec<Entry>, FinishError>
     ensures ok { IfOk result (λ whole. (told ≡ None) × (whole.items ≡ history.items)) }
     ensures fault { IfErr result (λ error. (seat call : ℕ) × ((told ≡ Some (seat, call)) × (error ≡ FinishError.ReadDiffers seat call))) }
@@ -65,7 +65,7 @@ fn unless_told(history: Vec<Entry>, told: Option<(u32, usize)>) -> Result<Vec<En
     }
 }
 
-// What is left of each seat's calls at the beginning: all.
+/// What is left of each seat's calls at the beginning: all.
 fn rests_of<'a>(alloc: Global, seats: &'a [Seat]) -> Result<Vec<Rest<'a>>, AllocError>
     ensures rests { IfOk result (λ rests. rests.items ≡ calls_of_seats seats.now) }
     ensures kept { OnOk result ((w : ℕ) → All IsKept (kept_by (calls_of_seats seats.now) w)) }
@@ -77,7 +77,7 @@ fn rests_of<'a>(alloc: Global, seats: &'a [Seat]) -> Result<Vec<Rest<'a>>, Alloc
     Ok(rests)
 }
 
-// Takes the first call of the entry's seat. The seat is found where that call is a read, which comes too early.
+/// Takes the first call of the entry's seat. The seat is found where that call is a read, which comes too early.
 fn step<'a>(rests: &mut [Rest<'a>], worker: u32) -> Option<usize>
     ensures length { length rests.new ≡ length rests.old }
     ensures step { IsStep worker rests.old rests.new result }
@@ -96,7 +96,7 @@ fn step<'a>(rests: &mut [Rest<'a>], worker: u32) -> Option<usize>
     None
 }
 
-// The first seat of which a call is left.
+/// The first seat of which a call is left.
 fn first_left<'a>(rests: &[Rest<'a>]) -> Option<usize>
     ensures { IsFirstLeft rests.now result }
 {
@@ -108,7 +108,7 @@ fn first_left<'a>(rests: &[Rest<'a>]) -> Option<usize>
     None
 }
 
-// Tells the first call left of the seat that was found, and drops what is left of this seat and those above it.
+/// Tells the first call left of the seat that was found, and drops what is left of this seat and those above it.
 fn tell<'a>(
     seats: &[Seat],
     rests: &mut Vec<Rest<'a>>,

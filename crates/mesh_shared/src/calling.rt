@@ -75,7 +75,7 @@ impl<'a, R: Wait, G: Gate> Mutator<'a, R, G> {
         }
     }
 
-    // At most so many attempts, and one at least.
+    /// At most so many attempts, and one at least.
     fn try_up_to(&self, seat: &mut Seat, command: &Command, tries: u32) -> Attempt
         requires { IsInRange command.now }
         ensures { IsTaken seat.old seat.new command.now result }
@@ -95,7 +95,7 @@ pub(crate) fn counted(call: usize) -> u32 {
     u32::try_from(call).unwrap_or(u32::MAX)
 }
 
-// Whether an attempt was held back.
+/// Whether an attempt was held back.
 fn is_blocked(attempt: &Attempt) -> bool
     ensures { IsTrue result ↔ (attempt.now ≡ Attempt.Blocked) }
 {

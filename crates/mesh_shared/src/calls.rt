@@ -12,21 +12,21 @@ pub(crate) struct Calls {
 }
 
 impl Calls {
-    // None so far.
+    /// None so far.
     pub(crate) fn of(most: Option<u32>) -> Calls
         ensures { result.most ≡ most }
     {
         Calls { most, made: 0 }
     }
 
-    // Whether there may be no further one.
+    /// Whether there may be no further one.
     pub(crate) fn is_over(&self) -> bool
         ensures { IsTrue result ↔ (self.now.most ≡ Some self.now.made) }
     {
         self.most == Some(self.made)
     }
 
-    // One more was answered.
+    /// One more was answered.
     pub(crate) fn spend(&mut self)
         requires { self.old.most ≡ Some self.old.made → ⊥ }
         ensures most { self.new.most ≡ self.old.most }

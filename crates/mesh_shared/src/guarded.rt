@@ -20,7 +20,7 @@ use mesh_search::Pair;
 use mesh_seats::Seat;
 use mesh_steps::StepDone;
 
-// One attempt of a seat's mutator at a command that is recorded, under the number of its seat. The seat keeps it where it is done.
+/// One attempt of a seat's mutator at a command that is recorded, under the number of its seat. The seat keeps it where it is done.
 pub(crate) fn act(book: &mut Book, seat: &mut Seat, command: &Command) -> Attempt
     requires range { IsInRange command.now }
     requires recorded { is_read command.now ≡ false }
@@ -38,7 +38,7 @@ pub(crate) fn act(book: &mut Book, seat: &mut Seat, command: &Command) -> Attemp
     attempt
 }
 
-// A read of a seat's mutator: what the book answers. The seat keeps it with the length that the journal of this book has.
+/// A read of a seat's mutator: what the book answers. The seat keeps it with the length that the journal of this book has.
 pub(crate) fn look(book: &Book, seat: &mut Seat, command: &Command) -> Reply
     requires range { IsInRange command.now }
     requires read { is_read command.now ≡ true }
@@ -53,7 +53,7 @@ pub(crate) fn look(book: &Book, seat: &mut Seat, command: &Command) -> Reply
     reply
 }
 
-// Begins a mesh of a pair, as the book does. A call that is answered is counted.
+/// Begins a mesh of a pair, as the book does. A call that is answered is counted.
 pub(crate) fn begin(book: &mut Book, pair: Pair, calls: &mut Calls) -> Result<u32, Refusal>
     requires { IsOver calls.old → ⊥ }
     ensures begun { IfOk result (IsMeshBegun mesh_of_class book.old.heap book.new.heap pair.source pair.destination) }
@@ -68,7 +68,7 @@ pub(crate) fn begin(book: &mut Book, pair: Pair, calls: &mut Calls) -> Result<u3
     Ok(left)
 }
 
-// Makes the next step of the mesh of a class, as the book does. A call that is answered is counted.
+/// Makes the next step of the mesh of a class, as the book does. A call that is answered is counted.
 pub(crate) fn step(book: &mut Book, class: Class, calls: &mut Calls) -> Result<StepDone, Refusal>
     requires { IsOver calls.old → ⊥ }
     ensures made { IfOk result (IsStepMade book.old.heap book.new.heap class) }

@@ -41,7 +41,7 @@ pub(crate) struct Meshed {
     pub stop: Option<Stop>,
 }
 
-// That a mesher has its number, made all rounds where nothing ended it, and was answered no more often than it may be.
+/// That a mesher has its number, made all rounds where nothing ended it, and was answered no more often than it may be.
 #[derive(Clone, Copy)]
 pub(crate) struct Meshes {
     pub rounds: u32,
@@ -67,7 +67,7 @@ struct Round {
 }
 
 impl Round {
-    // Whether it is this round, and each pair was refused or meshed to its end.
+    /// Whether it is this round, and each pair was refused or meshed to its end.
     fn is_whole(&self, round: u32) -> bool
         ensures { IsTrue result ↔ ((self.now.round ≡ round) × (self.now.whole ≡ length self.now.found.items)) }
     {
@@ -94,7 +94,7 @@ impl<'a, R: Threads + Wait + Sync, G: Gate + Sync> Mesher<'a, R, G> {
         }
     }
 
-    // Makes the rounds one after another: how many were made to their ends, and what stopped it.
+    /// Makes the rounds one after another: how many were made to their ends, and what stopped it.
     fn make_rounds(&self, calls: &mut Calls) -> (u32, Option<Stop>)
         requires some { 1 ≤ self.now.plan.now.workers }
         requires most { self.now.plan.now.workers ≤ 16 }
@@ -119,7 +119,7 @@ impl<'a, R: Threads + Wait + Sync, G: Gate + Sync> Mesher<'a, R, G> {
         (whole, None)
     }
 
-    // Searches the views of its classes, outside the lock, and meshes what was found, classes ascending.
+    /// Searches the views of its classes, outside the lock, and meshes what was found, classes ascending.
     fn make_round(&self, round: u32, calls: &mut Calls) -> Result<Round, Stop>
         requires some { 1 ≤ self.now.plan.now.workers }
         requires most { self.now.plan.now.workers ≤ 16 }
@@ -149,7 +149,7 @@ impl<'a, R: Threads + Wait + Sync, G: Gate + Sync> Mesher<'a, R, G> {
         })
     }
 
-    // The views of its classes, taken under the shared lock.
+    /// The views of its classes, taken under the shared lock.
     fn own_views(&self) -> Result<Vec<ClassView>, AllocError>
         requires { 1 ≤ self.now.plan.now.meshers }
         ensures { IfOk result (λ own. AreOwn self.now.plan.now self.now.number own.items) }
@@ -158,7 +158,7 @@ impl<'a, R: Threads + Wait + Sync, G: Gate + Sync> Mesher<'a, R, G> {
         own_of(self.alloc, views, self.plan.meshers, self.number)
     }
 
-    // Meshes what was found in each view. Gives in how many of them each pair was refused, or meshed to its end.
+    /// Meshes what was found in each view. Gives in how many of them each pair was refused, or meshed to its end.
     fn mesh_all(&self, views: &[ClassView], found: &[Found], calls: &mut Calls) -> usize
         requires { length views.now ≡ length found.now }
         ensures whole { calls.old.most ≡ None → result ≡ length found.now }
@@ -175,7 +175,7 @@ impl<'a, R: Threads + Wait + Sync, G: Gate + Sync> Mesher<'a, R, G> {
         whole
     }
 
-    // Meshes pairs of a class one after another, as long as there are calls. Gives how many were refused, or meshed to their ends.
+    /// Meshes pairs of a class one after another, as long as there are calls. Gives how many were refused, or meshed to their ends.
     fn mesh_pairs(&self, class: Class, pairs: &[Pair], calls: &mut Calls) -> usize
         ensures whole { calls.old.most ≡ None → result ≡ length pairs.now }
         ensures most { calls.new.most ≡ calls.old.most }
@@ -192,7 +192,7 @@ impl<'a, R: Threads + Wait + Sync, G: Gate + Sync> Mesher<'a, R, G> {
         ended
     }
 
-    // Meshes a pair step by step, unless it is refused by now: how many steps were left when it ended.
+    /// Meshes a pair step by step, unless it is refused by now: how many steps were left when it ended.
     fn mesh_pair(&self, class: Class, pair: Pair, calls: &mut Calls) -> Result<u32, Refusal>
         requires { IsOver calls.old → ⊥ }
         ensures ended { calls.old.most ≡ None → IfOk result (λ left. left ≡ 0) }
@@ -211,7 +211,7 @@ impl<'a, R: Threads + Wait + Sync, G: Gate + Sync> Mesher<'a, R, G> {
         unreachable!()
     }
 
-    // Begins a mesh under the exclusive lock: how many steps are to come.
+    /// Begins a mesh under the exclusive lock: how many steps are to come.
     fn begin(&self, pair: Pair, calls: &mut Calls) -> Result<u32, Refusal>
         requires { IsOver calls.old → ⊥ }
         ensures { calls.new.most ≡ calls.old.most }
@@ -221,7 +221,7 @@ impl<'a, R: Threads + Wait + Sync, G: Gate + Sync> Mesher<'a, R, G> {
         Ok(left)
     }
 
-    // Makes a step of the mesh that it began, under the exclusive lock.
+    /// Makes a step of the mesh that it began, under the exclusive lock.
     fn step(&self, class: Class, calls: &mut Calls) -> Result<StepDone, Refusal>
         requires { IsOver calls.old → ⊥ }
         ensures { calls.new.most ≡ calls.old.most }
@@ -236,7 +236,7 @@ impl<'a, R: Threads + Wait + Sync, G: Gate + Sync> Mesher<'a, R, G> {
     }
 }
 
-// Whether a pair was refused, or meshed until no step was left.
+/// Whether a pair was refused, or meshed until no step was left.
 fn has_ended(tried: Result<u32, Refusal>) -> bool
     ensures { IsTrue result ↔ IfOk tried (λ left. left ≡ 0) }
 {
@@ -246,7 +246,7 @@ fn has_ended(tried: Result<u32, Refusal>) -> bool
     }
 }
 
-// Of the views of all classes those whose place leaves a number when divided.
+/// Of the views of all classes those whose place leaves a number when divided.
 fn own_of(
     alloc: Global,
     all: Vec<ClassView>,

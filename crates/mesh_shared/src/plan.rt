@@ -29,7 +29,7 @@ impl MeshPlan {
     }
 }
 
-// How many words a round has.
+/// How many words a round has.
 const WORDS_A_ROUND: usize = 256;
 
 /// How long the threads of a run go on; None has no end.

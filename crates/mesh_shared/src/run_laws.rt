@@ -14,7 +14,7 @@ pub fn runs_are_whole()
     ensures exchanged_begun { ExchangedIsNoBeginning }
 {}
 
-/// Of several stops the one is told that comes first in the order of want of memory, a thread and the journal, and nothing where nothing stopped.
+/// Of several stops the one is told that comes first in the order of an allocation failure, a thread and the journal, and nothing where nothing stopped.
 pub fn first_stop_is_told()
     ensures there { ToldIsThere }
     ensures first { ToldIsFirst }

@@ -91,7 +91,7 @@ impl Shared {
     }
 }
 
-// An empty seat for each count, numbered from 0 on.
+/// An empty seat for each count, numbered from 0 on.
 fn seats_of(alloc: Global, counts: &[usize]) -> Result<Vec<Seat>, AllocError>
     requires few { length counts.now ≤ 64 }
     ensures { IfOk result (λ seats. IsEmptySeats 0 counts.now seats.items) }

@@ -104,7 +104,7 @@ impl From<SearchError> for Stop {
 }
 
 impl Stop {
-    // The one of two that is told.
+    /// The one of two that is told.
     fn first_of(self, other: Stop) -> Stop
         ensures { result ≡ first_of self other }
     {
@@ -116,7 +116,7 @@ impl Stop {
     }
 }
 
-// The one of two ends that is told.
+/// The one of two ends that is told.
 pub(crate) fn either_stop(one: Option<Stop>, other: Option<Stop>) -> Option<Stop>
     ensures { result ≡ either_stop one other }
 {

@@ -28,7 +28,7 @@ use std::thread::{PromisedHandle, Scope, Threads};
 /// book's lock; searches run outside it, and reads beside one another. No mesh is left running. A gate hears of each point on the way, for
 /// tests; `NoGate` holds nobody. Threads that were started are joined whatever comes of it.
 ///
-/// A worker that meets want of memory or a full journal ends, as a mesher does whose views or search fail, and all others run to their own
+/// A worker that meets an allocation failure or a full journal ends, as a mesher does whose views or search fail, and all others run to their own
 /// ends. Of several errors the first of Memory, Thread, History and Finish is told.
 pub fn run_threads<R: Threads + Wait + Sync, G: Gate + Sync>(
     rt: &R,
@@ -86,14 +86,14 @@ pub fn run_abandoned<R: Threads + Wait + Sync, G: Gate + Sync>(
     Ok(ran.ended)
 }
 
-// What a run hands out, and what its meshers tell.
+/// What a run hands out, and what its meshers tell.
 #[derive(Drop)]
 struct Ran {
     ended: Ended,
     meshers: Vec<Meshed>,
 }
 
-// Runs scripts with threads that go on as long as they have patience.
+/// Runs scripts with threads that go on as long as they have patience.
 fn run<R: Threads + Wait + Sync, G: Gate + Sync>(
     rt: &R,
     alloc: Global,
@@ -124,7 +124,7 @@ fn run<R: Threads + Wait + Sync, G: Gate + Sync>(
     })
 }
 
-// How many commands each script has.
+/// How many commands each script has.
 fn counts_of(alloc: Global, scripts: &[&[Command]]) -> Result<Vec<usize>, AllocError>
     ensures { IfOk result (λ counts. vec_len counts ≡ length scripts.now) }
 {
@@ -135,14 +135,14 @@ fn counts_of(alloc: Global, scripts: &[&[Command]]) -> Result<Vec<usize>, AllocE
     Ok(counts)
 }
 
-// What the threads of a run gave back.
+/// What the threads of a run gave back.
 #[derive(Drop)]
 struct Service {
     seats: Vec<Seat>,
     meshers: Vec<Meshed>,
 }
 
-// Serves each script from its seat, and meshes meanwhile. Gives the seats back once all threads have ended, and what the meshers tell.
+/// Serves each script from its seat, and meshes meanwhile. Gives the seats back once all threads have ended, and what the meshers tell.
 fn serve_all<R: Threads + Wait + Sync, G: Gate + Sync>(
     rt: &R,
     alloc: Global,
@@ -271,7 +271,7 @@ fn start_meshers<'s, E, R: Threads + Wait + Sync, G: Gate + Sync>(
     refused
 }
 
-// Joins all threads. Gives what they gave back where each was started and none was stopped, else tells the first stop.
+/// Joins all threads. Gives what they gave back where each was started and none was stopped, else tells the first stop.
 fn join_all<'a, R: Threads>(
     rt: &R,
     alloc: Global,
@@ -308,7 +308,7 @@ fn join_all<'a, R: Threads>(
     })
 }
 
-// The meshing of one mesher.
+/// The meshing of one mesher.
 fn mesh<R: Threads + Wait + Sync, G: Gate + Sync>(
     rt: &R,
     alloc: Global,
@@ -334,7 +334,7 @@ fn mesh<R: Threads + Wait + Sync, G: Gate + Sync>(
     mesher.mesh(most)
 }
 
-// The first of what stopped the threads of a run: where one was refused, then of the meshers and of the workers.
+/// The first of what stopped the threads of a run: where one was refused, then of the meshers and of the workers.
 fn first_stop_of(refused: Option<Stop>, meshed: &[Meshed], served: &[Served]) -> Option<Stop>
     ensures { result ≡ first_stop (refused ∷ map (λ one. one.stop) meshed.now ++ map (λ one. one.stop) served.now) }
 {
@@ -348,7 +348,7 @@ fn first_stop_of(refused: Option<Stop>, meshed: &[Meshed], served: &[Served]) ->
     stop
 }
 
-// The seats that the workers gave back, in their order.
+/// The seats that the workers gave back, in their order.
 fn seats_of_served(alloc: Global, served: Vec<Served>) -> Result<Vec<Seat>, AllocError>
     ensures { IfOk result (λ seats. seats.items ≡ map (λ one. one.seat) served.items) }
 {

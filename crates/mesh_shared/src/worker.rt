@@ -22,7 +22,7 @@ pub(crate) struct Served {
     pub stop: Option<Stop>,
 }
 
-// That the calls of a worker's seat are a beginning of its script, and all of it where nothing stopped it.
+/// That the calls of a worker's seat are a beginning of its script, and all of it where nothing stopped it.
 #[derive(Clone, Copy)]
 pub(crate) struct Works<'a> {
     pub script: &'a [Command],
@@ -50,7 +50,7 @@ pub(crate) fn serve<R: Wait, G: Gate>(
     Served { seat, stop }
 }
 
-// Makes the calls of a script, and tells why it stopped before its end.
+/// Makes the calls of a script, and tells why it stopped before its end.
 fn work<R: Wait, G: Gate>(
     rt: &R,
     gate: &G,

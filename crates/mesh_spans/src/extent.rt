@@ -8,7 +8,7 @@ use crate::Slot;
 use mesh_class::Class;
 use std::marker::Model;
 
-// The bytes of a page, as a part of addresses.
+/// The bytes of a page, as a part of addresses.
 pub(crate) const PAGE_BYTES: u32 = 4096;
 
 /// Where one span lies, and which group it belongs to.

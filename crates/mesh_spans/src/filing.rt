@@ -15,7 +15,7 @@ use mesh_bins::Bin;
 use mesh_class::Class;
 use std::alloc::{AllocError, Global};
 
-// How many bins there are: three for each of the ten classes.
+/// How many bins there are: three for each of the ten classes.
 const BINS: usize = 30;
 
 /// How a group is filed.
@@ -55,7 +55,7 @@ pub(crate) fn new_bins(alloc: Global) -> Result<Vec<Bin>, AllocError>
     Ok(bins)
 }
 
-// The bin of a group.
+/// The bin of a group.
 fn bin_of(group: &Option<Group>) -> Option<u32>
     ensures bin { result ≡ file_of group.now }
     ensures few { IfSome result (λ place. place < 30) }
@@ -67,7 +67,7 @@ fn bin_of(group: &Option<Group>) -> Option<u32>
     Some(bin_place(group.class(), group.fullness()))
 }
 
-// The place of the bin of a class and a fullness among all bins.
+/// The place of the bin of a class and a fullness among all bins.
 fn bin_place(class: Class, fullness: Fullness) -> u32
     ensures place { result ≡ 3 * class_index class + fullness_place fullness }
     ensures few { result < 30 }
@@ -77,7 +77,7 @@ fn bin_place(class: Class, fullness: Fullness) -> u32
     3 * class.index() + fullness.place()
 }
 
-// What a group counts, nothing where there is none.
+/// What a group counts, nothing where there is none.
 fn counts_of(group: &Option<Group>) -> Totals
     ensures counts { result ≡ counts_of group.now }
     ensures few { IsWithin 1 result }
@@ -159,7 +159,7 @@ pub(crate) fn lowest_partial(bins: &[Bin], class: Class, from: u32) -> Option<u3
     bins[partial as usize].least(from)
 }
 
-// The lower of two numbers.
+/// The lower of two numbers.
 fn lower(a: Option<u32>, b: Option<u32>) -> Option<u32>
     ensures { result ≡ lower_of a b }
 {

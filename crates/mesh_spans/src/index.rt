@@ -274,7 +274,7 @@ impl Spans {
         self.groups.get(number)
     }
 
-    // The span that has the virtual page of an address, where its group is one now.
+    /// The span that has the virtual page of an address, where its group is one now.
     fn live_span(&self, addr: u32) -> Option<Span>
         ensures span { IfSome result (λ span. span < length self.now.spans) }
         ensures live { IfSome result (λ span. IsSome (group_at self.now.groups (span_at self.now.spans span).group)) }
@@ -289,7 +289,7 @@ impl Spans {
         Some(span)
     }
 
-    // Where a span lies.
+    /// Where a span lies.
     fn extent(&self, span: Span) -> &Extent
         requires { span < length self.now.spans }
         ensures { result.now ≡ span_at self.now.spans span }
@@ -297,7 +297,7 @@ impl Spans {
         &self.spans[span.index()]
     }
 
-    // Says that a group is in a mesh, or in none.
+    /// Says that a group is in a mesh, or in none.
     fn set_in_mesh(&mut self, n: u32, in_mesh: bool)
         requires { IsSome (group_at self.old.groups n) }
         ensures spans { self.new.spans ≡ self.old.spans }
@@ -308,7 +308,7 @@ impl Spans {
     }
 }
 
-// Lets spans belong to another group.
+/// Lets spans belong to another group.
 fn regroup(spans: &mut Vec<Extent>, members: &[Span], group: u32)
     requires { (place : ℕ) → place < length members.now → slice_index members.now place < length spans.old.items }
     ensures { Regroups spans.old.items spans.new.items members.now (length members.now) group }

@@ -32,7 +32,7 @@ impl Span {
         self.0
     }
 
-    // The span's place in a list of all spans.
+    /// The span's place in a list of all spans.
     pub(crate) fn index(self) -> usize
         ensures { result ≡ self }
     {
@@ -69,7 +69,7 @@ impl Slot {
         self.0
     }
 
-    // The slot's place in a list of a span's records.
+    /// The slot's place in a list of a span's records.
     pub(crate) fn index(self) -> usize
         ensures { result ≡ self }
     {

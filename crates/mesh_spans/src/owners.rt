@@ -55,7 +55,7 @@ impl Owners {
     }
 }
 
-// The same, in the list by virtual page.
+/// The same, in the list by virtual page.
 fn own_pages(spans: &mut Vec<Option<Span>>, first: u32, pages: u32, span: Span)
     requires short { length spans.old.items ≤ 65536 }
     requires room { 65536 ≤ vec_capacity spans.old }
@@ -70,7 +70,7 @@ fn own_pages(spans: &mut Vec<Option<Span>>, first: u32, pages: u32, span: Span)
     }
 }
 
-// Lets the list reach a place: those up to it come to be, and are empty.
+/// Lets the list reach a place: those up to it come to be, and are empty.
 fn reach(spans: &mut Vec<Option<Span>>, place: usize)
     requires within { place < 65536 }
     requires short { length spans.old.items ≤ 65536 }

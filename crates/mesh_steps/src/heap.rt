@@ -229,7 +229,7 @@ impl Heap {
         let _next = self.next_serial;
     }
 
-    // The bytes of a part of a live object.
+    /// The bytes of a part of a live object.
     fn fetch(&self, object: Ref, off: u32, len: u32) -> ArrayVec<u8, MAX_BYTES>
         requires some { 1 ≤ len }
         requires few { len ≤ 32 }
@@ -244,7 +244,7 @@ impl Heap {
         bytes
     }
 
-    // Stores bytes within a live object.
+    /// Stores bytes within a live object.
     fn save(&mut self, serial: u32, addr: u32, off: u32, bytes: &[u8]) -> Stored
         requires some { 1 ≤ length bytes.now }
         requires few { length bytes.now ≤ 32 }
@@ -261,7 +261,7 @@ impl Heap {
         Stored::Done
     }
 
-    // The object that a reference names, None where it is stale.
+    /// The object that a reference names, None where it is stale.
     fn live(&self, object: Ref) -> Option<Occupied>
         ensures there { IfSome result (IsReferred self.now object) }
         ensures none { IfNone result (referred (plain_of self.now) object ≡ Err Refusal.Freed) }
@@ -275,7 +275,7 @@ impl Heap {
         }
     }
 
-    // The object whose range has the address.
+    /// The object whose range has the address.
     fn holder(&self, addr: u32) -> Option<Occupied>
         ensures there { IfSome result (IsHeld self.now addr) }
         ensures none { IfNone result (holding (plain_of self.now) addr ≡ Err Refusal.Stray) }
@@ -289,7 +289,7 @@ impl Heap {
         }
     }
 
-    // The object in whose slot an address is. None only where no live object's range has the address.
+    /// The object in whose slot an address is. None only where no live object's range has the address.
     fn object_at(&self, addr: u32) -> Option<Occupied>
         ensures there { IfSome result (IsObjectAt self.now addr) }
         ensures found { (serial : ℕ) (r : Record) → record_with serial (live_records self.now) ≡ Some r → IsIn r addr
@@ -302,7 +302,7 @@ impl Heap {
 }
 
 impl Occupied {
-    // Whether `len` bytes from offset `off` on are within the object.
+    /// Whether `len` bytes from offset `off` on are within the object.
     fn has_range(self, off: u32, len: u32) -> bool
         ensures within { OnTrue result (off + len ≤ self.len) }
         ensures past { OnFalse result (self.len < off + len) }

@@ -12,8 +12,8 @@ mod growth;
 mod heap;
 mod page_heap;
 mod phase;
-mod step_order;
 mod running;
+mod step_order;
 mod steps;
 
 pub use answers::{NewFault, Ref, Report, StepDone, Stored};

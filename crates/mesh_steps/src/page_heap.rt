@@ -29,10 +29,10 @@ use model_words::Refusal;
 use std::alloc::{AllocError, Global};
 use std::marker::Model;
 
-// The virtual page after the last one.
+/// The virtual page after the last one.
 const END_OF_VIRTUAL_PAGES: u32 = 65_536;
 
-// What a new object holds.
+/// What a new object holds.
 static ZEROS: [u8; 2048] = [0; 2048];
 
 /// Physical pages, the page map over them, and the index of the spans that the map is for.
@@ -106,7 +106,7 @@ impl PageHeap {
         }
     }
 
-    // Adds a span of the class, on the lowest unused virtual pages. Where it is refused, the pages that it took are given back.
+    /// Adds a span of the class, on the lowest unused virtual pages. Where it is refused, the pages that it took are given back.
     fn add_span(&mut self, class: Class) -> Result<Span, NewFault>
         ensures ok { IfOk result (λ span. IsFreshSpan self.old self.new class span) }
         ensures err { IfErr result (IsSpanFault self.old self.new class) }
@@ -202,7 +202,7 @@ impl PageHeap {
         Some(group.class())
     }
 
-    /// The groups of a class that may be paired. An error is want of memory.
+    /// The groups of a class that may be paired. An error is an allocation failure.
     pub fn view(&self, alloc: Global, class: Class) -> Result<ClassView, AllocError>
         ensures { IfOk result (λ view. view ≡ view_of (table_in self.now) class) }
     {
@@ -262,7 +262,7 @@ impl PageHeap {
     }
 }
 
-// Lets the addresses of a new object hold zeros.
+/// Lets the addresses of a new object hold zeros.
 fn clear(store: &mut Store, addr: u32, len: u32)
     requires some { 1 ≤ len }
     requires few { len ≤ 2048 }

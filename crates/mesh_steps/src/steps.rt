@@ -13,7 +13,7 @@ use mesh_spans::{Slot, Spans};
 use mesh_store::Store;
 use model_words::StepKind;
 
-// How many bytes a page has.
+/// How many bytes a page has.
 const PAGE_BYTES: u32 = 4096;
 
 /// Makes the step that is number `i` of its kind in a mesh from `source` into `destination`.
@@ -50,7 +50,7 @@ pub(crate) fn make(
     }
 }
 
-// How many physical pages a group has.
+/// How many physical pages a group has.
 fn pages_of_group(spans: &Spans, n: u32) -> u32
     requires { 0 < (layout_of spans.now).members n }
     ensures value { result ≡ pages_of ((layout_of spans.now).class n) }
@@ -82,7 +82,7 @@ pub(crate) fn physical_page(spans: &Spans, n: u32, j: u32) -> Page
     spans.group(n).unwrap().pages()[j as usize]
 }
 
-// Copies the object in slot `k` of the source, if there is one.
+/// Copies the object in slot `k` of the source, if there is one.
 fn copy_slot(arena: &mut Arena, spans: &Spans, source: u32, destination: u32, k: u32)
     requires { CanCopy (layout_of spans.now) arena.old source destination k }
     ensures { CopiesSlot (layout_of spans.now) arena.old arena.new source destination k ((layout_of spans.now).slot source k) }
@@ -94,7 +94,7 @@ fn copy_slot(arena: &mut Arena, spans: &Spans, source: u32, destination: u32, k:
     }
 }
 
-// Copies bytes that are in one page of the source's pages or in two, from an offset among these pages on.
+/// Copies bytes that are in one page of the source's pages or in two, from an offset among these pages on.
 fn copy_bytes(arena: &mut Arena, spans: &Spans, source: u32, destination: u32, from: u32, len: u32)
     requires pages { HaveBothPages (layout_of spans.now) arena.old source destination }
     requires some { 1 ≤ len }
@@ -111,7 +111,7 @@ fn copy_bytes(arena: &mut Arena, spans: &Spans, source: u32, destination: u32, f
     }
 }
 
-// Copies bytes that are in one page.
+/// Copies bytes that are in one page.
 fn copy_run(arena: &mut Arena, spans: &Spans, source: u32, destination: u32, from: u32, len: u32)
     requires pages { HaveBothPages (layout_of spans.now) arena.old source destination }
     requires within { from / 4096 < pages_of ((layout_of spans.now).class source) }

@@ -14,7 +14,7 @@ use std::alloc::{AllocError, Global};
 /// commands in their order, and last `history N` with the number of all entries.
 ///
 /// Of a new object `object` alone is told, and of an address `at` alone, since serials and addresses depend on how threads fall; any
-/// other answer is as in a replay. The history is walked once. An error is want of memory.
+/// other answer is as in a replay. The history is walked once. An error is an allocation failure.
 pub fn history_lines(alloc: Global, workers: u32, history: &[Entry]) -> Result<Vec<u8>, AllocError>
     requires { All (λ entry. entry.worker < workers) history.now }
     ensures { IfOk result (λ text. text.items ≡ history_text workers history.now) }

@@ -16,7 +16,7 @@ use mesh_steps::{Report, StepDone};
 use model_words::{Refusal, Version};
 use std::alloc::{AllocError, Global};
 
-/// Searches a class for pairs. Nothing changes; an error is want of memory.
+/// Searches a class for pairs. Nothing changes; an error is an allocation failure.
 pub(crate) fn pair(alloc: Global, book: &Book, asked: &Search) -> Result<Found, AllocError>
     ensures { IfOk result (λ found. IsCall (λ state. told state (PairsFound (search (view_of state.table asked.now.class) asked.now.words.items asked.now.rounds))) book.now book.now (PairsFound found)) }
 {

@@ -101,7 +101,7 @@ impl Turns {
         })
     }
 
-    /// Adds the answer to a line of the plan, without the line's end. An error is want of memory.
+    /// Adds the answer to a line of the plan, without the line's end. An error is an allocation failure.
     fn answer(
         &mut self,
         alloc: Global,

@@ -18,14 +18,14 @@ use model_words::Refusal;
 use std::alloc::{AllocError, Global};
 
 impl Book {
-    /// The groups of each class that may be paired, classes ascending by size. An error is want of memory.
+    /// The groups of each class that may be paired, classes ascending by size. An error is an allocation failure.
     pub fn views(&self, alloc: Global) -> Result<Vec<ClassView>, AllocError>
         ensures { IfOk result (λ list. list.items ≡ views (table_of_book self.now)) }
     {
         self.heap.views(alloc)
     }
 
-    /// The groups of one class that may be paired. An error is want of memory.
+    /// The groups of one class that may be paired. An error is an allocation failure.
     pub fn view(&self, alloc: Global, class: Class) -> Result<ClassView, AllocError>
         ensures { IfOk result (λ view. view ≡ view_of (table_of_book self.now) class) }
     {

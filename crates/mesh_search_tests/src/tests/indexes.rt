@@ -8,7 +8,7 @@ use mesh_search::{ClassView, class_view};
 use mesh_spans::{Slot, Span, Spans};
 use std::alloc::{AllocError, Global};
 
-// The first number that is no virtual page.
+/// The first number that is no virtual page.
 const END: u32 = 65_536;
 
 /// The views of the ten classes, ascending, of an index that has groups of one class. Slot k of a group is occupied where bit k of its word is set.
@@ -30,7 +30,7 @@ pub(crate) fn views_of(
     Ok(views)
 }
 
-// An index that has groups of a class.
+/// An index that has groups of a class.
 fn index_of(alloc: Global, class: Class, groups: &[u32]) -> Result<Spans, AllocError> {
     let mut spans = Spans::new(alloc)?;
     let mut next = 1;
@@ -46,7 +46,7 @@ fn index_of(alloc: Global, class: Class, groups: &[u32]) -> Result<Spans, AllocE
     Ok(spans)
 }
 
-// Adds a span at a virtual page, where there is room, and answers the page after it. All spans have one physical page.
+/// Adds a span at a virtual page, where there is room, and answers the page after it. All spans have one physical page.
 fn add(alloc: Global, spans: &mut Spans, class: Class, next: u32) -> Result<u32, AllocError>
     requires some { 1 ≤ next }
     requires unused { AreUnused spans.old next }
@@ -62,7 +62,7 @@ fn add(alloc: Global, spans: &mut Spans, class: Class, next: u32) -> Result<u32,
     Ok(end)
 }
 
-// Fills the slots of one span.
+/// Fills the slots of one span.
 fn fill(spans: &mut Spans, class: Class)
     ensures { spans.new.spans ≡ spans.old.spans }
 {
@@ -73,13 +73,13 @@ fn fill(spans: &mut Spans, class: Class)
     }
 }
 
-// The first member of the group of a number.
+/// The first member of the group of a number.
 fn first_member(spans: &Spans, number: usize) -> Option<Span> {
     let group = spans.group(u32::try_from(number).ok()?)?;
     Some(group.members()[0])
 }
 
-// Leaves the objects of a span whose slots a word has.
+/// Leaves the objects of a span whose slots a word has.
 fn leave(spans: &mut Spans, class: Class, span: Span, slots: u32) {
     for k in 0..class.slots() {
         let slot = Slot::numbered(k);

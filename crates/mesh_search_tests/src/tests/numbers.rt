@@ -9,7 +9,7 @@ use mesh_search::{Candidate, ClassView, split_mesh};
 use std::alloc::{AllocError, Global};
 use std::test::Fail;
 
-// A group of the class 2048 with an object in one slot.
+/// A group of the class 2048 with an object in one slot.
 fn candidate(number: u32, slot: u32) -> Candidate
     requires { slot < 2 }
     ensures number { result.number ≡ number }
@@ -20,7 +20,7 @@ fn candidate(number: u32, slot: u32) -> Candidate
     Candidate::new(number, occupied)
 }
 
-// The worked view of the class 2048.
+/// The worked view of the class 2048.
 fn worked_view(alloc: Global, class: Class) -> Result<ClassView, AllocError>
     requires { class ≡ 2048 }
     ensures { IfOk result (λ view. AreNamed view (2 ∷ 0 ∷ 3 ∷ 1 ∷ [])) }

@@ -16,7 +16,7 @@ use std::thread;
 use std::thread::Threads;
 use std::time::Duration;
 
-// Whether a search by workers finds in each view what one thread finds.
+/// Whether a search by workers finds in each view what one thread finds.
 fn agrees<R: Threads + Wait + Sync + AllocGlobal>(
     rt: &R,
     views: &[ClassView],
@@ -53,7 +53,7 @@ fn workers_find_the_worked_pairs(rt: HostRuntime) -> Result<(), Fail> {
     Ok(())
 }
 
-// So many random words.
+/// So many random words.
 fn words_of(
     alloc: Global,
     random: &mut Xoshiro256PlusPlus,
@@ -66,12 +66,12 @@ fn words_of(
     Ok(words)
 }
 
-// How many words each list of a comparison has, and up to how many groups are searched: so that the parts of a round have several tries.
+/// How many words each list of a comparison has, and up to how many groups are searched: so that the parts of a round have several tries.
 const WORDS_OF_A_LIST: u32 = 256;
 
 const MAX_GROUPS: u32 = 160;
 
-// The views of groups of 16 slots, with few or with many objects: of up to so many.
+/// The views of groups of 16 slots, with few or with many objects: of up to so many.
 fn random_views(
     alloc: Global,
     random: &mut Xoshiro256PlusPlus,
@@ -109,12 +109,12 @@ fn workers_find_what_one_thread_finds(rt: HostRuntime) -> Result<(), Fail> {
     Ok(())
 }
 
-// How many searchers are counted, and the bits of one count: a count for each searcher and class.
+/// How many searchers are counted, and the bits of one count: a count for each searcher and class.
 const COUNTED: u32 = 2;
 
 const COUNT_BITS: u32 = 3;
 
-// A gate that counts how often each of two searchers arrives at each class.
+/// A gate that counts how often each of two searchers arrives at each class.
 #[derive(Drop)]
 struct Arrivals {
     counts: AtomicU64,
@@ -122,7 +122,7 @@ struct Arrivals {
     strange: AtomicBool,
 }
 
-// The place of a class of a size, by size.
+/// The place of a class of a size, by size.
 fn place_of(size: u32) -> Option<u32> {
     [16, 32, 64, 128, 256, 384, 512, 1024, 1536, 2048]
         .iter()
@@ -146,7 +146,7 @@ impl Gate for Arrivals {
     }
 }
 
-// One arrival of each of two searchers at each of these places.
+/// One arrival of each of two searchers at each of these places.
 fn once_each(places: &[u32]) -> u64 {
     let mut counts = 0u64;
     for place in places.iter() {
@@ -186,12 +186,12 @@ fn each_searcher_arrives_once_at_each_class(rt: HostRuntime) -> Result<(), Fail>
     Ok(())
 }
 
-// How often a held searcher looks again, and for how many microseconds it sleeps before.
+/// How often a held searcher looks again, and for how many microseconds it sleeps before.
 const TURNS: u32 = 1_000_000;
 
 const TURN: u64 = 10;
 
-// A gate that holds each of two searchers at its first class until the other one has come to its own.
+/// A gate that holds each of two searchers at its first class until the other one has come to its own.
 #[derive(Drop)]
 struct Meeting<'a, R> {
     rt: &'a R,

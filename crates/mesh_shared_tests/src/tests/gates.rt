@@ -8,7 +8,7 @@ use std::sync::atomic::Ordering::SeqCst;
 use std::thread;
 use std::time::Duration;
 
-// How often a held thread looks again, and for how many microseconds it sleeps before.
+/// How often a held thread looks again, and for how many microseconds it sleeps before.
 const TURNS: u32 = 1_000_000;
 
 const TURN: u64 = 10;
@@ -114,7 +114,7 @@ impl<'a, R: Clock> Holding<'a, R> {
         all && !self.missed.load(SeqCst)
     }
 
-    // Notes an event, and tells whether it is its first time. An event without a mark has no first time.
+    /// Notes an event, and tells whether it is its first time. An event without a mark has no first time.
     fn is_first(&self, event: Event) -> bool {
         for mark in self.marks {
             if mark.event == event {
@@ -141,7 +141,7 @@ impl<'a, R: Clock> Holding<'a, R> {
         all
     }
 
-    // Waits for the events, and at least for so many turns.
+    /// Waits for the events, and at least for so many turns.
     fn wait_for(&self, events: &[Event], turns: u32) {
         for turn in 0..TURNS {
             if turn >= turns && self.have_been(events) {

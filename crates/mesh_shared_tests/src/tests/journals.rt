@@ -7,7 +7,7 @@ use mesh_mutator::{Attempt, Book, Command, Entry, Reply, reply_again};
 use model_words::Refusal;
 use std::alloc::AllocError;
 
-// Whether the book answers a command of worker 7 so, and its journal's last entry tells it.
+/// Whether the book answers a command of worker 7 so, and its journal's last entry tells it.
 fn records(book: &mut Book, command: &Command, reply: &Reply) -> bool
     requires { IsInRange command.now }
 {
@@ -21,7 +21,7 @@ fn records(book: &mut Book, command: &Command, reply: &Reply) -> bool
     }
 }
 
-// Two bytes, as a command stores and a reply loads them.
+/// Two bytes, as a command stores and a reply loads them.
 fn two(first: u8, second: u8) -> ArrayVec<u8, 32>
     ensures { length result.items ≡ 2 }
 {

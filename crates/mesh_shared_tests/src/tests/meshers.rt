@@ -27,7 +27,7 @@ enum Word {
     Free(u8),
 }
 
-// The command of a word.
+/// The command of a word.
 fn command_of(word: Word) -> Command
     ensures { IsInRange result }
 {
@@ -43,7 +43,7 @@ fn command_of(word: Word) -> Command
     }
 }
 
-// The script of these words, one part after another.
+/// The script of these words, one part after another.
 fn script_of(alloc: Global, parts: &[&[Word]]) -> Result<Script, AllocError> {
     let mut script = Script::new(alloc);
     for part in parts {
@@ -54,7 +54,7 @@ fn script_of(alloc: Global, parts: &[&[Word]]) -> Result<Script, AllocError> {
     Ok(script)
 }
 
-// The scripts of a reader, who makes the groups before, and of a writer.
+/// The scripts of a reader, who makes the groups before, and of a writer.
 fn reader_and_writer(alloc: Global) -> Result<(Script, Script), AllocError> {
     Ok((
         script_of(alloc, &[&GROUPS, &READS])?,
@@ -62,21 +62,21 @@ fn reader_and_writer(alloc: Global) -> Result<(Script, Script), AllocError> {
     ))
 }
 
-// One script, as a run takes it.
+/// One script, as a run takes it.
 fn alone<'a>(script: &'a Script) -> [&'a [Command]; 1]
     ensures { All (λ script. All IsInRange script.now) result }
 {
     [script.commands()]
 }
 
-// Two scripts, as a run takes them.
+/// Two scripts, as a run takes them.
 fn both<'a>(first: &'a Script, second: &'a Script) -> [&'a [Command]; 2]
     ensures { All (λ script. All IsInRange script.now) result }
 {
     [first.commands(), second.commands()]
 }
 
-// A plan of so many rounds and meshers: one round of tries a search, all words 0.
+/// A plan of so many rounds and meshers: one round of tries a search, all words 0.
 fn plan_of(alloc: Global, rounds: u32, meshers: u32) -> MeshPlan
     ensures searchers { result.workers ≡ 1 }
     ensures meshers { result.meshers ≡ meshers }
@@ -90,7 +90,7 @@ fn plan_of(alloc: Global, rounds: u32, meshers: u32) -> MeshPlan
     }
 }
 
-// How many entries of a history are a worker's.
+/// How many entries of a history are a worker's.
 fn count_of(history: &[Entry], worker: u32) -> usize {
     history
         .iter()
@@ -98,7 +98,7 @@ fn count_of(history: &[Entry], worker: u32) -> usize {
         .count()
 }
 
-// How many steps a class of the heap still takes.
+/// How many steps a class of the heap still takes.
 fn steps_left(heap: &mut Heap, size: u32) -> u32 {
     let Ok(class) = class_of(size) else {
         return 0;
@@ -111,7 +111,7 @@ fn steps_left(heap: &mut Heap, size: u32) -> u32 {
     1000
 }
 
-// Whether the first of the addresses holds a byte, and each other one a zero.
+/// Whether the first of the addresses holds a byte, and each other one a zero.
 fn begins_with(heap: &Heap, addresses: Range<u32>, front: u8) -> bool {
     let mut wanted = front;
     for address in addresses {
@@ -123,12 +123,12 @@ fn begins_with(heap: &Heap, addresses: Range<u32>, front: u8) -> bool {
     true
 }
 
-// Whether the objects of `GROUPS` have the bytes of `STORES`.
+/// Whether the objects of `GROUPS` have the bytes of `STORES`.
 fn keep_bytes(heap: &Heap) -> bool {
     begins_with(heap, 0x1800..0x2000, 0xab) && begins_with(heap, 0x2000..0x2800, 0xcd)
 }
 
-// Two groups with one object each.
+/// Two groups with one object each.
 static GROUPS: [Word; 6] = [
     Word::New(0, 2048),
     Word::New(1, 2048),
@@ -138,13 +138,13 @@ static GROUPS: [Word; 6] = [
     Word::Free(3),
 ];
 
-// A byte stored in each of the two objects.
+/// A byte stored in each of the two objects.
 static STORES: [Word; 2] = [Word::Put(1, 0xab), Word::Put(2, 0xcd)];
 
-// Four reads of the second object.
+/// Four reads of the second object.
 static READS: [Word; 4] = [Word::Get(2); 4];
 
-// A read of an empty cell, and a store to the second object.
+/// A read of an empty cell, and a store to the second object.
 static WRITER: [Word; 2] = [Word::Get(9), Word::Put(2, 0xcd)];
 
 #[test]
@@ -268,7 +268,7 @@ fn two_scripts_read_at_once(rt: HostRuntime) -> Result<(), Fail> {
     Ok(())
 }
 
-// Groups of two classes that can be meshed: 36 commands.
+/// Groups of two classes that can be meshed: 36 commands.
 fn two_classes(alloc: Global) -> Result<Script, AllocError> {
     let mut script = script_of(alloc, &[&GROUPS])?;
     for cell in 4..20 {
@@ -349,7 +349,7 @@ fn every_pair_is_meshed(rt: HostRuntime) -> Result<(), Fail> {
     Ok(())
 }
 
-// A mesher that is abandoned after so many calls, beside a reader: what is handed out.
+/// A mesher that is abandoned after so many calls, beside a reader: what is handed out.
 fn abandoned<R: Clock + Threads + Wait + Sync>(
     rt: &R,
     alloc: Global,

@@ -17,7 +17,7 @@ use std::thread;
 use std::thread::join;
 use std::time::Duration;
 
-// A book of 16 pages behind a lock, with a seat for each count.
+/// A book of 16 pages behind a lock, with a seat for each count.
 fn opened(alloc: Global, counts: &[usize]) -> Result<(Shared, Vec<Seat>), AllocError>
     requires some { 1 ≤ length counts.now }
     requires few { length counts.now ≤ 64 }
@@ -29,7 +29,7 @@ fn opened(alloc: Global, counts: &[usize]) -> Result<(Shared, Vec<Seat>), AllocE
     }
 }
 
-// A book behind a lock, and its two seats.
+/// A book behind a lock, and its two seats.
 fn opened_for_two(alloc: Global) -> Result<(Shared, Seat, Seat), AllocError> {
     let (shared, mut seats) = opened(alloc, &[4, 4])?;
     let second = seats.pop();
@@ -40,21 +40,21 @@ fn opened_for_two(alloc: Global) -> Result<(Shared, Seat, Seat), AllocError> {
     }
 }
 
-// A `New` of a cell.
+/// A `New` of a cell.
 fn new_object(cell: u8) -> Command
     ensures { IsInRange result }
 {
     Command::New(cell, 2048, 0)
 }
 
-// A `Get` of the first two bytes of a cell's object.
+/// A `Get` of the first two bytes of a cell's object.
 fn get_bytes(cell: u8) -> Command
     ensures { IsInRange result }
 {
     Command::Get(cell, 0, 2)
 }
 
-// Which error it is, with its two numbers; 0 where there is none.
+/// Which error it is, with its two numbers; 0 where there is none.
 fn told(ended: &Result<Ended, FinishError>) -> (u32, u32, usize) {
     match ended {
         Ok(_) => (0, 0, 0),
@@ -65,7 +65,7 @@ fn told(ended: &Result<Ended, FinishError>) -> (u32, u32, usize) {
     }
 }
 
-// How many entries the history has; 0 where there is none.
+/// How many entries the history has; 0 where there is none.
 fn entries_of(ended: Result<Ended, FinishError>) -> usize {
     match ended {
         Ok(ended) => ended.history.len(),
@@ -73,7 +73,7 @@ fn entries_of(ended: Result<Ended, FinishError>) -> usize {
     }
 }
 
-// A thread's work: an object, its bytes, and whether they are read back.
+/// A thread's work: an object, its bytes, and whether they are read back.
 fn works<R: Wait>(rt: &R, shared: &Shared, seat: &mut Seat, cell: u8) -> bool {
     let mut bytes = ArrayVec::new();
     bytes.push(0x68);
@@ -211,7 +211,7 @@ fn reads_come_into_the_history(rt: HostRuntime) -> Result<(), AllocError> {
     Ok(())
 }
 
-// The commands before a mesher comes: two groups of class 2,048, each with one object.
+/// The commands before a mesher comes: two groups of class 2,048, each with one object.
 fn set_up<R: Wait>(rt: &R, shared: &Shared, seat: &mut Seat) {
     for cell in 0..4u8 {
         shared.call(rt, seat, &new_object(cell));
@@ -220,7 +220,7 @@ fn set_up<R: Wait>(rt: &R, shared: &Shared, seat: &mut Seat) {
     shared.call(rt, seat, &Command::Free(3));
 }
 
-// Begins a mesh, makes a step, cancels it and unwinds it, each under the lock: whether each answers as it should.
+/// Begins a mesh, makes a step, cancels it and unwinds it, each under the lock: whether each answers as it should.
 fn begins_and_cancels<R: Wait>(rt: &R, shared: &Shared, class: Class) -> bool {
     let begun = shared.book.write(rt).begin(1, 0);
     let protected = shared.book.write(rt).step(class);
@@ -244,7 +244,7 @@ fn begins_and_cancels<R: Wait>(rt: &R, shared: &Shared, class: Class) -> bool {
         )
 }
 
-// Whether group 1 alone may be paired.
+/// Whether group 1 alone may be paired.
 fn has_one_group<R: Wait>(
     rt: &R,
     alloc: Global,
@@ -334,12 +334,12 @@ fn the_book_is_the_one_handed_in(rt: HostRuntime) -> Result<(), AllocError> {
     Ok(())
 }
 
-// How often a reader looks for the other one, and for how many microseconds it sleeps after each look.
+/// How often a reader looks for the other one, and for how many microseconds it sleeps after each look.
 const TURNS: u32 = 1_000_000;
 
 const TURN: u64 = 10;
 
-// Takes the shared lock and holds it until the other reader has it too: whether it came.
+/// Takes the shared lock and holds it until the other reader has it too: whether it came.
 fn meets<R: Clock + Wait>(rt: &R, shared: &Shared, own: &AtomicBool, other: &AtomicBool) -> bool {
     let book = shared.book.read(rt);
     own.store(true, SeqCst);

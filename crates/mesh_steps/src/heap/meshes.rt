@@ -116,7 +116,7 @@ impl Heap {
         self.pages.first_running()
     }
 
-    // Begins a mesh, where no running mesh keeps its class busy.
+    /// Begins a mesh, where no running mesh keeps its class busy.
     fn start(&mut self, source: u32, destination: u32, busy: Busy) -> Result<u32, Refusal>
         ensures begun { IfOk result (IsMeshBegun (busy_by busy) self.old self.new source destination) }
         ensures refused { IfErr result (λ refusal.
@@ -127,7 +127,7 @@ impl Heap {
         self.pages.begin(source, destination, busy)
     }
 
-    // Begins a mesh and makes all its steps.
+    /// Begins a mesh and makes all its steps.
     fn whole(&mut self, source: u32, destination: u32, busy: Busy) -> Result<u32, Refusal>
         ensures meshed { IfOk result (IsMeshed (busy_by busy) self.old self.new source destination) }
         ensures refused { IfErr result (λ refusal.
@@ -141,7 +141,7 @@ impl Heap {
         Ok(class.pages())
     }
 
-    // Makes so many steps of the mesh of a class.
+    /// Makes so many steps of the mesh of a class.
     fn finish(&mut self, class: Class, steps: u32)
         requires { IsOk (steps_of_class class steps (table_of self.old)) }
         ensures table { steps_of_class class steps (table_of self.old) ≡ Ok (table_of self.new) }

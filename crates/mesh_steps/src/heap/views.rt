@@ -9,7 +9,7 @@ use mesh_search::ClassView;
 use std::alloc::{AllocError, Global};
 
 impl Heap {
-    /// The groups of each class that may be paired, classes ascending by size. An error is want of memory.
+    /// The groups of each class that may be paired, classes ascending by size. An error is an allocation failure.
     pub fn views(&self, alloc: Global) -> Result<Vec<ClassView>, AllocError>
         ensures { IfOk result (λ list. list.items ≡ views (table_of self.now)) }
     {
@@ -20,7 +20,7 @@ impl Heap {
         Ok(views)
     }
 
-    /// The groups of one class that may be paired. An error is want of memory.
+    /// The groups of one class that may be paired. An error is an allocation failure.
     pub fn view(&self, alloc: Global, class: Class) -> Result<ClassView, AllocError>
         ensures { IfOk result (λ view. view ≡ view_of (table_of self.now) class) }
     {

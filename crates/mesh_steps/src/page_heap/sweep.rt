@@ -40,7 +40,7 @@ impl PageHeap {
     }
 }
 
-// Unmaps the virtual pages of a group.
+/// Unmaps the virtual pages of a group.
 fn unmap_group(map: &mut PageMap, spans: &Spans, n: u32)
     requires { CanUnmap (layout_of spans.now) map.old n }
     ensures { UnmapsGroup (layout_of spans.now) map.old map.new n }

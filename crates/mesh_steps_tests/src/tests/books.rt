@@ -43,7 +43,7 @@ impl TriedBook {
         }
     }
 
-    // The cell that names the object of a serial.
+    /// The cell that names the object of a serial.
     fn cell(&self, serial: u32) -> Option<u8> {
         let cell = u8::try_from(serial).ok()?;
         if cell < self.objects {
@@ -101,7 +101,7 @@ impl TriedBook {
     }
 }
 
-// What a reply is as an answer.
+/// What a reply is as an answer.
 fn answer_of(reply: Reply) -> Answer {
     match reply {
         Reply::Object(serial, addr) => Answer::Made(serial, addr),

@@ -51,7 +51,7 @@ pub(crate) enum Answer {
     Unmade,
 }
 
-// The number whose last eight digits of base 256 are the last bytes.
+/// The number whose last eight digits of base 256 are the last bytes.
 pub(crate) fn number(bytes: &[u8]) -> u64 {
     let mut number = 0;
     for byte in bytes {

@@ -47,7 +47,7 @@ impl TriedHeap {
         told(self.heap.poke(addr, byte))
     }
 
-    // The reference to the object of a serial.
+    /// The reference to the object of a serial.
     fn object(&self, serial: u32) -> Option<Ref> {
         let addr = *self.addresses.get(serial as usize)?;
         Some(Ref { serial, addr })
@@ -105,7 +105,7 @@ impl TriedHeap {
     }
 }
 
-// What a store's answer is.
+/// What a store's answer is.
 fn told(stored: Stored) -> Answer {
     match stored {
         Stored::Done => Answer::Done,

@@ -7,7 +7,7 @@ use model_words::{Refusal, StepKind};
 use std::ops::Range;
 use std::process::Abort;
 
-// Two groups with one object each: the first has slot 1, the second slot 0.
+/// Two groups with one object each: the first has slot 1, the second slot 0.
 fn two_groups<R: Abort + AllocGlobal>(rt: &R, pages: u32) -> Tried<'_, R>
     requires some { 1 ≤ pages }
     requires most { pages ≤ 4096 }
@@ -18,7 +18,7 @@ fn two_groups<R: Abort + AllocGlobal>(rt: &R, pages: u32) -> Tried<'_, R>
     tried
 }
 
-// The steps of their mesh.
+/// The steps of their mesh.
 static STEPS: [(Call, Answer); 6] = [
     (Call::Step(2048), Answer::Stepped(StepKind::Protect, 5)),
     (Call::Step(2048), Answer::Stepped(StepKind::Copy, 4)),
@@ -28,7 +28,7 @@ static STEPS: [(Call, Answer); 6] = [
     (Call::Step(2048), Answer::Stepped(StepKind::Release, 0)),
 ];
 
-// The two groups, with a byte in the second object and so many steps of their mesh made.
+/// The two groups, with a byte in the second object and so many steps of their mesh made.
 fn begun<R: Abort + AllocGlobal>(rt: &R, steps: usize) -> Tried<'_, R> {
     let mut tried = two_groups(rt, 16);
     tried.check(Call::Write(2, 0, &[0xab]), Answer::Done);
@@ -106,7 +106,7 @@ fn a_mesh_makes_room(rt: HostRuntime) {
     ]);
 }
 
-// The two groups, after a mesh that was cancelled when one slot was copied, and unwound.
+/// The two groups, after a mesh that was cancelled when one slot was copied, and unwound.
 fn unwound<R: Abort + AllocGlobal>(rt: &R) -> Tried<'_, R> {
     let mut tried = begun(rt, 2);
     tried.check(Call::Cancel(2048), Answer::Left(1));
@@ -164,16 +164,16 @@ fn groups_of_a_running_mesh_are_closed(rt: HostRuntime) {
     ]);
 }
 
-// Bytes of the object that crosses pages. The first four lie in one page, the others in the next.
+/// Bytes of the object that crosses pages. The first four lie in one page, the others in the next.
 const CROSSING: &[u8] = &[1, 2, 3, 4, 5, 6, 7, 8];
 
-// A read of them.
+/// A read of them.
 const HELD: (Call, Answer) = (
     Call::Read(10, 1020, 8),
     Answer::Bytes(8, 0x0102_0304_0506_0708),
 );
 
-// Makes those steps of the mesh of two groups of three pages whose places, of 20, are in the range.
+/// Makes those steps of the mesh of two groups of three pages whose places, of 20, are in the range.
 fn step_long<R: Abort + AllocGlobal>(tried: &mut Tried<'_, R>, places: Range<u32>) {
     for place in places {
         let kind = match place {
@@ -188,8 +188,8 @@ fn step_long<R: Abort + AllocGlobal>(tried: &mut Tried<'_, R>, places: Range<u32
     }
 }
 
-// Two groups of three pages, with seven objects and one, and so many steps of their mesh made. The last object crosses from its group's
-// first page to the second.
+/// Two groups of three pages, with seven objects and one, and so many steps of their mesh made. The last object crosses from its group's
+/// first page to the second.
 fn stopped_after<R: Abort + AllocGlobal>(rt: &R, steps: u32) -> Tried<'_, R> {
     let mut tried = Tried::open(rt, 16);
     tried.make(0..11, 1500, 0x1000, 0x600);
@@ -214,7 +214,7 @@ fn an_object_across_pages_is_remapped_page_by_page(rt: HostRuntime) {
     tried.check(Call::Report, counts);
 }
 
-// What a store is answered, blocked or not.
+/// What a store is answered, blocked or not.
 fn stored(blocked: bool) -> Answer {
     if blocked {
         Answer::Blocked
@@ -223,7 +223,7 @@ fn stored(blocked: bool) -> Answer {
     }
 }
 
-// What cancelling the mesh of three-page groups is answered after so many steps.
+/// What cancelling the mesh of three-page groups is answered after so many steps.
 fn cancelled_after(steps: u32) -> Answer {
     match steps {
         0 => Answer::Left(0),
@@ -328,7 +328,7 @@ fn eight_members_are_most(rt: HostRuntime) {
     ]);
 }
 
-// Sixteen objects in four groups, of which one in each group stays, in four different slots. The groups are meshed two by two.
+/// Sixteen objects in four groups, of which one in each group stays, in four different slots. The groups are meshed two by two.
 fn meshed_twice<R: Abort + AllocGlobal>(rt: &R) -> Tried<'_, R> {
     let mut tried = Tried::open(rt, 16);
     tried.make(0..16, 1024, 0x1000, 0x400);
@@ -371,7 +371,7 @@ fn a_source_of_two_members_goes_page_by_page(rt: HostRuntime) {
     tried.check(Call::Read(15, 0, 1), Answer::Bytes(1, 0xbb));
 }
 
-// Beside the first two groups two of the class 1024, with three objects and one.
+/// Beside the first two groups two of the class 1024, with three objects and one.
 fn of_two_classes<R: Abort + AllocGlobal>(rt: &R) -> Tried<'_, R> {
     let mut tried = two_groups(rt, 16);
     tried.make(4..12, 1024, 0x3000, 0x400);

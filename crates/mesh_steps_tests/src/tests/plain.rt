@@ -6,7 +6,7 @@ use mesh_plain::{Plain, PlainFault};
 use model_words::{Command, Refusal, Reply};
 use std::process::Abort;
 
-// Cell 0 names 8 bytes at 0x1000, and cell 1 names 4 bytes at 0x1010. They are 1 to 8, and 9 to 12.
+/// Cell 0 names 8 bytes at 0x1000, and cell 1 names 4 bytes at 0x1010. They are 1 to 8, and 9 to 12.
 fn two_objects<R: AllocGlobal + Abort>(rt: &R) -> Plain {
     let mut plain = Plain::new(rt.alloc());
     assert_eq!(rt; plain.make(0, 8, 0x1000), Ok(0));
@@ -16,7 +16,7 @@ fn two_objects<R: AllocGlobal + Abort>(rt: &R) -> Plain {
     plain
 }
 
-// The bytes of an object are these.
+/// The bytes of an object are these.
 fn holds<R: Abort>(rt: &R, plain: &Plain, cell: u8, bytes: &[u8])
     requires { length bytes.now ≤ 32 }
 {

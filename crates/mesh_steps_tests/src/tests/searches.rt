@@ -5,22 +5,22 @@ use mesh_search::{ClassView, Found, search_one};
 use mesh_steps::Heap;
 use std::process::Abort;
 
-// How many objects of the class 2048 are made, two a group, and which of them are freed: four groups are left, each with one object.
+/// How many objects of the class 2048 are made, two a group, and which of them are freed: four groups are left, each with one object.
 const OBJECTS: u8 = 8;
 
 static FREED: [u8; 4] = [1, 3, 4, 6];
 
-// The words of the worked searches.
+/// The words of the worked searches.
 static WORDS: [u64; 3] = [2, 0, 5];
 
-// Whether a search found these pairs, source first, by so many tries.
+/// Whether a search found these pairs, source first, by so many tries.
 fn has_found(found: &Found, pairs: &[(u32, u32)], probes: u64) -> bool {
     let same = found.pairs.iter().zip(pairs.iter()).all(|(pair, told)| pair.source == told.0
         && pair.destination == told.1);
     found.probes == probes && found.pairs.len() == pairs.len() && same
 }
 
-// Asserts what a search of a view finds in so many rounds.
+/// Asserts what a search of a view finds in so many rounds.
 fn check(
     rt: &(impl Abort + AllocGlobal),
     view: &ClassView,
@@ -32,7 +32,7 @@ fn check(
     assert!(rt; has_found(&found, pairs, probes), "in {t} rounds");
 }
 
-// Asserts what is found in a view of the four groups.
+/// Asserts what is found in a view of the four groups.
 fn check_four(rt: &(impl Abort + AllocGlobal), view: &ClassView) {
     check(rt, view, 0, &[], 0);
     check(rt, view, 1, &[], 2);

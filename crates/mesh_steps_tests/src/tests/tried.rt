@@ -32,7 +32,7 @@ impl<'a, R: Abort + AllocGlobal> Tried<'a, R> {
         }
     }
 
-    // What a call is answered by the heap and by the book, unless it names a size that is too large for a class.
+    /// What a call is answered by the heap and by the book, unless it names a size that is too large for a class.
     fn answers(&mut self, call: Call) -> Result<(Answer, Answer), Refusal> {
         let heap = &mut self.heap;
         let book = &mut self.book;
@@ -100,7 +100,7 @@ impl<'a, R: Abort + AllocGlobal> Tried<'a, R> {
     }
 }
 
-// What a mesher's call is answered by a heap and by a book.
+/// What a mesher's call is answered by a heap and by a book.
 fn meshed(heap: &mut Heap, book: &mut Book, call: Call) -> Result<(Answer, Answer), Refusal> {
     Ok(match call {
         Call::Begin(source, destination) => (
@@ -140,7 +140,7 @@ fn meshed(heap: &mut Heap, book: &mut Book, call: Call) -> Result<(Answer, Answe
     })
 }
 
-// What an answer with the steps to come is.
+/// What an answer with the steps to come is.
 fn left(steps: Result<u32, Refusal>) -> Answer {
     match steps {
         Ok(steps) => Answer::Left(steps),
@@ -148,7 +148,7 @@ fn left(steps: Result<u32, Refusal>) -> Answer {
     }
 }
 
-// What an answer of a step is.
+/// What an answer of a step is.
 fn stepped(step: Result<StepDone, Refusal>) -> Answer {
     match step {
         Ok(done) => Answer::Stepped(done.kind, done.left),
@@ -156,7 +156,7 @@ fn stepped(step: Result<StepDone, Refusal>) -> Answer {
     }
 }
 
-// What a report is as an answer.
+/// What a report is as an answer.
 fn counted(counts: Report) -> Answer {
     Answer::Counts(
         counts.objects,
@@ -167,7 +167,7 @@ fn counted(counts: Report) -> Answer {
     )
 }
 
-// What an answer with the pages that came free is.
+/// What an answer with the pages that came free is.
 fn freed(pages: Result<u32, Refusal>) -> Answer {
     match pages {
         Ok(pages) => Answer::Pages(pages),
