@@ -60,10 +60,11 @@ fn new_of(fields: &[&[u8]]) -> Result<Command, FaultKind>
     ensures in_range { IfOk result IsInRange }
 {
     let (to, len, word) = three_fields(fields)?;
-    let to = cell(to)?;
-    let len = number32(len, 0, MAX_LENGTH)?;
-    let word = number(word, 0, u64::MAX)?;
-    Ok(Command::New(to, len, word))
+    Ok(Command::New(
+        cell(to)?,
+        number32(len, 0, MAX_LENGTH)?,
+        number(word, 0, u64::MAX)?,
+    ))
 }
 
 /// `put CELL OFF HEX`
@@ -72,10 +73,7 @@ fn put_of(fields: &[&[u8]]) -> Result<Command, FaultKind>
     ensures in_range { IfOk result IsInRange }
 {
     let (of, off, stored) = three_fields(fields)?;
-    let of = cell(of)?;
-    let off = number32(off, 0, MAX_LENGTH)?;
-    let stored = bytes(stored)?;
-    Ok(Command::Put(of, off, stored))
+    Ok(Command::Put(cell(of)?, number32(off, 0, MAX_LENGTH)?, bytes(stored)?))
 }
 
 /// `get CELL OFF LEN`
@@ -84,10 +82,11 @@ fn get_of(fields: &[&[u8]]) -> Result<Command, FaultKind>
     ensures in_range { IfOk result IsInRange }
 {
     let (of, off, len) = three_fields(fields)?;
-    let of = cell(of)?;
-    let off = number32(off, 0, MAX_LENGTH)?;
-    let len = number32(len, 1, 32)?;
-    Ok(Command::Get(of, off, len))
+    Ok(Command::Get(
+        cell(of)?,
+        number32(off, 0, MAX_LENGTH)?,
+        number32(len, 1, 32)?,
+    ))
 }
 
 /// `free CELL`
@@ -95,9 +94,7 @@ fn free_of(fields: &[&[u8]]) -> Result<Command, FaultKind>
     ensures value { result ≡ free_in (texts fields.now) }
     ensures in_range { IfOk result IsInRange }
 {
-    let of = one_field(fields)?;
-    let of = cell(of)?;
-    Ok(Command::Free(of))
+    Ok(Command::Free(cell(one_field(fields)?)?))
 }
 
 /// `alias CELL FROM`
@@ -106,9 +103,7 @@ fn alias_of(fields: &[&[u8]]) -> Result<Command, FaultKind>
     ensures in_range { IfOk result IsInRange }
 {
     let (to, from) = two_fields(fields)?;
-    let to = cell(to)?;
-    let from = cell(from)?;
-    Ok(Command::Alias(to, from))
+    Ok(Command::Alias(cell(to)?, cell(from)?))
 }
 
 /// `addr CELL`
@@ -116,9 +111,7 @@ fn addr_of(fields: &[&[u8]]) -> Result<Command, FaultKind>
     ensures value { result ≡ addr_in (texts fields.now) }
     ensures in_range { IfOk result IsInRange }
 {
-    let of = one_field(fields)?;
-    let of = cell(of)?;
-    Ok(Command::Addr(of))
+    Ok(Command::Addr(cell(one_field(fields)?)?))
 }
 
 /// `peek ADDR`
@@ -126,9 +119,7 @@ fn peek_of(fields: &[&[u8]]) -> Result<Command, FaultKind>
     ensures value { result ≡ peek_in (texts fields.now) }
     ensures in_range { IfOk result IsInRange }
 {
-    let at = one_field(fields)?;
-    let at = address(at)?;
-    Ok(Command::Peek(at))
+    Ok(Command::Peek(address(one_field(fields)?)?))
 }
 
 /// `poke ADDR BYTE`
@@ -137,9 +128,7 @@ fn poke_of(fields: &[&[u8]]) -> Result<Command, FaultKind>
     ensures in_range { IfOk result IsInRange }
 {
     let (at, stored) = two_fields(fields)?;
-    let at = address(at)?;
-    let stored = byte(stored)?;
-    Ok(Command::Poke(at, stored))
+    Ok(Command::Poke(address(at)?, byte(stored)?))
 }
 
 /// `copy TO OFF FROM OFF LEN`
@@ -147,11 +136,12 @@ fn copy_of(fields: &[&[u8]]) -> Result<Command, FaultKind>
     ensures value { result ≡ copy_in (texts fields.now) }
     ensures in_range { IfOk result IsInRange }
 {
-    let (to, to_off, from, from_off, len) = five_fields(fields)?;
-    let to = cell(to)?;
-    let to_off = number32(to_off, 0, MAX_LENGTH)?;
-    let from = cell(from)?;
-    let from_off = number32(from_off, 0, MAX_LENGTH)?;
-    let count = number32(len, 1, 32)?;
-    Ok(Command::Copy(to, to_off, from, from_off, count))
+    let (to, to_off, from, from_off, count) = five_fields(fields)?;
+    Ok(Command::Copy(
+        cell(to)?,
+        number32(to_off, 0, MAX_LENGTH)?,
+        cell(from)?,
+        number32(from_off, 0, MAX_LENGTH)?,
+        number32(count, 1, 32)?,
+    ))
 }
