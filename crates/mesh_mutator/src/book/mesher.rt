@@ -44,16 +44,6 @@ impl Book {
         self.heap.begin(source, destination)
     }
 
-    /// Begins a mesh as `begin` does, but is refused with BUSY where a mesh of any class runs.
-    pub fn begin_alone(&mut self, source: u32, destination: u32) -> Result<u32, Refusal>
-        ensures begun { IfOk result (IsMeshBegun any_mesh self.old.heap self.new.heap source destination) }
-        ensures refused { IfErr result (λ refusal.
-            (begin any_mesh (table_of_book self.old) source destination ≡ Err refusal) × (self.new ≡ self.old)) }
-        ensures kept { KeepsBook self.old self.new }
-    {
-        self.heap.begin_alone(source, destination)
-    }
-
     /// Makes the next step of the mesh of a class. Refused with NO_MESH exactly where no mesh of the class runs.
     pub fn step(&mut self, class: Class) -> Result<StepDone, Refusal>
         ensures made { IfOk result (IsStepMade self.old.heap self.new.heap class) }
@@ -87,16 +77,6 @@ impl Book {
         self.heap.mesh_whole(source, destination)
     }
 
-    /// Meshes two groups as `mesh_whole` does, but is refused with BUSY where a mesh of any class runs.
-    pub fn whole_alone(&mut self, source: u32, destination: u32) -> Result<u32, Refusal>
-        ensures meshed { IfOk result (IsMeshed any_mesh self.old.heap self.new.heap source destination) }
-        ensures refused { IfErr result (λ refusal.
-            (mesh_whole any_mesh (table_of_book self.old) source destination ≡ Err refusal) × (self.new ≡ self.old)) }
-        ensures kept { KeepsBook self.old self.new }
-    {
-        self.heap.whole_alone(source, destination)
-    }
-
     /// Gives an empty group's pages back, and answers how many physical pages came free.
     ///
     /// Refused with NO_GROUP, BUSY where the group is in a mesh, or NOT_EMPTY, the first that holds.
@@ -106,6 +86,26 @@ impl Book {
         ensures kept { KeepsBook self.old self.new }
     {
         self.heap.sweep(group)
+    }
+
+    /// Begins a mesh as `begin` does, but is refused with BUSY where a mesh of any class runs.
+    pub fn begin_alone(&mut self, source: u32, destination: u32) -> Result<u32, Refusal>
+        ensures begun { IfOk result (IsMeshBegun any_mesh self.old.heap self.new.heap source destination) }
+        ensures refused { IfErr result (λ refusal.
+            (begin any_mesh (table_of_book self.old) source destination ≡ Err refusal) × (self.new ≡ self.old)) }
+        ensures kept { KeepsBook self.old self.new }
+    {
+        self.heap.begin_alone(source, destination)
+    }
+
+    /// Meshes two groups as `mesh_whole` does, but is refused with BUSY where a mesh of any class runs.
+    pub fn whole_alone(&mut self, source: u32, destination: u32) -> Result<u32, Refusal>
+        ensures meshed { IfOk result (IsMeshed any_mesh self.old.heap self.new.heap source destination) }
+        ensures refused { IfErr result (λ refusal.
+            (mesh_whole any_mesh (table_of_book self.old) source destination ≡ Err refusal) × (self.new ≡ self.old)) }
+        ensures kept { KeepsBook self.old self.new }
+    {
+        self.heap.whole_alone(source, destination)
     }
 
     /// Whether a mesh of the class runs.

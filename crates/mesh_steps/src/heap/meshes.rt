@@ -29,16 +29,6 @@ impl Heap {
         self.start(source, destination, Busy::OfClass)
     }
 
-    /// Begins a mesh as `begin` does, but is refused with BUSY where a mesh of any class runs. It takes no memory.
-    pub fn begin_alone(&mut self, source: u32, destination: u32) -> Result<u32, Refusal>
-        ensures begun { IfOk result (IsMeshBegun any_mesh self.old self.new source destination) }
-        ensures refused { IfErr result (λ refusal.
-            (begin any_mesh (table_of self.old) source destination ≡ Err refusal) × (self.new ≡ self.old)) }
-        ensures kept { KeepsMeaning self.old self.new }
-    {
-        self.start(source, destination, Busy::Any)
-    }
-
     /// Makes the next step of the mesh of a class. It takes no memory, and its cost is the same whatever the number of groups.
     ///
     /// Refused with NO_MESH exactly where no mesh of the class runs.
@@ -79,16 +69,6 @@ impl Heap {
         self.whole(source, destination, Busy::OfClass)
     }
 
-    /// Meshes two groups as `mesh_whole` does, but is refused with BUSY where a mesh of any class runs. It takes no memory.
-    pub fn whole_alone(&mut self, source: u32, destination: u32) -> Result<u32, Refusal>
-        ensures meshed { IfOk result (IsMeshed any_mesh self.old self.new source destination) }
-        ensures refused { IfErr result (λ refusal.
-            (mesh_whole any_mesh (table_of self.old) source destination ≡ Err refusal) × (self.new ≡ self.old)) }
-        ensures kept { KeepsMeaning self.old self.new }
-    {
-        self.whole(source, destination, Busy::Any)
-    }
-
     /// Gives an empty group's pages back, and answers how many physical pages came free. The virtual pages of its members are unmapped, and
     /// never used again. It takes no memory.
     ///
@@ -100,6 +80,26 @@ impl Heap {
     {
         self.pages.sound();
         self.pages.sweep(group)
+    }
+
+    /// Begins a mesh as `begin` does, but is refused with BUSY where a mesh of any class runs. It takes no memory.
+    pub fn begin_alone(&mut self, source: u32, destination: u32) -> Result<u32, Refusal>
+        ensures begun { IfOk result (IsMeshBegun any_mesh self.old self.new source destination) }
+        ensures refused { IfErr result (λ refusal.
+            (begin any_mesh (table_of self.old) source destination ≡ Err refusal) × (self.new ≡ self.old)) }
+        ensures kept { KeepsMeaning self.old self.new }
+    {
+        self.start(source, destination, Busy::Any)
+    }
+
+    /// Meshes two groups as `mesh_whole` does, but is refused with BUSY where a mesh of any class runs. It takes no memory.
+    pub fn whole_alone(&mut self, source: u32, destination: u32) -> Result<u32, Refusal>
+        ensures meshed { IfOk result (IsMeshed any_mesh self.old self.new source destination) }
+        ensures refused { IfErr result (λ refusal.
+            (mesh_whole any_mesh (table_of self.old) source destination ≡ Err refusal) × (self.new ≡ self.old)) }
+        ensures kept { KeepsMeaning self.old self.new }
+    {
+        self.whole(source, destination, Busy::Any)
     }
 
     /// Whether a mesh of the class runs.
