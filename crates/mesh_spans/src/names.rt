@@ -25,13 +25,6 @@ impl Span {
         Span(number)
     }
 
-    /// The span's number.
-    pub fn number(self) -> u32
-        ensures { result ≡ self }
-    {
-        self.0
-    }
-
     /// The span's place in a list of all spans.
     pub(crate) fn index(self) -> usize
         ensures { result ≡ self }
@@ -67,12 +60,5 @@ impl Slot {
         ensures { result ≡ self }
     {
         self.0
-    }
-
-    /// The slot's place in a list of a span's records.
-    pub(crate) fn index(self) -> usize
-        ensures { result ≡ self }
-    {
-        self.0 as usize
     }
 }
