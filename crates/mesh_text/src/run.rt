@@ -59,8 +59,31 @@ fn play<O: Sink>(alloc: Global, job: &Job, output: &mut O) -> Result<(), ReplayE
 {
     let mut turns = Turns::open(alloc, job)?;
     let mut text = Vec::new(alloc);
+    play_lines(alloc, job, &mut turns, &mut text, output)
+}
+
+/// Runs the plan of a job whose workers are at their beginnings, and writes its answer lines, which are gathered in a text.
+#[tactic(auto, using(crate::proofs::PlayEnds::never_ok, crate::proofs::PlayEnds::not_write, crate::proofs::PlayEnds::is_memory))]
+fn play_lines<O: Sink>(
+    alloc: Global,
+    job: &Job,
+    turns: &mut Turns,
+    text: &mut Vec<u8>,
+    output: &mut O,
+) -> Result<(), ReplayError>
+    requires fresh { O.has_failed output.old ≡ false }
+    requires workers { vec_len turns.old.next ≡ length job.now.scripts }
+    requires opening { IsAt job.now (opening job.now) turns.old.book turns.old.next.items }
+    requires empty { text.old.items ≡ [] }
+    ensures ok { OnOk result (O.has_failed output.new ≡ false) }
+    ensures whole { OnOk result (Appends (O.written output.old) (O.written output.new) (output_of job.now)) }
+    ensures fails { result ≡ Err ReplayError.Write → O.has_failed output.new ≡ true }
+    ensures beginning { result ≡ Err ReplayError.Write → AppendsBeginning (O.written output.old) (O.written output.new) (output_of job.now) }
+    ensures lines { result ≡ Err ReplayError.Memory → AppendsLines job.now (O.written output.old) (O.written output.new) }
+    ensures kinds { IfErr result (λ error. (error ≡ ReplayError.Write) ⊎ (error ≡ ReplayError.Memory)) }
+{
     for line in job.plan.lines() {
-        turns.answer(alloc, job, line, &mut text)?;
+        turns.answer(alloc, job, line, text)?;
         text.extend_from_slice(b"\n")?;
         if text.len() >= CHUNK_BYTES {
             write_answers(output, text.as_slice())?;

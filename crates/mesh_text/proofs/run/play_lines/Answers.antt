@@ -11,8 +11,8 @@ use Rattle.mesh_text.specs.Turns.{state_up_to}
 use Rattle.mesh_text.proofs.AnswerLines.{all_written, line_gathered, output_written, part_written}
 use Rattle.mesh_text.proofs.PlanLines.{all_lines, line_fits}
 use Rattle.mesh_text.proofs.PlayEnds.{gathered_none, is_write, last_fails, last_kind, last_not_memory, last_ok, not_memory, nothing_written}
-use Rattle.mesh_text.proofs.run.play.Goals as goal
-use Rattle.mesh_text.proofs.run.play.Goals.{then-len-ge-CHUNK_BYTES+in_ok-write_answers, else-len-ge-CHUNK_BYTES}
+use Rattle.mesh_text.proofs.run.play_lines.Goals as goal
+use Rattle.mesh_text.proofs.run.play_lines.Goals.{then-len-ge-CHUNK_BYTES+in_ok-write_answers, else-len-ge-CHUNK_BYTES}
 
 pub answer-requires-clause-fits : goal.answer-requires-clause-fits
 answer-requires-clause-fits g c =
@@ -75,9 +75,6 @@ returns-clause-beginning g c is =
     part_written c.args.job.now c.loop-line.line-index _ _ _ c.loop-line.text.items c.loop-line.invariant.gathered
     (subst (λ bytes. AppendsBeginning (g.O.Sink.written c.loop-line.output) (g.O.Sink.written c.write_answers-2.new.output) bytes) c.as_slice-2.ensures.value part)
 
-pub returns-in_err-turns-clause-lines : goal.returns-in_err-turns-clause-lines
-returns-in_err-turns-clause-lines g c is = (0, nothing_written (g.O.Sink.written c.args.output.now))
-
 pub returns-in_err-answer-clause-lines : goal.returns-in_err-answer-clause-lines
 returns-in_err-answer-clause-lines g c is = (c.loop-line.invariant.gathered.lines, c.loop-line.invariant.gathered.wrote)
 
@@ -113,8 +110,8 @@ returns-clause-kinds g c = last_kind c.write_answers-2.result c.write_answers-2.
 
 pub loop-line-init : goal.loop-line-init
 loop-line-init g c = record {
-  workers = c.in_ok-turns.ensures.workers;
-  fresh = c.requires;
-  at = c.in_ok-turns.ensures.opening;
-  gathered = gathered_none c.args.job.now (g.O.Sink.written c.args.output.now) c.new-text.result.items c.new-text.ensures.items;
+  workers = c.requires.workers;
+  fresh = c.requires.fresh;
+  at = c.requires.opening;
+  gathered = gathered_none c.args.job.now (g.O.Sink.written c.args.output.now) c.args.text.now.items c.requires.empty;
 }
