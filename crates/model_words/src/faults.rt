@@ -2,36 +2,30 @@
 ghost use Rattle.std.specs.Prelude.{◌≡◌};
 ghost use Rattle.model_words.specs.Faults.{kind_name_of};
 
+use std::error::Error as StdError;
+use std::fmt;
 use thiserror::Error;
 
 /// What is wrong with a line of a job's text.
 ///
 /// The first line with a fault is told, with the first kind of this list that holds for it. The order is this project's own.
-#[derive(Clone, Copy, Debug, PartialEq, Eq, Error)]
+#[derive(Clone, Copy, Debug, PartialEq, Eq)]
 pub enum FaultKind {
     /// The file has more than 1,048,576 bytes; the line is 0.
-    #[error("TOO_LONG")]
     TooLong,
     /// A byte follows the line end of `end`; the line is the one after it.
-    #[error("TRAILING")]
     Trailing,
     /// The first 1,025 bytes of the line hold no line end.
-    #[error("LONG_LINE")]
     LongLine,
     /// The input ends before the line's end, or where a line must begin.
-    #[error("CUT")]
     Cut,
     /// A byte outside 20 to 7e.
-    #[error("BYTE")]
     Byte,
     /// An empty field, a first field that isn't allowed in this place, or a wrong number of fields.
-    #[error("WORD")]
     Word,
     /// A number or an address that is spelt wrongly or out of range.
-    #[error("NUMBER")]
     Number,
     /// Bytes that are spelt wrongly, or of a wrong length.
-    #[error("HEX")]
     Hex,
 }
 
@@ -52,6 +46,14 @@ impl FaultKind {
         }
     }
 }
+
+impl fmt::Display for FaultKind {
+    fn fmt<W: fmt::Write>(&self, f: &mut fmt::Formatter<W>) -> fmt::Result {
+        f.write_str(self.name())
+    }
+}
+
+impl StdError for FaultKind {}
 
 /// The first fault of a job's text: the line, numbered from 1, and the kind.
 #[derive(Clone, Copy, Debug, PartialEq, Eq, Error)]

@@ -2,63 +2,47 @@
 ghost use Rattle.std.specs.Prelude.{◌≡◌, ◌≤◌, codes};
 ghost use Rattle.model_words.specs.Refusals.{number_of, name_of};
 
-use thiserror::Error;
+use std::error::Error;
+use std::fmt;
 
 /// Why a call was refused. A refusal changes nothing in heap and roots.
 ///
 /// Where several hold for one call, the one with the lowest number is answered. Numbers and names are this project's own.
-#[derive(Clone, Copy, Debug, PartialEq, Eq, Error)]
+#[derive(Clone, Copy, Debug, PartialEq, Eq)]
 pub enum Refusal {
     /// `new`: the length is 0.
-    #[error("ZERO")]
     Zero,
     /// `new`: the length is above 2,048.
-    #[error("TOO_LARGE")]
     TooLarge,
     /// `new`: no open group has a free slot, and the arena has too few free pages for a new span.
-    #[error("NO_PAGES")]
     NoPages,
     /// `new`: no open group has a free slot, and too few virtual pages were never used.
-    #[error("NO_ADDRESSES")]
     NoAddresses,
     /// The root cell holds no reference.
-    #[error("EMPTY")]
     Empty,
     /// The object that the reference names is no longer live.
-    #[error("FREED")]
     Freed,
     /// Offset and length together are above the object's length.
-    #[error("OUTSIDE")]
     Outside,
     /// `peek`, `poke`: the address is in no live object's range.
-    #[error("STRAY")]
     Stray,
     /// The number names no group now.
-    #[error("NO_GROUP")]
     NoGroup,
     /// Source and destination are one group.
-    #[error("SAME")]
     Same,
     /// The two groups have different size classes.
-    #[error("CLASS")]
     Class,
     /// A mesh is running, or the group is in one.
-    #[error("BUSY")]
     Busy,
     /// The two groups have an occupied slot number in common.
-    #[error("OVERLAP")]
     Overlap,
     /// The two groups have more than eight members together.
-    #[error("MEMBERS")]
     Members,
     /// No mesh is running.
-    #[error("NO_MESH")]
     NoMesh,
     /// `cancel`: the first remap was made.
-    #[error("TOO_LATE")]
     TooLate,
     /// `sweep`: the group has an object.
-    #[error("NOT_EMPTY")]
     NotEmpty,
 }
 
@@ -115,3 +99,11 @@ impl Refusal {
         }
     }
 }
+
+impl fmt::Display for Refusal {
+    fn fmt<W: fmt::Write>(&self, f: &mut fmt::Formatter<W>) -> fmt::Result {
+        f.write_str(self.name())
+    }
+}
+
+impl Error for Refusal {}
