@@ -7,8 +7,7 @@ use Rattle.std.proofs.lemmas.List.{append_assoc}
 use Rattle.std.proofs.lemmas.List.{length-replicate, get_or_past, get_or-replicate, get_or_append_left, get_or-append_right, set-append_left}
 use Rattle.std.proofs.lemmas.Bool.{cases_lt}
 use Rattle.mesh_arena.specs.Pages.{Pages, IsTaken, is_taken, content}
-use Rattle.mesh_arena.proofs.Taken.{content_read, taken-is_some}
-use Rattle.mesh_arena.specs.Tied.{with_unmade}
+use Rattle.mesh_arena.specs.Frames.{with_unmade}
 
 nones : (m k : ℕ) → get_or {A = Option (List ℕ)} (replicate m None) k None ≡ None
 nones m k =
@@ -40,14 +39,6 @@ pub made-below : (a : Pages) (n p : ℕ) → IsTaken (with_unmade a n) p → p <
 made-below a n p h =
     ⊎_elim (λ (l : p < length a). l) (λ (past : length a ≤ p). let e = is_taken-unmade a n p past in absurd (cc)) (cases_lt p (length a))
 
-pub taken-made : (a : Pages) (n p : ℕ) → IsTaken (with_unmade a n) p → IsTaken a p
-taken-made a n p h = sym (is_taken-made a n p (made-below a n p h)) ∙ h
-
--- where all frames below a place are taken, they were made
-pub lowest-made : (a : Pages) (n p : ℕ) → ((k : ℕ) → k < p → IsTaken (with_unmade a n) k) → p ≤ length a
-lowest-made a n p all =
-    ⊎_elim (λ (l : length a < p). absurd (omega (arith, made-below a n (length a) (all (length a) l)))) (λ (within : p ≤ length a). within) (cases_lt (length a) p)
-
 pub length-with_unmade : (a : Pages) (n : ℕ) → length a ≤ n → length (with_unmade a n) ≡ n
 unfolding with_unmade
 length-with_unmade a n h = let e : length (a ++ replicate (n - length a) None) ≡ length a + (n - length a) = length-append a (replicate (n - length a) None) ∙ ap (λ m. length a + m) (length-replicate (n - length a) None) in omega (arith, e)
@@ -68,6 +59,3 @@ set-next a n x h =
     let here : set (a ++ replicate (n - length a) None) (length a) x ≡ a ++ x ∷ rest = ap (λ s. set (a ++ s) (length a) x) (next_of n (length a) h) ∙ set-append_seam a None rest x in
     let there : (a ++ x ∷ []) ++ replicate (n - length (a ++ x ∷ [])) None ≡ a ++ x ∷ rest = ap (λ m. (a ++ x ∷ []) ++ replicate (n - m) None) (length-append a (x ∷ [])) ∙ append_assoc a (x ∷ []) rest in
     there ∙ sym here
-
--- what a call on a frame rests on that was made
-pub ruleset made_frames = (made-below, taken-made, content-made, content_read, taken-is_some, set-made, length-with_unmade, lowest-made, set-next)

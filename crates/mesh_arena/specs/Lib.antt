@@ -1,3 +1,4 @@
 pub mod Copies
+pub mod Frames
 pub mod Pages
 pub mod Tied

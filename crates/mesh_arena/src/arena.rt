@@ -20,8 +20,6 @@ pub struct Arena {
     frames: Frames,
     /// How many frames are free.
     free: u32,
-    /// No frame below this place is free, so the search for one starts here.
-    all_taken_below: usize,
 }
 
 impl Model for Arena {
@@ -33,7 +31,7 @@ impl Model for Arena {
 
     ghost view = { λ arena. arena.frames };
 
-    ghost invariant = { λ arena. IsTied arena.frames arena.free arena.all_taken_below };
+    ghost invariant = { λ arena. IsTied arena.frames arena.free };
 }
 
 impl Arena {
@@ -51,7 +49,6 @@ impl Arena {
         Ok(Arena {
             frames: Frames::new(alloc, pages as usize)?,
             free: pages,
-            all_taken_below: 0,
         })
     }
 
@@ -70,10 +67,9 @@ impl Arena {
         if self.free == 0 {
             return None;
         }
-        let place = self.frames.first_free(self.all_taken_below);
+        let place = self.frames.first_free();
         self.frames.take(place);
         self.free -= 1;
-        self.all_taken_below = place + 1;
         Some(Page::numbered(place as u16))
     }
 
@@ -83,10 +79,8 @@ impl Arena {
         ensures free { self.new ≡ slice_set self.old page None }
         ensures gives { Gives self.old self.new page }
     {
-        let place = page.index();
-        self.frames.give(place);
+        self.frames.give(page.index());
         self.free += 1;
-        self.all_taken_below = self.all_taken_below.min(place);
     }
 
     /// Reads the bytes of a taken page from an offset on, as many as `out` has.

@@ -1,5 +1,5 @@
 //! One physical page's memory.
-ghost use Rattle.std.specs.Prelude.{◌≡◌, ◌+◌, ◌≤◌, length, IsSome, is_some, unwrap_or, []};
+ghost use Rattle.std.specs.Prelude.{◌≡◌, ◌+◌, ◌≤◌, length};
 ghost use Rattle.mesh_arena.specs.Pages.{blank_page, with_run};
 
 use std::marker::Model;
@@ -7,70 +7,52 @@ use std::marker::Model;
 /// How many bytes a page has, physical or virtual. This project's own choice.
 pub const PAGE_BYTES: usize = 4096;
 
-/// A page's memory and whether the page is taken. What a free page's memory holds is nobody's concern.
+/// A page's memory. What a free page's memory holds is nobody's concern.
 #[derive(Drop)]
 pub(crate) struct Frame {
-    taken: bool,
     bytes: [u8; PAGE_BYTES],
 }
 
 impl Model for Frame {
-    ghost use Rattle.std.specs.Prelude.{◌≡◌, ℕ, List, Option, Some, None, length, if◌then◌else◌};
+    ghost use Rattle.std.specs.Prelude.{◌≡◌, ℕ, List, length};
 
-    ghost Value = { Option (List ℕ) };
+    ghost Value = { List ℕ };
 
-    ghost view = { λ frame. if frame.taken then Some frame.bytes else None };
+    ghost view = { λ frame. frame.bytes };
 
     ghost invariant = { λ frame. length frame.bytes ≡ 4096 };
 }
 
 impl Frame {
-    /// A taken frame, with zeros in all its bytes.
+    /// A frame with zeros in all its bytes.
     pub(crate) fn blank() -> Frame
-        ensures { result ≡ Some blank_page }
+        ensures { result ≡ blank_page }
     {
         Frame {
-            taken: true,
             bytes: [0; PAGE_BYTES],
         }
     }
 
-    pub(crate) fn is_taken(&self) -> bool
-        ensures { result ≡ is_some self.now }
-    {
-        self.taken
-    }
-
-    /// Takes the frame, with zeros in all its bytes.
-    pub(crate) fn take(&mut self)
-        ensures { self.new ≡ Some blank_page }
+    /// Fills the frame with zeros.
+    pub(crate) fn clear(&mut self)
+        ensures { self.new ≡ blank_page }
     {
         self.bytes.fill(0);
-        self.taken = true;
     }
 
-    /// Frees the frame.
-    pub(crate) fn give(&mut self)
-        ensures { self.new ≡ None }
-    {
-        self.taken = false;
-    }
-
-    /// The taken frame's bytes.
+    /// The frame's bytes.
     pub(crate) fn bytes(&self) -> &[u8]
-        requires { IsSome self.now }
-        ensures bytes { self.now ≡ Some result.now }
+        ensures bytes { result.now ≡ self.now }
         ensures sized { length result.now ≡ 4096 }
     {
         &self.bytes
     }
 
-    /// Writes bytes into the taken frame from an offset on.
+    /// Writes bytes into the frame from an offset on.
     pub(crate) fn write(&mut self, off: usize, bytes: &[u8])
-        requires taken { IsSome self.old }
-        requires fits { off + length bytes.now ≤ 4096 }
-        ensures written { self.new ≡ Some (with_run (unwrap_or self.old []) off bytes.now) }
-        ensures sized { length (unwrap_or self.old []) ≡ 4096 }
+        requires { off + length bytes.now ≤ 4096 }
+        ensures written { self.new ≡ with_run self.old off bytes.now }
+        ensures sized { length self.old ≡ 4096 }
     {
         let end = off + bytes.len();
         self.bytes[off..end].copy_from_slice(bytes);

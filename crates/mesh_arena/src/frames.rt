@@ -1,9 +1,10 @@
 //! The frames of an arena.
-ghost use Rattle.std.specs.Prelude.{◌≡◌, ◌≢◌, ℕ, ◌+◌, ◌<◌, ◌≤◌, length, replicate, IfOk, IsSome, false, slice_set, unwrap_or, []};
+ghost use Rattle.std.specs.Prelude.{◌≡◌, ◌≢◌, ℕ, ◌+◌, ◌<◌, ◌≤◌, length, replicate, IfOk, false, slice_index_or, slice_set, []};
 ghost use Rattle.mesh_arena.specs.Copies.{MayCopy};
-ghost use Rattle.mesh_arena.specs.Pages.{IsTaken, is_taken, content, bytes_of, blank_page, with_run, with_copy};
+ghost use Rattle.mesh_arena.specs.Pages.{IsTaken, is_taken, bytes_of, blank_page, with_run, with_copy};
 
 use crate::frame::Frame;
+use mesh_bins::Bin;
 use std::alloc::{AllocError, Global};
 use std::marker::Model;
 
@@ -12,6 +13,8 @@ use std::marker::Model;
 pub(crate) struct Frames {
     /// The frames up to the last that was ever taken.
     made: Vec<Frame>,
+    /// The numbers of those that are free again.
+    given: Bin,
     /// How many frames there are, made or not.
     count: usize,
 }
@@ -19,47 +22,30 @@ pub(crate) struct Frames {
 impl Model for Frames {
     ghost use Rattle.std.specs.Prelude.{◌≤◌, length, vec_capacity};
     ghost use Rattle.mesh_arena.specs.Pages.{Pages};
-    ghost use Rattle.mesh_arena.specs.Tied.{with_unmade};
+    ghost use Rattle.mesh_arena.specs.Frames.{AreMade, pages_of};
 
     ghost Value = { Pages };
 
-    ghost view = { λ f. with_unmade f.made.items f.count };
+    ghost view = { λ f. pages_of f.made.items f.given f.count };
 
-    ghost invariant = { λ f. (length f.made.items ≤ f.count) × (f.count ≤ vec_capacity f.made) };
+    ghost invariant = { λ f. AreMade f.made.items f.given
+        × (length f.made.items ≤ f.count) × (f.count ≤ vec_capacity f.made) × (f.count ≤ 4096) };
 }
 
-/// The first place of a free frame from `from` on, or how many frames there are.
-fn first_free(frames: &[Frame], from: usize) -> usize
-    requires { from ≤ length frames.now }
-    ensures from { from ≤ result }
-    ensures within { result ≤ length frames.now }
-    ensures passed { (k : ℕ) → from ≤ k → k < result → IsTaken frames.now k }
-    ensures found { result < length frames.now → is_taken frames.now result ≡ false }
-{
-    let mut place = from;
-    while place < frames.len() && frames[place].is_taken() {
-        place += 1;
-    }
-    place
-}
-
-/// Copies `len` bytes from one taken frame into another.
+/// Copies `len` bytes from one frame into another.
 fn copy_frame(from: &Frame, from_off: usize, to: &mut Frame, to_off: usize, len: usize)
-    requires from_taken { IsSome from.now }
-    requires to_taken { IsSome to.old }
     requires from_fits { from_off + len ≤ 4096 }
     requires to_fits { to_off + len ≤ 4096 }
-    ensures copied { to.new ≡ Some
-        (with_copy (unwrap_or to.old []) to_off (unwrap_or from.now []) from_off len) }
-    ensures from_sized { length (unwrap_or from.now []) ≡ 4096 }
-    ensures to_sized { length (unwrap_or to.old []) ≡ 4096 }
+    ensures copied { to.new ≡ with_copy to.old to_off from.now from_off len }
+    ensures from_sized { length from.now ≡ 4096 }
+    ensures to_sized { length to.old ≡ 4096 }
 {
     let bytes = from.bytes();
     let end = from_off + len;
     to.write(to_off, &bytes[from_off..end]);
 }
 
-/// Copies `len` bytes from one of the frames to another, both taken.
+/// Copies `len` bytes from one of the frames to another.
 fn copy_between(
     frames: &mut [Frame],
     from: usize,
@@ -70,15 +56,13 @@ fn copy_between(
 )
     requires from_below { from < length frames.old }
     requires to_below { to < length frames.old }
-    requires from_taken { IsSome (content frames.old from) }
-    requires to_taken { IsSome (content frames.old to) }
     requires apart { from ≢ to }
     requires from_fits { from_off + len ≤ 4096 }
     requires to_fits { to_off + len ≤ 4096 }
-    ensures copied { frames.new ≡ slice_set frames.old to (Some
-        (with_copy (bytes_of frames.old to) to_off (bytes_of frames.old from) from_off len)) }
-    ensures from_sized { length (bytes_of frames.old from) ≡ 4096 }
-    ensures to_sized { length (bytes_of frames.old to) ≡ 4096 }
+    ensures copied { frames.new ≡ slice_set frames.old to
+        (with_copy (slice_index_or frames.old to []) to_off (slice_index_or frames.old from []) from_off len) }
+    ensures from_sized { length (slice_index_or frames.old from []) ≡ 4096 }
+    ensures to_sized { length (slice_index_or frames.old to []) ≡ 4096 }
 {
     if from < to {
         let (low, high) = frames.split_at_mut(to);
@@ -89,15 +73,16 @@ fn copy_between(
     }
 }
 
-#[tactic(auto, using(crate::proofs::Unmade::made_frames))]
+#[tactic(auto, using(crate::proofs::Given::given_frames))]
 impl Frames {
-    /// So many free frames. It takes all the memory that they will ever use, and touches none of it.
+    /// So many free frames. It takes all the memory that they will ever use, and touches none of a frame's.
     pub(crate) fn new(alloc: Global, count: usize) -> Result<Frames, AllocError>
         requires { count ≤ 4096 }
         ensures { IfOk result (λ frames. frames ≡ replicate count None) }
     {
         let made = Vec::with_capacity(alloc, count)?;
-        Ok(Frames { made, count })
+        let given = Bin::new(alloc)?;
+        Ok(Frames { made, given, count })
     }
 
     /// How many frames there are.
@@ -107,24 +92,29 @@ impl Frames {
         self.count
     }
 
-    /// The place of the lowest free frame, or how many frames were made where all those are taken. None below `from` is free.
-    pub(crate) fn first_free(&self, from: usize) -> usize
-        requires { (k : ℕ) → k < from → IsTaken self.now k }
+    /// The place of the lowest free frame: the least that was given back, or else the first that was never made. How many frames there
+    /// are where all are taken.
+    pub(crate) fn first_free(&self) -> usize
         ensures within { result ≤ length self.now }
         ensures passed { (k : ℕ) → k < result → IsTaken self.now k }
         ensures found { result < length self.now → is_taken self.now result ≡ false }
     {
-        first_free(self.made.as_slice(), from)
+        match self.given.least(0) {
+            Some(place) => place as usize,
+            None => self.made.len(),
+        }
     }
 
     /// Takes the lowest free frame, with zeros in all its bytes.
     pub(crate) fn take(&mut self, place: usize)
         requires within { place < length self.old }
+        requires free { is_taken self.old place ≡ false }
         requires passed { (k : ℕ) → k < place → IsTaken self.old k }
         ensures { self.new ≡ slice_set self.old place (Some blank_page) }
     {
         if place < self.made.len() {
-            self.made[place].take();
+            self.made[place].clear();
+            self.given.remove(place as u32);
         } else {
             self.made.push_reserved(Frame::blank());
         }
@@ -135,7 +125,7 @@ impl Frames {
         requires { IsTaken self.old place }
         ensures { self.new ≡ slice_set self.old place None }
     {
-        self.made[place].give();
+        self.given.insert(place as u32);
     }
 
     /// A taken frame's bytes.

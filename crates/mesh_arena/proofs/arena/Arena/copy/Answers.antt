@@ -9,7 +9,7 @@ copy-requires c = rw (c.index.ensures, c.index-2.ensures, c.self.view_is) (searc
 
 pub invariant_of-self : goal.invariant_of-self
 invariant_of-self c =
-    rw (c.copy.ensures.copied, c.index-2.ensures) (tied_by_write _ _ _ _ _ c.self.invariant (rw (← c.self.view_is) at c.requires.to_taken))
+    rw (c.copy.ensures.copied, c.index-2.ensures) (tied_by_write _ _ _ _ c.self.invariant (rw (← c.self.view_is) at c.requires.to_taken))
 
 pub returns-clause-writes : goal.returns-clause-writes
 returns-clause-writes c =

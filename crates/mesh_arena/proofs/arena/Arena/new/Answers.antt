@@ -9,14 +9,12 @@ use Rattle.mesh_arena.proofs.arena.Arena.new.Goals as goal
 free_of : (a : Pages) (n : ℕ) → a ≡ replicate n None → free_count a ≡ n
 free_of a n e = ap free_count e ∙ free_count-replicate n
 
-new_tied : (a : Pages) (n : ℕ) → n ≤ 4096 → a ≡ replicate n None → IsTied a n 0
+new_tied : (a : Pages) (n : ℕ) → n ≤ 4096 → a ≡ replicate n None → IsTied a n
 new_tied a n few e =
     let count : length a ≡ n = ap length e ∙ length-replicate n None in
     record {
       few = omega arith;
       counted = sym (free_of a n e);
-      within = omega arith;
-      below = λ p l. absurd (omega arith);
     }
 
 untaken : (a : Pages) (m : ℕ) → a ≡ replicate m None → (p : ℕ) → is_taken a p ≡ false

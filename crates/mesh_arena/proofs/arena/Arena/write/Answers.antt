@@ -8,7 +8,7 @@ write-requires-clause-taken c = rw (c.index-place.ensures, c.self.view_is) c.req
 
 pub invariant_of-self : goal.invariant_of-self
 invariant_of-self c =
-    rw (c.write.ensures.written, c.index-place.ensures) (tied_by_write _ _ _ _ _ c.self.invariant (rw (← c.self.view_is) at c.requires.taken))
+    rw (c.write.ensures.written, c.index-place.ensures) (tied_by_write _ _ _ _ c.self.invariant (rw (← c.self.view_is) at c.requires.taken))
 
 pub returns-clause-writes : goal.returns-clause-writes
 returns-clause-writes c =

@@ -1,11 +1,12 @@
-use Rattle.std.proofs.Common.{◌≡◌, ℕ, ◌-◌, arith, [], ap, None, replicate}
-use Rattle.mesh_arena.specs.Pages.{Pages}
-use Rattle.mesh_arena.specs.Tied.{with_unmade}
+use Rattle.std.proofs.Common.{arith}
+use Rattle.mesh_arena.specs.Frames.{AreMade}
+use Rattle.mesh_arena.proofs.Given.{made-none, pages-none}
 use Rattle.mesh_arena.proofs.frames.Frames.new.Goals as goal
 
-new_is : (a : Pages) (n : ℕ) → a ≡ [] → with_unmade a n ≡ replicate n None
-unfolding with_unmade
-new_is a n e = let none : n - 0 ≡ n = omega arith in rw e (ap (λ m. replicate m None) none)
+pub invariant_of-result : goal.invariant_of-result
+invariant_of-result c =
+    let made : AreMade c.in_ok-made.made.items c.in_ok-given.given = rw c.in_ok-given.ensures (made-none c.in_ok-made.made.items) in
+    grind (arith, made, c.in_ok-made.ensures.items, c.in_ok-made.ensures.capacity)
 
 pub returns : goal.returns
-returns c = new_is _ _ c.in_ok-made.ensures.items
+returns c = pages-none c.in_ok-made.made.items c.in_ok-given.given c.args.count c.in_ok-made.ensures.items
