@@ -5,6 +5,7 @@ pub mod FileEnds
 pub mod HexFields
 pub mod ManyFields
 pub mod PlanReadings
+pub mod PackedScripts
 pub mod Sames
 pub mod Splits
 pub mod Takes

@@ -207,7 +207,7 @@ impl Draft {
             self.section = Section::Plan;
         } else {
             let command = command_of(self.version, word, fields)?;
-            self.script.push(command)?;
+            self.script.push(&command)?;
         }
         Ok(())
     }

@@ -7,6 +7,7 @@
 //! definitions.
 #![tactic(auto)]
 
+mod command_list;
 mod commands;
 mod draft;
 mod faults;
@@ -19,6 +20,7 @@ mod plan_lines;
 mod reader;
 mod script;
 
+pub use command_list::Commands;
 pub use faults::ReadFault;
 pub use job::{Job, Scripts};
 pub use model_words::{Command, FaultKind, TextFault, Version};

@@ -1,32 +1,38 @@
 //! One worker's commands.
-ghost use Rattle.std.specs.Prelude.{◌≡◌, ◌<◌, ◌^◌, [], ◌∷◌, ◌++◌, length, slice_get, OnOk, OnErr, IfSome};
-ghost use Rattle.std.specs.List.{All};
-ghost use Rattle.std.specs.Option.{option_copied};
+ghost use Rattle.std.specs.Prelude.{◌≡◌, ◌<◌, ◌^◌, [], ◌∷◌, ◌++◌, length, slice_get, ◌↔◌, IsTrue, IfOk, OnOk, OnErr, IfSome};
 ghost use Rattle.model_words.specs.Commands.{IsInRange};
 
+use crate::Commands;
+use mesh_packed::{MAX_BYTES, PackedCommand, pack_command, unpack_command};
 use model_words::Command;
 use std::alloc::{AllocError, Global};
 use std::marker::Model;
 
+/// The most bytes that the commands of a script store together.
+const MAX_KEPT: usize = 0xffff_ffff;
+
 /// The commands of one worker, in the order in which it attempts them.
 ///
-/// Each stores or loads 1 to 32 bytes, where it does at all, so that each may be handed to the heap.
+/// Each stores or loads 1 to 32 bytes, where it does at all, so that each may be handed to the heap. A command is kept in 16 bytes, and what it
+/// stores beside it.
 #[derive(Debug, Drop)]
 pub struct Script {
-    commands: Vec<Command>,
+    commands: Vec<PackedCommand>,
+    /// What they store, each one's bytes behind those of the one before.
+    bytes: Vec<u8>,
 }
 
 impl Model for Script {
-    ghost use Rattle.std.specs.Prelude.{List};
-    ghost use Rattle.std.specs.List.{All};
+    ghost use Rattle.std.specs.Prelude.{List, map};
     ghost use Rattle.model_words.specs.declared.commands.Command.{Command};
-    ghost use Rattle.model_words.specs.Commands.{IsInRange};
+    ghost use Rattle.mesh_packed.specs.Packed.{command_in};
+    ghost use Rattle.mesh_job.specs.Scripts.{IsScript};
 
     ghost Value = { List Command };
 
-    ghost view = { λ s. s.commands.items };
+    ghost view = { λ s. map (command_in s.bytes.items) s.commands.items };
 
-    ghost invariant = { λ s. All IsInRange s.commands.items };
+    ghost invariant = { λ s. IsScript s.bytes.items s.commands.items };
 }
 
 impl Script {
@@ -36,34 +42,59 @@ impl Script {
     {
         Script {
             commands: Vec::new(alloc),
+            bytes: Vec::new(alloc),
         }
     }
 
-    /// Adds the command that comes last.
-    pub fn push(&mut self, command: Command) -> Result<(), AllocError>
-        requires { IsInRange command }
-        ensures ok { OnOk result (self.new ≡ self.old ++ command ∷ []) }
+    /// Adds the command that comes last. An error is an allocation failure, or comes where the script's commands store 4 GiB.
+    pub fn push(&mut self, command: &Command) -> Result<(), AllocError>
+        requires { IsInRange command.now }
+        ensures ok { OnOk result (self.new ≡ self.old ++ command.now ∷ []) }
         ensures err { OnErr result (self.new ≡ self.old) }
     {
-        self.commands.push(command)?;
+        if self.bytes.len() > MAX_KEPT {
+            return Err(AllocError);
+        }
+        self.commands.reserve(1)?;
+        self.bytes.reserve(MAX_BYTES)?;
+        let packed = pack_command(&mut self.bytes, command);
+        self.commands.push_reserved(packed);
         Ok(())
     }
 
-    /// The command at a place, counted from 0.
-    pub fn get(&self, place: usize) -> Option<&Command>
-        ensures value { option_copied result ≡ slice_get self.now place }
-        ensures within { IfSome result (λ _. place < length self.now) }
-        ensures countable { length self.now < 2 ^ 64 }
-        ensures in_range { IfSome result (λ command. IsInRange command.now) }
+    /// How many commands there are.
+    pub fn len(&self) -> usize
+        ensures { result ≡ length self.now }
     {
-        self.commands.get(place)
+        self.commands.len()
     }
 
-    /// All commands, in their order.
-    pub fn commands(&self) -> &[Command]
-        ensures value { result.now ≡ self.now }
-        ensures in_range { All IsInRange result.now }
+    /// Whether there is no command.
+    pub fn is_empty(&self) -> bool
+        ensures { IsTrue result ↔ (self.now ≡ []) }
     {
-        self.commands.as_slice()
+        self.commands.is_empty()
+    }
+
+    /// The command at a place, counted from 0. It takes no memory.
+    pub fn get(&self, place: usize) -> Option<Command>
+        ensures value { result ≡ slice_get self.now place }
+        ensures within { IfSome result (λ _. place < length self.now) }
+        ensures countable { length self.now < 2 ^ 64 }
+        ensures in_range { IfSome result IsInRange }
+    {
+        let packed = self.commands.get(place)?;
+        Some(unpack_command(self.bytes.as_slice(), packed))
+    }
+
+    /// All commands, in their order, as they are. An error is an allocation failure.
+    pub fn commands(&self, alloc: Global) -> Result<Commands, AllocError>
+        ensures { IfOk result (λ commands. commands ≡ self.now) }
+    {
+        let mut commands = Commands::new(alloc);
+        for packed in &self.commands {
+            commands.push(unpack_command(self.bytes.as_slice(), packed))?;
+        }
+        Ok(commands)
     }
 }

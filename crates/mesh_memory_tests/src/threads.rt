@@ -7,7 +7,7 @@ use crate::ends::{End, Fault, expect};
 use arrayvec::ArrayVec;
 use mesh_mutator::{Book, Command};
 use mesh_shared::{MeshPlan, NoGate, RunError, run_threads};
-use mesh_text::Script;
+use mesh_text::Commands;
 use std::alloc::{AllocError, Global};
 use std::sync::Wait;
 use std::thread::Threads;
@@ -63,15 +63,15 @@ fn fault_of(error: RunError) -> Fault {
 }
 
 /// Two scripts, as a run takes them.
-fn both<'a>(first: &'a Script, second: &'a Script) -> [&'a [Command]; 2]
+fn both<'a>(first: &'a Commands, second: &'a Commands) -> [&'a [Command]; 2]
     ensures { All (λ script. All IsInRange script.now) result }
 {
-    [first.commands(), second.commands()]
+    [first.as_slice(), second.as_slice()]
 }
 
 /// A worker's script: objects, their bytes, every other pair of them freed, and what is read of them after that.
-fn script(alloc: Global, first: u8) -> Result<Script, AllocError> {
-    let mut script = Script::new(alloc);
+fn script(alloc: Global, first: u8) -> Result<Commands, AllocError> {
+    let mut script = Commands::new(alloc);
     for k in 0..CELLS {
         script.push(Command::New(first.wrapping_add(k), 2048, 0))?;
     }

@@ -74,7 +74,7 @@ pub fn reply_again(reply: &Reply) -> Reply
 }
 
 /// The same bytes. It takes no memory.
-pub(crate) fn bytes_again(bytes: &ArrayVec<u8, MAX_BYTES>) -> ArrayVec<u8, MAX_BYTES>
+fn bytes_again(bytes: &ArrayVec<u8, MAX_BYTES>) -> ArrayVec<u8, MAX_BYTES>
     ensures { result ≡ bytes.now }
 {
     let mut again = ArrayVec::new();

@@ -2,19 +2,20 @@
 ghost use Rattle.std.specs.Prelude.{◌≡◌, ◌<◌, ◌≤◌, ◌↔◌, ◌∷◌, [], ◌++◌, IfOk, IsTrue, false, length, slice_index_or, true};
 ghost use Rattle.model_memory.specs.Plain.{Entry as PlainEntry};
 
-use crate::packed::{Bytes, PackedEntry, pack_command, pack_reply, unpack_command, unpack_reply};
+use crate::packed_entry::PackedEntry;
 use crate::{Command, Entry, Reply};
+use mesh_packed::{MAX_BYTES, pack_command, pack_reply, unpack_command, unpack_reply};
 use std::alloc::{AllocError, Global};
 use std::marker::Model;
 
 /// Answered commands with their replies, in their order of effect.
 ///
-/// An entry is kept in 32 bytes, and the bytes that its command stores or its reply loads beside it, since most have none. The room is made
+/// An entry is kept in 32 bytes, and the bytes that its command stores and its reply loads stand beside it, one behind another. The room is made
 /// once.
 #[derive(Drop)]
 pub struct Journal {
     entries: Vec<PackedEntry>,
-    bytes: Vec<Bytes>,
+    bytes: Vec<u8>,
     // How many entries it was made for.
     room: usize,
 }
@@ -45,7 +46,7 @@ impl Journal {
     {
         Ok(Journal {
             entries: Vec::with_capacity(alloc, room)?,
-            bytes: Vec::with_capacity(alloc, 2 * room)?,
+            bytes: Vec::with_capacity(alloc, 2 * MAX_BYTES * room)?,
             room,
         })
     }

@@ -7,7 +7,7 @@ mod attempts;
 mod book;
 mod entry;
 mod journal;
-mod packed;
+mod packed_entry;
 mod roots;
 
 pub use attempts::Attempt;

@@ -20,7 +20,7 @@ use crate::{ThreadsArgs, ThreadsError};
 use mesh_mutator::Book;
 use mesh_shared::{Ended, MeshPlan, NoGate, run_threads};
 use mesh_text::{
-    Command, Job, ReplayError, Scripts, Sink, Source, history_lines, read_job, write_all,
+    Command, Commands, Job, ReplayError, Scripts, Sink, Source, history_lines, read_job, write_all,
 };
 use std::alloc::{AllocError, Global};
 use std::sync::Wait;
@@ -132,7 +132,8 @@ fn run_book<R: Threads + Wait + Sync>(
     ensures ended { IfOk result (λ ended. HasRun job.now.scripts ended.history.items (memory_in ended.heap ended.roots)) }
     ensures none { HasRoom job.now → IfErr result (IsNoRun job.now) }
 {
-    let scripts = slices_of(alloc, &job.scripts)?;
+    let commands = commands_of(alloc, &job.scripts)?;
+    let scripts = slices_of(alloc, commands.as_slice())?;
     let ended = run_threads(rt, alloc, book, scripts.as_slice(), plan, &NoGate)?;
     Ok(ended)
 }
@@ -160,13 +161,24 @@ fn plan_of(alloc: Global, args: &ThreadsArgs) -> Result<MeshPlan, AllocError>
 }
 
 /// The commands of each script.
-fn slices_of<'a>(alloc: Global, scripts: &'a Scripts) -> Result<Vec<&'a [Command]>, AllocError>
+fn commands_of(alloc: Global, scripts: &Scripts) -> Result<Vec<Commands>, AllocError>
+    ensures { IfOk result (λ all. all.items ≡ scripts.now) }
+{
+    let mut all = Vec::new(alloc);
+    for worker in 0..scripts.count() as u32 {
+        all.push(scripts.of(worker).commands(alloc)?)?;
+    }
+    Ok(all)
+}
+
+/// The commands of each script, lent.
+fn slices_of<'a>(alloc: Global, scripts: &'a [Commands]) -> Result<Vec<&'a [Command]>, AllocError>
     ensures value { IfOk result (λ slices. map (λ script. script.now) slices.items ≡ scripts.now) }
     ensures range { IfOk result (λ slices. All (λ script. All IsInRange script.now) slices.items) }
 {
     let mut slices = Vec::new(alloc);
-    for worker in 0..scripts.count() as u32 {
-        slices.push(scripts.of(worker).commands())?;
+    for commands in scripts {
+        slices.push(commands.as_slice())?;
     }
     Ok(slices)
 }
@@ -177,7 +189,7 @@ fn has_room(scripts: &Scripts, history: u32) -> bool
 {
     let mut room = history as usize;
     for worker in 0..scripts.count() as u32 {
-        let commands = scripts.of(worker).commands().len();
+        let commands = scripts.of(worker).len();
         if commands > room {
             return false;
         }

@@ -20,7 +20,7 @@ mod transfer;
 pub use devices::{DeviceFault, Input, Output, Sink, Source};
 pub use faults::ReplayError;
 pub use histories::history_lines;
-pub use mesh_job::{Job, Plan, PlanLine, ReadFault, Script, Scripts, read_file};
+pub use mesh_job::{Commands, Job, Plan, PlanLine, ReadFault, Script, Scripts, read_file};
 pub use model_words::{Command, FaultKind, MAX_BYTES, Reply, TextFault, Version};
 pub use reading::read_job;
 pub use run::replay;

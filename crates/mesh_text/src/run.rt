@@ -180,7 +180,7 @@ impl Turns {
         let Some(command) = script.get(place) else {
             return text.extend_from_slice(b"over");
         };
-        match self.book.act(worker, command) {
+        match self.book.act(worker, &command) {
             Attempt::Done(reply) => {
                 self.next[worker as usize] = place + 1;
                 add_reply(text, &reply)

@@ -6,7 +6,7 @@ ghost use Rattle.model_words.specs.Commands.{IsInRange};
 use crate::tests::gates::{Event, Hold, Holding, Mark};
 use arrayvec::ArrayVec;
 use mesh_class::class_of;
-use mesh_job::Script;
+use mesh_job::Commands;
 use mesh_mutator::{Book, Command, Entry, Reply};
 use mesh_shared::{Ended, Gate, MeshPlan, NoGate, RunError, run_abandoned, run_threads};
 use mesh_steps::{Heap, Report};
@@ -44,8 +44,8 @@ fn command_of(word: Word) -> Command
 }
 
 /// The script of these words, one part after another.
-fn script_of(alloc: Global, parts: &[&[Word]]) -> Result<Script, AllocError> {
-    let mut script = Script::new(alloc);
+fn script_of(alloc: Global, parts: &[&[Word]]) -> Result<Commands, AllocError> {
+    let mut script = Commands::new(alloc);
     for part in parts {
         for word in *part {
             script.push(command_of(*word))?;
@@ -55,7 +55,7 @@ fn script_of(alloc: Global, parts: &[&[Word]]) -> Result<Script, AllocError> {
 }
 
 /// The scripts of a reader, who makes the groups before, and of a writer.
-fn reader_and_writer(alloc: Global) -> Result<(Script, Script), AllocError> {
+fn reader_and_writer(alloc: Global) -> Result<(Commands, Commands), AllocError> {
     Ok((
         script_of(alloc, &[&GROUPS, &READS])?,
         script_of(alloc, &[&WRITER])?,
@@ -63,17 +63,17 @@ fn reader_and_writer(alloc: Global) -> Result<(Script, Script), AllocError> {
 }
 
 /// One script, as a run takes it.
-fn alone<'a>(script: &'a Script) -> [&'a [Command]; 1]
+fn alone<'a>(script: &'a Commands) -> [&'a [Command]; 1]
     ensures { All (λ script. All IsInRange script.now) result }
 {
-    [script.commands()]
+    [script.as_slice()]
 }
 
 /// Two scripts, as a run takes them.
-fn both<'a>(first: &'a Script, second: &'a Script) -> [&'a [Command]; 2]
+fn both<'a>(first: &'a Commands, second: &'a Commands) -> [&'a [Command]; 2]
     ensures { All (λ script. All IsInRange script.now) result }
 {
-    [first.commands(), second.commands()]
+    [first.as_slice(), second.as_slice()]
 }
 
 /// A plan of so many rounds and meshers: one round of tries a search, all words 0.
@@ -269,7 +269,7 @@ fn two_scripts_read_at_once(rt: HostRuntime) -> Result<(), Fail> {
 }
 
 /// Groups of two classes that can be meshed: 36 commands.
-fn two_classes(alloc: Global) -> Result<Script, AllocError> {
+fn two_classes(alloc: Global) -> Result<Commands, AllocError> {
     let mut script = script_of(alloc, &[&GROUPS])?;
     for cell in 4..20 {
         script.push(Command::New(cell, 512, 0))?;
@@ -321,7 +321,7 @@ fn two_meshers_copy_at_once(rt: HostRuntime) -> Result<(), Fail> {
 #[test]
 fn every_pair_is_meshed(rt: HostRuntime) -> Result<(), Fail> {
     let alloc = rt.alloc();
-    let mut script = Script::new(alloc);
+    let mut script = Commands::new(alloc);
     for cell in 0..12 {
         script.push(Command::New(cell, 2048, 0))?;
     }

@@ -4,8 +4,8 @@ use Rattle.model_words.specs.Commands.{IsInRange}
 use Rattle.model_words.specs.declared.commands.Command.{Command}
 use Rattle.mesh_run.proofs.threads.slices_of.Given as goal
 
-abbrev pub invariant-loop-worker : goal.invariant-loop-worker
-invariant-loop-worker l = record {
-  value : map (λ (script : Bor (List Command)). script.now) l.slices.items ≡ take l.worker l.scripts;
+abbrev pub invariant-loop-commands : goal.invariant-loop-commands
+invariant-loop-commands l = record {
+  value : map (λ (script : Bor (List Command)). script.now) l.slices.items ≡ take l.commands-index l.scripts;
   range : All (λ (script : Bor (List Command)). All IsInRange script.now) l.slices.items;
 }

@@ -1,6 +1,6 @@
 use Rattle.std.proofs.Common.{refl, arith}
 use Rattle.std.proofs.lemmas.Grind.{common_steps}
-use Rattle.mesh_mutator.proofs.KeptEntries.{all_within, entries_pushed, kept_more}
+use Rattle.mesh_mutator.proofs.KeptEntries.{all_within, entries_pushed}
 use Rattle.mesh_mutator.proofs.journal.Journal.push.Goals as goal
 
 pub invariant_of-self : goal.invariant_of-self
@@ -10,15 +10,15 @@ invariant_of-self c =
     let second = c.pack_reply-reply.ensures in
     let pushed = c.push_reserved.ensures in
     let was = c.self.invariant in
-    let first_few = (kept_more old.bytes.items c.pack_command-command.new.kept.items first.more).1 in
-    let second_few = (kept_more c.pack_command-command.new.kept.items c.pack_reply-reply.new.kept.items second.more).1 in (
+    let first_few = first.keeps.few in
+    let second_few = second.keeps.few in (
       rw pushed.items (all_within old.bytes.items c.pack_command-command.new.kept.items c.pack_reply-reply.new.kept.items old.entries.items
-          (record { worker = c.args.worker; command = c.pack_command-command.result; reply = c.pack_reply-reply.result }) first.more second.more was.0 first.within second.within),
+          (record { worker = c.args.worker; command = c.pack_command-command.result; reply = c.pack_reply-reply.result }) first.keeps second.keeps was.0 first.within second.within),
+      omega (arith, was.1, pushed.capacity),
+      omega (arith, was.2, first.capacity, second.capacity),
+      omega (arith, was.3, first_few, second_few, pushed.len, c.push_reserved.new.self.ok.0, old.entries.ok.0),
       grind (arith, common_steps),
-      grind (arith, common_steps),
-      grind (arith, common_steps),
-      grind (arith, common_steps),
-      grind (arith, common_steps),
+      was.5,
     )
 
 pub returns : goal.returns
@@ -28,5 +28,5 @@ returns c =
     let second = c.pack_reply-reply.ensures in
     let all = entries_pushed old.bytes.items c.pack_command-command.new.kept.items c.pack_reply-reply.new.kept.items old.entries.items
     (record { worker = c.args.worker; command = c.pack_command-command.result; reply = c.pack_reply-reply.result }) c.args.command.now c.args.reply.now
-    first.more second.more c.self.invariant.0 first.within first.command second.reply in
+    first.keeps second.keeps c.self.invariant.0 first.within first.command second.reply in
     rw (← c.self.view_is, c.push_reserved.ensures.items, all) refl

@@ -25,18 +25,18 @@ returns-in-Done-clause-told g =
     let below : worker < length places = omega (arith, g.requires, g.args.self.now.next.ok.0) in
     let place : slice_index places worker ≡ g.index-place.result.now
     = sym (g.index-place.ensures ∙ get_or_default places worker g.index-place.result.now 0 below) in
-    let told = turn_told g.add_reply.result g.args.self.now.book g.act.new.self places g.args.script.now worker g.index-place.result.now _ g.in-Some.command.now (Done g.in-Done.reply)
+    let told = turn_told g.add_reply.result g.args.self.now.book g.act.new.self places g.args.script.now worker g.index-place.result.now _ g.in-Some.command (Done g.in-Done.reply)
     g.args.text.now.items g.add_reply.new.text.items g.args.self.now.next.ok.0 g.requires g.index-place.ensures g.in-Some.ensures.value g.in-Done.ensures.attempt tt g.add_reply.ensures in
     rw place at told
 
 pub returns-in-Blocked-clause-told : goal.returns-in-Blocked-clause-told
 returns-in-Blocked-clause-told g =
-    turn_told g.extend_from_slice-in-Blocked.result g.args.self.now.book g.act.new.self g.args.self.now.next.items g.args.script.now g.args.worker g.index-place.result.now _ g.in-Some.command.now Blocked
+    turn_told g.extend_from_slice-in-Blocked.result g.args.self.now.book g.act.new.self g.args.self.now.next.items g.args.script.now g.args.worker g.index-place.result.now _ g.in-Some.command Blocked
     g.args.text.now.items g.extend_from_slice-in-Blocked.new.self.items g.args.self.now.next.ok.0 g.requires g.index-place.ensures g.in-Some.ensures.value g.in-Blocked.ensures.attempt tt
     (grew_ok g.extend_from_slice-in-Blocked.result g.extend_from_slice-in-Blocked.new.self.items _ g.args.text.now.items g.extend_from_slice-in-Blocked.ensures.items)
 
 pub returns-in-HistoryFull-clause-told : goal.returns-in-HistoryFull-clause-told
 returns-in-HistoryFull-clause-told g =
-    turn_told g.extend_from_slice-in-HistoryFull.result g.args.self.now.book g.act.new.self g.args.self.now.next.items g.args.script.now g.args.worker g.index-place.result.now _ g.in-Some.command.now HistoryFull
+    turn_told g.extend_from_slice-in-HistoryFull.result g.args.self.now.book g.act.new.self g.args.self.now.next.items g.args.script.now g.args.worker g.index-place.result.now _ g.in-Some.command HistoryFull
     g.args.text.now.items g.extend_from_slice-in-HistoryFull.new.self.items g.args.self.now.next.ok.0 g.requires g.index-place.ensures g.in-Some.ensures.value g.in-HistoryFull.ensures.attempt tt
     (grew_ok g.extend_from_slice-in-HistoryFull.result g.extend_from_slice-in-HistoryFull.new.self.items _ g.args.text.now.items g.extend_from_slice-in-HistoryFull.ensures.items)

@@ -1,0 +1,22 @@
+use Rattle.std.proofs.Common.{◌≡◌, sym, arith, subst}
+use Rattle.model_words.specs.Commands.{IsInRange}
+use Rattle.mesh_packed.specs.Runs.{KeepsAll}
+use Rattle.mesh_job.specs.Scripts.{IsScript}
+use Rattle.mesh_job.proofs.PackedScripts.{script_pushed, view_pushed}
+use Rattle.mesh_job.proofs.script.Script.push.Goals as goal
+
+pub invariant_of-self-2 : goal.invariant_of-self-2
+invariant_of-self-2 c =
+    let old = c.self.inside in
+    let packed = c.pack_command-packed.ensures in
+    let keeps = rw c.reserve-2.ensures.items at packed.keeps in
+    rw (c.push_reserved.ensures.items, c.reserve.ensures.items)
+    (script_pushed old.bytes.items c.pack_command-packed.new.kept.items old.commands.items c.pack_command-packed.result c.self.invariant keeps packed.within (subst IsInRange (sym packed.command) c.requires))
+
+pub returns-clause-ok : goal.returns-clause-ok
+returns-clause-ok c =
+    let old = c.self.inside in
+    let packed = c.pack_command-packed.ensures in
+    let keeps = rw c.reserve-2.ensures.items at packed.keeps in
+    rw (c.push_reserved.ensures.items, c.reserve.ensures.items, ← c.self.view_is)
+    (view_pushed old.bytes.items c.pack_command-packed.new.kept.items old.commands.items c.pack_command-packed.result c.args.command.now c.self.invariant keeps packed.command)

@@ -1,0 +1,58 @@
+//! Commands as they are, for whoever takes a slice of them.
+ghost use Rattle.std.specs.Prelude.{◌≡◌, [], ◌∷◌, ◌++◌, OnOk, OnErr};
+ghost use Rattle.std.specs.List.{All};
+ghost use Rattle.model_words.specs.Commands.{IsInRange};
+
+use model_words::Command;
+use std::alloc::{AllocError, Global};
+use std::marker::Model;
+
+/// Some commands in their order, as they are and not packed.
+///
+/// Each stores or loads 1 to 32 bytes, where it does at all, so that each may be handed to the heap.
+#[derive(Debug, Drop)]
+pub struct Commands {
+    commands: Vec<Command>,
+}
+
+impl Model for Commands {
+    ghost use Rattle.std.specs.Prelude.{List};
+    ghost use Rattle.std.specs.List.{All};
+    ghost use Rattle.model_words.specs.declared.commands.Command.{Command};
+    ghost use Rattle.model_words.specs.Commands.{IsInRange};
+
+    ghost Value = { List Command };
+
+    ghost view = { λ c. c.commands.items };
+
+    ghost invariant = { λ c. All IsInRange c.commands.items };
+}
+
+impl Commands {
+    /// No command. It allocates nothing.
+    pub fn new(alloc: Global) -> Self
+        ensures { result ≡ [] }
+    {
+        Commands {
+            commands: Vec::new(alloc),
+        }
+    }
+
+    /// Adds the command that comes last.
+    pub fn push(&mut self, command: Command) -> Result<(), AllocError>
+        requires { IsInRange command }
+        ensures ok { OnOk result (self.new ≡ self.old ++ command ∷ []) }
+        ensures err { OnErr result (self.new ≡ self.old) }
+    {
+        self.commands.push(command)?;
+        Ok(())
+    }
+
+    /// The commands, in their order.
+    pub fn as_slice(&self) -> &[Command]
+        ensures value { result.now ≡ self.now }
+        ensures in_range { All IsInRange result.now }
+    {
+        self.commands.as_slice()
+    }
+}

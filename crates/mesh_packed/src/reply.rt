@@ -1,0 +1,58 @@
+//! Replies without their bytes.
+ghost use Rattle.std.specs.Prelude.{◌≡◌, ◌+◌, ◌^◌, ◌<◌, ◌≤◌, length, vec_capacity, vec_len};
+ghost use Rattle.mesh_packed.specs.Packed.{IsReplyWithin, reply_in};
+ghost use Rattle.mesh_packed.specs.Runs.{KeepsAll};
+
+use crate::run::{Run, bytes_of, keep};
+use model_words::{Refusal, Reply};
+
+/// A reply without its bytes, in 12 bytes.
+#[derive(Debug, Drop)]
+pub enum PackedReply {
+    /// `Object(serial, addr)`
+    Object(u32, u32),
+    /// `Done`
+    Done,
+    /// `Bytes(bytes)`, with where its bytes are kept.
+    Bytes(Run),
+    /// `At(addr)`
+    At(u32),
+    /// `Byte(byte)`
+    Byte(u8),
+    /// `Refused(refusal)`
+    Refused(Refusal),
+}
+
+/// Packs a reply. Its bytes, at most 32, come behind those that are kept, for which there is room.
+pub fn pack_reply(kept: &mut Vec<u8>, reply: &Reply) -> PackedReply
+    requires room { vec_len kept.old + 32 ≤ vec_capacity kept.old }
+    requires few { vec_len kept.old < 2 ^ 32 }
+    ensures reply { reply_in kept.new.items result ≡ reply.now }
+    ensures within { IsReplyWithin (length kept.new.items) result }
+    ensures keeps { KeepsAll kept.old.items kept.new.items }
+    ensures capacity { vec_capacity kept.old ≤ vec_capacity kept.new }
+{
+    match reply {
+        Reply::Object(serial, addr) => PackedReply::Object(*serial, *addr),
+        Reply::Done => PackedReply::Done,
+        Reply::Bytes(bytes) => PackedReply::Bytes(keep(kept, bytes)),
+        Reply::At(addr) => PackedReply::At(*addr),
+        Reply::Byte(byte) => PackedReply::Byte(*byte),
+        Reply::Refused(refusal) => PackedReply::Refused(*refusal),
+    }
+}
+
+/// The reply that was packed. It takes no memory.
+pub fn unpack_reply(kept: &[u8], reply: &PackedReply) -> Reply
+    requires { IsReplyWithin (length kept.now) reply.now }
+    ensures { result ≡ reply_in kept.now reply.now }
+{
+    match reply {
+        PackedReply::Object(serial, addr) => Reply::Object(*serial, *addr),
+        PackedReply::Done => Reply::Done,
+        PackedReply::Bytes(run) => Reply::Bytes(bytes_of(kept, *run)),
+        PackedReply::At(addr) => Reply::At(*addr),
+        PackedReply::Byte(byte) => Reply::Byte(*byte),
+        PackedReply::Refused(refusal) => Reply::Refused(*refusal),
+    }
+}

@@ -1,0 +1,46 @@
+//! Where the bytes of a command or a reply are kept.
+ghost use Rattle.std.specs.Prelude.{◌≡◌, ◌+◌, ◌^◌, ◌<◌, ◌≤◌, ◌++◌, length, vec_capacity, vec_len};
+ghost use Rattle.arrayvec.specs.ArrayVec.{array_vec_len};
+ghost use Rattle.mesh_packed.specs.Runs.{IsRunWithin, KeepsAll, run_in};
+
+use arrayvec::ArrayVec;
+use model_words::MAX_BYTES;
+
+/// Where some bytes stand among all that are kept: `len` of them from `place` on.
+#[derive(Clone, Copy, Debug)]
+pub struct Run {
+    /// The place of the first.
+    pub place: u32,
+    /// How many there are.
+    pub len: u8,
+}
+
+/// Keeps up to 32 bytes behind the others, for which there is room, and tells where.
+pub(crate) fn keep(kept: &mut Vec<u8>, bytes: &ArrayVec<u8, MAX_BYTES>) -> Run
+    requires room { vec_len kept.old + 32 ≤ vec_capacity kept.old }
+    requires few { vec_len kept.old < 2 ^ 32 }
+    ensures bytes { run_in kept.new.items result ≡ bytes.now }
+    ensures within { IsRunWithin (length kept.new.items) result }
+    ensures keeps { KeepsAll kept.old.items kept.new.items }
+    ensures capacity { vec_capacity kept.old ≤ vec_capacity kept.new }
+{
+    let run = Run {
+        place: kept.len() as u32,
+        len: bytes.len() as u8,
+    };
+    kept.extend_from_slice(bytes.as_slice()).unwrap();
+    run
+}
+
+/// The bytes that are kept where it is told.
+pub(crate) fn bytes_of(kept: &[u8], run: Run) -> ArrayVec<u8, MAX_BYTES>
+    requires { IsRunWithin (length kept.now) run }
+    ensures { result ≡ run_in kept.now run }
+{
+    let start = run.place as usize;
+    let mut bytes = ArrayVec::new();
+    bytes
+        .try_extend_from_slice(&kept[start..start + usize::from(run.len)])
+        .unwrap();
+    bytes
+}
