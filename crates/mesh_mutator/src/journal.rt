@@ -33,8 +33,8 @@ impl Model for Journal {
     ghost view = { λ j. record { entries = entries_in j.bytes.items j.entries.items; room = j.room } };
 
     ghost invariant = { λ j. All (IsWithin (length j.bytes.items)) j.entries.items
-        × (j.room ≤ vec_capacity j.entries) × (2 * j.room ≤ vec_capacity j.bytes)
-        × (length j.bytes.items ≤ 2 * length j.entries.items) × (length j.entries.items ≤ j.room) × (j.room ≤ 65536) };
+        × (j.room ≤ vec_capacity j.entries) × (64 * j.room ≤ vec_capacity j.bytes)
+        × (length j.bytes.items ≤ 64 * length j.entries.items) × (length j.entries.items ≤ j.room) × (j.room ≤ 65536) };
 }
 
 impl Journal {

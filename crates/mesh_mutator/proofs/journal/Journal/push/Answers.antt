@@ -1,4 +1,4 @@
-use Rattle.std.proofs.Common.{refl, arith}
+use Rattle.std.proofs.Common.{◌≡◌, ◌+◌, ◌∙◌, ap, refl, arith, length, length-append}
 use Rattle.std.proofs.lemmas.Grind.{common_steps}
 use Rattle.mesh_mutator.proofs.KeptEntries.{all_within, entries_pushed}
 use Rattle.mesh_mutator.proofs.journal.Journal.push.Goals as goal
@@ -11,12 +11,13 @@ invariant_of-self c =
     let pushed = c.push_reserved.ensures in
     let was = c.self.invariant in
     let first_few = first.keeps.few in
-    let second_few = second.keeps.few in (
+    let second_few = second.keeps.few in
+    let longer : length c.push_reserved.new.self.items ≡ length old.entries.items + 1 = ap length pushed.items ∙ length-append old.entries.items _ in (
       rw pushed.items (all_within old.bytes.items c.pack_command-command.new.kept.items c.pack_reply-reply.new.kept.items old.entries.items
           (record { worker = c.args.worker; command = c.pack_command-command.result; reply = c.pack_reply-reply.result }) first.keeps second.keeps was.0 first.within second.within),
       omega (arith, was.1, pushed.capacity),
       omega (arith, was.2, first.capacity, second.capacity),
-      omega (arith, was.3, first_few, second_few, pushed.len, c.push_reserved.new.self.ok.0, old.entries.ok.0),
+      omega (arith, was.3, first_few, second_few, longer),
       grind (arith, common_steps),
       was.5,
     )
