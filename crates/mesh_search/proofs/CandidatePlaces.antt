@@ -14,7 +14,7 @@ use Rattle.std.proofs.lemmas.List.Elements.{All-head, All-tail}
 use Rattle.std.proofs.lemmas.Map.Steps.{length-le_from_distinct_below}
 use Rattle.std.specs.declared.alloc.AllocError.{AllocError}
 use Rattle.model_heap.specs.Sound.{times_in}
-use Rattle.mesh_search.specs.Views.{AreNamed, IsView, named, candidate_at, candidate_named, is_numbered, no_candidate}
+use Rattle.mesh_search.specs.Views.{AreNamed, AreOnce, IsView, named, candidate_at, candidate_named, is_numbered, no_candidate}
 
 -- the place of an element that a test passes
 found_place : (n : ℕ) (cs : List Candidate) → IsSome (find (is_numbered n) cs) → (p : ℕ) × (p < length cs) × ((slice_index_or cs p no_candidate).number ≡ n)
@@ -161,6 +161,10 @@ numbers_named view [] all = refl
 numbers_named view (n ∷ ns) all =
     ap (λ (m : ℕ). m ∷ map (λ (c : Candidate). c.number) (named view ns)) (number_named n view.candidates (All-head (IsIn view.candidates) n ns all))
     ∙ ap (λ (ms : List ℕ). n ∷ ms) (numbers_named view ns (All-tail (IsIn view.candidates) n ns all))
+
+-- the candidates of numbers have each number once
+pub named_once : (view : View) (numbers : List ℕ) → AreNamed view numbers → AreOnce (named view numbers)
+named_once view numbers are n = subst (λ (ns : List ℕ). times_in n ns ≤ 1) (sym (numbers_named view numbers are.each)) (are.once n)
 
 -- what a search over an order of numbers finds
 pub found_named : (view : View) (numbers : List ℕ) (t : ℕ) (r : Result Found AllocError) → AreNamed view numbers → IfOk r (λ f. f ≡ split_search (named view numbers) t)

@@ -9,7 +9,7 @@ use Rattle.model_search.specs.SearchLaws.{IsMeshableIn, times_paired}
 use Rattle.model_search.specs.Search.{Candidate, Found, Pairing, View, search, shuffle, split_search}
 use Rattle.model_heap.specs.Sound.{times_in}
 use Rattle.mesh_search.proofs.Shuffled.{length-shuffle, map-shuffle}
-use Rattle.mesh_search.specs.Views.{IsView, chosen, no_candidate}
+use Rattle.mesh_search.specs.Views.{AreOnce, IsView, chosen, no_candidate}
 
 -- a number below all of them is none of them
 none_above : (n : ℕ) (cs : List Candidate) → ((j : ℕ) → j < length cs → n < (slice_index_or cs j no_candidate).number) → times_in n (map (λ (c : Candidate). c.number) cs) ≡ 0
@@ -46,6 +46,14 @@ pub found_over : {E : Type 0} (view : View) (slice places : List ℕ) (cs : List
 found_over view slice places cs t r same is found =
     subst (λ (order : List Candidate). IfOk r (λ f. f ≡ split_search order t)) (ap (λ (ps : List ℕ). chosen view ps) same ∙ is) found
 
+-- the shuffled candidates of a view have each number once
+pub shuffled_once : (view : View) (words : List ℕ) → IsView view → AreOnce (shuffle view.candidates words)
+shuffled_once view words sound n =
+    let same : times_in n (map (λ (c : Candidate). c.number) (shuffle view.candidates words)) ≡ times_in n (map (λ (c : Candidate). c.number) view.candidates)
+    = ap (λ (ns : List ℕ). times_in n ns) (map-shuffle (λ (c : Candidate). c.number) view.candidates words)
+    ∙ shuffle_keeps (map (λ (c : Candidate). c.number) view.candidates) words n in
+    let once = once_there n view.candidates sound.ascending in omega (arith, same, once)
+
 -- what the search of a view finds
 pub found_in : (view : View) (words : List ℕ) (t : ℕ) {E : Type 0} (r : Result Found E) → IsView view → IfOk r (λ f. f ≡ search view words t)
     → IfOk r (λ f. f.probes ≤ t * (length view.candidates / 2)) × IfOk r (λ f. All (IsMeshableIn view.candidates) f.pairs)
@@ -58,8 +66,5 @@ found_in view words t (Ok f) sound is =
       rw is (meshable_among order view.candidates (shuffle_picks view.candidates words) (split_search order t).pairs (search_meshable order t)),
       λ n. rw is (
           let times : times_paired n (split_search order t).pairs ≤ times_in n (map (λ (c : Candidate). c.number) order) = search_once order t n in
-          let same : times_in n (map (λ (c : Candidate). c.number) order) ≡ times_in n (map (λ (c : Candidate). c.number) view.candidates)
-          = ap (λ (ns : List ℕ). times_in n ns) (map-shuffle (λ (c : Candidate). c.number) view.candidates words)
-          ∙ shuffle_keeps (map (λ (c : Candidate). c.number) view.candidates) words n in
-          let once = once_there n view.candidates sound.ascending in omega (arith, times, same, once)),
+          let once = shuffled_once view words sound n in omega (arith, times, once)),
     )

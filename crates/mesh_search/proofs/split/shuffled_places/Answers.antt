@@ -1,8 +1,9 @@
-use Rattle.std.proofs.Common.{◌≡◌, ℕ, List, ap, ◌∙◌, refl, length, []}
+use Rattle.std.proofs.Common.{◌≡◌, ℕ, List, ap, subst, sym, ◌∙◌, refl, length, []}
 use Rattle.std.specs.List.{range_with_len}
 use Rattle.std.proofs.lemmas.Result.{IfOk-weaker}
 use Rattle.model_search.specs.Search.{Candidate, View, shuffle}
-use Rattle.mesh_search.specs.Views.{candidate_at, chosen, no_candidate}
+use Rattle.mesh_search.specs.Views.{AreOnce, candidate_at, chosen, no_candidate}
+use Rattle.mesh_search.proofs.FoundPairs.{shuffled_once}
 use Rattle.mesh_search.proofs.Shuffled.{map-shuffle, all_places}
 use Rattle.mesh_search.proofs.split.shuffled_places.Goals as goal
 
@@ -17,3 +18,9 @@ returns-clause-value c =
     (λ v is. ap (λ (ps : List ℕ). chosen view ps) (is ∙ ap (λ (ps : List ℕ). shuffle ps words) places) ∙ map-shuffle (candidate_at view) numbers words
     ∙ ap (λ (cs : List Candidate). shuffle cs words) all)
     c.shuffle.ensures.value
+
+pub returns-clause-once : goal.returns-clause-once
+returns-clause-once c =
+    let view : View = c.args.view.now in
+    IfOk-weaker c.shuffle.result _ (λ v. AreOnce (chosen view v.items))
+    (λ v is. subst AreOnce (sym is) (shuffled_once view c.args.words.now c.in_ok-places.ensures.sound)) (returns-clause-value c)
