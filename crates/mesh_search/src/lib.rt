@@ -6,6 +6,7 @@
 //! and a set of slots.
 #![tactic(auto)]
 
+mod blocks;
 mod candidate;
 mod faults;
 mod from_index;
