@@ -1,5 +1,5 @@
 //! The job as far as its file was read, line by line.
-ghost use Rattle.std.specs.Prelude.{◌≡◌, ◌<◌, true, false, [], ◌∷◌, ◌++◌, Ok, Err, length, OnOk, IfOk, IfErr, IfSome, IsNone};
+ghost use Rattle.std.specs.Prelude.{◌≡◌, ◌<◌, true, false, Ok, Err, length, OnOk, IfOk, IfErr, IfSome, IsNone};
 ghost use Rattle.std.specs.List.{list_any};
 ghost use Rattle.model_jobs.specs.JobFiles.{blank_draft, has_ended, is_empty, job_of, plan_line, script_line, take_fields, take_in, version_of};
 ghost use Rattle.mesh_job.specs.Draft.{IsDraft, draft_of, is_in_header, section_of};
@@ -12,10 +12,10 @@ use crate::lines::{
 };
 use crate::numbers::number32;
 use crate::plan_lines::plan_line;
+use crate::script::close_script;
 use crate::{Job, Plan, PlanLine, Script, Scripts};
 use model_words::{FaultKind, Version};
 use std::alloc::Global;
-use std::mem;
 
 /// The most pages of an arena, and the most entries of a journal.
 const MAX_PAGES: u32 = 4096;
@@ -255,19 +255,4 @@ fn version_of(number: u32) -> Version
     } else {
         Version::One
     }
-}
-
-/// Puts the script that was read behind the finished ones, and begins another.
-fn close_script(
-    alloc: Global,
-    script: &mut Script,
-    finished: &mut Vec<Script>,
-) -> Result<(), LineFault>
-    ensures ok { OnOk result (finished.new.items ≡ finished.old.items ++ script.old ∷ []) }
-    ensures begun { script.new ≡ [] }
-    ensures err { IfErr result (λ fault. fault ≡ LineFault.Memory) }
-{
-    let script = mem::replace(script, Script::new(alloc));
-    finished.push(script)?;
-    Ok(())
 }

@@ -1,12 +1,14 @@
 //! One worker's commands.
-ghost use Rattle.std.specs.Prelude.{◌≡◌, ◌<◌, ◌^◌, [], ◌∷◌, ◌++◌, length, slice_get, ◌↔◌, IsTrue, IfOk, OnOk, OnErr, IfSome};
+ghost use Rattle.std.specs.Prelude.{◌≡◌, ◌<◌, ◌^◌, [], ◌∷◌, ◌++◌, length, slice_get, ◌↔◌, IsTrue, IfErr, IfOk, OnOk, OnErr, IfSome};
 ghost use Rattle.model_words.specs.Commands.{IsInRange};
 
 use crate::Commands;
+use crate::faults::LineFault;
 use mesh_packed::{MAX_BYTES, PackedCommand, pack_command, unpack_command};
 use model_words::Command;
 use std::alloc::{AllocError, Global};
 use std::marker::Model;
+use std::mem;
 
 /// The most bytes that the commands of a script store together.
 const MAX_KEPT: usize = 0xffff_ffff;
@@ -97,4 +99,19 @@ impl Script {
         }
         Ok(commands)
     }
+}
+
+/// Puts the script that was read behind the finished ones, and begins another.
+pub(crate) fn close_script(
+    alloc: Global,
+    script: &mut Script,
+    finished: &mut Vec<Script>,
+) -> Result<(), LineFault>
+    ensures ok { OnOk result (finished.new.items ≡ finished.old.items ++ script.old ∷ []) }
+    ensures begun { script.new ≡ [] }
+    ensures err { IfErr result (λ fault. fault ≡ LineFault.Memory) }
+{
+    let script = mem::replace(script, Script::new(alloc));
+    finished.push(script)?;
+    Ok(())
 }
