@@ -193,7 +193,7 @@ one_byte bytes byte (Err e) = refl
 one_byte bytes byte (Ok later) = ap Ok (sym (append_assoc bytes (byte ∷ []) later))
 
 -- two digits in front of others
-two_digits : (rest : List ℕ) → 2 ≤ length rest → rest ≡ get_or rest 0 0 ∷ get_or rest 1 0 ∷ drop 2 rest
+pub two_digits : (rest : List ℕ) → 2 ≤ length rest → rest ≡ get_or rest 0 0 ∷ get_or rest 1 0 ∷ drop 2 rest
 two_digits [] some = absurd (omega (arith, some))
 two_digits (x ∷ []) some = absurd (omega (arith, some))
 two_digits (x ∷ y ∷ rest) some = refl

@@ -4,8 +4,10 @@ pub mod FewFields
 pub mod FileEnds
 pub mod HexFields
 pub mod ManyFields
-pub mod PlanReadings
 pub mod PackedScripts
+pub mod PlanReadings
+pub mod QuickFields
+pub mod QuickLines
 pub mod Sames
 pub mod Splits
 pub mod Takes

@@ -65,6 +65,16 @@ line_at (b ∷ bs) (suc i) d h e printable =
     slice_split-cons_no (λ b. nat_eq b 10) b bs other ∙ ap (onto_first b) (line_at bs i d (omega (arith, h)) e parts.1)
     ∙ ap (λ (k : ℕ). (b ∷ take i bs) ∷ slice_split (λ b. nat_eq b 10) (drop k (b ∷ bs))) on
 
+-- a line of printable bytes, and what stands behind its end
+pub printable_line : (line more : List ℕ) → list_all is_printable line ≡ true
+    → slice_split (λ b. nat_eq b 10) (line ++ 10 ∷ more) ≡ line ∷ slice_split (λ b. nat_eq b 10) more
+printable_line [] more printable = refl
+printable_line (b ∷ bs) more printable =
+    let parts = and_parts (is_printable b) (list_all is_printable bs) printable in
+    let ends = between_by_test 32 126 b parts.0 in
+    let other : nat_eq b 10 ≡ false = ne_eqb b 10 (λ is. omega (arith, is, ends.0)) in
+    slice_split-cons_no (λ b. nat_eq b 10) b (bs ++ 10 ∷ more) other ∙ ap (onto_first b) (printable_line bs more parts.1)
+
 -- a text that begins with a line: it is the line, its end and the rest, and whatever follows the line's end stands behind the line
 pub record IsFirstLine (text line rest : List ℕ) : Type 0 where
   pub whole : text ≡ line ++ 10 ∷ rest

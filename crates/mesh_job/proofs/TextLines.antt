@@ -1,8 +1,10 @@
 -- The lines of a text, one by one.
-use Rattle.std.proofs.Common.{◌≡◌, ℕ, ◌+◌, ◌<◌, ◌≤◌, true, false, List, [], ◌∷◌, ◌++◌, Result, Ok, Err, length, ap, append_assoc, refl, sym, ◌∙◌, arith}
+use Rattle.std.proofs.Common.{◌≡◌, ℕ, ◌+◌, ◌<◌, ◌≤◌, true, false, not, nat_lt, List, [], ◌∷◌, ◌++◌, Result, Ok, Err, length, ap, append_assoc, refl, sym, ◌∙◌, arith}
 use Rattle.std.specs.List.{list_all}
 use Rattle.std.proofs.lemmas.Bool.{le-leb, lt-leb}
 use Rattle.std.proofs.lemmas.List.{length-append}
+use Rattle.model_words.proofs.Chains.{refuse_if_went}
+use Rattle.model_jobs.proofs.FieldReadings.{not_refused}
 use Rattle.model_jobs.specs.JobFiles.{Draft, fault_at, has_ended, is_printable, lines_in, or_fault, take_fields, take_line}
 use Rattle.model_jobs.specs.Jobs.{Job}
 use Rattle.model_words.specs.Words.{◌>>=◌}
@@ -12,7 +14,7 @@ use Rattle.model_words.specs.declared.faults.TextFault.{TextFault}
 use Rattle.mesh_job.specs.Reading.{IsFaultOfLine, IsFaultOfStep, IsFaultyLine, IsReadOn, IsSplit, line_fields, text_lines}
 use Rattle.mesh_job.specs.declared.faults.LineFault.{LineFault}
 use Rattle.mesh_job.specs.declared.faults.LineFault.TheVariants.{Kind as LineKind, Memory as LineMemory}
-use Rattle.mesh_job.proofs.Splits.{Parts, first_line, some_part, unended_more}
+use Rattle.mesh_job.proofs.Splits.{Parts, first_line, printable_line, some_part, unended_more}
 
 -- what is left of a text once a line was taken, or the line's fault
 abbrev after_line : ℕ → List (List ℕ) → Result Draft FaultKind → Result Job TextFault
@@ -101,3 +103,19 @@ line_fault text line rest draft (LineKind kind) is going refused = λ number mor
     line_step_more text line rest number draft more is.lines going
     ∙ ap (after_line number (text_lines (rest ++ more))) (fields_taken draft line is.short is.printable ∙ refused)
 line_fault text line rest draft LineMemory is going h = tt
+
+-- a text that begins with the spelling of a line that is taken is read on from behind the line's end
+pub spelt_line_taken : (text line rest : List ℕ) (draft draft' : Draft) → text ≡ line ++ 10 ∷ rest → has_ended draft.section ≡ false
+    → take_line draft line ≡ Ok draft' → IsReadOn draft text draft' rest
+spelt_line_taken text line rest draft draft' is going taken =
+    let short = refuse_if_went LongLine (nat_lt 1024 (length line)) _ draft' taken in
+    let plain = refuse_if_went Byte (not (list_all is_printable line)) _ draft' short.1 in
+    let printable = not_refused (list_all is_printable line) plain.0 in
+    record {
+      taken = line ++ 10 ∷ [];
+      whole = is ∙ sym (append_assoc line (10 ∷ []) rest);
+      reads = λ number more.
+          ap (λ (bytes : List ℕ). lines_in number draft (text_lines bytes)) (append_assoc line (10 ∷ []) more)
+          ∙ line_step (line ++ 10 ∷ more) line more number draft (printable_line line more printable) going
+          ∙ ap (after_line number (text_lines more)) taken;
+    }

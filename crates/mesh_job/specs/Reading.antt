@@ -1,5 +1,5 @@
 -- The lines and fields of a text, and what the reader tells of a text that it can't read.
-use Rattle.std.specs.Prelude.{◌≡◌, ℕ, ◌+◌, ◌≤◌, Bool, true, false, nat_eq, List, [], ◌∷◌, ◌++◌, Result, Err, is_some, length, map}
+use Rattle.std.specs.Prelude.{◌≡◌, ℕ, ◌+◌, ◌≤◌, Bool, true, false, nat_eq, List, [], ◌∷◌, ◌++◌, Result, Err, is_some, length, map, slice_index}
 use Rattle.std.specs.List.{list_all, slice_split}
 use Rattle.model_jobs.specs.JobFiles.{Draft, fault_at, has_ended, hex_value, is_between, is_printable, lines_in}
 use Rattle.model_words.specs.declared.faults.FaultKind.{FaultKind}
@@ -18,6 +18,10 @@ is_hex_digit byte = is_some (hex_value byte)
 -- the byte is a decimal digit
 abbrev pub is_decimal_digit : ℕ → Bool
 is_decimal_digit byte = is_between 48 57 byte
+
+-- some digits have no zero before others
+abbrev pub LeadsNoZero : List ℕ → Type 0
+LeadsNoZero digits = (2 ≤ length digits) × (slice_index digits 0 ≡ 48) → ⊥
 
 -- the lines of a text, the last of them what follows the last line end
 abbrev pub text_lines : List ℕ → List (List ℕ)

@@ -12,10 +12,12 @@ use crate::lines::{
 };
 use crate::numbers::number32;
 use crate::plan_lines::plan_line;
+use crate::quick::{quick_command, quick_line};
 use crate::script::close_script;
 use crate::{Job, Plan, PlanLine, Script, Scripts};
+use model_jobs::text_laws::lines_read_back;
 use model_words::{FaultKind, Version};
-use std::alloc::Global;
+use std::alloc::{AllocError, Global};
 
 /// The most pages of an arena, and the most entries of a journal.
 const MAX_PAGES: u32 = 4096;
@@ -102,12 +104,45 @@ impl Draft {
         ensures part { IfOk result (λ next. IsNone next → IsPartOfLine text.now × (self.new ≡ self.old)) }
         ensures err { IfErr result (λ fault. IsFaultOfLine (draft_of self.old) text.now fault) }
     {
+        if let Some(rest) = self.take_quick_line(text)? {
+            return Ok(Some(rest));
+        }
         let mut few = FewFields::new();
         if let Some(rest) = few_fields(text, &mut few) {
             self.take(few.as_slice())?;
             return Ok(Some(rest));
         }
         self.take_long_line(text)
+    }
+
+    /// Takes the next line of the text, where it is one that most texts have, and gives the bytes behind it. None elsewhere: then nothing
+    /// is taken.
+    #[inline]
+    fn take_quick_line<'a>(&mut self, text: &'a [u8]) -> Result<Option<&'a [u8]>, AllocError>
+        requires draft { IsDraft self.old }
+        ensures draft { OnOk result (IsDraft self.new) }
+        ensures shorter { IfOk result (λ next. IfSome next (λ rest. length rest.now < length text.now)) }
+        ensures some { IfOk result (λ next. IfSome next (λ rest. IsReadOn (draft_of self.old) text.now (draft_of self.new) rest.now)) }
+        ensures none { IfOk result (λ next. IsNone next → self.new ≡ self.old) }
+    {
+        lines_read_back();
+        match self.section {
+            Section::Worker(_) => {
+                let Some((command, rest)) = quick_command(text) else {
+                    return Ok(None);
+                };
+                self.script.push(&command)?;
+                Ok(Some(rest))
+            }
+            Section::Plan => {
+                let Some((line, rest)) = quick_line(text, self.version, self.workers) else {
+                    return Ok(None);
+                };
+                self.plan.push(line)?;
+                Ok(Some(rest))
+            }
+            _ => Ok(None),
+        }
     }
 
     /// The same, for a line that has a fault or many fields, or that isn't whole.

@@ -15,7 +15,8 @@ const MAX_ADDRESS: u32 = 0xfff_ffff;
 const NO_DIGIT: u8 = 16;
 
 /// The value of a hexadecimal digit in lower case.
-fn digit(byte: u8) -> Option<u8>
+#[inline]
+pub(crate) fn digit(byte: u8) -> Option<u8>
     ensures value { result ≡ hex_value byte }
     ensures below { IfSome result (λ value. value < 16) }
 {
@@ -36,7 +37,8 @@ fn digit(byte: u8) -> Option<u8>
 }
 
 /// The byte of two hexadecimal digits. HEX where one of them is no such digit.
-fn byte_of(high: u8, low: u8) -> Result<u8, FaultKind>
+#[inline]
+pub(crate) fn byte_of(high: u8, low: u8) -> Result<u8, FaultKind>
     ensures { result ≡ byte_from high low }
 {
     let high = digit(high).ok_or(FaultKind::Hex)?;

@@ -17,6 +17,8 @@ mod lines;
 mod numbers;
 mod plan;
 mod plan_lines;
+mod quick;
+mod quick_fields;
 mod reader;
 mod script;
 

@@ -197,7 +197,7 @@ fn class(field: &[u8]) -> Result<Class, FaultKind>
 }
 
 /// Whether a class has this size.
-fn is_class(size: u64) -> bool
+pub(crate) fn is_class(size: u64) -> bool
     ensures { IsTrue result ↔ IsSome (row_of size) }
 {
     match size {

@@ -1,0 +1,168 @@
+//! The fields of the lines that most texts have, each with the byte that ends it, in one pass over the text. None where a field isn't
+//! spelt so: then its line is read field by field.
+ghost use Rattle.std.specs.Prelude.{◌≡◌, ◌∷◌, ◌++◌, ◌≤◌, decimal, length, IfSome, IsTrue};
+ghost use Rattle.std.specs.List.{All};
+ghost use Rattle.model_jobs.specs.Texts.{address_text, byte_text, bytes_text};
+ghost use Rattle.mesh_job.specs.Reading.{LeadsNoZero, is_decimal_digit};
+
+use crate::hex::{byte_of, digit, has_leading_zero};
+use arrayvec::ArrayVec;
+use model_words::MAX_BYTES;
+
+/// The most decimal digits that are read: so many fit 64 bits, whatever they are.
+const MOST_DIGITS: usize = 19;
+
+/// The most digits of an address.
+const MOST_HEX_DIGITS: usize = 7;
+
+/// The bytes behind this one, where the text begins with it.
+#[inline]
+pub(crate) fn behind(text: &[u8], byte: u8) -> Option<&[u8]>
+    ensures { IfSome result (λ rest. text.now ≡ byte ∷ rest.now) }
+{
+    match text {
+        [first, rest @ ..] if *first == byte => Some(rest),
+        _ => None,
+    }
+}
+
+/// Whether the byte is a decimal digit.
+#[inline]
+fn is_decimal_digit(byte: u8) -> bool
+    ensures { result ≡ is_decimal_digit byte }
+{
+    byte.is_ascii_digit()
+}
+
+/// Whether some digits are the spelling of a number: there is one at least, and no zero before others.
+#[inline]
+fn spell_number(digits: &[u8]) -> bool
+    ensures some { IsTrue result → 1 ≤ length digits.now }
+    ensures first { IsTrue result → LeadsNoZero digits.now }
+{
+    !digits.is_empty() && !has_leading_zero(digits)
+}
+
+/// The number that the text's first digits spell, and the bytes behind them.
+#[inline]
+fn digits(text: &[u8]) -> Option<(u64, &[u8])>
+    ensures { IfSome result (λ read. text.now ≡ decimal read.0 ++ read.1.now) }
+{
+    let most = text.len().min(MOST_DIGITS);
+    let mut value = 0u64;
+    let mut place = 0;
+    while place < most && is_decimal_digit(text[place]) {
+        value = value * 10 + u64::from(text[place] - b'0');
+        place += 1;
+    }
+    if !spell_number(&text[..place]) {
+        return None;
+    }
+    Some((value, &text[place..]))
+}
+
+/// A word of 64 bits, and the bytes behind its end.
+#[inline]
+pub(crate) fn word(text: &[u8], end: u8) -> Option<(u64, &[u8])>
+    ensures { IfSome result (λ read. text.now ≡ decimal read.0 ++ end ∷ read.1.now) }
+{
+    let (value, rest) = digits(text)?;
+    let rest = behind(rest, end)?;
+    Some((value, rest))
+}
+
+/// A number from `least` to `most`, and the bytes behind its end.
+#[inline]
+pub(crate) fn number(text: &[u8], least: u32, most: u32, end: u8) -> Option<(u32, &[u8])>
+    ensures spelt { IfSome result (λ read. text.now ≡ decimal read.0 ++ end ∷ read.1.now) }
+    ensures least { IfSome result (λ read. least ≤ read.0) }
+    ensures most { IfSome result (λ read. read.0 ≤ most) }
+{
+    let (value, rest) = word(text, end)?;
+    if value < u64::from(least) {
+        return None;
+    }
+    if value > u64::from(most) {
+        return None;
+    }
+    Some((value as u32, rest))
+}
+
+/// The number of a root cell, and the bytes behind its end.
+#[inline]
+pub(crate) fn cell(text: &[u8], end: u8) -> Option<(u8, &[u8])>
+    ensures { IfSome result (λ read. text.now ≡ decimal read.0 ++ end ∷ read.1.now) }
+{
+    let (value, rest) = number(text, 0, u32::from(u8::MAX), end)?;
+    Some((value as u8, rest))
+}
+
+/// The number that the text's first hexadecimal digits spell, and the bytes behind them.
+#[inline]
+fn hex_digits(text: &[u8]) -> Option<(u32, &[u8])>
+    ensures spelt { IfSome result (λ read. text.now ≡ address_text read.0 ++ read.1.now) }
+    ensures most { IfSome result (λ read. read.0 ≤ 268435455) }
+{
+    let most = text.len().min(MOST_HEX_DIGITS);
+    let mut value = 0u32;
+    let mut place = 0;
+    while place < most {
+        let Some(next) = digit(text[place]) else {
+            break;
+        };
+        value = value * 16 + u32::from(next);
+        place += 1;
+    }
+    if !spell_number(&text[..place]) {
+        return None;
+    }
+    Some((value, &text[place..]))
+}
+
+/// An address, and the bytes behind its end.
+#[inline]
+pub(crate) fn address(text: &[u8], end: u8) -> Option<(u32, &[u8])>
+    ensures spelt { IfSome result (λ read. text.now ≡ address_text read.0 ++ end ∷ read.1.now) }
+    ensures most { IfSome result (λ read. read.0 ≤ 268435455) }
+{
+    let (value, rest) = hex_digits(text)?;
+    let rest = behind(rest, end)?;
+    Some((value, rest))
+}
+
+/// A byte, and the bytes behind its end.
+#[inline]
+pub(crate) fn byte(text: &[u8], end: u8) -> Option<(u8, &[u8])>
+    ensures { IfSome result (λ read. text.now ≡ byte_text read.0 ++ end ∷ read.1.now) }
+{
+    let [high, low, rest @ ..] = text else {
+        return None;
+    };
+    let value = byte_of(*high, *low).ok()?;
+    let rest = behind(rest, end)?;
+    Some((value, rest))
+}
+
+/// From 1 to 32 bytes, and the bytes behind their end.
+#[inline]
+pub(crate) fn bytes(text: &[u8], end: u8) -> Option<(ArrayVec<u8, MAX_BYTES>, &[u8])>
+    ensures spelt { IfSome result (λ read. text.now ≡ bytes_text read.0.items ++ end ∷ read.1.now) }
+    ensures some { IfSome result (λ read. 1 ≤ length read.0.items) }
+    ensures most { IfSome result (λ read. length read.0.items ≤ 32) }
+    ensures bytes { IfSome result (λ read. All (λ b. b ≤ 255) read.0.items) }
+{
+    let mut bytes = ArrayVec::new();
+    let mut rest = text;
+    while let [high, low, later @ ..] = rest {
+        let Ok(byte) = byte_of(*high, *low) else {
+            break;
+        };
+        bytes.try_push(byte).ok()?;
+        rest = later;
+    }
+    if bytes.is_empty() {
+        return None;
+    }
+    let rest = behind(rest, end)?;
+    Some((bytes, rest))
+}
