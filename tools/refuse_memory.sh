@@ -88,8 +88,8 @@ case_fault() {
     [ "$refused" -eq 1 ] || [ "$last" = "$name: done" ] || echo " $last though nothing was refused"
     case $name in
         mesh) [ "$last" != "mesh: done" ] || [ "$stretches/$within" = 1/0 ] || echo " $within allocations in $stretches stretches" ;;
-        # Two searchers a round: the nine classes without candidates open one, the tenth makes two.
-        search) [ "$last" != "search: done" ] || [ "$threads" -eq 22 ] || echo " $threads threads" ;;
+        # Two searchers a class: its first round is theirs, and a later one is made alone.
+        search) [ "$last" != "search: done" ] || [ "$threads" -eq 20 ] || echo " $threads threads" ;;
     esac
 }
 
