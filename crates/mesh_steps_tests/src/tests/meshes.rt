@@ -37,6 +37,64 @@ fn begun<R: Abort + AllocGlobal>(rt: &R, steps: usize) -> Tried<'_, R> {
     tried
 }
 
+/// How the heap and the book of a test begin.
+#[derive(Clone, Copy, Debug)]
+enum Start {
+    /// So many objects of the class 2048.
+    Objects(u32),
+    /// Two groups that can be meshed.
+    TwoGroups,
+    /// The same in an arena of two pages.
+    TwoPages,
+    /// Two groups that can be meshed, with a byte stored, and so many steps of their mesh made.
+    Begun(usize),
+    /// Two groups after a mesh that was cancelled, and unwound.
+    Unwound,
+    /// Two groups of three pages, and so many steps of their mesh made.
+    Long(u32),
+    /// Four groups that became two.
+    MeshedTwice,
+    /// Two groups of each of two classes.
+    TwoClasses,
+}
+
+/// A heap and a book that begin so.
+fn started<R: Abort + AllocGlobal>(rt: &R, start: Start) -> Tried<'_, R> {
+    match start {
+        Start::Objects(count) => {
+            let mut tried = Tried::open(rt, 16);
+            tried.make(0..count, 2048, 0x1000, 0x800);
+            tried
+        },
+        Start::TwoGroups => two_groups(rt, 16),
+        Start::TwoPages => two_groups(rt, 2),
+        Start::Begun(steps) => begun(rt, steps),
+        Start::Unwound => unwound(rt),
+        Start::Long(steps) => stopped_after(rt, steps),
+        Start::MeshedTwice => meshed_twice(rt),
+        Start::TwoClasses => of_two_classes(rt),
+    }
+}
+
+/// Asserts that a heap and a book that begin so answer calls so, one part after another.
+fn played<R: Abort + AllocGlobal>(rt: &R, start: Start, parts: &[&[(Call, Answer)]]) {
+    let mut tried = started(rt, start);
+    for part in parts {
+        tried.play(part);
+    }
+}
+
+/// What is answered once the two groups are one.
+static AFTER_THE_MESH: [(Call, Answer); 7] = [
+    (Call::Peek(0x1000), Answer::Refused(Refusal::Stray)),
+    (Call::Peek(0x2800), Answer::Refused(Refusal::Stray)),
+    (Call::Peek(0x2000), Answer::Bytes(1, 0xab)),
+    (Call::Free(2), Answer::Done),
+    (Call::New(2048, 0), Answer::Made(4, 0x1000)),
+    (Call::Read(2, 0, 1), Answer::Refused(Refusal::Freed)),
+    (Call::Peek(0x2000), Answer::Refused(Refusal::Stray)),
+];
+
 #[test]
 fn reads_are_answered_at_each_step(rt: HostRuntime) {
     let mut tried = begun(&rt, 0);
@@ -44,66 +102,80 @@ fn reads_are_answered_at_each_step(rt: HostRuntime) {
         tried.check(*step, *stepped);
         tried.check(Call::Read(2, 0, 1), Answer::Bytes(1, 0xab));
     }
-    tried.play(&[
-        (Call::Peek(0x1000), Answer::Refused(Refusal::Stray)),
-        (Call::Peek(0x2800), Answer::Refused(Refusal::Stray)),
-        (Call::Peek(0x2000), Answer::Bytes(1, 0xab)),
-        (Call::Free(2), Answer::Done),
-        (Call::New(2048, 0), Answer::Made(4, 0x1000)),
-        (Call::Read(2, 0, 1), Answer::Refused(Refusal::Freed)),
-        (Call::Peek(0x2000), Answer::Refused(Refusal::Stray)),
-    ]);
+    tried.play(&AFTER_THE_MESH);
 }
+
+/// What is answered while the second group's page is read-only.
+static WHILE_PROTECTED: [(Call, Answer); 6] = [
+    (Call::Write(2, 0, &[0xcd]), Answer::Blocked),
+    (Call::Read(2, 0, 1), Answer::Bytes(1, 0xab)),
+    (Call::Write(1, 0, &[0xcd]), Answer::Done),
+    (Call::Poke(0x2800, 0xcd), Answer::Refused(Refusal::Stray)),
+    (Call::Poke(0x1800, 0xcd), Answer::Done),
+    (Call::Poke(0x2000, 0xcd), Answer::Blocked),
+];
+
+/// What is answered once it is remapped, and still read-only.
+static WHILE_REMAPPED: [(Call, Answer); 2] = [
+    (Call::Write(2, 0, &[0xcd]), Answer::Blocked),
+    (Call::Read(2, 0, 1), Answer::Bytes(1, 0xab)),
+];
+
+/// What is answered once it is writable again.
+static WHILE_WRITABLE: [(Call, Answer); 3] = [
+    (Call::Write(2, 0, &[0xcd]), Answer::Done),
+    (Call::Read(2, 0, 1), Answer::Bytes(1, 0xcd)),
+    (Call::Read(1, 0, 1), Answer::Bytes(1, 0xcd)),
+];
 
 #[test]
 fn stores_are_blocked_while_a_page_is_protected(rt: HostRuntime) {
-    let mut tried = begun(&rt, 1);
-    tried.play(&[
-        (Call::Write(2, 0, &[0xcd]), Answer::Blocked),
-        (Call::Read(2, 0, 1), Answer::Bytes(1, 0xab)),
-        (Call::Write(1, 0, &[0xcd]), Answer::Done),
-        (Call::Poke(0x2800, 0xcd), Answer::Refused(Refusal::Stray)),
-        (Call::Poke(0x1800, 0xcd), Answer::Done),
-        (Call::Poke(0x2000, 0xcd), Answer::Blocked),
-    ]);
-    tried.play_part(&STEPS, 1..4);
-    tried.check(Call::Write(2, 0, &[0xcd]), Answer::Blocked);
-    tried.check(Call::Read(2, 0, 1), Answer::Bytes(1, 0xab));
-    tried.play_part(&STEPS, 4..5);
-    tried.check(Call::Write(2, 0, &[0xcd]), Answer::Done);
-    tried.check(Call::Read(2, 0, 1), Answer::Bytes(1, 0xcd));
-    tried.check(Call::Read(1, 0, 1), Answer::Bytes(1, 0xcd));
+    played(
+        &rt,
+        Start::Begun(1),
+        &[
+            &WHILE_PROTECTED,
+            &STEPS[1..4],
+            &WHILE_REMAPPED,
+            &STEPS[4..5],
+            &WHILE_WRITABLE,
+        ],
+    );
 }
+
+/// The object that a running mesh would copy is freed.
+static FREED: [(Call, Answer); 1] = [(Call::Free(2), Answer::Done)];
 
 #[test]
 fn an_object_is_freed_in_a_mesh(rt: HostRuntime) {
-    let mut tried = begun(&rt, 1);
-    tried.check(Call::Free(2), Answer::Done);
-    tried.play_part(&STEPS, 1..6);
+    played(&rt, Start::Begun(1), &[&FREED, &STEPS[1..6]]);
 }
+
+/// Meshes of groups with a slot in common, of one group, and of a number that is no group.
+static NO_MESHES: [(Call, Answer); 6] = [
+    (Call::Begin(1, 0), Answer::Refused(Refusal::Overlap)),
+    (Call::Begin(1, 1), Answer::Refused(Refusal::Same)),
+    (Call::Begin(1, 9), Answer::Refused(Refusal::NoGroup)),
+    (Call::Whole(1, 0), Answer::Refused(Refusal::Overlap)),
+    (Call::Whole(1, 1), Answer::Refused(Refusal::Same)),
+    (Call::Whole(1, 9), Answer::Refused(Refusal::NoGroup)),
+];
 
 #[test]
 fn groups_that_do_not_mesh_are_refused(rt: HostRuntime) {
-    let mut tried = Tried::open(&rt, 16);
-    tried.make(0..4, 2048, 0x1000, 0x800);
-    tried.play(&[
-        (Call::Begin(1, 0), Answer::Refused(Refusal::Overlap)),
-        (Call::Begin(1, 1), Answer::Refused(Refusal::Same)),
-        (Call::Begin(1, 9), Answer::Refused(Refusal::NoGroup)),
-        (Call::Whole(1, 0), Answer::Refused(Refusal::Overlap)),
-        (Call::Whole(1, 1), Answer::Refused(Refusal::Same)),
-        (Call::Whole(1, 9), Answer::Refused(Refusal::NoGroup)),
-    ]);
+    played(&rt, Start::Objects(4), &[&NO_MESHES]);
 }
+
+/// An object that has a page only after a mesh.
+static ROOM_MADE: [(Call, Answer); 3] = [
+    (Call::New(64, 0), Answer::Refused(Refusal::NoPages)),
+    (Call::Whole(1, 0), Answer::Pages(1)),
+    (Call::New(64, 0), Answer::Made(4, 0x3000)),
+];
 
 #[test]
 fn a_mesh_makes_room(rt: HostRuntime) {
-    let mut tried = two_groups(&rt, 2);
-    tried.play(&[
-        (Call::New(64, 0), Answer::Refused(Refusal::NoPages)),
-        (Call::Whole(1, 0), Answer::Pages(1)),
-        (Call::New(64, 0), Answer::Made(4, 0x3000)),
-    ]);
+    played(&rt, Start::TwoPages, &[&ROOM_MADE]);
 }
 
 /// The two groups, after a mesh that was cancelled when one slot was copied, and unwound.
@@ -114,54 +186,66 @@ fn unwound<R: Abort + AllocGlobal>(rt: &R) -> Tried<'_, R> {
     tried
 }
 
+/// A mesh that is begun again after it was cancelled.
+static BEGUN_AGAIN: [(Call, Answer); 3] = [
+    (Call::Step(2048), Answer::Refused(Refusal::NoMesh)),
+    (Call::Write(2, 0, &[0xee]), Answer::Done),
+    (Call::Begin(1, 0), Answer::Left(6)),
+];
+
+/// A cancel behind the first remap.
+static TOO_LATE: [(Call, Answer); 1] = [(Call::Cancel(2048), Answer::Refused(Refusal::TooLate))];
+
 #[test]
 fn a_mesh_is_cancelled_before_its_first_remap(rt: HostRuntime) {
-    let mut tried = unwound(&rt);
-    tried.play(&[
-        (Call::Step(2048), Answer::Refused(Refusal::NoMesh)),
-        (Call::Write(2, 0, &[0xee]), Answer::Done),
-        (Call::Begin(1, 0), Answer::Left(6)),
-    ]);
-    tried.play_part(&STEPS, 0..4);
-    let late = Answer::Refused(Refusal::TooLate);
-    tried.check(Call::Cancel(2048), late);
+    played(
+        &rt,
+        Start::Unwound,
+        &[&BEGUN_AGAIN, &STEPS[0..4], &TOO_LATE],
+    );
 }
+
+/// Cancels before the first step, while the mesh unwinds, and after it.
+static CANCELLED_TWICE: [(Call, Answer); 10] = [
+    (Call::Cancel(2048), Answer::Left(0)),
+    (Call::Step(2048), Answer::Refused(Refusal::NoMesh)),
+    (Call::Begin(1, 0), Answer::Left(6)),
+    (Call::Step(2048), Answer::Stepped(StepKind::Protect, 5)),
+    (Call::Cancel(2048), Answer::Left(1)),
+    (Call::Running(2048), Answer::Runs(true)),
+    (Call::Cancel(2048), Answer::Left(1)),
+    (Call::Step(2048), Answer::Stepped(StepKind::Unprotect, 0)),
+    (Call::Running(2048), Answer::Runs(false)),
+    (Call::Cancel(2048), Answer::Refused(Refusal::NoMesh)),
+];
 
 #[test]
 fn a_further_cancel_changes_nothing(rt: HostRuntime) {
-    let mut tried = begun(&rt, 0);
-    tried.play(&[
-        (Call::Cancel(2048), Answer::Left(0)),
-        (Call::Step(2048), Answer::Refused(Refusal::NoMesh)),
-        (Call::Begin(1, 0), Answer::Left(6)),
-        (Call::Step(2048), Answer::Stepped(StepKind::Protect, 5)),
-        (Call::Cancel(2048), Answer::Left(1)),
-        (Call::Running(2048), Answer::Runs(true)),
-        (Call::Cancel(2048), Answer::Left(1)),
-        (Call::Step(2048), Answer::Stepped(StepKind::Unprotect, 0)),
-        (Call::Running(2048), Answer::Runs(false)),
-        (Call::Cancel(2048), Answer::Refused(Refusal::NoMesh)),
-    ]);
+    played(&rt, Start::Begun(0), &[&CANCELLED_TWICE]);
 }
+
+/// An object in the slot that was copied to.
+static HIDDEN: [(Call, Answer); 2] = [
+    (Call::New(2048, 0), Answer::Made(4, 0x1000)),
+    (Call::Read(4, 0, 1), Answer::Bytes(1, 0x00)),
+];
 
 #[test]
 fn a_new_object_hides_what_a_cancelled_mesh_copied(rt: HostRuntime) {
-    let mut tried = unwound(&rt);
-    tried.play(&[
-        (Call::New(2048, 0), Answer::Made(4, 0x1000)),
-        (Call::Read(4, 0, 1), Answer::Bytes(1, 0x00)),
-    ]);
+    played(&rt, Start::Unwound, &[&HIDDEN]);
 }
+
+/// Calls with the groups of a running mesh.
+static CLOSED: [(Call, Answer); 4] = [
+    (Call::Begin(1, 0), Answer::Refused(Refusal::Busy)),
+    (Call::Begin(1, 1), Answer::Refused(Refusal::Same)),
+    (Call::Sweep(1), Answer::Refused(Refusal::Busy)),
+    (Call::New(2048, 0), Answer::Made(4, 0x3000)),
+];
 
 #[test]
 fn groups_of_a_running_mesh_are_closed(rt: HostRuntime) {
-    let mut tried = begun(&rt, 0);
-    tried.play(&[
-        (Call::Begin(1, 0), Answer::Refused(Refusal::Busy)),
-        (Call::Begin(1, 1), Answer::Refused(Refusal::Same)),
-        (Call::Sweep(1), Answer::Refused(Refusal::Busy)),
-        (Call::New(2048, 0), Answer::Made(4, 0x3000)),
-    ]);
+    played(&rt, Start::Begun(0), &[&CLOSED]);
 }
 
 /// Bytes of the object that crosses pages. The first four lie in one page, the others in the next.
@@ -200,18 +284,24 @@ fn stopped_after<R: Abort + AllocGlobal>(rt: &R, steps: u32) -> Tried<'_, R> {
     tried
 }
 
+/// What is answered once the first of three pages is remapped, and the steps up to the first release.
+static HALF_REMAPPED: [(Call, Answer); 11] = [
+    HELD,
+    (Call::Peek(0x4fff), Answer::Bytes(1, 0x04)),
+    (Call::Peek(0x5000), Answer::Bytes(1, 0x05)),
+    (Call::Write(10, 0, &[0xff]), Answer::Blocked),
+    (Call::Step(1536), Answer::Stepped(StepKind::Remap, 7)),
+    (Call::Step(1536), Answer::Stepped(StepKind::Remap, 6)),
+    (Call::Step(1536), Answer::Stepped(StepKind::Unprotect, 5)),
+    (Call::Step(1536), Answer::Stepped(StepKind::Unprotect, 4)),
+    (Call::Step(1536), Answer::Stepped(StepKind::Unprotect, 3)),
+    (Call::Step(1536), Answer::Stepped(StepKind::Release, 2)),
+    (Call::Report, Answer::Counts(8, 12_000, 6, 5, 1)),
+];
+
 #[test]
 fn an_object_across_pages_is_remapped_page_by_page(rt: HostRuntime) {
-    let mut tried = stopped_after(&rt, 12);
-    tried.play(&[
-        HELD,
-        (Call::Peek(0x4fff), Answer::Bytes(1, 0x04)),
-        (Call::Peek(0x5000), Answer::Bytes(1, 0x05)),
-        (Call::Write(10, 0, &[0xff]), Answer::Blocked),
-    ]);
-    step_long(&mut tried, 12..18);
-    let counts = Answer::Counts(8, 12_000, 6, 5, 1);
-    tried.check(Call::Report, counts);
+    played(&rt, Start::Long(12), &[&HALF_REMAPPED]);
 }
 
 /// What a store is answered, blocked or not.
@@ -255,61 +345,78 @@ fn an_abandoned_mesh_keeps_its_answers(rt: HostRuntime) {
     }
 }
 
+/// A mesh of three pages that is cancelled once all are read-only.
+static UNWINDING: [(Call, Answer); 11] = [
+    (Call::Cancel(1536), Answer::Left(3)),
+    (Call::Write(10, 0, &[0xff]), Answer::Blocked),
+    (Call::Step(1536), Answer::Stepped(StepKind::Unprotect, 2)),
+    (Call::Write(10, 0, &[0xff]), Answer::Done),
+    (Call::Write(10, 1020, CROSSING), Answer::Blocked),
+    (Call::Cancel(1536), Answer::Left(2)),
+    (Call::Step(1536), Answer::Stepped(StepKind::Unprotect, 1)),
+    (Call::Write(10, 1020, CROSSING), Answer::Done),
+    (Call::Step(1536), Answer::Stepped(StepKind::Unprotect, 0)),
+    (Call::Step(1536), Answer::Refused(Refusal::NoMesh)),
+    (Call::Report, Answer::Counts(8, 12_000, 6, 6, 0)),
+];
+
 #[test]
 fn a_cancelled_mesh_unwinds(rt: HostRuntime) {
     for steps in 3..12 {
-        let mut tried = stopped_after(&rt, steps);
-        tried.play(&[
-            (Call::Cancel(1536), Answer::Left(3)),
-            (Call::Write(10, 0, &[0xff]), Answer::Blocked),
-            (Call::Step(1536), Answer::Stepped(StepKind::Unprotect, 2)),
-            (Call::Write(10, 0, &[0xff]), Answer::Done),
-            (Call::Write(10, 1020, CROSSING), Answer::Blocked),
-            (Call::Cancel(1536), Answer::Left(2)),
-            (Call::Step(1536), Answer::Stepped(StepKind::Unprotect, 1)),
-            (Call::Write(10, 1020, CROSSING), Answer::Done),
-            (Call::Step(1536), Answer::Stepped(StepKind::Unprotect, 0)),
-            (Call::Step(1536), Answer::Refused(Refusal::NoMesh)),
-            (Call::Report, Answer::Counts(8, 12_000, 6, 6, 0)),
-        ]);
+        played(&rt, Start::Long(steps), &[&UNWINDING]);
     }
 }
 
+/// An object in the slot that two groups would have meshed by.
+static IN_THE_WAY: [(Call, Answer); 7] = [
+    (Call::Free(1), Answer::Done),
+    (Call::Free(3), Answer::Done),
+    (Call::Free(4), Answer::Done),
+    (Call::Free(6), Answer::Done),
+    (Call::New(2048, 0), Answer::Made(8, 0x1800)),
+    (Call::Begin(3, 0), Answer::Refused(Refusal::Overlap)),
+    (Call::Begin(1, 2), Answer::Left(6)),
+];
+
 #[test]
 fn a_new_object_stands_in_the_way(rt: HostRuntime) {
-    let mut tried = Tried::open(&rt, 16);
-    tried.make(0..8, 2048, 0x1000, 0x800);
-    tried.free(&[1, 3, 4, 6]);
-    tried.play(&[
-        (Call::New(2048, 0), Answer::Made(8, 0x1800)),
-        (Call::Begin(3, 0), Answer::Refused(Refusal::Overlap)),
-        (Call::Begin(1, 2), Answer::Left(6)),
-    ]);
+    played(&rt, Start::Objects(8), &[&IN_THE_WAY]);
 }
+
+/// What is counted before and after a mesh.
+static PAGE_SAVED: [(Call, Answer); 3] = [
+    (Call::Report, Answer::Counts(2, 4096, 2, 2, 0)),
+    (Call::Whole(1, 0), Answer::Pages(1)),
+    (Call::Report, Answer::Counts(2, 4096, 2, 1, 1)),
+];
 
 #[test]
 fn a_mesh_saves_a_page(rt: HostRuntime) {
-    let mut tried = two_groups(&rt, 16);
-    tried.play(&[
-        (Call::Report, Answer::Counts(2, 4096, 2, 2, 0)),
-        (Call::Whole(1, 0), Answer::Pages(1)),
-        (Call::Report, Answer::Counts(2, 4096, 2, 1, 1)),
-    ]);
+    played(&rt, Start::TwoGroups, &[&PAGE_SAVED]);
 }
+
+/// A group that is swept once it is empty.
+static SWEPT: [(Call, Answer); 7] = [
+    (Call::Free(1), Answer::Done),
+    (Call::Sweep(1), Answer::Refused(Refusal::NotEmpty)),
+    (Call::Sweep(0), Answer::Pages(1)),
+    (Call::Sweep(0), Answer::Refused(Refusal::NoGroup)),
+    (Call::Read(1, 0, 1), Answer::Refused(Refusal::Freed)),
+    (Call::Peek(0x1800), Answer::Refused(Refusal::Stray)),
+    (Call::New(2048, 0), Answer::Made(4, 0x2800)),
+];
 
 #[test]
 fn an_empty_group_is_swept(rt: HostRuntime) {
-    let mut tried = two_groups(&rt, 16);
-    tried.play(&[
-        (Call::Free(1), Answer::Done),
-        (Call::Sweep(1), Answer::Refused(Refusal::NotEmpty)),
-        (Call::Sweep(0), Answer::Pages(1)),
-        (Call::Sweep(0), Answer::Refused(Refusal::NoGroup)),
-        (Call::Read(1, 0, 1), Answer::Refused(Refusal::Freed)),
-        (Call::Peek(0x1800), Answer::Refused(Refusal::Stray)),
-        (Call::New(2048, 0), Answer::Made(4, 0x2800)),
-    ]);
+    played(&rt, Start::TwoGroups, &[&SWEPT]);
 }
+
+/// A mesh to a ninth member.
+static MOST_MEMBERS: [(Call, Answer); 3] = [
+    (Call::Whole(8, 0), Answer::Refused(Refusal::Members)),
+    (Call::Sweep(0), Answer::Pages(1)),
+    (Call::Report, Answer::Counts(0, 0, 1, 1, 0)),
+];
 
 #[test]
 fn eight_members_are_most(rt: HostRuntime) {
@@ -321,11 +428,7 @@ fn eight_members_are_most(rt: HostRuntime) {
     for k in 1..8 {
         tried.check(Call::Whole(k, 0), Answer::Pages(1));
     }
-    tried.play(&[
-        (Call::Whole(8, 0), Answer::Refused(Refusal::Members)),
-        (Call::Sweep(0), Answer::Pages(1)),
-        (Call::Report, Answer::Counts(0, 0, 1, 1, 0)),
-    ]);
+    tried.play(&MOST_MEMBERS);
 }
 
 /// Sixteen objects in four groups, of which one in each group stays, in four different slots. The groups are meshed two by two.
@@ -342,15 +445,17 @@ fn meshed_twice<R: Abort + AllocGlobal>(rt: &R) -> Tried<'_, R> {
     tried
 }
 
+/// The last mesh of four groups.
+static FOUR_IN_ONE: [(Call, Answer); 4] = [
+    (Call::Whole(2, 0), Answer::Pages(1)),
+    (Call::Report, Answer::Counts(4, 4096, 4, 1, 3)),
+    (Call::Free(5), Answer::Done),
+    (Call::New(1024, 0), Answer::Made(16, 0x1400)),
+];
+
 #[test]
 fn four_groups_become_one(rt: HostRuntime) {
-    let mut tried = meshed_twice(&rt);
-    tried.play(&[
-        (Call::Whole(2, 0), Answer::Pages(1)),
-        (Call::Report, Answer::Counts(4, 4096, 4, 1, 3)),
-        (Call::Free(5), Answer::Done),
-        (Call::New(1024, 0), Answer::Made(16, 0x1400)),
-    ]);
+    played(&rt, Start::MeshedTwice, &[&FOUR_IN_ONE]);
 }
 
 #[test]
@@ -379,80 +484,94 @@ fn of_two_classes<R: Abort + AllocGlobal>(rt: &R) -> Tried<'_, R> {
     tried
 }
 
+/// Meshes of two classes, begun, stepped and cancelled beside one another.
+static ONE_IN_EACH: [(Call, Answer); 17] = [
+    (Call::Running(2048), Answer::Runs(false)),
+    (Call::Begin(1, 0), Answer::Left(6)),
+    (Call::Running(2048), Answer::Runs(true)),
+    (Call::Running(1024), Answer::Runs(false)),
+    (Call::Begin(3, 2), Answer::Left(8)),
+    (Call::Running(1024), Answer::Runs(true)),
+    (Call::Begin(1, 0), Answer::Refused(Refusal::Busy)),
+    (Call::Begin(1, 2), Answer::Refused(Refusal::Class)),
+    (Call::BeginAlone(3, 2), Answer::Refused(Refusal::Busy)),
+    (Call::Step(2048), Answer::Stepped(StepKind::Protect, 5)),
+    (Call::Step(1024), Answer::Stepped(StepKind::Protect, 7)),
+    (Call::Write(8, 0, &[0xcd]), Answer::Blocked),
+    (Call::Cancel(1024), Answer::Left(1)),
+    (Call::Step(1024), Answer::Stepped(StepKind::Unprotect, 0)),
+    (Call::Step(1024), Answer::Refused(Refusal::NoMesh)),
+    (Call::Running(1024), Answer::Runs(false)),
+    (Call::Running(2048), Answer::Runs(true)),
+];
+
+/// What is answered once both meshes are over.
+static BOTH_OVER: [(Call, Answer); 2] = [
+    (Call::Running(2048), Answer::Runs(false)),
+    (Call::Report, Answer::Counts(6, 8192, 4, 3, 1)),
+];
+
 #[test]
 fn one_mesh_runs_in_each_class(rt: HostRuntime) {
-    let mut tried = of_two_classes(&rt);
-    tried.play(&[
-        (Call::Running(2048), Answer::Runs(false)),
-        (Call::Begin(1, 0), Answer::Left(6)),
-        (Call::Running(2048), Answer::Runs(true)),
-        (Call::Running(1024), Answer::Runs(false)),
-        (Call::Begin(3, 2), Answer::Left(8)),
-        (Call::Running(1024), Answer::Runs(true)),
-        (Call::Begin(1, 0), Answer::Refused(Refusal::Busy)),
-        (Call::Begin(1, 2), Answer::Refused(Refusal::Class)),
-        (Call::BeginAlone(3, 2), Answer::Refused(Refusal::Busy)),
-        (Call::Step(2048), Answer::Stepped(StepKind::Protect, 5)),
-        (Call::Step(1024), Answer::Stepped(StepKind::Protect, 7)),
-        (Call::Write(8, 0, &[0xcd]), Answer::Blocked),
-        (Call::Cancel(1024), Answer::Left(1)),
-        (Call::Step(1024), Answer::Stepped(StepKind::Unprotect, 0)),
-        (Call::Step(1024), Answer::Refused(Refusal::NoMesh)),
-        (Call::Running(1024), Answer::Runs(false)),
-        (Call::Running(2048), Answer::Runs(true)),
-    ]);
-    tried.play_part(&STEPS, 1..6);
-    tried.check(Call::Running(2048), Answer::Runs(false));
-    let counts = Answer::Counts(6, 8192, 4, 3, 1);
-    tried.check(Call::Report, counts);
+    played(
+        &rt,
+        Start::TwoClasses,
+        &[&ONE_IN_EACH, &STEPS[1..6], &BOTH_OVER],
+    );
 }
+
+/// Meshes that none of another class may run beside.
+static ALONE: [(Call, Answer); 8] = [
+    (Call::BeginAlone(1, 0), Answer::Left(6)),
+    (Call::BeginAlone(3, 2), Answer::Refused(Refusal::Busy)),
+    (Call::WholeAlone(3, 2), Answer::Refused(Refusal::Busy)),
+    (Call::Whole(1, 0), Answer::Refused(Refusal::Busy)),
+    (Call::Whole(3, 2), Answer::Pages(1)),
+    (Call::Cancel(2048), Answer::Left(0)),
+    (Call::WholeAlone(1, 0), Answer::Pages(1)),
+    (Call::Report, Answer::Counts(6, 8192, 4, 2, 2)),
+];
 
 #[test]
 fn a_mesh_alone_waits_for_each_class(rt: HostRuntime) {
-    let mut tried = of_two_classes(&rt);
-    tried.play(&[
-        (Call::BeginAlone(1, 0), Answer::Left(6)),
-        (Call::BeginAlone(3, 2), Answer::Refused(Refusal::Busy)),
-        (Call::WholeAlone(3, 2), Answer::Refused(Refusal::Busy)),
-        (Call::Whole(1, 0), Answer::Refused(Refusal::Busy)),
-        (Call::Whole(3, 2), Answer::Pages(1)),
-        (Call::Cancel(2048), Answer::Left(0)),
-        (Call::WholeAlone(1, 0), Answer::Pages(1)),
-        (Call::Report, Answer::Counts(6, 8192, 4, 2, 2)),
-    ]);
+    played(&rt, Start::TwoClasses, &[&ALONE]);
 }
+
+/// Copies within one object.
+static OVERLAPPING: [(Call, Answer); 10] = [
+    (Call::New(2048, 0), Answer::Made(0, 0x1000)),
+    (Call::Write(0, 0, &[1, 2, 3, 4, 5]), Answer::Done),
+    (Call::Copy(0, 2, 0, 0, 3), Answer::Done),
+    (Call::Read(0, 0, 6), Answer::Bytes(6, 0x0102_0102_0300)),
+    (Call::Copy(0, 0, 0, 1, 4), Answer::Done),
+    (Call::Read(0, 0, 6), Answer::Bytes(6, 0x0201_0203_0300)),
+    (
+        Call::Copy(0, 2040, 0, 0, 9),
+        Answer::Refused(Refusal::Outside),
+    ),
+    (
+        Call::Copy(0, 0, 0, 2040, 9),
+        Answer::Refused(Refusal::Outside),
+    ),
+    (Call::Free(0), Answer::Done),
+    (Call::Copy(0, 0, 0, 0, 1), Answer::Refused(Refusal::Freed)),
+];
 
 #[test]
 fn ranges_of_a_copy_overlap(rt: HostRuntime) {
-    let mut tried = Tried::open(&rt, 16);
-    tried.play(&[
-        (Call::New(2048, 0), Answer::Made(0, 0x1000)),
-        (Call::Write(0, 0, &[1, 2, 3, 4, 5]), Answer::Done),
-        (Call::Copy(0, 2, 0, 0, 3), Answer::Done),
-        (Call::Read(0, 0, 6), Answer::Bytes(6, 0x0102_0102_0300)),
-        (Call::Copy(0, 0, 0, 1, 4), Answer::Done),
-        (Call::Read(0, 0, 6), Answer::Bytes(6, 0x0201_0203_0300)),
-        (
-            Call::Copy(0, 2040, 0, 0, 9),
-            Answer::Refused(Refusal::Outside),
-        ),
-        (
-            Call::Copy(0, 0, 0, 2040, 9),
-            Answer::Refused(Refusal::Outside),
-        ),
-        (Call::Free(0), Answer::Done),
-        (Call::Copy(0, 0, 0, 0, 1), Answer::Refused(Refusal::Freed)),
-    ]);
+    played(&rt, Start::Objects(0), &[&OVERLAPPING]);
 }
+
+/// Copies out of a read-only page and into it.
+static BLOCKED_COPY: [(Call, Answer); 5] = [
+    (Call::Step(1024), Answer::Refused(Refusal::NoMesh)),
+    (Call::Step(2048), Answer::Stepped(StepKind::Protect, 5)),
+    (Call::Copy(1, 0, 2, 0, 1), Answer::Done),
+    (Call::Read(1, 0, 1), Answer::Bytes(1, 0xab)),
+    (Call::Copy(2, 0, 1, 0, 1), Answer::Blocked),
+];
 
 #[test]
 fn a_copy_is_blocked_where_it_writes(rt: HostRuntime) {
-    let mut tried = begun(&rt, 0);
-    tried.play(&[
-        (Call::Step(1024), Answer::Refused(Refusal::NoMesh)),
-        (Call::Step(2048), Answer::Stepped(StepKind::Protect, 5)),
-        (Call::Copy(1, 0, 2, 0, 1), Answer::Done),
-        (Call::Read(1, 0, 1), Answer::Bytes(1, 0xab)),
-        (Call::Copy(2, 0, 1, 0, 1), Answer::Blocked),
-    ]);
+    played(&rt, Start::Begun(0), &[&BLOCKED_COPY]);
 }
