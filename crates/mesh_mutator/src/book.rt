@@ -74,6 +74,13 @@ impl Book {
         &self.journal
     }
 
+    /// The heap, for whoever looks at it: what it shows has no effect.
+    pub fn heap(&self) -> &Heap
+        ensures { result.now ≡ self.now.heap }
+    {
+        &self.heap
+    }
+
     /// Heap, root cells and journal, for whoever hands the book out.
     pub fn into_parts(self) -> (Heap, Roots, Journal)
         ensures heap { result.0 ≡ self.heap }

@@ -12,5 +12,6 @@ pub mod MeshHeaps
 pub mod MeshRuns
 pub mod NewPlaces
 pub mod Objects
+pub mod Shown
 pub mod Slots
 pub mod Stores

@@ -15,4 +15,5 @@ pub mod Phases
 pub mod StepOrders
 pub mod Running
 pub mod Steps
+pub mod Shown
 pub mod Sweeps

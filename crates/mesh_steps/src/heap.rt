@@ -10,6 +10,7 @@ ghost use Rattle.mesh_steps.specs.PageHeap.{counts_told};
 ghost use Rattle.mesh_steps.specs.Heap.{IsFree, IsHeap, IsHeld, IsHeldBack, IsLiveFor, IsMade, IsNotMade, IsObjectAt, IsReferred, IsRefused, IsStore, IsStored, arena_of, byte_at_address, bytes_at, copied_at, freed_at, live_records, memory_of, plain_of, referred, stored_at, stored_at_address, stored_in, table_of};
 
 mod meshes;
+mod shown;
 mod views;
 
 use crate::answers::Occupied;

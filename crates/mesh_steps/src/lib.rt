@@ -16,5 +16,7 @@ mod running;
 mod step_order;
 mod steps;
 
-pub use answers::{NewFault, Ref, Report, StepDone, Stored};
+pub use answers::{Lead, NewFault, Ref, Report, StepDone, Stored};
 pub use heap::Heap;
+pub use phase::Phase;
+pub use running::Running;

@@ -15,6 +15,7 @@ ghost use Rattle.mesh_store.specs.Places.{AreBacked, IsBlocked, IsOpen, Saves, b
 ghost use Rattle.mesh_steps.specs.PageHeap.{IsFreeSlot, IsFreshSpan, IsInSlotOf, IsPlace, IsPlaceFault, IsSpanFault, KeepsOutside, counts_told, table_emptied, table_in, table_with_object};
 
 mod meshes;
+mod shown;
 mod sweep;
 
 use crate::answers::{NewFault, Occupied, Report};

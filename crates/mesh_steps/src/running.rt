@@ -1,5 +1,6 @@
 //! `Running`, a running mesh.
 ghost use Rattle.std.specs.Prelude.{◌≡◌, nat_eq, position, slice_set, length, ◌<◌};
+ghost use Rattle.mesh_layout.specs.Meshes.{mesh_from};
 ghost use Rattle.model_heap.specs.Table.{Made};
 ghost use Rattle.mesh_steps.specs.Phases.{progress_of};
 
@@ -13,7 +14,7 @@ pub(crate) const MAX_MESHES: usize = 10;
 
 /// A running mesh of two groups of a class, the source and the destination.
 #[derive(Clone, Copy)]
-pub(crate) struct Running {
+pub struct Running {
     class: Class,
     source: u32,
     destination: u32,
@@ -45,7 +46,7 @@ impl Default for Running {
 
 impl Running {
     /// A mesh of which no step was made.
-    pub fn begun(class: Class, source: u32, destination: u32) -> Running
+    pub(crate) fn begun(class: Class, source: u32, destination: u32) -> Running
         ensures { result ≡ record { class = class; source = source; destination = destination; progress = Made 0 } }
     {
         Running {
@@ -85,7 +86,7 @@ impl Running {
     }
 
     /// The mesh once it has come to this phase.
-    pub fn at(self, phase: Phase) -> Running
+    pub(crate) fn at(self, phase: Phase) -> Running
         ensures { result ≡ record self { progress = progress_of phase } }
     {
         Running { phase, ..self }
@@ -107,4 +108,19 @@ pub(crate) fn place_of(meshes: &[Running], class: Class) -> Option<usize>
     meshes
         .iter()
         .position(|mesh| mesh.class().size() == class.size())
+}
+
+/// The place of the mesh from a group.
+fn source_place(meshes: &[Running], source: u32) -> Option<usize>
+    ensures { result ≡ position (λ mesh. nat_eq mesh.source source) meshes.now }
+{
+    meshes.iter().position(|mesh| mesh.source() == source)
+}
+
+/// The mesh from a group.
+pub(crate) fn mesh_of(meshes: &[Running], source: u32) -> Option<Running>
+    ensures { result ≡ mesh_from source meshes.now }
+{
+    let place = source_place(meshes, source)?;
+    Some(meshes[place])
 }

@@ -1,5 +1,5 @@
 //! `StepOrder`, the steps of a mesh.
-ghost use Rattle.std.specs.Prelude.{◌≡◌, ◌+◌, ◌*◌, ◌<◌, IsSome};
+ghost use Rattle.std.specs.Prelude.{◌≡◌, ◌+◌, ◌-◌, ◌*◌, ◌<◌, IsSome};
 ghost use Rattle.mesh_layout.specs.Indexes.{layout_of};
 ghost use Rattle.mesh_layout.specs.Steps.{IsStepAt};
 ghost use Rattle.mesh_spans.specs.Index.{group_at};
@@ -66,5 +66,13 @@ impl StepOrder {
             return (StepKind::Unprotect, made);
         }
         (StepKind::Release, made - self.total)
+    }
+
+    /// How many pages were released after so many steps.
+    pub fn released_after(self, made: u32) -> u32
+        requires { IsStepOrder self }
+        ensures { result ≡ made - (3 * self.total + self.slots) }
+    {
+        made.saturating_sub(3 * self.total + self.slots)
     }
 }

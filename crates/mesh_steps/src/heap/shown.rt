@@ -1,0 +1,73 @@
+//! What a heap shows, without effect: for pictures, tests and debuggers.
+ghost use Rattle.std.specs.Prelude.{◌≡◌, ◌<◌, ◌≤◌, IfSome, slice_get};
+ghost use Rattle.std.specs.Option.{option_map};
+ghost use Rattle.model_heap.specs.Table.{group_of};
+ghost use Rattle.mesh_layout.specs.Meshes.{mesh_from};
+ghost use Rattle.mesh_steps.specs.Heap.{index_of, map_of, table_of};
+ghost use Rattle.mesh_steps.specs.Shown.{home_at, lead_at, member_at, object_at, released_of};
+
+use super::Heap;
+use crate::{Lead, Running};
+use mesh_class::Class;
+
+impl Heap {
+    /// The lowest virtual page that was never used, 1 to 65,536. Every group has a number below it.
+    pub fn next_page(&self) -> u32
+        ensures { result ≡ (table_of self.now).next_page }
+    {
+        self.pages.next_page()
+    }
+
+    /// The class of a group. None only where the number is no group.
+    pub fn class_of(&self, group: u32) -> Option<Class>
+        ensures { result ≡ option_map (λ g. g.class) (group_of (table_of self.now) group) }
+    {
+        self.pages.class_of(group)
+    }
+
+    /// The member of a group at a place, by its first virtual page: a group has 1 to 8, in the order in which they came to it. None only
+    /// where there is no such member.
+    pub fn member(&self, group: u32, place: usize) -> Option<u32>
+        ensures value { result ≡ member_at (group_of (table_of self.now) group) place }
+        ensures range { IfSome result (λ first. (1 ≤ first) × (first < 65536)) }
+    {
+        self.pages.member(group, place)
+    }
+
+    /// Serial and length in bytes of the object that the member of a group at a place has in a slot. None only where it has none there.
+    pub fn object(&self, group: u32, place: usize, slot: u32) -> Option<(u32, u32)>
+        ensures { result ≡ object_at (group_of (table_of self.now) group) place slot }
+    {
+        self.pages.object(group, place, slot)
+    }
+
+    /// The physical page at a place of a group's pages, of which a group has as many as its class says. A mesh from the group gives them
+    /// back one by one by its last steps, and the group names them until it is over. None only where there is no such page.
+    pub fn home(&self, group: u32, place: usize) -> Option<u32>
+        ensures { result ≡ home_at (index_of self.now) group place }
+    {
+        self.pages.home(group, place)
+    }
+
+    /// How many of a group's physical pages a mesh from it has given back: the first so many are the group's no more.
+    pub fn released(&self, group: u32) -> u32
+        ensures { result ≡ released_of (group_of (table_of self.now) group) (mesh_from group (table_of self.now).meshes) }
+    {
+        self.pages.released(group)
+    }
+
+    /// Where a virtual page leads; they are counted from 1. None only where it is not mapped.
+    pub fn lead(&self, page: u32) -> Option<Lead>
+        requires { 1 ≤ page }
+        ensures { result ≡ lead_at (map_of self.now) page }
+    {
+        self.pages.lead(page)
+    }
+
+    /// The running mesh at a place, in the order of their beginning. None only where fewer run.
+    pub fn mesh(&self, place: usize) -> Option<Running>
+        ensures { result ≡ slice_get (table_of self.now).meshes place }
+    {
+        self.pages.mesh(place)
+    }
+}
