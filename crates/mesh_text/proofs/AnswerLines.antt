@@ -105,3 +105,17 @@ pub output_written : (job : Job) (n : ℕ) (old mid new : Option (List ℕ)) (te
 output_written job n old mid new text all so_far wrote =
     subst (λ lines. Appends old new (lines_of (answers_from job (opening job) lines))) all
     (subst (λ bytes. Appends old new bytes) so_far.all (Appends-trans old mid new (lines_up_to job so_far.lines) text so_far.wrote wrote))
+
+-- what one more line leaves where its answer is told alone
+pub record IsPlayed (job : Job) (n : ℕ) (book : Book) (places text : List ℕ) : Type 0 where
+  pub at : IsAt job (state_up_to job (n + 1)) book places
+  pub told : lines_up_to job (n + 1) ≡ lines_up_to job n ++ ended text
+
+pub line_played : (job : Job) (n : ℕ) (lines : List PlanLine) (d line : PlanLine) (book : Book) (places text text' : List ℕ) → map line_of lines ≡ job.plan
+    → n < length lines → line ≡ get_or lines n d → IsTold job (answer job (state_up_to job n) (line_of line)) book places text text' → text ≡ []
+    → IsPlayed job n book places text'
+line_played job n lines d line book places text text' is within this told none =
+    let more = one_more lines job.plan n d line is within this in record {
+      at = next_at job n (line_of line) book places text text' more told;
+      told = lines_more job n (line_of line) more ∙ ap (λ added. lines_up_to job n ++ ended added) (sym (told.added ∙ ap (λ t. t ++ answer_text (answer job (state_up_to job n) (line_of line)).answer) none));
+    }

@@ -32,3 +32,7 @@ one_more lines plan i d line is within this =
 -- all lines of a plan
 pub all_lines : (lines : List PlanLine) (plan : List Line) (i : ℕ) → map line_of lines ≡ plan → length lines ≤ i → take i plan ≡ plan
 all_lines lines plan i is past = take_all i plan (omega (arith, past, lines_count lines plan is))
+
+-- a place in a plan is one among its lines
+pub within_lines : (lines : List PlanLine) (plan : List Line) (i : ℕ) → map line_of lines ≡ plan → i < length plan → i < length lines
+within_lines lines plan i is within = omega (arith, within, lines_count lines plan is)

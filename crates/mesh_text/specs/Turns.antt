@@ -1,5 +1,5 @@
 -- How far the workers of a job have come, and what was written for it.
-use Rattle.std.specs.Prelude.{◌≡◌, ℕ, List, [], ◌++◌, Option, drop, length, slice_index, slice_index_or, take}
+use Rattle.std.specs.Prelude.{◌≡◌, ℕ, List, [], ◌++◌, Option, drop, length, slice_index, slice_index_or, take, vec_len}
 use Rattle.std.specs.Io.KnownBytes.{Appends}
 use Rattle.std.specs.List.{flat_map}
 use Rattle.model_jobs.specs.Jobs.{Answer, Job, Next, State, answers_from, opening, state_after, Reported, told}
@@ -7,6 +7,18 @@ use Rattle.model_jobs.specs.Texts.{answer_text, ended}
 use Rattle.model_heap.specs.Table.{report_of}
 use Rattle.mesh_mutator.specs.Book.{Book, memory_of_book, table_of_book}
 use Rattle.mesh_steps.specs.Heap.{arena_of}
+use Rattle.mesh_text.specs.declared.turns.Turns.{Turns}
+
+-- the book that turns are taken on, and for each worker the place of its next command
+abbrev pub book_of : Turns → Book
+book_of turns = turns.book
+
+abbrev pub places_of : Turns → List ℕ
+places_of turns = turns.next.items
+
+-- how many workers take turns
+abbrev pub worker_count : Turns → ℕ
+worker_count turns = vec_len turns.next
 
 -- a job stands where this book and these places of its workers' next commands are
 pub record IsAt (job : Job) (state : State) (book : Book) (places : List ℕ) : Type 0 where
@@ -48,6 +60,11 @@ lines_up_to job n = lines_of (answers_from job (opening job) (take n job.plan))
 -- where a job stands after the first lines of its plan
 abbrev pub state_up_to : Job → ℕ → State
 state_up_to job n = state_after job (opening job) (take n job.plan)
+
+-- turns were taken on the first lines of a job's plan, and on none behind them
+pub record StandsBehind (job : Job) (n : ℕ) (turns : Turns) : Type 0 where
+  pub workers : worker_count turns ≡ length job.scripts
+  pub at : IsAt job (state_up_to job n) (book_of turns) (places_of turns)
 
 -- known bytes grow by the lines of the answers to a beginning of a job's plan
 abbrev pub AppendsLines : Job → Option (List ℕ) → Option (List ℕ) → Type 0

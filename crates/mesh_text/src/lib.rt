@@ -16,6 +16,7 @@ mod mesher;
 mod reading;
 mod run;
 mod transfer;
+mod turns;
 
 pub use devices::{DeviceFault, Input, Output, Sink, Source};
 pub use faults::ReplayError;
@@ -25,3 +26,4 @@ pub use model_words::{Command, FaultKind, MAX_BYTES, Reply, TextFault, Version};
 pub use reading::read_job;
 pub use run::replay;
 pub use transfer::write_all;
+pub use turns::Turns;

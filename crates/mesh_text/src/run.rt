@@ -1,22 +1,18 @@
 //! The replay of a job.
-ghost use Rattle.std.specs.Prelude.{◌≡◌, ◌<◌, ◌⊎◌, [], slice_index_or, false, true, length, vec_len, is_err, IfOk, IfErr, OnOk, OnErr};
+ghost use Rattle.std.specs.Prelude.{◌≡◌, ◌⊎◌, [], false, true, length, vec_len, is_err, IfErr, OnOk, OnErr};
 ghost use Rattle.std.specs.Io.KnownBytes.{Appends, Keeps};
-ghost use Rattle.model_jobs.specs.JobFiles.{IsValidLine};
-ghost use Rattle.model_jobs.specs.Jobs.{Job as PlainJob, RunWorker, State, answer, opening};
+ghost use Rattle.model_jobs.specs.Jobs.{opening};
 ghost use Rattle.model_jobs.specs.Texts.{output as output_of};
-ghost use Rattle.mesh_job.specs.Plan.{line_of};
 ghost use Rattle.mesh_text.specs.Replay.{HasReplayed, HasStopped};
 ghost use Rattle.mesh_text.specs.Transfer.{AppendsBeginning};
-ghost use Rattle.mesh_text.specs.Turns.{AppendsLines, IsAt, IsTold};
+ghost use Rattle.mesh_text.specs.Turns.{AppendsLines, IsAt};
 
-use crate::answers::{add_counted, add_found, add_reply, add_report, add_step};
-use crate::mesher::{begin, cancel, cancel_first, pair, report, step, step_first, sweep, whole};
 use crate::reading::read_job;
 use crate::transfer::write_all;
+use crate::turns::Turns;
 use crate::{ReplayError, Sink, Source};
-use mesh_job::{Job, PlanLine, Script};
-use mesh_mutator::{Attempt, Book};
-use std::alloc::{AllocError, Global};
+use mesh_job::Job;
+use std::alloc::Global;
 
 /// How many bytes of answers are gathered before they are written.
 const CHUNK_BYTES: usize = 8192;
@@ -102,92 +98,4 @@ fn write_answers<O: Sink>(output: &mut O, lines: &[u8]) -> Result<(), ReplayErro
     ensures fails { O.has_failed output.new ≡ is_err result }
 {
     write_all(output, lines).map_err(|_| ReplayError::Write)
-}
-
-/// The heap that a job's workers and its mesher use in turn, and how far each worker has come.
-#[derive(Drop)]
-struct Turns {
-    book: Book,
-    /// For each worker the place of its next command.
-    next: Vec<usize>,
-}
-
-impl Turns {
-    /// A fresh heap, with each worker at the beginning of its script.
-    fn open(alloc: Global, job: &Job) -> Result<Turns, AllocError>
-        ensures workers { IfOk result (λ turns. vec_len turns.next ≡ length job.now.scripts) }
-        ensures opening { IfOk result (λ turns. IsAt job.now (opening job.now) turns.book turns.next.items) }
-    {
-        Ok(Turns {
-            book: Book::open(alloc, job.pages, job.history)?,
-            next: vec![in alloc; 0; job.scripts.count()]?,
-        })
-    }
-
-    /// Adds the answer to a line of the plan, without the line's end. An error is an allocation failure.
-    fn answer(
-        &mut self,
-        alloc: Global,
-        job: &Job,
-        line: &PlanLine,
-        text: &mut Vec<u8>,
-    ) -> Result<(), AllocError>
-        requires fits { IsValidLine job.now.version (length job.now.scripts) (line_of line.now) }
-        requires workers { vec_len self.old.next ≡ length job.now.scripts }
-        ensures workers { vec_len self.new.next ≡ vec_len self.old.next }
-        ensures told { OnOk result ((state : State) → IsAt job.now state self.old.book self.old.next.items
-            → IsTold job.now (answer job.now state (line_of line.now)) self.new.book self.new.next.items text.old.items text.new.items) }
-    {
-        let book = &mut self.book;
-        match line {
-            PlanLine::Run(worker) => self.run(*worker, job.scripts.of(*worker), text),
-            PlanLine::Pair(asked) => add_found(text, &pair(alloc, book, asked)?),
-            PlanLine::Begin {
-                source,
-                destination,
-            } => add_counted(
-                text,
-                b"left ",
-                begin(book, job.version, *source, *destination),
-            ),
-            PlanLine::Step => add_step(text, step_first(book)),
-            PlanLine::Cancel => add_counted(text, b"left ", cancel_first(book)),
-            PlanLine::StepClass(class) => add_step(text, step(book, *class)),
-            PlanLine::CancelClass(class) => add_counted(text, b"left ", cancel(book, *class)),
-            PlanLine::Whole {
-                source,
-                destination,
-            } => add_counted(
-                text,
-                b"meshed ",
-                whole(book, job.version, *source, *destination),
-            ),
-            PlanLine::Sweep(group) => add_counted(text, b"swept ", sweep(book, *group)),
-            PlanLine::Report => add_report(text, report(book)),
-        }
-    }
-
-    /// Attempts the worker's next command, and adds what it is answered. It stays the next one unless there is a reply.
-    fn run(&mut self, worker: u32, script: &Script, text: &mut Vec<u8>) -> Result<(), AllocError>
-        requires { worker < vec_len self.old.next }
-        ensures workers { vec_len self.new.next ≡ vec_len self.old.next }
-        ensures told { OnOk result ((job : PlainJob) (state : State)
-            → IsAt job state self.old.book self.old.next.items → vec_len self.old.next ≡ length job.scripts
-            → script.now ≡ slice_index_or job.scripts worker []
-            → IsTold job (answer job state (RunWorker worker)) self.new.book self.new.next.items text.old.items text.new.items) }
-    {
-        let place = self.next[worker as usize];
-        let Some(command) = script.get(place) else {
-            return text.extend_from_slice(b"over");
-        };
-        match self.book.act(worker, &command) {
-            Attempt::Done(reply) => {
-                self.next[worker as usize] = place + 1;
-                add_reply(text, &reply)
-            }
-            Attempt::Blocked => text.extend_from_slice(b"blocked"),
-            Attempt::HistoryFull => text.extend_from_slice(b"history full"),
-            Attempt::OutOfMemory => Err(AllocError),
-        }
-    }
 }

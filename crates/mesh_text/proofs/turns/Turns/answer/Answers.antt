@@ -6,7 +6,7 @@ use Rattle.model_words.specs.declared.versions.Version.{Version}
 use Rattle.mesh_text.specs.Answers.{count_told}
 use Rattle.mesh_text.specs.Turns.{IsCall}
 use Rattle.mesh_text.proofs.LineTexts.{counted_on, told_on}
-use Rattle.mesh_text.proofs.run.Turns.answer.Goals as goal
+use Rattle.mesh_text.proofs.turns.Turns.answer.Goals as goal
 
 pub returns-in_ok-pair-in-Pair-clause-told : goal.returns-in_ok-pair-in-Pair-clause-told
 returns-in_ok-pair-in-Pair-clause-told c = rw (c.in-Pair.is, ← c.deref.ensures) (told_on c.add_found-in-Pair.result _ _ _ _ _ _ _ _ (λ state. c.in_ok-pair-in-Pair.ensures _ state _) c.add_found-in-Pair.ensures)

@@ -5,7 +5,7 @@ use Rattle.model_jobs.specs.Jobs.{RunWorker, ScriptOver, answer}
 use Rattle.mesh_mutator.specs.declared.attempts.Attempt.TheVariants.{Blocked, Done, HistoryFull}
 use Rattle.mesh_text.proofs.LineTexts.{grew_ok, told_at}
 use Rattle.mesh_text.proofs.WorkerTurns.{at_place, turn_over, turn_told}
-use Rattle.mesh_text.proofs.run.Turns.run.Goals as goal
+use Rattle.mesh_text.proofs.turns.Turns.run.Goals as goal
 
 pub returns-in_default-clause-told : goal.returns-in_default-clause-told
 returns-in_default-clause-told g =

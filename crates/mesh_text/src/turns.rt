@@ -1,0 +1,138 @@
+//! The workers of a job and its mesher in turn, as the plan has them.
+ghost use Rattle.std.specs.Prelude.{◌≡◌, ◌+◌, ◌<◌, ◌++◌, [], length, slice_get, slice_index, slice_index_or, vec_len, IfOk, OnOk};
+ghost use Rattle.model_jobs.specs.JobFiles.{IsValidLine};
+ghost use Rattle.model_jobs.specs.Jobs.{Job as PlainJob, RunWorker, State, answer, opening};
+ghost use Rattle.mesh_job.specs.Plan.{line_of};
+ghost use Rattle.model_jobs.specs.Texts.{ended};
+ghost use Rattle.mesh_text.specs.Turns.{IsAt, IsTold, StandsBehind, book_of, lines_up_to, places_of, worker_count};
+
+use crate::answers::{add_counted, add_found, add_reply, add_report, add_step};
+use crate::mesher::{begin, cancel, cancel_first, pair, report, step, step_first, sweep, whole};
+use mesh_job::{Job, PlanLine, Script};
+use mesh_mutator::{Attempt, Book};
+use mesh_steps::Heap;
+use model_words::Command;
+use std::alloc::{AllocError, Global};
+
+/// The heap that a job's workers and its mesher use in turn, and how far each worker has come.
+#[derive(Drop)]
+pub struct Turns {
+    pub(crate) book: Book,
+    /// For each worker the place of its next command.
+    pub(crate) next: Vec<usize>,
+}
+
+impl Turns {
+    /// A fresh heap, with each worker at the beginning of its script. An error is an allocation failure.
+    pub fn open(alloc: Global, job: &Job) -> Result<Turns, AllocError>
+        ensures workers { IfOk result (λ turns. worker_count turns ≡ length job.now.scripts) }
+        ensures opening { IfOk result (λ turns. IsAt job.now (opening job.now) (book_of turns) (places_of turns)) }
+        ensures stands { IfOk result (StandsBehind job.now 0) }
+    {
+        Ok(Turns {
+            book: Book::open(alloc, job.pages, job.history)?,
+            next: vec![in alloc; 0; job.scripts.count()]?,
+        })
+    }
+
+    /// The heap, as the lines so far have left it.
+    pub fn heap(&self) -> &Heap
+        ensures { result.now ≡ (book_of self.now).heap }
+    {
+        self.book.heap()
+    }
+
+    /// The command that a worker attempts next. None only where it has none left, or there is no such worker.
+    pub fn next_command(&self, job: &Job, worker: u32) -> Option<Command>
+        requires { worker_count self.now ≡ length job.now.scripts }
+        ensures { result ≡ slice_get (slice_index_or job.now.scripts worker []) (slice_index (places_of self.now) worker) }
+    {
+        let place = *self.next.get(worker as usize)?;
+        job.scripts.of(worker).get(place)
+    }
+
+    /// Plays the line of a job's plan at a place, counted from 0, where all before it are played, and gives its answer, without the line's end,
+    /// in `text`. An error is an allocation failure.
+    pub fn play(
+        &mut self,
+        alloc: Global,
+        job: &Job,
+        place: usize,
+        text: &mut Vec<u8>,
+    ) -> Result<(), AllocError>
+        requires within { place < length job.now.plan }
+        requires stands { StandsBehind job.now place self.old }
+        ensures stands { OnOk result (StandsBehind job.now (place + 1) self.new) }
+        ensures told { OnOk result (lines_up_to job.now (place + 1) ≡ lines_up_to job.now place ++ ended text.new.items) }
+    {
+        text.clear();
+        self.answer(alloc, job, &job.plan.lines()[place], text)
+    }
+
+    /// Adds the answer to a line of the plan, without the line's end, and goes on behind it. An error is an allocation failure.
+    pub fn answer(
+        &mut self,
+        alloc: Global,
+        job: &Job,
+        line: &PlanLine,
+        text: &mut Vec<u8>,
+    ) -> Result<(), AllocError>
+        requires fits { IsValidLine job.now.version (length job.now.scripts) (line_of line.now) }
+        requires workers { worker_count self.old ≡ length job.now.scripts }
+        ensures workers { worker_count self.new ≡ worker_count self.old }
+        ensures told { OnOk result ((state : State) → IsAt job.now state (book_of self.old) (places_of self.old)
+            → IsTold job.now (answer job.now state (line_of line.now)) (book_of self.new) (places_of self.new) text.old.items text.new.items) }
+    {
+        let book = &mut self.book;
+        match line {
+            PlanLine::Run(worker) => self.run(*worker, job.scripts.of(*worker), text),
+            PlanLine::Pair(asked) => add_found(text, &pair(alloc, book, asked)?),
+            PlanLine::Begin {
+                source,
+                destination,
+            } => add_counted(
+                text,
+                b"left ",
+                begin(book, job.version, *source, *destination),
+            ),
+            PlanLine::Step => add_step(text, step_first(book)),
+            PlanLine::Cancel => add_counted(text, b"left ", cancel_first(book)),
+            PlanLine::StepClass(class) => add_step(text, step(book, *class)),
+            PlanLine::CancelClass(class) => add_counted(text, b"left ", cancel(book, *class)),
+            PlanLine::Whole {
+                source,
+                destination,
+            } => add_counted(
+                text,
+                b"meshed ",
+                whole(book, job.version, *source, *destination),
+            ),
+            PlanLine::Sweep(group) => add_counted(text, b"swept ", sweep(book, *group)),
+            PlanLine::Report => add_report(text, report(book)),
+        }
+    }
+
+    /// Attempts the worker's next command, and adds what it is answered. It stays the next one unless there is a reply.
+    fn run(&mut self, worker: u32, script: &Script, text: &mut Vec<u8>) -> Result<(), AllocError>
+        requires { worker < vec_len self.old.next }
+        ensures workers { vec_len self.new.next ≡ vec_len self.old.next }
+        ensures told { OnOk result ((job : PlainJob) (state : State)
+            → IsAt job state self.old.book self.old.next.items → vec_len self.old.next ≡ length job.scripts
+            → script.now ≡ slice_index_or job.scripts worker []
+            → IsTold job (answer job state (RunWorker worker)) self.new.book self.new.next.items text.old.items text.new.items) }
+    {
+        let place = self.next[worker as usize];
+        let Some(command) = script.get(place) else {
+            return text.extend_from_slice(b"over");
+        };
+        match self.book.act(worker, &command) {
+            Attempt::Done(reply) => {
+                self.next[worker as usize] = place + 1;
+                add_reply(text, &reply)
+            }
+            Attempt::Blocked => text.extend_from_slice(b"blocked"),
+            Attempt::HistoryFull => text.extend_from_slice(b"history full"),
+            Attempt::OutOfMemory => Err(AllocError),
+        }
+    }
+}
