@@ -1,13 +1,15 @@
 -- What `clap`'s contracts say of the program's command line.
-use Rattle.std.proofs.Common.{◌≡◌, true, false, List, [], ◌∷◌, Option, None, Some, Result, Ok, Err, IfErr, option_map, ap, refl, subst, ◌∙◌, inl, inr}
+use Rattle.std.proofs.Common.{◌≡◌, true, false, List, [], ◌∷◌, Option, None, Some, Result, Ok, Err, IfErr, option_map, ap, refl, subst, sym, ◌∙◌, inl, inr}
 use Rattle.std.specs.Box.{box_value}
 use Rattle.std.specs.Prelude.{codes, option_and_then}
-use Rattle.clap.specs.Words.{App, FailsBy, HasKind, IsAmong, Row, Text, fault_of, first_of, is_simple, is_simple_and_free, kind_of, found_of, rows_of, subcommand_name_of, subcommand_of, subcommand_rows_of, takes}
+use Rattle.clap.specs.Words.{App, FailsBy, HasKind, IsAmong, Row, Text, fault_of, first_of, first_value, is_simple, is_simple_and_free, kind_of, found_of, rows_of, subcommand_name_of, subcommand_of, subcommand_rows_of, takes}
 use Rattle.clap.specs.declared.error.Error.{Error}
 use Rattle.clap.specs.declared.parser.matches.ArgMatches.{ArgMatches}
 use Rattle.clap.specs.declared.parser.matches.ArgMatches.TheViews.{out-ArgMatches, out-SubCommand}
+use Rattle.clap.specs.declared.parser.matches.Found.{Found}
 use Rattle.clap.proofs.OnLiterals.{clap_on_literals}
-use Rattle.mesh_run.specs.CommandLine.{IsSaidOf, asked, asked_in, asked_on, is_taken, kinds_of, meshrun_app, replay_of, threads_of}
+use Rattle.clap.proofs.WalkLemmas.{first_value-rows}
+use Rattle.mesh_run.specs.CommandLine.{IsSaidOf, asked, asked_in, asked_on, is_taken, kinds_of, draw_of, meshrun_app, replay_of, threads_of}
 
 -- the command line is one whose matches and faults `clap` tells
 pub is_told : is_simple_and_free meshrun_app ≡ true
@@ -45,17 +47,25 @@ first_parts f None = refl
 first_parts f (Some x) = refl
 
 -- the name of the subcommand that was met, beside its rows
-pub name_of_rows : (matches : ArgMatches) (name : Text) → Some name ≡ subcommand_name_of matches → Some name ≡ option_map (λ p. p.0) (subcommand_rows_of matches)
+name_of_rows : (matches : ArgMatches) (name : Text) → Some name ≡ subcommand_name_of matches → Some name ≡ option_map (λ p. p.0) (subcommand_rows_of matches)
 name_of_rows matches name is = is ∙ first_parts (λ b. ((out-SubCommand (box_value b)).name.now, rows_of (found_of (out-SubCommand (box_value b)).matches))) (out-ArgMatches matches).subcommand
 
 -- what a subcommand that was met asks for, by its name and its rows
-pub asked_by : (found : Option (Text × List Row)) (name : Text) (rows : List Row) → Some name ≡ option_map (λ p. p.0) found → Some rows ≡ option_map (λ p. p.1) found
+asked_by : (found : Option (Text × List Row)) (name : Text) (rows : List Row) → Some name ≡ option_map (λ p. p.0) found → Some rows ≡ option_map (λ p. p.1) found
     → asked_in found ≡ option_and_then (asked_on name rows) (first_of (codes "FILE") rows)
 asked_by None name rows named has = absurd (cc named)
 asked_by (Some found) name rows named has =
     let name_is : name ≡ found.0 = cc named in
     let rows_are : rows ≡ found.1 = cc has in
     rw (name_is, rows_are) refl
+
+-- what a subcommand that was met asks for, by its name, its matches and what they have for the file
+pub asked_by_file : (matches : ArgMatches) (name : Text) (found : Found) (file : Option Text) → Some name ≡ subcommand_name_of matches
+    → Some (rows_of found) ≡ option_map (λ p. p.1) (subcommand_rows_of matches) → file ≡ first_value found (codes "FILE")
+    → option_and_then (asked_on name (rows_of found)) file ≡ asked_in (subcommand_rows_of matches)
+asked_by_file matches name found file named has file_is =
+    sym (asked_by (subcommand_rows_of matches) name (rows_of found) (name_of_rows matches name named) has
+    ∙ ap (option_and_then (asked_on name (rows_of found))) (sym (file_is ∙ first_value-rows found (codes "FILE"))))
 
 -- `meshrun replay hello.job` is a command line of the program, and asks a replay of `hello.job`
 abbrev hello : List Text
@@ -88,3 +98,27 @@ crowded = codes "meshrun" ∷ codes "threads" ∷ codes "a.job" ∷ codes "--pro
 crowded_is_refused : is_taken crowded ≡ false
 unfolding clap_on_literals is_taken
 crowded_is_refused = refl
+
+-- `meshrun draw a.job` asks for a picture of the whole plan, in as many columns as fit
+abbrev whole : List Text
+whole = codes "meshrun" ∷ codes "draw" ∷ codes "a.job" ∷ []
+
+whole_is_asked : (is_taken whole ≡ true) × (asked whole ≡ Some (draw_of (codes "a.job") (record { from = 1; to = 1048576; columns = 0 })))
+unfolding clap_on_literals asked is_taken
+whole_is_asked = (refl, refl)
+
+-- a part of it from a line to another, in the most columns
+abbrev part : List Text
+part = codes "meshrun" ∷ codes "draw" ∷ codes "--to=1048576" ∷ codes "a.job" ∷ codes "--columns=64" ∷ codes "--from" ∷ codes "12" ∷ []
+
+part_is_asked : (is_taken part ≡ true) × (asked part ≡ Some (draw_of (codes "a.job") (record { from = 12; to = 1048576; columns = 64 })))
+unfolding clap_on_literals asked is_taken
+part_is_asked = (refl, refl)
+
+-- there is no line 0
+abbrev early : List Text
+early = codes "meshrun" ∷ codes "draw" ∷ codes "a.job" ∷ codes "--from=0" ∷ []
+
+early_is_refused : is_taken early ≡ false
+unfolding clap_on_literals is_taken
+early_is_refused = refl

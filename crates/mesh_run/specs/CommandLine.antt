@@ -10,8 +10,9 @@ use Rattle.clap.specs.declared.error.kind.ErrorKind.{ErrorKind}
 use Rattle.clap.specs.declared.error.kind.ErrorKind.TheVariants.{DisplayHelp, DisplayVersion, MissingSubcommand, OutOfMemory}
 use Rattle.model_jobs.specs.Texts.{ended}
 use Rattle.mesh_run.specs.declared.command_line.Args.{Args}
-use Rattle.mesh_run.specs.declared.command_line.Args.TheVariants.{Replay, Threads}
+use Rattle.mesh_run.specs.declared.command_line.Args.TheVariants.{Draw, Replay, Threads}
 use Rattle.mesh_run.specs.declared.command_line.Stop.{Stop}
+use Rattle.mesh_run.specs.declared.draw_args.DrawArgs.{DrawArgs}
 use Rattle.mesh_run.specs.declared.threads_args.ThreadsArgs.{ThreadsArgs}
 
 -- ---- what the program takes
@@ -28,9 +29,9 @@ number_rule name least most = record (new_rule name) { long = Some name; parser 
 abbrev pub required_number : Text → ℕ → ℕ → Rule
 required_number name least most = record (number_rule name least most) { required = true }
 
--- one that is 1 where it isn't given
-abbrev pub number_or_1 : Text → ℕ → ℕ → Rule
-number_or_1 name least most = record (number_rule name least most) { defaults = codes "1" ∷ [] }
+-- one that is the default where it isn't given
+abbrev pub number_or : Text → ℕ → ℕ → Text → Rule
+number_or name least most default = record (number_rule name least most) { defaults = default ∷ [] }
 
 -- `replay FILE`
 abbrev pub replay_app : App
@@ -40,16 +41,22 @@ replay_app = with_rule (new_app (codes "replay")) file_rule
 abbrev pub threads_app : App
 threads_app = with_rule (with_rule (with_rule (with_rule (with_rule (with_rule (new_app (codes "threads")) file_rule)
     (required_number (codes "probe") 0 64)) (required_number (codes "rounds") 0 1000)) (required_number (codes "workers") 1 16))
-    (required_number (codes "seed") 0 18446744073709551615)) (number_or_1 (codes "meshers") 1 10)
+    (required_number (codes "seed") 0 18446744073709551615)) (number_or (codes "meshers") 1 10 (codes "1"))
+
+-- `draw FILE [--from N] [--to N] [--columns N]`
+abbrev pub draw_app : App
+draw_app = with_rule (with_rule (with_rule (with_rule (new_app (codes "draw")) file_rule)
+    (number_or (codes "from") 1 1048576 (codes "1"))) (number_or (codes "to") 1 1048576 (codes "1048576")))
+    (number_or (codes "columns") 0 64 (codes "0"))
 
 -- the program alone: it has a version, wants a subcommand, and shows its help without a word
 abbrev pub bare_app : App
 bare_app = let app = new_app (codes "meshrun") in
     record app { top = record app.top { has_version = true; subcommand_required = true; arg_required_else_help = true } }
 
--- `meshrun replay FILE` and `meshrun threads FILE ..`
+-- `meshrun replay FILE`, `meshrun threads FILE ..` and `meshrun draw FILE ..`
 abbrev pub meshrun_app : App
-meshrun_app = with_subcommand (with_subcommand bare_app replay_app.top) threads_app.top
+meshrun_app = with_subcommand (with_subcommand (with_subcommand bare_app replay_app.top) threads_app.top) draw_app.top
 
 -- ---- what words ask for
 
@@ -62,10 +69,17 @@ pub record Numbers : Type 0 where
   pub seed : ℕ
   pub meshers : ℕ
 
--- a replay of the job file at this path, or its scripts run by threads with these numbers
+-- what of a plan is to be drawn: its lines from the first to the last of these, in so many columns, 0 being as many as fit
+pub record Shown : Type 0 where
+  pub from : ℕ
+  pub to : ℕ
+  pub columns : ℕ
+
+-- a replay of the job file at this path, its scripts run by threads with these numbers, or a picture of what is shown of its plan
 pub data Asked : Type 0 where
   replay_of : Text → Asked
   threads_of : Text → Numbers → Asked
+  draw_of : Text → Shown → Asked
 
 -- the number of this text, where `clap` takes it as one in the range
 abbrev pub number_of : ℕ → ℕ → Text → Option ℕ
@@ -83,11 +97,18 @@ numbers_in rows =
     (number_in (codes "meshers") 1 10 rows)) (number_in (codes "seed") 0 18446744073709551615 rows)) (number_in (codes "workers") 1 16 rows))
     (number_in (codes "rounds") 0 1000 rows)) (number_in (codes "probe") 0 64 rows)
 
+-- what the matches have for `draw`
+abbrev pub shown_in : List Row → Option Shown
+shown_in rows =
+    option_and_then (λ from. option_and_then (λ to. option_map (λ columns. record { from = from; to = to; columns = columns })
+    (number_in (codes "columns") 0 64 rows)) (number_in (codes "to") 1 1048576 rows)) (number_in (codes "from") 1 1048576 rows)
+
 -- what a subcommand of this name with these matches asks for, on the file
 abbrev pub asked_on : Text → List Row → Text → Option Asked
 asked_on name rows file =
     if bytes_eq name (codes "replay") then Some (replay_of file)
-    else (if bytes_eq name (codes "threads") then option_map (threads_of file) (numbers_in rows) else None)
+    else (if bytes_eq name (codes "threads") then option_map (threads_of file) (numbers_in rows)
+    else (if bytes_eq name (codes "draw") then option_map (draw_of file) (shown_in rows) else None))
 
 -- what a subcommand's name and matches ask for
 abbrev pub asked_in : Option (Text × List Row) → Option Asked
@@ -110,10 +131,15 @@ kinds_of words = fault_of meshrun_app words
 abbrev pub numbers_of : ThreadsArgs → Numbers
 numbers_of args = record { probe = args.probe; rounds = args.rounds; workers = args.workers; seed = args.seed; meshers = args.meshers }
 
+-- what was read of what is to be drawn
+abbrev pub shown_of : DrawArgs → Shown
+shown_of args = record { from = args.from; to = args.to; columns = args.columns }
+
 -- what the program was told to do
 abbrev pub asking : Args → Asked
 asking (Replay path) = replay_of path.now
 asking (Threads path args) = threads_of path.now (numbers_of args)
+asking (Draw path args) = draw_of path.now (shown_of args)
 
 -- the words ask for this
 abbrev pub IsAsked : List Text → Args → Type 0

@@ -1,4 +1,5 @@
 pub mod CommandLine
+pub mod DrawArgs
 pub mod Runs
 pub mod Status
 pub mod StatusLaws

@@ -3,10 +3,10 @@ ghost use Rattle.std.specs.Prelude.{◌≡◌, ◌≢◌, ◌⊎◌, ◌≤◌, 
 ghost use Rattle.std.specs.IoError.{error_kind};
 ghost use Rattle.std.specs.declared.io.ErrorKind.TheVariants.{OutOfMemory as IoOutOfMemory};
 ghost use Rattle.clap.specs.Words.{app_of, found_of, kind_of, rows_of, rule_of, subcommand_rows_of};
-ghost use Rattle.mesh_run.specs.CommandLine.{IsAllowedOf, IsAsked, IsNoText, IsOutOfMemory, IsSaidOf, IsStopAt, asked, asked_in, asking, file_rule, is_taken, meshrun_app, number_in, number_or_1, number_rule, numbers_in, numbers_of, replay_app, required_number, status_of_kind, threads_app};
+ghost use Rattle.mesh_run.specs.CommandLine.{IsAllowedOf, IsAsked, IsNoText, IsOutOfMemory, IsSaidOf, IsStopAt, asked, asked_in, asking, draw_app, file_rule, is_taken, meshrun_app, number_in, number_or, number_rule, numbers_in, numbers_of, replay_app, required_number, shown_in, shown_of, status_of_kind, threads_app};
 
-use crate::ThreadsArgs;
 use crate::status::{DONE, FAILED, FAULTY};
+use crate::{DrawArgs, ThreadsArgs};
 use clap::builder::ValueParser;
 use clap::error::ErrorKind;
 use clap::{Arg, ArgMatches, Command, Error};
@@ -69,6 +69,30 @@ const MESHERS: NumberOption = NumberOption {
     help: "How many threads mesh, 1 to 10",
 };
 
+const FROM: NumberOption = NumberOption {
+    name: "from",
+    value: "N",
+    least: 1,
+    most: 1048576,
+    help: "The first line of the plan that is drawn, 1 to 1048576",
+};
+
+const TO: NumberOption = NumberOption {
+    name: "to",
+    value: "N",
+    least: 1,
+    most: 1048576,
+    help: "The last line of the plan that is drawn, 1 to 1048576",
+};
+
+const COLUMNS: NumberOption = NumberOption {
+    name: "columns",
+    value: "N",
+    least: 0,
+    most: 64,
+    help: "How many columns the picture has, 1 to 64, or 0 for as many as fit",
+};
+
 /// The version that `--version` tells.
 const VERSION: &str = "0.1.0";
 
@@ -79,6 +103,8 @@ pub enum Args<'a> {
     Replay(&'a str),
     /// `threads FILE ..`: run the scripts of the job file at this path by threads, with these numbers.
     Threads(&'a str, ThreadsArgs),
+    /// `draw FILE ..`: draw the plan of the job file at this path, with these lines and columns.
+    Draw(&'a str, DrawArgs),
 }
 
 /// Why the program ends before it begins, and what it says.
@@ -142,6 +168,7 @@ fn asked_for<'a>(matches: &ArgMatches<'a>) -> Option<Args<'a>>
     match name {
         "replay" => Some(Args::Replay(file)),
         "threads" => Some(Args::Threads(file, numbers(matches)?)),
+        "draw" => Some(Args::Draw(file, shown(matches)?)),
         _ => None,
     }
 }
@@ -156,6 +183,17 @@ fn numbers<'a>(matches: &ArgMatches<'a>) -> Option<ThreadsArgs>
         workers: number(matches, WORKERS)? as u32,
         seed: number(matches, SEED)?,
         meshers: number(matches, MESHERS)? as u32,
+    })
+}
+
+/// What of a plan is to be drawn, and in how many columns.
+fn shown<'a>(matches: &ArgMatches<'a>) -> Option<DrawArgs>
+    ensures { option_map shown_of result ≡ shown_in (rows_of (found_of matches.now)) }
+{
+    Some(DrawArgs {
+        from: number(matches, FROM)? as u32,
+        to: number(matches, TO)? as u32,
+        columns: number(matches, COLUMNS)? as u32,
     })
 }
 
@@ -178,13 +216,15 @@ fn meshrun_command<'a>(alloc: Global) -> Result<Command<'a>, AllocError>
 {
     let replay = replay_command(alloc)?;
     let threads = threads_command(alloc)?;
+    let draw = draw_command(alloc)?;
     Command::new(alloc, "meshrun")
         .about("A modelled heap that is compacted by meshing")
         .version(VERSION)
         .subcommand_required(true)
         .arg_required_else_help(true)
         .subcommand(replay)?
-        .subcommand(threads)
+        .subcommand(threads)?
+        .subcommand(draw)
 }
 
 /// `replay FILE`.
@@ -209,7 +249,19 @@ fn threads_command<'a>(alloc: Global) -> Result<Command<'a>, AllocError>
         .arg(required_number(alloc, ROUNDS))?
         .arg(required_number(alloc, WORKERS))?
         .arg(required_number(alloc, SEED))?
-        .arg(number_or_1(alloc, MESHERS))
+        .arg(number_or(alloc, MESHERS, "1"))
+}
+
+/// `draw FILE [--from N] [--to N] [--columns N]`.
+fn draw_command<'a>(alloc: Global) -> Result<Command<'a>, AllocError>
+    ensures { IfOk result (λ command. app_of command ≡ draw_app) }
+{
+    Command::new(alloc, "draw")
+        .about("Draw a job file's plan as an SVG picture and print it")
+        .arg(file(alloc, "The job file to draw"))?
+        .arg(number_or(alloc, FROM, "1"))?
+        .arg(number_or(alloc, TO, "1048576"))?
+        .arg(number_or(alloc, COLUMNS, "0"))
 }
 
 /// The job file.
@@ -226,11 +278,11 @@ fn required_number<'a>(alloc: Global, option: NumberOption) -> Arg<'a>
     number_option(alloc, option).required(true)
 }
 
-/// An option with a number that is 1 where it isn't given.
-fn number_or_1<'a>(alloc: Global, option: NumberOption) -> Arg<'a>
-    ensures { rule_of result ≡ number_or_1 option.name.now option.least option.most }
+/// An option with a number that is the default where it isn't given.
+fn number_or<'a>(alloc: Global, option: NumberOption, default: &'static str) -> Arg<'a>
+    ensures { rule_of result ≡ number_or option.name.now option.least option.most default.now }
 {
-    number_option(alloc, option).default_value("1")
+    number_option(alloc, option).default_value(default)
 }
 
 /// An option with a number.

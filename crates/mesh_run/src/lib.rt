@@ -5,6 +5,8 @@
 #![tactic(auto)]
 
 mod command_line;
+mod draw;
+mod draw_args;
 mod fault_line;
 mod runs;
 mod shuffle_words;
@@ -16,6 +18,8 @@ mod threads_error;
 pub mod word_laws;
 
 pub use command_line::{Args, Stop, arguments, unread_words};
+pub use draw::draw_run;
+pub use draw_args::DrawArgs;
 pub use mesh_text::{DeviceFault, Input, Output, Sink, Source};
 pub use runs::{replay_run, stop_run, unopened_run};
 pub use shuffle_words::words;

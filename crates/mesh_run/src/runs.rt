@@ -35,13 +35,8 @@ pub fn replay_run<I: Source, O: Sink, E: Sink>(
         × HasTold (E.has_failed errors.new) (E.written errors.old) (E.written errors.new) (ended (error_text error)) }
     ensures small { result ≤ 2 }
 {
-    match replay(alloc, input, output) {
-        Ok(()) => DONE,
-        Err(error) => {
-            tell_error(errors, error);
-            status_of(error)
-        }
-    }
+    let outcome = replay(alloc, input, output);
+    finished(errors, outcome)
 }
 
 /// Writes help to the output, or what else a stop says to `errors`, and gives its exit status.
@@ -70,6 +65,24 @@ pub fn unopened_run<E: Sink>(errors: &mut E) -> u8
 {
     tell_error(errors, ReplayError::Read);
     FAILED
+}
+
+/// Writes to `errors` why a run stopped, where it did, and gives the exit status: 0 where it was done. Where the line can't be written the
+/// status stays.
+pub(crate) fn finished<E: Sink>(errors: &mut E, outcome: Result<(), ReplayError>) -> u8
+    ensures done { result ≡ 0 → outcome ≡ Ok tt }
+    ensures untold { result ≡ 0 → Keeps (E.written errors.old) (E.written errors.new) }
+    ensures stopped { 0 < result → (error : ReplayError) × (outcome ≡ Err error) × (result ≡ status_of_error error)
+        × HasTold (E.has_failed errors.new) (E.written errors.old) (E.written errors.new) (ended (error_text error)) }
+    ensures small { result ≤ 2 }
+{
+    match outcome {
+        Ok(()) => DONE,
+        Err(error) => {
+            tell_error(errors, error);
+            status_of(error)
+        }
+    }
 }
 
 /// Writes the line of an error.

@@ -1,11 +1,13 @@
 //! The program `meshrun`: a modelled heap that is compacted by meshing.
 //!
 //! `meshrun replay FILE` runs the plan of a job file and prints one answer line for each of its lines. `meshrun threads FILE ..` runs its
-//! scripts, each on a thread of its own, while other threads search and mesh, and prints each worker's answers.
+//! scripts, each on a thread of its own, while other threads search and mesh, and prints each worker's answers. `meshrun draw FILE ..` prints
+//! a picture of the plan.
 #![tactic(auto)]
 
 use mesh_run::{
-    Args, Input, Output, arguments, replay_run, stop_run, threads_run, unopened_run, unread_words,
+    Args, Input, Output, arguments, draw_run, replay_run, stop_run, threads_run, unopened_run,
+    unread_words,
 };
 use std::fs::File;
 use std::process::ExitCode;
@@ -31,6 +33,14 @@ fn main(rt: HostRuntime) -> ExitCode {
                             &mut errors,
                             &args,
                         ),
+                        Args::Draw(path, args) => draw_run(
+                            rt.alloc(),
+                            path,
+                            &args,
+                            &mut input,
+                            &mut output,
+                            &mut errors,
+                        ),
                     }
                 }
                 Err(_) => unopened_run(&mut errors),
@@ -45,7 +55,7 @@ fn main(rt: HostRuntime) -> ExitCode {
 /// The path of the job file.
 fn path_of<'a>(args: Args<'a>) -> &'a str {
     match args {
-        Args::Replay(path) | Args::Threads(path, _) => path,
+        Args::Replay(path) | Args::Threads(path, _) | Args::Draw(path, _) => path,
     }
 }
 

@@ -3,7 +3,7 @@ use mesh_run::{Args, Output, arguments, stop_run, unopened_run};
 use std::test::Fail;
 
 /// For each command line that asks for no run its words, the exit status, and how the text that it prints begins.
-static STOPS: [(&[&str], u8, &str); 9] = [
+static STOPS: [(&[&str], u8, &str); 11] = [
     (&["meshrun", "--help"], 0, "A modelled heap"),
     (&["meshrun", "--version"], 0, "meshrun 0.1.0\n"),
     (&["meshrun", "replay", "--help"], 0, "Run a job file's plan"),
@@ -12,8 +12,10 @@ static STOPS: [(&[&str], u8, &str); 9] = [
         0,
         "Run a job file's scripts",
     ),
+    (&["meshrun", "draw", "--help"], 0, "Draw a job file's plan"),
     (&["meshrun"], 2, "A modelled heap"),
     (&["meshrun", "replay"], 2, "error: "),
+    (&["meshrun", "draw"], 2, "error: "),
     (&["meshrun", "replay", "a", "b"], 2, "error: "),
     (&["meshrun", "replay", "--version"], 2, "error: "),
     (&["meshrun", "report"], 2, "error: "),
@@ -79,8 +81,29 @@ static NUMBERS: [(&str, &[u64]); 14] = [
     ),
 ];
 
-/// Command lines of `threads` with a fault, and one of `replay`.
-static FAULTY: [&str; 22] = [
+/// Command lines, and what they ask for to be drawn of `a.job`: the first line, the last one, and columns.
+static SHOWN: [(&str, [u32; 3]); 8] = [
+    ("meshrun draw a.job", [1, 1048576, 0]),
+    (
+        "meshrun draw a.job --from 12 --to 34 --columns 5",
+        [12, 34, 5],
+    ),
+    ("meshrun draw a.job --from 12", [12, 1048576, 0]),
+    ("meshrun draw a.job --to 34", [1, 34, 0]),
+    ("meshrun draw a.job --columns 5", [1, 1048576, 5]),
+    (
+        "meshrun draw --columns=64 --to=1048576 a.job --from=1048576",
+        [1048576, 1048576, 64],
+    ),
+    ("meshrun draw a.job --from 1 --to 1 --columns 0", [1, 1, 0]),
+    (
+        "meshrun draw a.job --from +34 --to 0012 --columns 5",
+        [34, 12, 5],
+    ),
+];
+
+/// Command lines of `threads` and of `draw` with a fault, and one of `replay`.
+static FAULTY: [&str; 34] = [
     "meshrun threads a.job --probe 65 --rounds 3 --workers 4 --seed 5 --meshers 6",
     "meshrun threads a.job --probe 2 --rounds 1001 --workers 4 --seed 5 --meshers 6",
     "meshrun threads a.job --probe 2 --rounds 3 --workers 0 --seed 5 --meshers 6",
@@ -103,6 +126,18 @@ static FAULTY: [&str; 22] = [
     "meshrun threads a.job",
     "meshrun threads",
     "meshrun replay a.job --seed 5",
+    "meshrun draw a.job --from 0",
+    "meshrun draw a.job --from 1048577",
+    "meshrun draw a.job --to 0",
+    "meshrun draw a.job --to 1048577",
+    "meshrun draw a.job --columns 65",
+    "meshrun draw a.job --columns -1",
+    "meshrun draw a.job --from 0x5",
+    "meshrun draw a.job --from 1 --from 2",
+    "meshrun draw a.job --seed 5",
+    "meshrun draw a.job b.job",
+    "meshrun draw --from 1 --to 2",
+    "meshrun draw a.job --version",
 ];
 
 #[test]
@@ -150,6 +185,19 @@ fn reads_numbers(rt: HostRuntime) -> Result<(), Fail> {
         let [probe, rounds, workers, meshers] = counts.map(u64::from);
         let read = [probe, rounds, workers, args.seed, meshers];
         assert!(rt; read.as_slice() == *numbers, "{line}");
+    }
+    Ok(())
+}
+
+#[test]
+fn reads_what_is_drawn(rt: HostRuntime) -> Result<(), Fail> {
+    for (line, shown) in SHOWN.iter() {
+        let words: Vec<&str> = line.split(' ').collect(rt.alloc())?;
+        let Ok(Args::Draw(file, args)) = arguments(rt.alloc(), words.as_slice()) else {
+            panic!(rt; "no picture: {line}");
+        };
+        assert_eq!(rt; file, "a.job", "{line}");
+        assert!(rt; [args.from, args.to, args.columns] == *shown, "{line}");
     }
     Ok(())
 }

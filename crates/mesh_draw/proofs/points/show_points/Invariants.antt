@@ -1,0 +1,16 @@
+use Rattle.std.proofs.Common.{◌≡◌, ◌≤◌, ◌-◌, false, length, min}
+use Rattle.mesh_text.specs.Turns.{StandsBehind}
+use Rattle.mesh_draw.specs.Points.{next_shown}
+use Rattle.mesh_draw.proofs.points.show_points.Given as goal
+
+abbrev pub invariant-loop-played : goal.invariant-loop-played
+invariant-loop-played g l = record {
+  last : l.end ≡ min l.to (length l.job.plan);
+  few : l.played ≤ l.end;
+  stands : StandsBehind l.job l.played l.turns;
+  next : g.P.Painter.next l.painter ≡ next_shown l.from l.played;
+  fresh : g.O.Sink.has_failed l.output ≡ false;
+}
+
+abbrev pub decreases-loop-played : goal.decreases-loop-played
+decreases-loop-played g l = l.end - l.played

@@ -1,0 +1,123 @@
+-- What a picture shows of a heap, and of a job after each line of its plan.
+use Rattle.std.specs.Prelude.{◌≡◌, ℕ, zero, suc, ◌+◌, not, nat_lt, List, [], ◌∷◌, ◌++◌, Option, Some, None, slice_get, length}
+use Rattle.std.specs.Option.{option_map}
+use Rattle.model_words.specs.Classes.{pages_of, slots_of}
+use Rattle.model_heap.specs.Table.{Mesh, Progress, Made, Unwinding, group_of, report_of}
+use Rattle.mesh_layout.specs.Meshes.{mesh_from}
+use Rattle.mesh_steps.specs.Heap.{Heap, arena_of, index_of, map_of, table_of}
+use Rattle.mesh_steps.specs.PageHeap.{counts_told}
+use Rattle.mesh_steps.specs.Shown.{home_at, lead_at, member_at, object_at, released_of}
+use Rattle.mesh_draw.specs.declared.frame.Frame.{Frame}
+use Rattle.mesh_draw.specs.declared.frame.Home.{Home}
+use Rattle.mesh_draw.specs.declared.frame.Lead.{Lead}
+use Rattle.mesh_draw.specs.declared.frame.Member.{Member}
+use Rattle.mesh_draw.specs.declared.frame.MeshProgress.{MeshProgress}
+use Rattle.mesh_draw.specs.declared.frame.MeshProgress.TheVariants as shown
+use Rattle.mesh_draw.specs.declared.frame.Object.{Object}
+use Rattle.mesh_draw.specs.declared.frame.RunningMesh.{RunningMesh}
+
+-- what a function lists for each number below another, one after the other
+abbrev pub below : {A : Type 0} → ℕ → (ℕ → List A) → List A
+below zero list = []
+below (suc n) list = below n list ++ list n
+
+-- what there is, as a list of one or none
+abbrev pub listed : {A : Type 0} → Option A → List A
+listed None = []
+listed (Some x) = x ∷ []
+
+-- what a function lists of what there is
+abbrev pub listing : {A B : Type 0} → Option A → (A → List B) → List B
+listing None list = []
+listing (Some x) list = list x
+
+-- the class of the group of a number
+abbrev pub class_in : Heap → ℕ → Option ℕ
+class_in h n = option_map (λ g. g.class) (group_of (table_of h) n)
+
+-- the first virtual page of the member of a group at a place
+abbrev pub first_in : Heap → ℕ → ℕ → Option ℕ
+first_in h n place = member_at (group_of (table_of h) n) place
+
+-- the member of a group of a class at a place
+abbrev pub member_row : Heap → ℕ → ℕ → ℕ → Option Member
+member_row h n class place = option_map (λ first. record { group = n; class = class; first = first }) (first_in h n place)
+
+-- where a virtual page leads
+abbrev pub lead_row : Heap → ℕ → Option Lead
+lead_row h v = option_map (λ lead. record { page = v; to = lead.page; read_only = lead.read_only }) (lead_at (map_of h) v)
+
+-- the object in a slot of the member of a group at a place, which begins at this virtual page
+abbrev pub object_row : Heap → ℕ → ℕ → ℕ → ℕ → Option Object
+object_row h n place first k = option_map (λ o. record { member = first; slot = k; serial = o.0; len = o.1 }) (object_at (group_of (table_of h) n) place k)
+
+-- how many of its physical pages a group has given back
+abbrev pub released_in : Heap → ℕ → ℕ
+released_in h n = released_of (group_of (table_of h) n) (mesh_from n (table_of h).meshes)
+
+-- a physical page of a group: a mesh from the group gives its pages back in their order
+abbrev pub home_row : Heap → ℕ → ℕ → Option Home
+home_row h n i =
+    option_map (λ page. record { group = n; place = i; page = page; taken = not (nat_lt i (released_in h n)) }) (home_at (index_of h) n i)
+
+-- how far a mesh has come
+abbrev pub progress_row : Progress → MeshProgress
+progress_row (Made d) = shown.Made d
+progress_row (Unwinding q u) = shown.Unwinding q u
+
+-- a running mesh
+abbrev pub mesh_row : Mesh → RunningMesh
+mesh_row mesh = record { class = mesh.class; source = mesh.source; destination = mesh.destination; progress = progress_row mesh.progress }
+
+-- the members of a group, of which it has at most eight
+abbrev pub members_of_group : Heap → ℕ → List Member
+members_of_group h n = listing (class_in h n) (λ class. below 8 (λ place. listed (member_row h n class place)))
+
+-- the members of all groups: their numbers are below the lowest virtual page that was never used
+abbrev pub members_of : Heap → List Member
+members_of h = below (table_of h).next_page (members_of_group h)
+
+-- where the pages of a member lead, which begins at this virtual page
+abbrev pub leads_of_member : Heap → ℕ → ℕ → List Lead
+leads_of_member h class first = below (pages_of class) (λ i. listed (lead_row h (first + i)))
+
+-- where the pages of a group's members lead
+abbrev pub leads_of_group : Heap → ℕ → List Lead
+leads_of_group h n = listing (class_in h n) (λ class. below 8 (λ place. listing (first_in h n place) (leads_of_member h class)))
+
+-- where all members' pages lead
+abbrev pub leads_of : Heap → List Lead
+leads_of h = below (table_of h).next_page (leads_of_group h)
+
+-- the objects of the member of a group at a place, which begins at this virtual page
+abbrev pub objects_of_member : Heap → ℕ → ℕ → ℕ → ℕ → List Object
+objects_of_member h n class place first = below (slots_of class) (λ k. listed (object_row h n place first k))
+
+-- the objects of a group's members
+abbrev pub objects_of_group : Heap → ℕ → List Object
+objects_of_group h n = listing (class_in h n) (λ class. below 8 (λ place. listing (first_in h n place) (objects_of_member h n class place)))
+
+-- all objects
+abbrev pub objects_of : Heap → List Object
+objects_of h = below (table_of h).next_page (objects_of_group h)
+
+-- the physical pages of a group
+abbrev pub homes_of_group : Heap → ℕ → List Home
+homes_of_group h n = listing (class_in h n) (λ class. below (pages_of class) (λ i. listed (home_row h n i)))
+
+-- the physical pages of all groups
+abbrev pub homes_of : Heap → List Home
+homes_of h = below (table_of h).next_page (homes_of_group h)
+
+-- the running meshes, of which there is at most one of each of the ten classes
+abbrev pub meshes_of : Heap → List RunningMesh
+meshes_of h = below 10 (λ place. listed (option_map mesh_row (slice_get (table_of h).meshes place)))
+
+-- a frame shows a heap: all of its groups' members, where their pages lead, their objects and physical pages, and its running meshes and counts
+pub record IsFrame (h : Heap) (f : Frame) : Type 0 where
+  pub members : f.members.items ≡ members_of h
+  pub leads : f.leads.items ≡ leads_of h
+  pub objects : f.objects.items ≡ objects_of h
+  pub homes : f.homes.items ≡ homes_of h
+  pub meshes : f.meshes.items ≡ meshes_of h
+  pub counts : counts_told f.counts ≡ report_of (length (arena_of h)) (table_of h)

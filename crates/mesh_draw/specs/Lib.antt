@@ -1,0 +1,4 @@
+pub mod Draws
+pub mod Frames
+pub mod Painters
+pub mod Points

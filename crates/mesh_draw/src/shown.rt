@@ -1,0 +1,259 @@
+//! A frame, read off a heap.
+ghost use Rattle.std.specs.Prelude.{◌≡◌, ◌<◌, ◌≤◌, ◌++◌, IfOk, IfSome, OnOk, slice_get};
+ghost use Rattle.std.specs.Option.{option_map};
+ghost use Rattle.mesh_steps.specs.Heap.{table_of};
+ghost use Rattle.mesh_draw.specs.Frames.{IsFrame, first_in, home_row, homes_of, homes_of_group, lead_row, leads_of, leads_of_group, leads_of_member, listed, listing, member_row, members_of, members_of_group, mesh_row, meshes_of, object_row, objects_of, objects_of_group, objects_of_member, progress_row};
+
+use crate::frame::{Frame, Home, Lead, Member, MeshProgress, Object, RunningMesh};
+use mesh_class::Class;
+use mesh_steps::{Heap, Phase, Running};
+use std::alloc::{AllocError, Global};
+
+/// How many members a group has at most.
+const MAX_MEMBERS: usize = 8;
+
+/// How many meshes run at most.
+const MAX_MESHES: usize = 10;
+
+/// What a picture shows of a heap. An error is an allocation failure.
+pub fn frame_of(alloc: Global, heap: &Heap) -> Result<Frame, AllocError>
+    ensures { IfOk result (IsFrame heap.now) }
+{
+    Ok(Frame {
+        members: members_of(alloc, heap)?,
+        leads: leads_of(alloc, heap)?,
+        objects: objects_of(alloc, heap)?,
+        homes: homes_of(alloc, heap)?,
+        meshes: meshes_of(alloc, heap)?,
+        counts: heap.report(),
+    })
+}
+
+/// The members of all groups.
+fn members_of(alloc: Global, heap: &Heap) -> Result<Vec<Member>, AllocError>
+    ensures { IfOk result (λ rows. rows.items ≡ members_of heap.now) }
+{
+    let mut rows = Vec::new(alloc);
+    for group in 0..heap.next_page() {
+        add_members(&mut rows, heap, group)?;
+    }
+    Ok(rows)
+}
+
+/// Adds the members of a group.
+fn add_members(rows: &mut Vec<Member>, heap: &Heap, group: u32) -> Result<(), AllocError>
+    ensures { OnOk result (rows.new.items ≡ rows.old.items ++ members_of_group heap.now group) }
+{
+    let Some(class) = heap.class_of(group) else {
+        return Ok(());
+    };
+    for place in 0..MAX_MEMBERS {
+        add(rows, member_at(heap, group, class, place))?;
+    }
+    Ok(())
+}
+
+/// The member of a group at a place.
+fn member_at(heap: &Heap, group: u32, class: Class, place: usize) -> Option<Member>
+    ensures { result ≡ member_row heap.now group class place }
+{
+    let first = heap.member(group, place)?;
+    Some(Member {
+        group,
+        class,
+        first,
+    })
+}
+
+/// Where the pages of all members lead.
+fn leads_of(alloc: Global, heap: &Heap) -> Result<Vec<Lead>, AllocError>
+    ensures { IfOk result (λ rows. rows.items ≡ leads_of heap.now) }
+{
+    let mut rows = Vec::new(alloc);
+    for group in 0..heap.next_page() {
+        add_leads(&mut rows, heap, group)?;
+    }
+    Ok(rows)
+}
+
+/// Adds where the pages of a group's members lead.
+fn add_leads(rows: &mut Vec<Lead>, heap: &Heap, group: u32) -> Result<(), AllocError>
+    ensures { OnOk result (rows.new.items ≡ rows.old.items ++ leads_of_group heap.now group) }
+{
+    let Some(class) = heap.class_of(group) else {
+        return Ok(());
+    };
+    for place in 0..MAX_MEMBERS {
+        add_member_leads(rows, heap, class, heap.member(group, place))?;
+    }
+    Ok(())
+}
+
+/// Adds where the pages of a member lead, where there is one.
+fn add_member_leads(
+    rows: &mut Vec<Lead>,
+    heap: &Heap,
+    class: Class,
+    member: Option<u32>,
+) -> Result<(), AllocError>
+    requires { IfSome member (λ first. (1 ≤ first) × (first < 65536)) }
+    ensures { OnOk result (rows.new.items ≡ rows.old.items ++ listing member (leads_of_member heap.now class)) }
+{
+    let Some(first) = member else {
+        return Ok(());
+    };
+    for place in 0..class.pages() {
+        add(rows, lead_at(heap, first + place))?;
+    }
+    Ok(())
+}
+
+/// Where a virtual page leads.
+fn lead_at(heap: &Heap, page: u32) -> Option<Lead>
+    requires { 1 ≤ page }
+    ensures { result ≡ lead_row heap.now page }
+{
+    let lead = heap.lead(page)?;
+    Some(Lead {
+        page,
+        to: lead.page,
+        read_only: lead.read_only,
+    })
+}
+
+/// All objects.
+fn objects_of(alloc: Global, heap: &Heap) -> Result<Vec<Object>, AllocError>
+    ensures { IfOk result (λ rows. rows.items ≡ objects_of heap.now) }
+{
+    let mut rows = Vec::new(alloc);
+    for group in 0..heap.next_page() {
+        add_objects(&mut rows, heap, group)?;
+    }
+    Ok(rows)
+}
+
+/// Adds the objects of a group's members.
+fn add_objects(rows: &mut Vec<Object>, heap: &Heap, group: u32) -> Result<(), AllocError>
+    ensures { OnOk result (rows.new.items ≡ rows.old.items ++ objects_of_group heap.now group) }
+{
+    let Some(class) = heap.class_of(group) else {
+        return Ok(());
+    };
+    for place in 0..MAX_MEMBERS {
+        add_member_objects(rows, heap, group, class, place)?;
+    }
+    Ok(())
+}
+
+/// Adds the objects of the member of a group at a place, where there is one.
+fn add_member_objects(
+    rows: &mut Vec<Object>,
+    heap: &Heap,
+    group: u32,
+    class: Class,
+    place: usize,
+) -> Result<(), AllocError>
+    ensures { OnOk result (rows.new.items ≡ rows.old.items ++ listing (first_in heap.now group place) (objects_of_member heap.now group class place)) }
+{
+    let Some(first) = heap.member(group, place) else {
+        return Ok(());
+    };
+    for slot in 0..class.slots() {
+        add(rows, object_at(heap, group, place, first, slot))?;
+    }
+    Ok(())
+}
+
+/// The object in a slot of the member of a group at a place, which begins at this virtual page.
+fn object_at(heap: &Heap, group: u32, place: usize, member: u32, slot: u32) -> Option<Object>
+    ensures { result ≡ object_row heap.now group place member slot }
+{
+    let (serial, len) = heap.object(group, place, slot)?;
+    Some(Object {
+        member,
+        slot,
+        serial,
+        len,
+    })
+}
+
+/// The physical pages of all groups.
+fn homes_of(alloc: Global, heap: &Heap) -> Result<Vec<Home>, AllocError>
+    ensures { IfOk result (λ rows. rows.items ≡ homes_of heap.now) }
+{
+    let mut rows = Vec::new(alloc);
+    for group in 0..heap.next_page() {
+        add_homes(&mut rows, heap, group)?;
+    }
+    Ok(rows)
+}
+
+/// Adds the physical pages of a group.
+fn add_homes(rows: &mut Vec<Home>, heap: &Heap, group: u32) -> Result<(), AllocError>
+    ensures { OnOk result (rows.new.items ≡ rows.old.items ++ homes_of_group heap.now group) }
+{
+    let Some(class) = heap.class_of(group) else {
+        return Ok(());
+    };
+    for place in 0..class.pages() {
+        add(rows, home_at(heap, group, place))?;
+    }
+    Ok(())
+}
+
+/// The physical page of a group at a place.
+fn home_at(heap: &Heap, group: u32, place: u32) -> Option<Home>
+    ensures { result ≡ home_row heap.now group place }
+{
+    let page = heap.home(group, place as usize)?;
+    Some(Home {
+        group,
+        place,
+        page,
+        taken: place >= heap.released(group),
+    })
+}
+
+/// The running meshes.
+fn meshes_of(alloc: Global, heap: &Heap) -> Result<Vec<RunningMesh>, AllocError>
+    ensures { IfOk result (λ rows. rows.items ≡ meshes_of heap.now) }
+{
+    let mut rows = Vec::new(alloc);
+    for place in 0..MAX_MESHES {
+        add(&mut rows, mesh_at(heap, place))?;
+    }
+    Ok(rows)
+}
+
+/// The running mesh at a place.
+fn mesh_at(heap: &Heap, place: usize) -> Option<RunningMesh>
+    ensures { result ≡ option_map mesh_row (slice_get (table_of heap.now).meshes place) }
+{
+    let mesh = heap.mesh(place)?;
+    Some(RunningMesh {
+        class: mesh.class(),
+        source: mesh.source(),
+        destination: mesh.destination(),
+        progress: progress_of(mesh),
+    })
+}
+
+/// How far a mesh has come.
+fn progress_of(mesh: Running) -> MeshProgress
+    ensures { result ≡ progress_row mesh.progress }
+{
+    match mesh.phase() {
+        Phase::Made(made) => MeshProgress::Made(made),
+        Phase::Unwinding(protected, unprotected) => MeshProgress::Unwinding(protected, unprotected),
+    }
+}
+
+/// Adds a row, where there is one.
+fn add<T: Drop>(rows: &mut Vec<T>, row: Option<T>) -> Result<(), AllocError>
+    ensures { OnOk result (rows.new.items ≡ rows.old.items ++ listed row) }
+{
+    if let Some(row) = row {
+        rows.push(row)?;
+    }
+    Ok(())
+}
