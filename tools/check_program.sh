@@ -140,6 +140,39 @@ ended "threads: a full device as standard output" $status 1 "$room/nothing" "$(l
 cat "$threads" | "$program" threads /dev/stdin $small >"$room/output" 2>"$room/errors"
 ended "threads: a pipe as the file" $? 0 jobs/threads.out "$room/nothing"
 
+# pictures of plans: those that the documents show, then faults
+picture() {
+    picture=$1
+    shift
+    check "draw: docs/pictures/$picture" 0 "docs/pictures/$picture" "$room/nothing" draw "$@"
+}
+picture mesh.svg jobs/mesh.job
+picture cancel.svg jobs/pictures/cancel.job --from 7 --columns 2
+picture two_classes.svg jobs/pictures/two_classes.job --from 12 --columns 2
+picture three_pages.svg jobs/pictures/three_pages.job --from 15 --columns 2
+check "draw: help" 0 any "$room/nothing" draw --help
+check "draw: lines past the plan's end" 0 any "$room/nothing" draw jobs/mesh.job --from 1000
+check "draw: a file with a fault" 2 "$room/nothing" "$(line 'line 7: HEX')" draw jobs/rows/faults/half_byte.job
+check "draw: an endless file" 2 "$room/nothing" "$(line 'line 0: TOO_LONG')" draw /dev/zero
+check "draw: a missing file" 1 "$room/nothing" "$(line 'read fault')" draw "$room/missing.job"
+check "draw: a directory" 1 "$room/nothing" "$(line 'read fault')" draw jobs
+check "draw: no file" 2 "$room/nothing" any draw
+check "draw: line 0" 2 "$room/nothing" any draw jobs/mesh.job --from 0
+check "draw: 65 columns" 2 "$room/nothing" any draw jobs/mesh.job --columns 65
+
+: >"$room/output"
+"$program" draw jobs/mesh.job >/dev/full 2>"$room/errors" </dev/null
+ended "draw: a full device as standard output" $? 1 "$room/nothing" "$(line 'write fault')"
+
+for job in jobs/rows/*/*.job; do
+    row=${job%.job}
+    if [ -f "$row.err" ]; then
+        check "draw: $row" 2 "$room/nothing" "$row.err" draw "$job"
+    else
+        check "draw: $row" 0 any "$room/nothing" draw "$job"
+    fi
+done
+
 # the worked rows
 for job in jobs/rows/*/*.job; do
     row=${job%.job}
