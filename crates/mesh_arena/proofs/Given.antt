@@ -1,24 +1,17 @@
 -- Frames that were made, some of them given back.
-use Rattle.std.proofs.Common.{◌≡◌, ◌≢◌, ℕ, ◌+◌, ◌-◌, ◌<◌, ◌≤◌, ◌++◌, ◌∷◌, [], Bool, true, false, cond, not, ◌&&◌, ◌||◌, List, Option, Some, None, length, set, get_or, map, replicate, refl, sym, ap, ◌∙◌, arith, inl, inr, length-set, length-append, get_or-set_same, get_or-set_other, ⊎_elim}
+use Rattle.std.proofs.Common.{◌≡◌, ◌≢◌, ℕ, ◌+◌, ◌-◌, ◌<◌, ◌≤◌, ◌++◌, ◌∷◌, [], Bool, true, false, cond, not, List, Option, Some, None, length, set, get_or, replicate, refl, sym, ap, ◌∙◌, arith, length-set, length-append, get_or-set_same, get_or-set_other, ⊎_elim}
 use Rattle.std.specs.Prelude.{is_some, unwrap_or}
-use Rattle.std.specs.List.{range_with_len}
-use Rattle.std.specs.Ordering.{nat_cmp, eq_by_cmp}
-use Rattle.std.specs.Cmp.{unsigned_tied, nat_cmp_total}
+use Rattle.std.specs.Ordering.{nat_cmp}
+use Rattle.std.specs.Cmp.{nat_cmp_total}
 use Rattle.std.specs.FinSet.{FinSet, contains, empty, insert, remove, contains-empty, contains-insert, contains-remove}
 use Rattle.std.proofs.lemmas.List.{get_or_append_left, get_or-append_right, same_lists}
 use Rattle.std.proofs.lemmas.List.FromFn.{length-map-range_with_len, get_or-map-range_with_len}
 use Rattle.std.proofs.lemmas.Bool.{cases_lt, cases_eq}
-use Rattle.std.proofs.lemmas.Bool.Decides.{eqb_tells}
 use Rattle.mesh_bins.specs.Words.{IsFirst, IsLeast}
-use Rattle.mesh_arena.specs.Pages.{Pages, IsTaken, is_taken, content, bytes_of, blank_page}
+use Rattle.mesh_bins.proofs.WordLemmas.{tied_same, tied_other}
+use Rattle.mesh_arena.specs.Pages.{Pages, IsTaken, is_taken, bytes_of}
 use Rattle.mesh_arena.specs.Frames.{AreMade, made_pages, page_at, pages_of, with_unmade}
-use Rattle.mesh_arena.proofs.Unmade.{content-made, is_taken-made, is_taken-unmade, made-below, length-with_unmade, set-made, set-next}
-
-tied_same : (v : ℕ) → eq_by_cmp nat_cmp v v ≡ true
-tied_same v = unsigned_tied v v ∙ elim (eqb_tells v v) [ inl same ↦ same.0 | inr other ↦ absurd (other.1 refl) ]
-
-tied_other : (v w : ℕ) → v ≢ w → eq_by_cmp nat_cmp v w ≡ false
-tied_other v w ne = unsigned_tied v w ∙ elim (eqb_tells v w) [ inl same ↦ absurd (ne same.1) | inr other ↦ other.0 ]
+use Rattle.mesh_arena.proofs.Unmade.{content-made, is_taken-unmade, made-below, length-with_unmade, set-made, set-next}
 
 inserted_same : (given : FinSet nat_cmp) (p : ℕ) → contains (insert given p) p ≡ true
 inserted_same given p = contains-insert nat_cmp_total given p p ∙ rw (tied_same p) refl
@@ -74,7 +67,7 @@ set_page_other made given kept p q bytes same ne = rw (same, get_or-set_other ma
 pub taken-frame : (made : List (List ℕ)) (given : FinSet nat_cmp) (n p : ℕ) → IsTaken (pages_of made given n) p → p < length made
 taken-frame made given n p taken = omega (arith, made-below (made_pages made given) n p taken, length-made_pages made given)
 
-is_taken-page : (made : List (List ℕ)) (given : FinSet nat_cmp) (n p : ℕ) → p < length made → is_taken (pages_of made given n) p ≡ not (contains given p)
+pub is_taken-page : (made : List (List ℕ)) (given : FinSet nat_cmp) (n p : ℕ) → p < length made → is_taken (pages_of made given n) p ≡ not (contains given p)
 unfolding is_taken
 is_taken-page made given n p h =
     let within : p < length (made_pages made given) = omega (arith, h, length-made_pages made given) in
@@ -189,9 +182,12 @@ lowest-given made given n p are room first =
 pub all-taken : (made : List (List ℕ)) (given : FinSet nat_cmp) (n k : ℕ) → AreMade made given → n ≤ 4096 → length made ≤ n → IsLeast (contains given) 0 65536 None → k < length made → IsTaken (pages_of made given n) k
 all-taken made given n k are few room none h = is_taken-page made given n k h ∙ ap not (none k (omega arith) (omega (arith, h, few, room)))
 
--- and the next one is free
+-- a frame that was not made is free, the next one among them
+pub unmade-free : (made : List (List ℕ)) (given : FinSet nat_cmp) (n p : ℕ) → length made ≤ p → false ≡ is_taken (pages_of made given n) p
+unmade-free made given n p past = sym (is_taken-unmade (made_pages made given) n p (omega (arith, past, length-made_pages made given)))
+
 pub next-free : (made : List (List ℕ)) (given : FinSet nat_cmp) (n : ℕ) → is_taken (pages_of made given n) (length made) ≡ false
-next-free made given n = is_taken-unmade (made_pages made given) n (length made) (omega (arith, length-made_pages made given))
+next-free made given n = sym (unmade-free made given n (length made) (omega arith))
 
 -- the frames that are given back stay made
 pub made-none : (made : List (List ℕ)) → AreMade made (empty {R = nat_cmp})

@@ -130,6 +130,13 @@ impl Arena {
         );
     }
 
+    /// Whether a page is taken, by its number. No number from the arena's size on is.
+    pub fn is_taken(&self, number: u32) -> bool
+        ensures { result ≡ is_taken self.now number }
+    {
+        self.frames.is_taken(number as usize)
+    }
+
     /// How many pages are taken.
     pub fn taken_pages(&self) -> u32
         ensures { result + free_count self.now ≡ length self.now }

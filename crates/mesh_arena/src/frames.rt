@@ -92,6 +92,13 @@ impl Frames {
         self.count
     }
 
+    /// Whether the frame at a place is taken. No frame is past the last.
+    pub(crate) fn is_taken(&self, place: usize) -> bool
+        ensures { result ≡ is_taken self.now place }
+    {
+        place < self.made.len() && !self.given.has(place as u32)
+    }
+
     /// The place of the lowest free frame: the least that was given back, or else the first that was never made. How many frames there
     /// are where all are taken.
     pub(crate) fn first_free(&self) -> usize

@@ -66,10 +66,11 @@ contains-set_of words n = contains-from_list_nat (filter (has words) (range_with
   | inr within ↦ in_range (has words) 0 (64 * length words) n (omega arith) (let low = within.1 in omega (arith, low))
 ]
 
-tied_same : (v : ℕ) → eq_by_cmp nat_cmp v v ≡ true
+-- a number is tied with itself alone
+pub tied_same : (v : ℕ) → eq_by_cmp nat_cmp v v ≡ true
 tied_same v = unsigned_tied v v ∙ elim (eqb_tells v v) [ inl same ↦ same.0 | inr other ↦ absurd (other.1 refl) ]
 
-tied_other : (v w : ℕ) → v ≢ w → eq_by_cmp nat_cmp v w ≡ false
+pub tied_other : (v w : ℕ) → v ≢ w → eq_by_cmp nat_cmp v w ≡ false
 tied_other v w ne = unsigned_tied v w ∙ elim (eqb_tells v w) [ inl same ↦ absurd (ne same.1) | inr other ↦ other.0 ]
 
 -- a bit that is set is a number that is inserted

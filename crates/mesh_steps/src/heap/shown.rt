@@ -1,9 +1,10 @@
 //! What a heap shows, without effect: for pictures, tests and debuggers.
 ghost use Rattle.std.specs.Prelude.{◌≡◌, ◌<◌, ◌≤◌, IfSome, slice_get};
 ghost use Rattle.std.specs.Option.{option_map};
+ghost use Rattle.mesh_arena.specs.Pages.{is_taken};
 ghost use Rattle.model_heap.specs.Table.{group_of};
 ghost use Rattle.mesh_layout.specs.Meshes.{mesh_from};
-ghost use Rattle.mesh_steps.specs.Heap.{index_of, map_of, table_of};
+ghost use Rattle.mesh_steps.specs.Heap.{arena_of, index_of, map_of, table_of};
 ghost use Rattle.mesh_steps.specs.Shown.{home_at, lead_at, member_at, object_at, released_of};
 
 use super::Heap;
@@ -47,6 +48,14 @@ impl Heap {
         ensures { result ≡ home_at (index_of self.now) group place }
     {
         self.pages.home(group, place)
+    }
+
+    /// Whether a physical page is taken, by its number, counted from 0: by a group, or by a mesh's source that has not released it. No number
+    /// from the heap's size on is.
+    pub fn is_taken(&self, page: u32) -> bool
+        ensures { result ≡ is_taken (arena_of self.now) page }
+    {
+        self.pages.is_taken(page)
     }
 
     /// How many of a group's physical pages a mesh from it has given back: the first so many are the group's no more.

@@ -1,5 +1,6 @@
 //! What a page heap shows, without effect.
 ghost use Rattle.std.specs.Prelude.{◌≡◌, ◌<◌, ◌≤◌, IfSome, slice_get};
+ghost use Rattle.mesh_arena.specs.Pages.{is_taken};
 ghost use Rattle.model_heap.specs.Table.{group_of};
 ghost use Rattle.mesh_layout.specs.Indexes.{members_in};
 ghost use Rattle.mesh_layout.specs.Meshes.{mesh_from};
@@ -64,6 +65,13 @@ impl PageHeap {
             page: page.number(),
             read_only: prot == Prot::ReadOnly,
         })
+    }
+
+    /// Whether a physical page is taken.
+    pub fn is_taken(&self, page: u32) -> bool
+        ensures { result ≡ is_taken self.now.arena page }
+    {
+        self.store.arena.is_taken(page)
     }
 
     /// How many of a group's physical pages a mesh from it has given back.

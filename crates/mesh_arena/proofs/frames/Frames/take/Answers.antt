@@ -1,5 +1,4 @@
 use Rattle.std.proofs.Common.{arith, length-set}
-use Rattle.mesh_arena.specs.Frames.{AreMade}
 use Rattle.mesh_arena.proofs.Given.{made-remove}
 use Rattle.mesh_arena.proofs.frames.Frames.take.Goals as goal
 
