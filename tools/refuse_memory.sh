@@ -93,7 +93,7 @@ case_fault() {
     esac
 }
 
-# How a run of the replay may end, whose whole output is the file $wanted.
+# How a run of the replay or of a picture may end, whose whole output is the file $wanted.
 replay_fault() {
     if [ "$status" -eq 0 ]; then
         cmp -s "$room/output" "$wanted" && [ ! -s "$room/errors" ] || echo " another output"
@@ -199,6 +199,10 @@ if [ "$begun" -eq 0 ]; then
     failed=$((failed + 1))
     echo "FAILED: no run had written a beginning when memory was refused"
 fi
+"$meshrun" draw jobs/hello.job >"$room/hello.svg"
+wanted=$room/hello.svg
+spare "$meshrun" draw "$room/no file"
+refuse_each "meshrun draw" replay_fault "$meshrun" draw jobs/hello.job
 numbers="--probe 8 --rounds 3 --workers 2 --seed 1 --meshers 2"
 spare "$meshrun" threads "$room/no file" $numbers
 refuse_each "meshrun threads" threads_fault "$meshrun" threads jobs/threads.job $numbers

@@ -2,19 +2,19 @@
 use Rattle.std.specs.Prelude.{◌≡◌, ℕ, zero, suc, ◌+◌, not, nat_lt, List, [], ◌∷◌, ◌++◌, Option, Some, None, slice_get, length}
 use Rattle.std.specs.Option.{option_map}
 use Rattle.model_words.specs.Classes.{pages_of, slots_of}
-use Rattle.model_heap.specs.Table.{Mesh, Progress, Made, Unwinding, group_of, report_of}
+use Rattle.model_heap.specs.Table.{Mesh, Progress, Made, Report, Unwinding, group_of, report_of}
 use Rattle.mesh_layout.specs.Meshes.{mesh_from}
 use Rattle.mesh_steps.specs.Heap.{Heap, arena_of, index_of, map_of, table_of}
-use Rattle.mesh_steps.specs.PageHeap.{counts_told}
 use Rattle.mesh_steps.specs.Shown.{home_at, lead_at, member_at, object_at, released_of}
-use Rattle.mesh_draw.specs.declared.frame.Frame.{Frame}
-use Rattle.mesh_draw.specs.declared.frame.Home.{Home}
-use Rattle.mesh_draw.specs.declared.frame.Lead.{Lead}
-use Rattle.mesh_draw.specs.declared.frame.Member.{Member}
-use Rattle.mesh_draw.specs.declared.frame.MeshProgress.{MeshProgress}
-use Rattle.mesh_draw.specs.declared.frame.MeshProgress.TheVariants as shown
-use Rattle.mesh_draw.specs.declared.frame.Object.{Object}
-use Rattle.mesh_draw.specs.declared.frame.RunningMesh.{RunningMesh}
+use Rattle.mesh_picture.specs.declared.frame.Counts.{Counts}
+use Rattle.mesh_picture.specs.declared.frame.Frame.{Frame}
+use Rattle.mesh_picture.specs.declared.frame.Home.{Home}
+use Rattle.mesh_picture.specs.declared.frame.Lead.{Lead}
+use Rattle.mesh_picture.specs.declared.frame.Member.{Member}
+use Rattle.mesh_picture.specs.declared.frame.MeshProgress.{MeshProgress}
+use Rattle.mesh_picture.specs.declared.frame.MeshProgress.TheVariants as shown
+use Rattle.mesh_picture.specs.declared.frame.Object.{Object}
+use Rattle.mesh_picture.specs.declared.frame.RunningMesh.{RunningMesh}
 
 -- what a function lists for each number below another, one after the other
 abbrev pub below : {A : Type 0} → ℕ → (ℕ → List A) → List A
@@ -69,13 +69,13 @@ progress_row (Unwinding q u) = shown.Unwinding q u
 abbrev pub mesh_row : Mesh → RunningMesh
 mesh_row mesh = record { class = mesh.class; source = mesh.source; destination = mesh.destination; progress = progress_row mesh.progress }
 
+-- how many pages a heap has
+abbrev pub counts_row : Report → Counts
+counts_row report = record { mapped = report.mapped; taken = report.taken; saved = report.saved }
+
 -- the members of a group, of which it has at most eight
 abbrev pub members_of_group : Heap → ℕ → List Member
 members_of_group h n = listing (class_in h n) (λ class. below 8 (λ place. listed (member_row h n class place)))
-
--- the members of all groups: their numbers are below the lowest virtual page that was never used
-abbrev pub members_of : Heap → List Member
-members_of h = below (table_of h).next_page (members_of_group h)
 
 -- where the pages of a member lead, which begins at this virtual page
 abbrev pub leads_of_member : Heap → ℕ → ℕ → List Lead
@@ -85,10 +85,6 @@ leads_of_member h class first = below (pages_of class) (λ i. listed (lead_row h
 abbrev pub leads_of_group : Heap → ℕ → List Lead
 leads_of_group h n = listing (class_in h n) (λ class. below 8 (λ place. listing (first_in h n place) (leads_of_member h class)))
 
--- where all members' pages lead
-abbrev pub leads_of : Heap → List Lead
-leads_of h = below (table_of h).next_page (leads_of_group h)
-
 -- the objects of the member of a group at a place, which begins at this virtual page
 abbrev pub objects_of_member : Heap → ℕ → ℕ → ℕ → ℕ → List Object
 objects_of_member h n class place first = below (slots_of class) (λ k. listed (object_row h n place first k))
@@ -97,27 +93,32 @@ objects_of_member h n class place first = below (slots_of class) (λ k. listed (
 abbrev pub objects_of_group : Heap → ℕ → List Object
 objects_of_group h n = listing (class_in h n) (λ class. below 8 (λ place. listing (first_in h n place) (objects_of_member h n class place)))
 
--- all objects
-abbrev pub objects_of : Heap → List Object
-objects_of h = below (table_of h).next_page (objects_of_group h)
-
 -- the physical pages of a group
 abbrev pub homes_of_group : Heap → ℕ → List Home
 homes_of_group h n = listing (class_in h n) (λ class. below (pages_of class) (λ i. listed (home_row h n i)))
-
--- the physical pages of all groups
-abbrev pub homes_of : Heap → List Home
-homes_of h = below (table_of h).next_page (homes_of_group h)
 
 -- the running meshes, of which there is at most one of each of the ten classes
 abbrev pub meshes_of : Heap → List RunningMesh
 meshes_of h = below 10 (λ place. listed (option_map mesh_row (slice_get (table_of h).meshes place)))
 
--- a frame shows a heap: all of its groups' members, where their pages lead, their objects and physical pages, and its running meshes and counts
-pub record IsFrame (h : Heap) (f : Frame) : Type 0 where
-  pub members : f.members.items ≡ members_of h
-  pub leads : f.leads.items ≡ leads_of h
-  pub objects : f.objects.items ≡ objects_of h
-  pub homes : f.homes.items ≡ homes_of h
+-- a frame grew by what a group shows: its members, where their pages lead, their objects, and its physical pages
+pub record AddsGroup (h : Heap) (n : ℕ) (old new : Frame) : Type 0 where
+  pub members : new.members.items ≡ old.members.items ++ members_of_group h n
+  pub leads : new.leads.items ≡ old.leads.items ++ leads_of_group h n
+  pub objects : new.objects.items ≡ old.objects.items ++ objects_of_group h n
+  pub homes : new.homes.items ≡ old.homes.items ++ homes_of_group h n
+  pub meshes : new.meshes.items ≡ old.meshes.items
+  pub counts : new.counts ≡ old.counts
+
+-- a frame shows the groups of the numbers below one, all running meshes, and the counts
+pub record ShowsBelow (h : Heap) (n : ℕ) (f : Frame) : Type 0 where
+  pub members : f.members.items ≡ below n (members_of_group h)
+  pub leads : f.leads.items ≡ below n (leads_of_group h)
+  pub objects : f.objects.items ≡ below n (objects_of_group h)
+  pub homes : f.homes.items ≡ below n (homes_of_group h)
   pub meshes : f.meshes.items ≡ meshes_of h
-  pub counts : counts_told f.counts ≡ report_of (length (arena_of h)) (table_of h)
+  pub counts : f.counts ≡ counts_row (report_of (length (arena_of h)) (table_of h))
+
+-- a frame shows a heap: all of its groups, whose numbers are below the lowest virtual page that was never used
+abbrev pub IsFrame : Heap → Frame → Type 0
+IsFrame h f = ShowsBelow h (table_of h).next_page f

@@ -1,15 +1,10 @@
 //! The words of a plan's line.
-use crate::svg::add_number;
 use itoa::Buffer;
 use mesh_job::{Command, PlanLine, Search};
-use std::alloc::AllocError;
+use mesh_picture::Text;
 
 /// Adds a plan's line as it stands in a job file; the line of a worker with the command that the worker attempts, if it has one left.
-pub(crate) fn add_line(
-    text: &mut Vec<u8>,
-    line: &PlanLine,
-    command: Option<&Command>,
-) -> Result<(), AllocError> {
+pub(crate) fn add_line(text: &mut Text, line: &PlanLine, command: Option<&Command>) {
     match line {
         PlanLine::Run(worker) => add_attempt(text, *worker, command),
         PlanLine::Pair(search) => add_search(text, &**search),
@@ -17,8 +12,8 @@ pub(crate) fn add_line(
             source,
             destination,
         } => add_two(text, "begin ", *source, *destination),
-        PlanLine::Step => text.extend_from_slice(b"step"),
-        PlanLine::Cancel => text.extend_from_slice(b"cancel"),
+        PlanLine::Step => text.add(b"step"),
+        PlanLine::Cancel => text.add(b"cancel"),
         PlanLine::StepClass(class) => add_one(text, "step ", class.size()),
         PlanLine::CancelClass(class) => add_one(text, "cancel ", class.size()),
         PlanLine::Whole {
@@ -26,76 +21,65 @@ pub(crate) fn add_line(
             destination,
         } => add_two(text, "whole ", *source, *destination),
         PlanLine::Sweep(group) => add_one(text, "sweep ", *group),
-        PlanLine::Report => text.extend_from_slice(b"report"),
+        PlanLine::Report => text.add(b"report"),
     }
 }
 
 /// Adds words and a number.
-fn add_one(text: &mut Vec<u8>, words: &str, number: u32) -> Result<(), AllocError> {
-    text.extend_from_slice(words.as_bytes())?;
-    add_number(text, number)
+fn add_one(text: &mut Text, words: &str, number: u32) {
+    text.add(words.as_bytes());
+    text.add_number(number);
 }
 
 /// Adds words and two numbers.
-fn add_two(text: &mut Vec<u8>, words: &str, first: u32, second: u32) -> Result<(), AllocError> {
-    add_one(text, words, first)?;
-    add_one(text, " ", second)
+fn add_two(text: &mut Text, words: &str, first: u32, second: u32) {
+    add_one(text, words, first);
+    add_one(text, " ", second);
 }
 
 /// Adds words and three numbers.
-fn add_three(
-    text: &mut Vec<u8>,
-    words: &str,
-    first: u32,
-    second: u32,
-    third: u32,
-) -> Result<(), AllocError> {
-    add_two(text, words, first, second)?;
-    add_one(text, " ", third)
+fn add_three(text: &mut Text, words: &str, first: u32, second: u32, third: u32) {
+    add_two(text, words, first, second);
+    add_one(text, " ", third);
 }
 
 /// Adds a number of 64 bits behind a space.
-fn add_word(text: &mut Vec<u8>, word: u64) -> Result<(), AllocError> {
+fn add_word(text: &mut Text, word: u64) {
     let mut digits = Buffer::new();
-    text.extend_from_slice(b" ")?;
-    text.extend_from_slice(digits.format(word).as_bytes())
+    text.add(b" ");
+    text.add(digits.format(word).as_bytes());
 }
 
 /// Adds a search with its words.
-fn add_search(text: &mut Vec<u8>, search: &Search) -> Result<(), AllocError> {
-    add_two(text, "pair ", search.class.size(), search.rounds)?;
+fn add_search(text: &mut Text, search: &Search) {
+    add_two(text, "pair ", search.class.size(), search.rounds);
     for word in search.words.as_slice() {
-        add_word(text, *word)?;
+        add_word(text, *word);
     }
-    Ok(())
 }
 
 /// Adds `worker W` and the command that it attempts.
-fn add_attempt(
-    text: &mut Vec<u8>,
-    worker: u32,
-    command: Option<&Command>,
-) -> Result<(), AllocError> {
-    add_one(text, "worker ", worker)?;
+fn add_attempt(text: &mut Text, worker: u32, command: Option<&Command>) {
+    add_one(text, "worker ", worker);
     match command {
-        None => Ok(()),
+        None => {}
         Some(command) => {
-            text.extend_from_slice(b": ")?;
-            add_command(text, command)
+            text.add(b": ");
+            add_command(text, command);
         }
     }
 }
 
 /// Adds a command as it stands in a job file.
-fn add_command(text: &mut Vec<u8>, command: &Command) -> Result<(), AllocError> {
+fn add_command(text: &mut Text, command: &Command) {
     match command {
         Command::New(cell, len, word) => {
-            add_two(text, "new ", u32::from(*cell), *len)?;
+            add_two(text, "new ", u32::from(*cell), *len);
             add_word(text, *word)
         }
         Command::Put(cell, off, bytes) => {
-            add_two(text, "put ", u32::from(*cell), *off)?;
-            text.extend_from_slice(b" ")?;
+            add_two(text, "put ", u32::from(*cell), *off);
+            text.add(b" ");
             add_bytes(text, bytes.as_slice())
         }
         Command::Get(cell, off, len) => add_three(text, "get ", u32::from(*cell), *off, *len),
@@ -103,52 +87,49 @@ fn add_command(text: &mut Vec<u8>, command: &Command) -> Result<(), AllocError> 
         Command::Alias(to, from) => add_two(text, "alias ", u32::from(*to), u32::from(*from)),
         Command::Addr(cell) => add_one(text, "addr ", u32::from(*cell)),
         Command::Peek(address) => {
-            text.extend_from_slice(b"peek ")?;
+            text.add(b"peek ");
             add_address(text, *address)
         }
         Command::Poke(address, byte) => {
-            text.extend_from_slice(b"poke ")?;
-            add_address(text, *address)?;
-            text.extend_from_slice(b" ")?;
+            text.add(b"poke ");
+            add_address(text, *address);
+            text.add(b" ");
             add_bytes(text, &[*byte])
         }
         Command::Copy(to, to_off, from, from_off, len) => {
-            add_two(text, "copy ", u32::from(*to), *to_off)?;
+            add_two(text, "copy ", u32::from(*to), *to_off);
             add_three(text, " ", u32::from(*from), *from_off, *len)
         }
     }
 }
 
 /// Adds bytes, two hexadecimal digits each.
-fn add_bytes(text: &mut Vec<u8>, bytes: &[u8]) -> Result<(), AllocError> {
+fn add_bytes(text: &mut Text, bytes: &[u8]) {
     for byte in bytes {
-        text.extend_from_slice(&[digit(*byte / 16), digit(*byte % 16)])?;
+        text.add(&[digit(*byte / 16), digit(*byte % 16)]);
     }
-    Ok(())
 }
 
 /// Adds an address in hexadecimal digits without a leading zero.
-fn add_address(text: &mut Vec<u8>, address: u32) -> Result<(), AllocError> {
+fn add_address(text: &mut Text, address: u32) {
     let mut begun = false;
     for byte in address.to_be_bytes() {
-        begun = add_address_byte(text, byte, begun)?;
+        begun = add_address_byte(text, byte, begun);
     }
-    if begun {
-        Ok(())
-    } else {
-        text.extend_from_slice(b"0")
+    if !begun {
+        text.add(b"0");
     }
 }
 
 /// Adds two digits of an address without a zero that would be its first digit; tells whether the address has begun.
-fn add_address_byte(text: &mut Vec<u8>, byte: u8, begun: bool) -> Result<bool, AllocError> {
+fn add_address_byte(text: &mut Text, byte: u8, begun: bool) -> bool {
     if begun || byte >= 16 {
-        text.extend_from_slice(&[digit(byte / 16)])?;
+        text.add(&[digit(byte / 16)]);
     }
     if begun || byte > 0 {
-        text.extend_from_slice(&[digit(byte % 16)])?;
+        text.add(&[digit(byte % 16)]);
     }
-    Ok(begun || byte > 0)
+    begun || byte > 0
 }
 
 /// The hexadecimal digit of the last four bits.

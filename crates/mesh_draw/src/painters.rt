@@ -1,14 +1,12 @@
 //! The two painters of a picture: one that measures it, and one that draws it.
-ghost use Rattle.std.specs.Prelude.{◌≡◌, ◌+◌, ◌≤◌, IfOk, OnOk};
+ghost use Rattle.std.specs.Prelude.{◌≡◌, ◌+◌, ◌≤◌, OnOk};
 ghost use Rattle.mesh_draw.specs.Painters.{next_drawn, next_measured};
 ghost use Rattle.mesh_draw.specs.Points.{IsPoint};
 
-use crate::frame::Frame;
-use crate::measure::Measure;
-use crate::picture::{Header, Picture};
 use crate::points::Painter;
 use crate::run::DrawOptions;
 use mesh_job::Job;
+use mesh_picture::{Frame, Header, Line, Measure, Picture, Text};
 use model_words::Version;
 use std::alloc::{AllocError, Global};
 
@@ -64,19 +62,17 @@ impl Painter for Measuring {
     fn point(
         &mut self,
         _job: &Job,
-        number: usize,
-        words: &[u8],
-        answer: &[u8],
-        frame: Frame,
-        _text: &mut Vec<u8>,
+        line: &Line<'_>,
+        frame: &Frame,
+        _text: &mut Text,
     ) -> Result<(), AllocError>
-        requires few { number ≤ 1048576 }
-        requires next { number ≡ next_measured self.old }
-        requires shown { IsPoint _job.now number answer.now frame }
+        requires few { line.now.number ≤ 1048576 }
+        requires next { line.now.number ≡ next_measured self.old }
+        requires shown { IsPoint _job.now line.now.number line.now.answer.now frame.now }
         ensures { OnOk result (next_measured self.new ≡ next_measured self.old + 1) }
     {
-        self.measure.point(number as u32, words, answer, &frame)?;
-        self.next = number + 1;
+        self.measure.point(line, frame)?;
+        self.next = line.number as usize + 1;
         Ok(())
     }
 }
@@ -89,20 +85,19 @@ pub(crate) struct Drawing {
 }
 
 impl Drawing {
-    /// One that draws this picture, and is shown the point behind line `from` next. What stands before the first frame is added to `text`. An
-    /// error is an allocation failure.
-    pub fn new(mut picture: Picture, from: usize, text: &mut Vec<u8>) -> Result<Drawing, AllocError>
-        ensures { IfOk result (λ drawing. next_drawn drawing ≡ from) }
+    /// One that draws this picture, and is shown the point behind line `from` next. What stands before the first frame is added to `text`.
+    pub fn new(picture: Picture, from: usize, text: &mut Text) -> Drawing
+        ensures { next_drawn result ≡ from }
     {
-        picture.head(text)?;
-        Ok(Drawing {
+        picture.head(text);
+        Drawing {
             next: from,
             picture,
-        })
+        }
     }
 
     /// Adds what stands behind the last point. An error is an allocation failure.
-    pub fn end(&mut self, text: &mut Vec<u8>) -> Result<(), AllocError> {
+    pub fn end(&mut self, text: &mut Text) -> Result<(), AllocError> {
         self.picture.end(text)
     }
 }
@@ -113,20 +108,17 @@ impl Painter for Drawing {
     fn point(
         &mut self,
         _job: &Job,
-        number: usize,
-        words: &[u8],
-        answer: &[u8],
-        frame: Frame,
-        text: &mut Vec<u8>,
+        line: &Line<'_>,
+        frame: &Frame,
+        text: &mut Text,
     ) -> Result<(), AllocError>
-        requires few { number ≤ 1048576 }
-        requires next { number ≡ next_drawn self.old }
-        requires shown { IsPoint _job.now number answer.now frame }
+        requires few { line.now.number ≤ 1048576 }
+        requires next { line.now.number ≡ next_drawn self.old }
+        requires shown { IsPoint _job.now line.now.number line.now.answer.now frame.now }
         ensures { OnOk result (next_drawn self.new ≡ next_drawn self.old + 1) }
     {
-        self.picture
-            .point(number as u32, words, answer, &frame, text)?;
-        self.next = number + 1;
+        self.picture.point(line, frame, text)?;
+        self.next = line.number as usize + 1;
         Ok(())
     }
 }

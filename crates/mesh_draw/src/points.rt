@@ -4,9 +4,9 @@ ghost use Rattle.mesh_text.specs.Turns.{StandsBehind};
 ghost use Rattle.mesh_draw.specs.Points.{IsPoint, next_shown};
 
 use crate::captions::add_line;
-use crate::frame::Frame;
 use crate::shown::frame_of;
 use mesh_job::{Job, PlanLine};
+use mesh_picture::{Frame, Line, Text};
 use mesh_text::{ReplayError, Sink, Turns, write_all};
 use std::alloc::{AllocError, Global};
 
@@ -21,20 +21,18 @@ pub(crate) trait Painter {
     /// The number of the line that it is shown next.
     ghost next: { Self → ℕ };
 
-    /// Takes the point behind the next line: the line's number, counted from 1, its words, its answer as a replay tells it, and what
-    /// the heap shows then. What is drawn of it is added to `text`. An error is an allocation failure.
+    /// Takes the point behind the next line: the line with its answer as a replay tells it, and what the heap shows then. What is drawn of
+    /// it is added to `text`. An error is an allocation failure.
     fn point(
         &mut self,
         job: &Job,
-        number: usize,
-        words: &[u8],
-        answer: &[u8],
-        frame: Frame,
-        text: &mut Vec<u8>,
+        line: &Line<'_>,
+        frame: &Frame,
+        text: &mut Text,
     ) -> Result<(), AllocError>
-        requires few { number ≤ 1048576 }
-        requires next { number ≡ next self.old }
-        requires shown { IsPoint job.now number answer.now frame }
+        requires few { line.now.number ≤ 1048576 }
+        requires next { line.now.number ≡ next self.old }
+        requires shown { IsPoint job.now line.now.number line.now.answer.now frame.now }
         ensures { OnOk result (next self.new ≡ next self.old + 1) };
 }
 
@@ -48,7 +46,7 @@ pub(crate) fn show_points<P: Painter, O: Sink>(
     from: usize,
     to: usize,
     painter: &mut P,
-    text: &mut Vec<u8>,
+    text: &mut Text,
     output: &mut O,
 ) -> Result<(), ReplayError>
     requires some { 1 ≤ from }
@@ -88,7 +86,7 @@ fn show_point<P: Painter>(
     place: usize,
     from: usize,
     painter: &mut P,
-    text: &mut Vec<u8>,
+    text: &mut Text,
 ) -> Result<(), AllocError>
     requires within { place < length job.now.plan }
     requires few { place < 1048576 }
@@ -101,46 +99,44 @@ fn show_point<P: Painter>(
     if place + 1 < from {
         return turns.play(alloc, job, place, &mut answer);
     }
-    let words = words_at(alloc, job, turns, place)?;
+    let words = words_at(alloc, job, turns, place);
     turns.play(alloc, job, place, &mut answer)?;
     let heap = turns.heap();
     heap.always();
     let frame = frame_of(alloc, heap)?;
-    painter.point(
-        job,
-        place + 1,
-        words.as_slice(),
-        answer.as_slice(),
-        frame,
-        text,
-    )
+    let line = Line {
+        number: place as u32 + 1,
+        words: words.whole()?,
+        answer: answer.as_slice(),
+    };
+    painter.point(job, &line, &frame, text)
 }
 
 /// The words of the line of a plan at a place, counted from 0: of a worker's, the command that it attempts.
-fn words_at(alloc: Global, job: &Job, turns: &Turns, place: usize) -> Result<Vec<u8>, AllocError>
+fn words_at(alloc: Global, job: &Job, turns: &Turns, place: usize) -> Text
     requires within { place < length job.now.plan }
     requires stands { StandsBehind job.now place turns.now }
 {
-    let mut words = Vec::new(alloc);
+    let mut words = Text::new(alloc);
     let line = &job.plan.lines()[place];
     match line {
         PlanLine::Run(worker) => {
             let command = turns.next_command(job, *worker);
-            add_line(&mut words, line, command.as_ref())?;
+            add_line(&mut words, line, command.as_ref());
         }
-        _ => add_line(&mut words, line, None)?,
+        _ => add_line(&mut words, line, None),
     }
-    Ok(words)
+    words
 }
 
 /// Writes what is gathered of a picture, and keeps none of it.
-pub(crate) fn write_out<O: Sink>(output: &mut O, text: &mut Vec<u8>) -> Result<(), ReplayError>
+pub(crate) fn write_out<O: Sink>(output: &mut O, text: &mut Text) -> Result<(), ReplayError>
     requires { O.has_failed output.old ≡ false }
     ensures ok { OnOk result (O.has_failed output.new ≡ false) }
     ensures write { result ≡ Err ReplayError.Write → O.has_failed output.new ≡ true }
-    ensures kinds { IfErr result (λ error. error ≡ ReplayError.Write) }
+    ensures kinds { IfErr result (λ error. (error ≡ ReplayError.Write) ⊎ (error ≡ ReplayError.Memory)) }
 {
-    write_all(output, text.as_slice()).map_err(|_| ReplayError::Write)?;
+    write_all(output, text.whole()?).map_err(|_| ReplayError::Write)?;
     text.clear();
     Ok(())
 }

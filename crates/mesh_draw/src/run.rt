@@ -5,6 +5,7 @@ ghost use Rattle.mesh_draw.specs.Draws.{HasNotDrawn};
 
 use crate::painters::{Drawing, Measuring};
 use crate::points::{MAX_LINES, show_points, write_out};
+use mesh_picture::Text;
 use mesh_text::{Job, ReplayError, Sink, Source, read_job};
 use std::alloc::Global;
 
@@ -57,11 +58,11 @@ fn paint<O: Sink>(
 {
     let from = (options.from as usize).max(1);
     let to = (options.to as usize).min(MAX_LINES);
-    let mut text = Vec::new(alloc);
+    let mut text = Text::new(alloc);
     let mut measuring = Measuring::new(alloc, from);
     show_points(alloc, job, from, to, &mut measuring, &mut text, output)?;
     let picture = measuring.picture(alloc, job, options)?;
-    let mut drawing = Drawing::new(picture, from, &mut text)?;
+    let mut drawing = Drawing::new(picture, from, &mut text);
     show_points(alloc, job, from, to, &mut drawing, &mut text, output)?;
     drawing.end(&mut text)?;
     write_out(output, &mut text)

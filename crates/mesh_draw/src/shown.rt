@@ -1,11 +1,12 @@
 //! A frame, read off a heap.
-ghost use Rattle.std.specs.Prelude.{◌≡◌, ◌<◌, ◌≤◌, ◌++◌, IfOk, IfSome, OnOk, slice_get};
+ghost use Rattle.std.specs.Prelude.{◌≡◌, ◌<◌, ◌≤◌, ◌++◌, IfOk, IfSome, OnOk, length, slice_get};
 ghost use Rattle.std.specs.Option.{option_map};
-ghost use Rattle.mesh_steps.specs.Heap.{table_of};
-ghost use Rattle.mesh_draw.specs.Frames.{IsFrame, first_in, home_row, homes_of, homes_of_group, lead_row, leads_of, leads_of_group, leads_of_member, listed, listing, member_row, members_of, members_of_group, mesh_row, meshes_of, object_row, objects_of, objects_of_group, objects_of_member, progress_row};
+ghost use Rattle.model_heap.specs.Table.{report_of};
+ghost use Rattle.mesh_steps.specs.Heap.{arena_of, table_of};
+ghost use Rattle.mesh_draw.specs.Frames.{AddsGroup, IsFrame, counts_row, first_in, home_row, homes_of_group, lead_row, leads_of_group, leads_of_member, listed, listing, member_row, members_of_group, mesh_row, meshes_of, object_row, objects_of_group, objects_of_member, progress_row};
 
-use crate::frame::{Frame, Home, Lead, Member, MeshProgress, Object, RunningMesh};
 use mesh_class::Class;
+use mesh_picture::{Counts, Frame, Home, Lead, Member, MeshProgress, Object, RunningMesh};
 use mesh_steps::{Heap, Phase, Running};
 use std::alloc::{AllocError, Global};
 
@@ -19,25 +20,28 @@ const MAX_MESHES: usize = 10;
 pub fn frame_of(alloc: Global, heap: &Heap) -> Result<Frame, AllocError>
     ensures { IfOk result (IsFrame heap.now) }
 {
-    Ok(Frame {
-        members: members_of(alloc, heap)?,
-        leads: leads_of(alloc, heap)?,
-        objects: objects_of(alloc, heap)?,
-        homes: homes_of(alloc, heap)?,
+    let mut frame = Frame {
+        members: Vec::new(alloc),
+        leads: Vec::new(alloc),
+        objects: Vec::new(alloc),
+        homes: Vec::new(alloc),
         meshes: meshes_of(alloc, heap)?,
-        counts: heap.report(),
-    })
+        counts: counts_of(heap),
+    };
+    for group in 0..heap.next_page() {
+        add_group(&mut frame, heap, group)?;
+    }
+    Ok(frame)
 }
 
-/// The members of all groups.
-fn members_of(alloc: Global, heap: &Heap) -> Result<Vec<Member>, AllocError>
-    ensures { IfOk result (λ rows. rows.items ≡ members_of heap.now) }
+/// Adds what a group shows.
+fn add_group(frame: &mut Frame, heap: &Heap, group: u32) -> Result<(), AllocError>
+    ensures { OnOk result (AddsGroup heap.now group frame.old frame.new) }
 {
-    let mut rows = Vec::new(alloc);
-    for group in 0..heap.next_page() {
-        add_members(&mut rows, heap, group)?;
-    }
-    Ok(rows)
+    add_members(&mut frame.members, heap, group)?;
+    add_leads(&mut frame.leads, heap, group)?;
+    add_objects(&mut frame.objects, heap, group)?;
+    add_homes(&mut frame.homes, heap, group)
 }
 
 /// Adds the members of a group.
@@ -63,17 +67,6 @@ fn member_at(heap: &Heap, group: u32, class: Class, place: usize) -> Option<Memb
         class,
         first,
     })
-}
-
-/// Where the pages of all members lead.
-fn leads_of(alloc: Global, heap: &Heap) -> Result<Vec<Lead>, AllocError>
-    ensures { IfOk result (λ rows. rows.items ≡ leads_of heap.now) }
-{
-    let mut rows = Vec::new(alloc);
-    for group in 0..heap.next_page() {
-        add_leads(&mut rows, heap, group)?;
-    }
-    Ok(rows)
 }
 
 /// Adds where the pages of a group's members lead.
@@ -121,17 +114,6 @@ fn lead_at(heap: &Heap, page: u32) -> Option<Lead>
     })
 }
 
-/// All objects.
-fn objects_of(alloc: Global, heap: &Heap) -> Result<Vec<Object>, AllocError>
-    ensures { IfOk result (λ rows. rows.items ≡ objects_of heap.now) }
-{
-    let mut rows = Vec::new(alloc);
-    for group in 0..heap.next_page() {
-        add_objects(&mut rows, heap, group)?;
-    }
-    Ok(rows)
-}
-
 /// Adds the objects of a group's members.
 fn add_objects(rows: &mut Vec<Object>, heap: &Heap, group: u32) -> Result<(), AllocError>
     ensures { OnOk result (rows.new.items ≡ rows.old.items ++ objects_of_group heap.now group) }
@@ -175,17 +157,6 @@ fn object_at(heap: &Heap, group: u32, place: usize, member: u32, slot: u32) -> O
         serial,
         len,
     })
-}
-
-/// The physical pages of all groups.
-fn homes_of(alloc: Global, heap: &Heap) -> Result<Vec<Home>, AllocError>
-    ensures { IfOk result (λ rows. rows.items ≡ homes_of heap.now) }
-{
-    let mut rows = Vec::new(alloc);
-    for group in 0..heap.next_page() {
-        add_homes(&mut rows, heap, group)?;
-    }
-    Ok(rows)
 }
 
 /// Adds the physical pages of a group.
@@ -245,6 +216,18 @@ fn progress_of(mesh: Running) -> MeshProgress
     match mesh.phase() {
         Phase::Made(made) => MeshProgress::Made(made),
         Phase::Unwinding(protected, unprotected) => MeshProgress::Unwinding(protected, unprotected),
+    }
+}
+
+/// How many pages a heap has.
+fn counts_of(heap: &Heap) -> Counts
+    ensures { result ≡ counts_row (report_of (length (arena_of heap.now)) (table_of heap.now)) }
+{
+    let report = heap.report();
+    Counts {
+        mapped: report.mapped,
+        taken: report.taken,
+        saved: report.saved,
     }
 }
 

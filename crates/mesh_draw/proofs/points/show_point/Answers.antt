@@ -14,5 +14,5 @@ point-requires-clause-shown g c = record {
   shown = subst (λ h. IsFrame h c.in_ok-frame.frame) c.heap-heap.ensures c.in_ok-frame.ensures;
   before = c.args.place;
   last = refl;
-  told = subst (λ answer. lines_up_to c.args.job.now (c.args.place + 1) ≡ lines_up_to c.args.job.now c.args.place ++ ended answer) (sym c.as_slice-2.ensures.value) c.in_ok-play.ensures.told;
+  told = subst (λ answer. lines_up_to c.args.job.now (c.args.place + 1) ≡ lines_up_to c.args.job.now c.args.place ++ ended answer) (sym c.as_slice.ensures.value) c.in_ok-play.ensures.told;
 }

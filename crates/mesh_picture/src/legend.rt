@@ -1,0 +1,101 @@
+//! What the signs of a picture mean, drawn.
+use crate::layout::MARGIN;
+use crate::lettering::{Face, Label, width_of};
+use mesh_svg::{Area, Look, Text, add_rect};
+
+/// The colour that stands for all objects.
+const SAMPLE: u32 = 0;
+
+/// Where the signs stand.
+const TOP: u32 = 430;
+
+/// A sign and what it means.
+#[derive(Clone, Copy)]
+struct Sign {
+    /// What is drawn first.
+    look: Look,
+    /// What is drawn into its left part.
+    inner: Option<Look>,
+    /// What it means.
+    words: &'static str,
+}
+
+/// A sign of one look.
+fn plain_sign(look: Look, words: &'static str) -> Sign {
+    Sign {
+        look,
+        inner: None,
+        words,
+    }
+}
+
+/// Draws the signs of a picture of pages or of a map of occupancy.
+pub(crate) fn draw_legend(text: &mut Text, by_pages: bool) {
+    if by_pages {
+        draw_signs(text, &signs_of_pages())
+    } else {
+        draw_signs(text, &signs_of_map())
+    }
+}
+
+/// The signs of a picture of pages.
+fn signs_of_pages() -> [Sign; 5] {
+    let object = Look::nth("o", SAMPLE);
+    [
+        Sign {
+            look: object.with("rest"),
+            inner: Some(object),
+            words: "object with its serial; pale: the rest of its slot",
+        },
+        plain_sign(object.with("copy"), "copied, not yet mapped"),
+        plain_sign(object.with("old"), "bytes no longer mapped"),
+        plain_sign(Look::of("ro"), "read-only: stores are held back"),
+        plain_sign(Look::of("new"), "changed by the last of the lines"),
+    ]
+}
+
+/// The signs of a map of occupancy.
+fn signs_of_map() -> [Sign; 3] {
+    [
+        plain_sign(
+            Look::of("occ"),
+            "slots with an object in some span of the group",
+        ),
+        plain_sign(Look::of("pg"), "slots without one"),
+        plain_sign(Look::of("rom"), "read-only: stores are held back"),
+    ]
+}
+
+/// Draws signs side by side.
+fn draw_signs(text: &mut Text, signs: &[Sign]) {
+    let mut left = MARGIN;
+    for sign in signs {
+        draw_sign(text, sign, left);
+        let words = width_of(Face::Label, sign.words.as_bytes());
+        left = left.saturating_add(words).saturating_add(560);
+    }
+}
+
+/// Draws a sign and what it means.
+fn draw_sign(text: &mut Text, sign: &Sign, x: u32) {
+    let area = Area {
+        x,
+        y: TOP,
+        w: 240,
+        h: 120,
+    };
+    add_rect(text, sign.look, area, 0);
+    if let Some(inner) = sign.inner {
+        let left = Area {
+            x,
+            y: TOP,
+            w: 160,
+            h: 120,
+        };
+        add_rect(text, inner, left, 0);
+    }
+    Label::start(Face::Label, "soft", x.saturating_add(310), TOP + 97).add(
+        text,
+        sign.words.as_bytes(),
+    );
+}

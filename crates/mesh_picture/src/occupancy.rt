@@ -1,0 +1,250 @@
+//! The map of occupancy, drawn: a row for each group.
+use crate::frame::{Frame, Lead, Member, Object, RunningMesh};
+use crate::layout::{MAX_ROWS, ROW};
+use crate::lettering::{Face, Label};
+use crate::numbers::{narrow, share};
+use crate::pages::{GROUP_COLOURS, Scene};
+use mesh_class::Class;
+use mesh_svg::{Area, Look, Text, add_rect};
+use std::alloc::{AllocError, Global};
+
+/// The width of a group's slots.
+const SLOTS: u32 = 2_560;
+
+/// The columns of a row.
+const NAME: u32 = 120;
+
+const CLASS: u32 = 1_400;
+
+const MEMBERS: u32 = 1_520;
+
+const MAP: u32 = 2_260;
+
+const COUNT: u32 = 5_460;
+
+const HELD: u32 = 5_560;
+
+const MESH: u32 = 6_240;
+
+/// A group, as its row shows it.
+#[derive(Drop)]
+struct Row {
+    group: u32,
+    class: Class,
+    members: u32,
+    slots: Vec<u32>,
+    read_only: bool,
+}
+
+impl Row {
+    /// No group yet.
+    fn new(alloc: Global) -> Row {
+        Row {
+            group: 0,
+            class: Class::default(),
+            members: 0,
+            slots: Vec::new(alloc),
+            read_only: false,
+        }
+    }
+
+    /// Whether a member is of another group.
+    fn ends_before(&self, member: &Member) -> bool {
+        self.members == 0 || self.group != member.group
+    }
+
+    /// Begins with a member's group.
+    fn begin(&mut self, member: &Member) {
+        self.group = member.group;
+        self.class = member.class;
+        self.members = 0;
+        self.slots.clear();
+        self.read_only = false;
+    }
+
+    /// Adds a member with its leads and objects.
+    fn add(&mut self, leads: &[Lead], objects: &[Object]) -> Result<(), AllocError> {
+        self.members = self.members.saturating_add(1);
+        self.read_only = self.read_only || leads.iter().any(|l| l.read_only);
+        for object in objects {
+            self.slots.push(object.slot)?;
+        }
+        Ok(())
+    }
+}
+
+/// How many groups a frame has.
+pub(crate) fn groups_of(frame: &Frame) -> u32 {
+    let mut count = 0u32;
+    let mut last = None;
+    for member in frame.members.as_slice() {
+        if last != Some(member.group) {
+            count = count.saturating_add(1);
+        }
+        last = Some(member.group);
+    }
+    count
+}
+
+/// The first of some items, and those behind them.
+fn split<T>(items: &[T], count: usize) -> (&[T], &[T]) {
+    items.split_at(count.min(items.len()))
+}
+
+/// Draws a row for each group.
+pub(crate) fn draw_groups(text: &mut Text, scene: &Scene) -> Result<(), AllocError> {
+    let mut leads = scene.now.leads.as_slice();
+    let mut objects = scene.now.objects.as_slice();
+    let mut row = Row::new(text.alloc());
+    let mut drawn = 0u32;
+    for member in scene.now.members.as_slice() {
+        if row.ends_before(member) {
+            drawn = draw_row(text, scene, &mut row, drawn);
+            row.begin(member);
+        }
+        let count = objects
+            .iter()
+            .take_while(|o| o.member == member.first)
+            .count();
+        let (its_objects, more_objects) = split(objects, count);
+        let (its_leads, more_leads) = split(leads, member.class.pages() as usize);
+        row.add(its_leads, its_objects)?;
+        objects = more_objects;
+        leads = more_leads;
+    }
+    let drawn = draw_row(text, scene, &mut row, drawn);
+    draw_more(text, scene, drawn);
+    Ok(())
+}
+
+/// Where a row is.
+fn row_top(scene: &Scene, row: u32) -> u32 {
+    scene.top.saturating_add(row.saturating_mul(ROW))
+}
+
+/// Draws how many groups are left out.
+fn draw_more(text: &mut Text, scene: &Scene, groups: u32) {
+    if groups <= MAX_ROWS {
+        return;
+    }
+    let mut words = text.empty();
+    words.add(b".. and ");
+    words.add_number(groups.saturating_sub(MAX_ROWS));
+    words.add(b" more groups");
+    let line = row_top(scene, MAX_ROWS).saturating_add(100);
+    Label::start(Face::Note, "soft", scene.across(NAME), line).add_text(text, &words);
+}
+
+/// Draws a group's row, unless there is none or enough are drawn; gives how many groups there were until now.
+fn draw_row(text: &mut Text, scene: &Scene, row: &mut Row, drawn: u32) -> u32 {
+    if row.members == 0 {
+        return drawn;
+    }
+    if drawn < MAX_ROWS {
+        let top = row_top(scene, drawn);
+        draw_group(text, scene, row, top);
+        row.slots.sort_unstable();
+        draw_slots(text, scene, row, top);
+        draw_count(text, scene, row, top);
+        draw_part_in_mesh(text, scene, row, top);
+    }
+    drawn.saturating_add(1)
+}
+
+/// Draws which group it is, its class and its members.
+fn draw_group(text: &mut Text, scene: &Scene, row: &Row, top: u32) {
+    let line = top.saturating_add(95);
+    Label::start(Face::Name, "", scene.across(NAME), line)
+        .inked(Look::nth("k", row.group % GROUP_COLOURS))
+        .within(CLASS - NAME - 480)
+        .add_numbered(text, "group ", row.group);
+    let mut words = text.empty();
+    words.add_number(row.class.size());
+    words.add(b" B");
+    Label::end(Face::Small, "soft", scene.across(CLASS), line).add_text(text, &words);
+    words.clear();
+    words.add_number(row.members);
+    words.add(if row.members == 1 {
+        b" span".as_slice()
+    } else {
+        b" spans".as_slice()
+    });
+    Label::start(Face::Small, "soft", scene.across(MEMBERS), line)
+        .within(MAP - MEMBERS - 80)
+        .add_text(text, &words);
+}
+
+/// Draws which slots of a group are occupied.
+fn draw_slots(text: &mut Text, scene: &Scene, row: &Row, top: u32) {
+    let area = Area {
+        x: scene.across(MAP),
+        y: top.saturating_add(20),
+        w: SLOTS,
+        h: 95,
+    };
+    add_rect(
+        text,
+        Look::of(if row.read_only { "rom" } else { "pg" }),
+        area,
+        0,
+    );
+    let mut from = 0u32;
+    let mut to = 0u32;
+    for slot in row.slots.as_slice() {
+        if *slot != to {
+            draw_run(text, row.class, from, to, area);
+            from = *slot;
+        }
+        to = slot.saturating_add(1);
+    }
+    draw_run(text, row.class, from, to, area);
+}
+
+/// Draws the occupied slots from one to another.
+fn draw_run(text: &mut Text, class: Class, from: u32, to: u32, area: Area) {
+    if to <= from {
+        return;
+    }
+    let run = Area {
+        x: area.x.saturating_add(share(area.w, from, class.slots())),
+        y: area.y,
+        w: share(area.w, to.saturating_sub(from), class.slots()),
+        h: area.h,
+    };
+    add_rect(text, Look::of("occ"), run.inset(2), 0);
+}
+
+/// Draws how many slots of a group are occupied, and whether stores to it are held back.
+fn draw_count(text: &mut Text, scene: &Scene, row: &Row, top: u32) {
+    let line = top.saturating_add(95);
+    let mut words = text.empty();
+    words.add_number(narrow(row.slots.len()));
+    words.add(b"/");
+    words.add_number(row.class.slots());
+    Label::end(Face::Small, "ink", scene.across(COUNT), line).add_text(text, &words);
+    if row.read_only {
+        Label::start(Face::Mark, "amber", scene.across(HELD), line).add(text, b"read-only");
+    }
+}
+
+/// Draws what a group is in a running mesh.
+fn draw_part_in_mesh(text: &mut Text, scene: &Scene, row: &Row, top: u32) {
+    for mesh in scene.now.meshes.as_slice() {
+        draw_part_in(text, scene, row, top, mesh);
+    }
+}
+
+/// Draws what a group is in a mesh.
+fn draw_part_in(text: &mut Text, scene: &Scene, row: &Row, top: u32, mesh: &RunningMesh) {
+    let label = Label::start(
+        Face::Mark,
+        "blue",
+        scene.across(MESH),
+        top.saturating_add(95),
+    );
+    if mesh.source == row.group {
+        label.add_numbered(text, "goes into ", mesh.destination)
+    } else if mesh.destination == row.group {
+        label.add_numbered(text, "takes in ", mesh.source)
+    } else {}
+}

@@ -1,0 +1,261 @@
+//! The picture: a card for each change of the heap.
+use crate::arrows::draw_arrows;
+use crate::frame::{Counts, Frame};
+use crate::gathering::{Gathering, Line, cut};
+use crate::layout::{BAR, BETWEEN, HEAD, MARGIN};
+use crate::legend::draw_legend;
+use crate::lettering::{Face, Label, width_of};
+use crate::measure::{Measure, Measured};
+use crate::mesh_bar::draw_meshes;
+use crate::numbers::narrow;
+use crate::occupancy::draw_groups;
+use crate::pages::{Scene, draw_physical, draw_row_names, draw_virtual};
+use crate::pills::{LINE, draw_captions};
+use crate::style::{add_style, add_svg};
+use mesh_svg::{Area, Look, Text, add_rect};
+use std::alloc::{AllocError, Global};
+
+/// The most letters of a title.
+const MAX_TITLE: usize = 64;
+
+/// The least width of a picture, for its legend.
+const LEAST_WIDTH: u32 = 12_200;
+
+/// What a job's header says.
+#[derive(Clone, Copy, Debug)]
+pub struct Header {
+    /// The version of its file.
+    pub version: u32,
+    /// The physical pages of its arena.
+    pub pages: u32,
+    /// How many workers it has.
+    pub workers: u32,
+}
+
+/// A picture that is being drawn.
+#[derive(Drop)]
+pub struct Picture {
+    measured: Measured,
+    title: Vec<u8>,
+    header: Header,
+    gathering: Gathering,
+    row: usize,
+    column: u32,
+    y: u32,
+}
+
+impl Picture {
+    /// A picture of what was measured, before its first frame: with a title, and with so many frames side by side, or as many as fit. An
+    /// error is an allocation failure.
+    pub fn new(
+        alloc: Global,
+        measure: Measure,
+        title: &str,
+        header: Header,
+        columns: Option<u32>,
+    ) -> Result<Picture, AllocError> {
+        Ok(Picture {
+            measured: measure.finish(columns)?,
+            title: cut(alloc, title.as_bytes(), MAX_TITLE)?,
+            header,
+            gathering: Gathering::new(alloc),
+            row: 0,
+            column: 0,
+            y: HEAD,
+        })
+    }
+
+    /// Adds what stands before the first frame.
+    pub fn head(&self, text: &mut Text) {
+        let width = self
+            .measured
+            .layout
+            .width()
+            .max(LEAST_WIDTH)
+            .saturating_add(2 * MARGIN);
+        let height = total_height(self.measured.rows.as_slice());
+        add_svg(text, self.title.as_slice(), width, height);
+        add_style(text);
+        let all = Area {
+            x: 0,
+            y: 0,
+            w: width,
+            h: height,
+        };
+        add_rect(text, Look::of("bg"), all, 0);
+        Label::start(Face::Title, "ink", MARGIN, 290).add(text, self.title.as_slice());
+        self.draw_note(text, width);
+        draw_legend(text, self.measured.layout.by_pages);
+    }
+
+    /// Draws what the job's header says, behind the title.
+    fn draw_note(&self, text: &mut Text, width: u32) {
+        let mut words = text.empty();
+        self.header.add(&mut words);
+        if let Some((first, last)) = self.measured.lines {
+            words.add(b"; plan lines ");
+            words.add_number(first);
+            words.add(b" to ");
+            words.add_number(last);
+        }
+        words.add("; saved = virtual pages mapped − physical pages taken".as_bytes());
+        let title = width_of(Face::Title, self.title.as_slice());
+        let left = title.saturating_add(MARGIN + 160);
+        Label::start(Face::Note, "soft", left, 290)
+            .within(width.saturating_sub(MARGIN).saturating_sub(left))
+            .add_text(text, &words);
+    }
+
+    /// Takes in a line of the plan, and what the heap looks like behind it; adds a frame if the picture has changed. The points are those
+    /// that were measured, in the same order. An error is an allocation failure.
+    pub fn point(
+        &mut self,
+        line: &Line<'_>,
+        frame: &Frame,
+        text: &mut Text,
+    ) -> Result<(), AllocError> {
+        self.gathering.add(line)?;
+        if !self.gathering.is_due(frame) {
+            return self.gathering.keep_up(frame);
+        }
+        self.draw(frame, text)?;
+        self.gathering.shown(frame)?;
+        self.step();
+        Ok(())
+    }
+
+    /// Adds a last frame if there are lines behind the last change, and what stands behind all frames. An error is an allocation failure.
+    pub fn end(&mut self, text: &mut Text) -> Result<(), AllocError> {
+        if !self.gathering.captions.is_empty() {
+            self.draw_last(text)?;
+        }
+        text.add(b"</svg>\n");
+        Ok(())
+    }
+
+    /// Draws a card for lines that change nothing.
+    fn draw_last(&self, text: &mut Text) -> Result<(), AllocError> {
+        self.draw(&self.gathering.last, text)
+    }
+
+    /// How high the row of the next card is.
+    fn row_height(&self) -> u32 {
+        self.measured.rows.get(self.row).copied().unwrap_or(0)
+    }
+
+    /// Goes on to the place of the next card.
+    fn step(&mut self) {
+        self.column = self.column.saturating_add(1);
+        if self.column >= self.measured.layout.columns {
+            self.y = self
+                .y
+                .saturating_add(self.row_height())
+                .saturating_add(BETWEEN);
+            self.column = 0;
+            self.row = self.row.saturating_add(1);
+        }
+    }
+
+    /// The place of the next card.
+    fn card(&self) -> Area {
+        let layout = &self.measured.layout;
+        let beside = layout.card.saturating_add(BETWEEN);
+        Area {
+            x: MARGIN.saturating_add(self.column.saturating_mul(beside)),
+            y: self.y,
+            w: layout.card,
+            h: self.row_height(),
+        }
+    }
+
+    /// Draws a card.
+    fn draw(&self, frame: &Frame, text: &mut Text) -> Result<(), AllocError> {
+        let card = self.card();
+        add_rect(text, Look::of("card"), card, 60);
+        draw_captions(text, &self.gathering, card.x, card.y);
+        draw_counts(text, &frame.counts, card);
+        let lines = self.gathering.height().saturating_mul(LINE);
+        let bars = card.y.saturating_add(lines).saturating_add(120);
+        draw_meshes(text, frame, card.x, bars, card.w);
+        let below = bars.saturating_add(narrow(frame.meshes.len()).saturating_mul(BAR));
+        self.draw_heap(frame, text, card.x, below)
+    }
+
+    /// Draws what a heap looks like, below a line.
+    fn draw_heap(&self, frame: &Frame, text: &mut Text, x: u32, y: u32) -> Result<(), AllocError> {
+        let layout = &self.measured.layout;
+        let space = if layout.by_pages {
+            layout.heading()
+        } else {
+            60
+        };
+        let scene = Scene {
+            layout,
+            now: frame,
+            before: self.before(),
+            x,
+            top: y.saturating_add(space),
+        };
+        if !layout.by_pages {
+            return draw_groups(text, &scene);
+        }
+        draw_row_names(text, &scene);
+        draw_virtual(text, &scene)?;
+        draw_physical(text, &scene)?;
+        draw_arrows(text, &scene);
+        Ok(())
+    }
+
+    /// The frame before the one that is drawn.
+    fn before(&self) -> Option<&Frame> {
+        if self.gathering.begun {
+            Some(&self.gathering.last)
+        } else {
+            None
+        }
+    }
+}
+
+impl Header {
+    /// Adds what it says.
+    fn add(self, words: &mut Text) {
+        words.add(b"version ");
+        words.add_number(self.version);
+        words.add(b", ");
+        words.add_number(self.pages);
+        words.add(b" physical pages of 4096 bytes, ");
+        words.add_number(self.workers);
+        words.add(if self.workers == 1 {
+            b" worker".as_slice()
+        } else {
+            b" workers".as_slice()
+        });
+    }
+}
+
+/// How high a picture with these rows of cards is.
+fn total_height(rows: &[u32]) -> u32 {
+    let mut height = HEAD;
+    for row in rows {
+        height = height.saturating_add(*row).saturating_add(BETWEEN);
+    }
+    height.saturating_add(60)
+}
+
+/// Draws what a heap counts in the upper right corner of a card.
+fn draw_counts(text: &mut Text, counts: &Counts, card: Area) {
+    let mut words = text.empty();
+    words.add_number(counts.mapped);
+    words.add(" − ".as_bytes());
+    words.add_number(counts.taken);
+    words.add(b" = ");
+    words.add_number(counts.saved);
+    words.add(b" saved");
+    let right = card.x.saturating_add(card.w).saturating_sub(120);
+    let line = card.y.saturating_add(200);
+    if counts.saved > 0 {
+        Label::end(Face::Strong, "green", right, line).add_text(text, &words)
+    } else {
+        Label::end(Face::Note, "soft", right, line).add_text(text, &words)
+    }
+}

@@ -1,0 +1,121 @@
+//! The style of a picture: its lettering, and its colours on light and on dark ground.
+use mesh_svg::{Text, add_attribute};
+
+/// Lettering.
+static LETTERING: [&str; 6] = [
+    "text{font-family:'DejaVu Sans',Verdana,Helvetica,Arial,sans-serif}",
+    ".fl,.fm,.fp{font-family:'DejaVu Sans Mono',Menlo,Consolas,monospace}",
+    ".ft{font-size:170px}.fn,.fs{font-size:110px}.fl{font-size:115px}",
+    ".fm,.fa,.fb{font-size:100px}.fp,.fo{font-size:105px}",
+    ".fi,.fk{font-size:90px}.fq{font-size:75px}",
+    ".ft,.fs,.fb,.fk,.fo{font-weight:bold}",
+];
+
+/// Grounds, inks and lines.
+static GROUNDS: [&str; 11] = [
+    ".bg{fill:#f3f4f6}.card{fill:#fff;stroke:#c8cdd4;stroke-width:10}",
+    ".ink{fill:#1d2430}.soft{fill:#58626d}.green{fill:#1b6e3a}",
+    ".amber{fill:#9a5200}.red{fill:#a8201a}.blue{fill:#1558a6}",
+    ".pg{fill:#fbfbfc;stroke:#7b848d;stroke-width:10}",
+    ".no{fill:none;stroke:#a3abb4;stroke-width:10;stroke-dasharray:30 30}",
+    ".ro,.rom{fill:url(#held);stroke:#b86500;stroke-width:24}.rom{stroke-width:12}",
+    ".hg{fill:#fff6e3}.hs{fill:#d99a3d}",
+    ".new{fill:none;stroke:#1769c4;stroke-width:22}",
+    ".grid{fill:none;stroke:#dfe3e8;stroke-width:6}",
+    ".ahead{fill:#e5ebf4}.made{fill:#a3c4ea}.occ{fill:#4a6a8f}",
+    ".pd{fill:#1b6e3a}.pb{fill:#9a5200}.pr{fill:#a8201a}.pm{fill:#1558a6}.pt{fill:#fff}",
+];
+
+/// The colours of groups, and the lines of arrows.
+static GROUPS: [&str; 7] = [
+    ".k0{fill:#332288}.k1{fill:#b04600}.k2{fill:#117733}.k3{fill:#882255}",
+    ".k4{fill:#006d77}.k5{fill:#6b6400}.k6{fill:#93308f}.k7{fill:#444444}",
+    ".a0,.a1,.a2,.a3,.a4,.a5,.a6,.a7,.chg,.was{fill:none;stroke-width:16}",
+    ".a0{stroke:#332288}.a1{stroke:#b04600}.a2{stroke:#117733}.a3{stroke:#882255}",
+    ".a4{stroke:#006d77}.a5{stroke:#6b6400}.a6{stroke:#93308f}.a7{stroke:#444444}",
+    ".chg{stroke:#1769c4}.was{stroke:#8f98a2;stroke-width:12;stroke-dasharray:20 30}",
+    ".hold{stroke-dasharray:50 30}.bold{stroke-width:34}",
+];
+
+/// The colours of objects, and those of their serials.
+static OBJECTS: [&str; 8] = [
+    ".o0{fill:#0072b2;stroke:#0072b2}.o1{fill:#e69f00;stroke:#e69f00}",
+    ".o2{fill:#009e73;stroke:#009e73}.o3{fill:#cc79a7;stroke:#cc79a7}",
+    ".o4{fill:#56b4e9;stroke:#56b4e9}.o5{fill:#d55e00;stroke:#d55e00}",
+    ".o6{fill:#e0d33a;stroke:#e0d33a}.o7{fill:#882255;stroke:#882255}",
+    ".o8{fill:#44aa99;stroke:#44aa99}.o9{fill:#999933;stroke:#999933}",
+    ".o10{fill:#4b3fa0;stroke:#4b3fa0}.o11{fill:#aa4499;stroke:#aa4499}",
+    ".u0,.u7,.u10,.u11{fill:#fff}",
+    ".u1,.u2,.u3,.u4,.u5,.u6,.u8,.u9{fill:#000}",
+];
+
+/// The states of objects.
+static STATES: [&str; 4] = [
+    "rect[class^='o']{stroke-width:0}",
+    ".rest{fill-opacity:.28}.restc{fill-opacity:.1}.resto{fill-opacity:.05}",
+    ".old{fill-opacity:.18}",
+    "rect.copy{fill-opacity:.32;stroke-width:12;stroke-dasharray:30 20}",
+];
+
+/// Grounds, inks and lines on dark ground.
+static DARK_GROUNDS: [&str; 7] = [
+    ".bg{fill:#101418}.card{fill:#1a2027;stroke:#39434e}",
+    ".ink{fill:#e8ecf1}.soft{fill:#a4afbb}.green{fill:#6fd08c}",
+    ".amber{fill:#f0b45c}.red{fill:#ff8f86}.blue{fill:#82b8f5}",
+    ".pg{fill:#222a33;stroke:#8792a0}.no{stroke:#5d6875}",
+    ".ro,.rom{stroke:#f0a53a}.hg{fill:#2c2517}.hs{fill:#8a5f1e}",
+    ".new{stroke:#6cb2ff}.grid{stroke:#333d48}",
+    ".ahead{fill:#2a3543}.made{fill:#2f5f96}.occ{fill:#8fb4dd}",
+];
+
+/// The colours of groups on dark ground.
+static DARK_GROUPS: [&str; 5] = [
+    ".k0{fill:#a9a0f0}.k1{fill:#f09a5a}.k2{fill:#6fc98a}.k3{fill:#e08ab5}",
+    ".k4{fill:#5cc8d2}.k5{fill:#d0c750}.k6{fill:#dc8ed8}.k7{fill:#c4c9cf}",
+    ".a0{stroke:#a9a0f0}.a1{stroke:#f09a5a}.a2{stroke:#6fc98a}.a3{stroke:#e08ab5}",
+    ".a4{stroke:#5cc8d2}.a5{stroke:#d0c750}.a6{stroke:#dc8ed8}.a7{stroke:#c4c9cf}",
+    ".chg{stroke:#6cb2ff}.was{stroke:#76818d}.old{fill-opacity:.35}",
+];
+
+/// The hatching of read-only pages.
+static HATCHING: [&str; 2] = [
+    "<defs><pattern id='held' width='70' height='70' patternUnits='userSpaceOnUse' patternTransform='rotate(45)'>",
+    "<rect class='hg' width='70' height='70'/><rect class='hs' width='20' height='70'/></pattern></defs>",
+];
+
+/// Adds the root element, which has a title for those who do not see the picture.
+pub(crate) fn add_svg(text: &mut Text, title: &[u8], width: u32, height: u32) {
+    text.add(b"<svg xmlns=\"http://www.w3.org/2000/svg\" role=\"img\"");
+    add_attribute(text, "width", width / 10);
+    add_attribute(text, "height", height / 10);
+    text.add(b" viewBox=\"0 0 ");
+    text.add_number(width);
+    text.add(b" ");
+    text.add_number(height);
+    text.add(b"\">\n<title>Meshing in ");
+    text.add_escaped(title);
+    text.add(b"</title>\n");
+}
+
+/// Adds the rules of the style, and the hatching of read-only pages.
+pub(crate) fn add_style(text: &mut Text) {
+    text.add(b"<style>\n");
+    add_lines(text, &LETTERING);
+    add_lines(text, &GROUNDS);
+    add_lines(text, &GROUPS);
+    add_lines(text, &OBJECTS);
+    add_lines(text, &STATES);
+    text.add(b"@media (prefers-color-scheme:dark){\n");
+    add_lines(text, &DARK_GROUNDS);
+    add_lines(text, &DARK_GROUPS);
+    text.add(b"}\n</style>\n");
+    add_lines(text, &HATCHING);
+}
+
+/// Adds lines.
+fn add_lines(text: &mut Text, lines: &[&str]) {
+    for line in lines {
+        text.add(line.as_bytes());
+        text.add(b"\n");
+    }
+}
