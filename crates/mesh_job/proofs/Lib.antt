@@ -3,6 +3,7 @@ mod Digits
 pub mod FewFields
 pub mod FileEnds
 pub mod HexFields
+pub mod LiveFields
 pub mod ManyFields
 pub mod PackedScripts
 pub mod PlanReadings

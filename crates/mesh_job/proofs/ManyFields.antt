@@ -6,6 +6,7 @@ use Rattle.std.proofs.lemmas.Bool.{le-leb, true≢false}
 use Rattle.model_jobs.specs.JobFiles.{Section, Draft, AtVersion, AtPages, AtHistory, AtWorkers, AtFirstWorker, InScript, InPlan, AtEnd, are_same, command_in, header_in, has_ended, is_empty, is_second, line_in, of_mesh_in, take_fields, take_in}
 use Rattle.model_jobs.specs.Jobs.{Line, StepMesh, CancelMesh, StepClass, CancelClass}
 use Rattle.model_words.specs.Words.{◌>>=◌, refuse_if}
+use Rattle.mesh_job.specs.LiveLines.{attempt_of, live_in, live_of_fields}
 use Rattle.model_words.specs.declared.faults.FaultKind.{FaultKind}
 use Rattle.model_words.specs.declared.faults.FaultKind.TheVariants.{Word}
 use Rattle.model_words.specs.declared.versions.Version.{Version}
@@ -108,3 +109,21 @@ no_fields draft [] h going = refl
 no_fields draft (word ∷ fields) (inl empty) going = ap (λ (t : Bool). refuse_if Word t >>= λ _. take_in draft.section draft word fields) empty
 no_fields draft (word ∷ fields) (inr many) going =
     tested (list_any is_empty (word ∷ fields)) (take_in draft.section draft word fields) (many_fields draft word fields (omega (arith, many)) going)
+
+-- so many fields are no line of a session
+many_live : (workers : ℕ) (word a b c d e f : List ℕ) (more : List (List ℕ)) → 29 ≤ length more → live_in workers word (a ∷ b ∷ c ∷ d ∷ e ∷ f ∷ more) ≡ Err Word
+many_live workers word a b c d e f [] many = absurd (omega (arith, many))
+many_live workers word a b c d e f (g ∷ []) many = absurd (omega (arith, many))
+many_live workers word a b c d e f (g ∷ h ∷ more) many =
+    both (are_same word (codes "run")) _ _ (ap (attempt_of workers a) (no_command Two b c d e f g h more))
+    (after _ _ (no_line Two workers word a b c d e f (g ∷ h ∷ more) many))
+
+-- fields of which one is empty, or which are too many, are no line of a session
+pub no_live_fields : (workers : ℕ) (fields : List (List ℕ)) → (list_any is_empty fields ≡ true) ⊎ (35 < length fields) → live_of_fields workers fields ≡ Err Word
+no_live_fields workers [] h = refl
+no_live_fields workers (word ∷ fields) (inl empty) = ap (λ (t : Bool). refuse_if Word t >>= λ _. live_in workers word fields) empty
+no_live_fields workers (word ∷ fields) (inr many) =
+    let parts = six fields (omega (arith, many)) in
+    let more : 29 ≤ length parts.more = omega (arith, many, ap (λ (x : List (List ℕ)). length x) parts.is) in
+    tested (list_any is_empty (word ∷ fields)) (live_in workers word fields)
+    (ap (live_in workers word) parts.is ∙ many_live workers word parts.a parts.b parts.c parts.d parts.e parts.f parts.more more)

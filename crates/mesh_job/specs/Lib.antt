@@ -1,6 +1,7 @@
 pub mod Draft
 pub mod Faults
 pub mod Job
+pub mod LiveLines
 pub mod Plan
 pub mod Reading
 pub mod Scripts

@@ -26,12 +26,14 @@ impl From<AllocError> for ReadFault {
     }
 }
 
-/// Why a line could not be taken into a job.
-#[derive(Clone, Copy, Debug, PartialEq, Eq)]
-pub(crate) enum LineFault {
+/// Why a line could not be read.
+#[derive(Clone, Copy, Debug, PartialEq, Eq, Error)]
+pub enum LineFault {
     /// The line has a fault.
+    #[error("{0}")]
     Kind(FaultKind),
-    /// A growth of the job was refused, since an allocation failed.
+    /// A growth of what was read was refused, since an allocation failed.
+    #[error("out of memory")]
     Memory,
 }
 

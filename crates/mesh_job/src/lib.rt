@@ -14,6 +14,7 @@ mod faults;
 mod hex;
 mod job;
 mod lines;
+mod live_lines;
 mod numbers;
 mod plan;
 mod plan_lines;
@@ -23,8 +24,9 @@ mod reader;
 mod script;
 
 pub use command_list::Commands;
-pub use faults::ReadFault;
+pub use faults::{LineFault, ReadFault};
 pub use job::{Job, Scripts};
+pub use live_lines::{LiveLine, read_live_line};
 pub use model_words::{Command, FaultKind, TextFault, Version};
 pub use plan::{Plan, PlanLine, Search};
 pub use reader::{MAX_FILE_BYTES, Reading, read_file};

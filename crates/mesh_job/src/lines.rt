@@ -2,6 +2,7 @@
 ghost use Rattle.std.specs.Prelude.{◌≡◌, ◌-◌, ◌<◌, ◌≤◌, ◌⊎◌, ◌∷◌, [], Ok, Err, true, false, ◌++◌, length, take, drop, nat_eq, IfSome, IfOk, IfErr, IsNone, OnOk, OnErr};
 ghost use Rattle.std.specs.List.{list_all, list_any, slice_split};
 ghost use Rattle.model_jobs.specs.JobFiles.{are_same, five_fields, header_in, is_empty, is_printable, no_field, one_field, three_fields, two_fields};
+ghost use Rattle.mesh_job.specs.LiveLines.{bytes_fit};
 ghost use Rattle.mesh_job.specs.Reading.{IsFaultyLine, IsPartOfLine, IsSplit, is_field_byte, line_fields, text_lines, texts};
 
 use crate::numbers::number32;
@@ -38,6 +39,20 @@ fn is_printable(byte: u8) -> bool
     ensures { result ≡ is_printable byte }
 {
     (b' '..=b'~').contains(&byte)
+}
+
+/// That a line, without its end, has bytes that a line may have. LONG_LINE where they are more than 1,024, and BYTE where one of them isn't
+/// from 20 to 7e.
+pub(crate) fn check_bytes(line: &[u8]) -> Result<(), FaultKind>
+    ensures { result ≡ bytes_fit line.now }
+{
+    if line.len() > MAX_LINE_BYTES {
+        return Err(FaultKind::LongLine);
+    }
+    if !line.iter().all(|byte| is_printable(*byte)) {
+        return Err(FaultKind::Byte);
+    }
+    Ok(())
 }
 
 /// The next line without its end, and the bytes behind it. None where the text holds no line end and no more than a line may have.

@@ -73,12 +73,16 @@ given_to HeldBack = StoreBlocked
 given_to NoRoom = JournalFull
 given_to OutOfMemory = ScriptOver
 
--- the places after it
+-- the places after it: these where it had a reply
+abbrev pub placed_by : Attempt → List ℕ → List ℕ → List ℕ
+placed_by (Done reply) moved places = moved
+placed_by HeldBack moved places = places
+placed_by NoRoom moved places = places
+placed_by OutOfMemory moved places = places
+
+-- the places after a turn: its worker's is one further where there was a reply
 abbrev pub passed_by : Attempt → List ℕ → ℕ → List ℕ
-passed_by (Done reply) places worker = slice_set places worker (slice_index places worker + 1)
-passed_by HeldBack places worker = places
-passed_by NoRoom places worker = places
-passed_by OutOfMemory places worker = places
+passed_by attempt places worker = placed_by attempt (slice_set places worker (slice_index places worker + 1)) places
 
 -- the attempt had memory
 abbrev pub HasMemory : Attempt → Type 0
@@ -108,21 +112,19 @@ replied_scripts job state book places script worker command later at is here lon
           ∙ ap (λ n. drop n (slice_index_or job.scripts other [])) (sym (get_or-set_other places worker other (slice_index places worker + 1) 0 apart.1))
     ]
 
--- a turn with a command left is what the definitions answer
-pub turn_taken : (job : Job) (state : State) (book book' : Book) (places : List ℕ) (script : List Command) (worker : ℕ) (command : Command) (attempt : Attempt)
-    → IsAt job state book places → script ≡ slice_index_or job.scripts worker [] → Some command ≡ slice_get script (slice_index places worker)
-    → length places ≡ length job.scripts → worker < length places → IsAttempt book book' worker command attempt → HasMemory attempt
-    → IsNextAt job (answer job state (RunWorker worker)) book' (passed_by attempt places worker) (given_to attempt)
-turn_taken job state book book' places script worker command attempt at is here long below done some =
-    let commands = drop (slice_index places worker + 1) script in
-    let left : slice_index_or state.scripts worker [] ≡ command ∷ commands
-    = commands_left job state book places script worker at is ∙ drop_at (slice_index places worker) script command here in
-    go attempt commands left done some
+-- an attempt at a command is what the definitions answer, whatever commands follow it, where these are the places after a reply
+command_taken : (job : Job) (state : State) (book book' : Book) (places moved : List ℕ) (worker : ℕ) (command : Command) (commands : List Command) (attempt : Attempt)
+    → IsAt job state book places
+    → ((other : ℕ) → slice_index_or (slice_set state.scripts worker (later_commands (slice_index_or state.scripts worker []))) other []
+    ≡ drop (slice_index moved other) (slice_index_or job.scripts other []))
+    → IsAttempt book book' worker command attempt → HasMemory attempt
+    → IsNextAt job (run_next job state worker (command ∷ commands)) book' (placed_by attempt moved places) (given_to attempt)
+command_taken job state book book' places moved worker command commands attempt at scripts done some = go attempt done some
   where
-    full : (b : Bool) → nat_le job.history (length state.entries) ≡ b → (commands : List Command) → run_next job state worker (command ∷ commands)
+    full : (b : Bool) → nat_le job.history (length state.entries) ≡ b → run_next job state worker (command ∷ commands)
         ≡ (if b then record { answer = JournalFull; state = state }
         else attempted state worker command (is_held_back state.memory state.table command (answered state.memory state.table command).reply) (answered state.memory state.table command))
-    full b is commands = rw is refl
+    full b is = rw is refl
 
     room_left : length book.entries < book.room → nat_le job.history (length state.entries) ≡ false
     room_left short = elim (leb_tells job.history (length state.entries)) [
@@ -136,21 +138,21 @@ turn_taken job state book book' places script worker command attempt at is here 
       | inr under ↦ absurd (let less = under.1 in let room = at.room in let entries = at.entries in omega (arith, past, less, room, ap (λ (xs : List Entry). length xs) entries))
     ]
 
-    open_room : (commands : List Command) (held : Bool) → length book.entries < book.room → is_held_back state.memory state.table command (answered state.memory state.table command).reply ≡ held
+    open_room : (held : Bool) → length book.entries < book.room → is_held_back state.memory state.table command (answered state.memory state.table command).reply ≡ held
         → run_next job state worker (command ∷ commands) ≡ attempted state worker command held (answered state.memory state.table command)
-    open_room commands held short is = full false (room_left short) commands ∙ ap (λ b. attempted state worker command b (answered state.memory state.table command)) is
+    open_room held short is = full false (room_left short) ∙ ap (λ b. attempted state worker command b (answered state.memory state.table command)) is
 
-    go : (attempt : Attempt) (commands : List Command) → slice_index_or state.scripts worker [] ≡ command ∷ commands → IsAttempt book book' worker command attempt
-        → HasMemory attempt → IsNextAt job (answer job state (RunWorker worker)) book' (passed_by attempt places worker) (given_to attempt)
-    go (Done reply) commands left done some =
+    go : (attempt : Attempt) → IsAttempt book book' worker command attempt → HasMemory attempt
+        → IsNextAt job (run_next job state worker (command ∷ commands)) book' (placed_by attempt moved places) (given_to attempt)
+    go (Done reply) done some =
         let outcome = done.answered.outcome in
         let same : answered (memory_of_book book) (table_of_book book) command ≡ answered state.memory state.table command
         = outcome_at (memory_of_book book) state.memory (table_of_book book) state.table command at.memory at.table in
         let free = held_at state (memory_of_book book) (table_of_book book) command reply false at.memory at.table outcome.reply_is done.answered.not_held in
-        let whole : answer job state (RunWorker worker) ≡ attempted state worker command false (answered state.memory state.table command)
-        = ap (λ cs. run_next job state worker cs) left ∙ open_room commands false done.had_room free in
+        let whole : run_next job state worker (command ∷ commands) ≡ attempted state worker command false (answered state.memory state.table command)
+        = open_room false done.had_room free in
         let reply_is : reply ≡ (answered state.memory state.table command).reply = outcome.reply_is ∙ ap (λ (o : Outcome). o.reply) same in
-        subst (λ next. IsNextAt job next book' (passed_by (Done reply) places worker) (Replied reply)) (sym whole)
+        subst (λ next. IsNextAt job next book' moved (Replied reply)) (sym whole)
         (record {
           answer_is = ap (λ r. Replied r) reply_is;
           at = record {
@@ -161,21 +163,34 @@ turn_taken job state book book' places script worker command attempt at is here 
             room = done.room ∙ at.room;
             pages = done.answered.pages ∙ at.pages;
             workers = length-set state.scripts worker (later_commands (slice_index_or state.scripts worker [])) ∙ at.workers;
-            scripts = replied_scripts job state book places script worker command (later_commands (slice_index_or state.scripts worker [])) at is here long below refl;
+            scripts = scripts;
           };
         })
-    go HeldBack commands left done some =
+    go HeldBack done some =
         let held = held_at state (memory_of_book book) (table_of_book book) command (answered (memory_of_book book) (table_of_book book) command).reply true at.memory at.table refl done.1 in
-        let whole : answer job state (RunWorker worker) ≡ attempted state worker command true (answered state.memory state.table command)
-        = ap (λ cs. run_next job state worker cs) left ∙ open_room commands true done.0 held in
+        let whole : run_next job state worker (command ∷ commands) ≡ attempted state worker command true (answered state.memory state.table command)
+        = open_room true done.0 held in
         subst (λ next. IsNextAt job next book' places StoreBlocked) (sym whole)
         (record { answer_is = refl; at = subst (λ b. IsAt job state b places) (sym done.2) at })
-    go NoRoom commands left done some =
-        let whole : answer job state (RunWorker worker) ≡ record { answer = JournalFull; state = state }
-        = ap (λ cs. run_next job state worker cs) left ∙ full true (no_room done.0) commands in
+    go NoRoom done some =
+        let whole : run_next job state worker (command ∷ commands) ≡ record { answer = JournalFull; state = state }
+        = full true (no_room done.0) in
         subst (λ next. IsNextAt job next book' places JournalFull) (sym whole)
         (record { answer_is = refl; at = subst (λ b. IsAt job state b places) (sym done.1) at })
-    go OutOfMemory commands left done some = absurd some
+    go OutOfMemory done some = absurd some
+
+-- a turn with a command left is what the definitions answer
+pub turn_taken : (job : Job) (state : State) (book book' : Book) (places : List ℕ) (script : List Command) (worker : ℕ) (command : Command) (attempt : Attempt)
+    → IsAt job state book places → script ≡ slice_index_or job.scripts worker [] → Some command ≡ slice_get script (slice_index places worker)
+    → length places ≡ length job.scripts → worker < length places → IsAttempt book book' worker command attempt → HasMemory attempt
+    → IsNextAt job (answer job state (RunWorker worker)) book' (passed_by attempt places worker) (given_to attempt)
+turn_taken job state book book' places script worker command attempt at is here long below done some =
+    let commands = drop (slice_index places worker + 1) script in
+    let left : slice_index_or state.scripts worker [] ≡ command ∷ commands
+    = commands_left job state book places script worker at is ∙ drop_at (slice_index places worker) script command here in
+    subst (λ cs. IsNextAt job (run_next job state worker cs) book' (passed_by attempt places worker) (given_to attempt)) (sym left)
+    (command_taken job state book book' places (slice_set places worker (slice_index places worker + 1)) worker command commands attempt at
+    (replied_scripts job state book places script worker command (later_commands (slice_index_or state.scripts worker [])) at is here long below refl) done some)
 
 -- where its text was added, what a turn tells of an attempt is told wherever a job stands
 pub turn_told : {E : Type 0} (r : Result (Unit {0}) E) (book book' : Book) (places : List ℕ) (script : List Command) (worker place len : ℕ) (command : Command) (attempt : Attempt)
@@ -187,3 +202,39 @@ turn_told r book book' places script worker place len command attempt old new ok
     let below : worker < length places = omega (arith, low, ok) in
     on_ok_weaker r (λ text job state at long is. told_at job (answer job state (RunWorker worker)) book' (passed_by attempt places worker) (given_to attempt) old new
     (turn_taken job state book book' places script worker command attempt at is (at_place places script worker place (Some command) below at_worker here) (sym ok ∙ long) below done some) text) added
+
+-- a script that is over stays so
+over_still : (scripts : List (List Command)) (worker other : ℕ) → slice_index_or scripts worker [] ≡ []
+    → slice_index_or (slice_set scripts worker []) other [] ≡ slice_index_or scripts other []
+over_still [] worker other over = refl
+over_still (script ∷ scripts) zero zero over = sym over
+over_still (script ∷ scripts) zero (suc other) over = refl
+over_still (script ∷ scripts) (suc worker) zero over = refl
+over_still (script ∷ scripts) (suc worker) (suc other) over = over_still scripts worker other over
+
+-- where no place moves, each stays
+none_moved : (attempt : Attempt) (places : List ℕ) → placed_by attempt places places ≡ places
+none_moved (Done reply) places = refl
+none_moved HeldBack places = refl
+none_moved NoRoom places = refl
+none_moved OutOfMemory places = refl
+
+-- an attempt of a worker whose script is over, at a command that stands in none, is what the definitions answer
+attempt_taken : (job : Job) (state : State) (book book' : Book) (places : List ℕ) (worker : ℕ) (command : Command) (attempt : Attempt)
+    → IsAt job state book places → slice_index_or state.scripts worker [] ≡ [] → IsAttempt book book' worker command attempt → HasMemory attempt
+    → IsNextAt job (run_next job state worker (command ∷ [])) book' places (given_to attempt)
+attempt_taken job state book book' places worker command attempt at over done some =
+    let scripts : (other : ℕ) → slice_index_or (slice_set state.scripts worker (later_commands (slice_index_or state.scripts worker []))) other []
+    ≡ drop (slice_index places other) (slice_index_or job.scripts other [])
+    = λ other. ap (λ commands. slice_index_or (slice_set state.scripts worker (later_commands commands)) other []) over ∙ over_still state.scripts worker other over ∙ at.scripts other in
+    subst (λ after. IsNextAt job (run_next job state worker (command ∷ [])) book' after (given_to attempt)) (none_moved attempt places)
+    (command_taken job state book book' places places worker command [] attempt at scripts done some)
+
+-- where its text was added, it is told wherever a job stands in which the worker's script is over
+pub attempt_told : {E : Type 0} (r : Result (Unit {0}) E) (book book' : Book) (places : List ℕ) (worker : ℕ) (command : Command) (attempt : Attempt) (old new : List ℕ)
+    → IsAttempt book book' worker command attempt → HasMemory attempt → OnOk r (new ≡ old ++ answer_text (given_to attempt))
+    → OnOk r ((job : Job) (state : State) → IsAt job state book places → slice_index_or state.scripts worker [] ≡ []
+    → IsTold job (run_next job state worker (command ∷ [])) book' places old new)
+attempt_told r book book' places worker command attempt old new done some added =
+    on_ok_weaker r (λ text job state at over. told_at job (run_next job state worker (command ∷ [])) book' places (given_to attempt) old new
+    (attempt_taken job state book book' places worker command attempt at over done some) text) added

@@ -1,7 +1,8 @@
 //! The workers of a job and its mesher in turn, as the plan has them.
-ghost use Rattle.std.specs.Prelude.{◌≡◌, ◌+◌, ◌<◌, ◌++◌, [], length, slice_get, slice_index, slice_index_or, vec_len, IfOk, OnOk};
+ghost use Rattle.std.specs.Prelude.{◌≡◌, ◌+◌, ◌<◌, ◌++◌, [], ◌∷◌, length, slice_get, slice_index, slice_index_or, vec_len, IfOk, OnOk};
 ghost use Rattle.model_jobs.specs.JobFiles.{IsValidLine};
-ghost use Rattle.model_jobs.specs.Jobs.{Job as PlainJob, RunWorker, State, answer, opening};
+ghost use Rattle.model_jobs.specs.Jobs.{Job as PlainJob, RunWorker, State, answer, opening, run_next};
+ghost use Rattle.model_words.specs.Commands.{IsInRange};
 ghost use Rattle.mesh_job.specs.Plan.{line_of};
 ghost use Rattle.model_jobs.specs.Texts.{ended};
 ghost use Rattle.mesh_text.specs.Turns.{IsAt, IsTold, StandsBehind, book_of, lines_up_to, places_of, worker_count};
@@ -40,6 +41,13 @@ impl Turns {
         ensures { result.now ≡ (book_of self.now).heap }
     {
         self.book.heap()
+    }
+
+    /// The heap with its root cells and its journal, as the lines so far have left them.
+    pub fn book(&self) -> &Book
+        ensures { result.now ≡ book_of self.now }
+    {
+        &self.book
     }
 
     /// The command that a worker attempts next. None only where it has none left, or there is no such worker.
@@ -109,6 +117,29 @@ impl Turns {
             ),
             PlanLine::Sweep(group) => add_counted(text, b"swept ", sweep(book, *group)),
             PlanLine::Report => add_report(text, report(book)),
+        }
+    }
+
+    /// Attempts a command that stands in no script, for a worker whose own is over, and adds what it is answered, without the line's end.
+    /// An error is an allocation failure.
+    pub fn attempt(
+        &mut self,
+        worker: u32,
+        command: &Command,
+        text: &mut Vec<u8>,
+    ) -> Result<(), AllocError>
+        requires { IsInRange command.now }
+        ensures places { places_of self.new ≡ places_of self.old }
+        ensures workers { worker_count self.new ≡ worker_count self.old }
+        ensures told { OnOk result ((job : PlainJob) (state : State) → IsAt job state (book_of self.old) (places_of self.old)
+            → slice_index_or state.scripts worker [] ≡ []
+            → IsTold job (run_next job state worker (command.now ∷ [])) (book_of self.new) (places_of self.new) text.old.items text.new.items) }
+    {
+        match self.book.act(worker, command) {
+            Attempt::Done(reply) => add_reply(text, &reply),
+            Attempt::Blocked => text.extend_from_slice(b"blocked"),
+            Attempt::HistoryFull => text.extend_from_slice(b"history full"),
+            Attempt::OutOfMemory => Err(AllocError),
         }
     }
 
