@@ -1,0 +1,40 @@
+-- What a line of a session is told, and where the session stands after it.
+use Rattle.std.specs.Prelude.{ℕ, List, [], ◌∷◌, ◌++◌, Result, Ok, Err, codes}
+use Rattle.model_jobs.specs.Jobs.{Job, Next, State, answer, run_next}
+use Rattle.model_jobs.specs.Texts.{answer_text, field}
+use Rattle.model_words.specs.Faults.{kind_name_of}
+use Rattle.model_words.specs.declared.faults.FaultKind.{FaultKind}
+use Rattle.mesh_job.specs.LiveLines.{LiveLine, Attempt, Call, live_line}
+use Rattle.mesh_live.specs.Sessions.{job_of}
+use Rattle.mesh_live.specs.declared.sizes.Sizes.{Sizes}
+
+-- the answer to a line: an attempt is one at a script that has this command alone, any other line is one of the plan
+abbrev pub live_answer : Job → State → LiveLine → Next
+live_answer job state (Attempt worker command) = run_next job state worker (command ∷ [])
+live_answer job state (Call line) = answer job state line
+
+-- the text of an answer, without its end, and where the session stands after it
+pub record Told : Type 0 where
+  pub text : List ℕ
+  pub state : State
+
+-- what an answer tells
+abbrev pub told_next : Next → Told
+told_next next = record { text = answer_text next.answer; state = next.state }
+
+-- what a line of a session is told
+abbrev pub live_told : Sizes → State → LiveLine → Told
+live_told sizes state line = told_next (live_answer (job_of sizes) state line)
+
+-- the text of a fault
+abbrev pub fault_text : FaultKind → List ℕ
+fault_text kind = codes "fault" ++ field (kind_name_of kind)
+
+-- what is told of a line that was read; of one with a fault the fault, which changes nothing
+abbrev pub told_read : Sizes → State → Result LiveLine FaultKind → Told
+told_read sizes state (Ok line) = live_told sizes state line
+told_read sizes state (Err kind) = record { text = fault_text kind; state = state }
+
+-- what a text is told that is asked as a line
+abbrev pub told : Sizes → State → List ℕ → Told
+told sizes state line = told_read sizes state (live_line sizes.workers line)

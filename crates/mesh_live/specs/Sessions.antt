@@ -1,0 +1,43 @@
+-- A live session: its sizes, the job that it is, and where it stands.
+use Rattle.std.specs.Prelude.{◌≡◌, ℕ, ◌≤◌, List, [], length, replicate}
+use Rattle.model_jobs.specs.Jobs.{Job, State}
+use Rattle.model_words.specs.declared.versions.Version.TheVariants.{Two}
+use Rattle.mesh_mutator.specs.Book.{Book, memory_of_book, table_of_book}
+use Rattle.mesh_text.specs.Turns.{IsAt, book_of as book_of_turns, places_of, worker_count}
+use Rattle.mesh_live.specs.declared.session.Session.{Session}
+use Rattle.mesh_live.specs.declared.sizes.Sizes.{Sizes}
+
+-- sizes that a job may have
+pub record HasFairSizes (sizes : Sizes) : Type 0 where
+  pub some_pages : 1 ≤ sizes.pages
+  pub few_pages : sizes.pages ≤ 4096
+  pub few_entries : sizes.history ≤ 65536
+  pub some_workers : 1 ≤ sizes.workers
+  pub few_workers : sizes.workers ≤ 64
+
+-- the job that a session of these sizes is: of version 2, with no command in a script, and no line in its plan
+abbrev pub job_of : Sizes → Job
+job_of sizes = record { version = Two; pages = sizes.pages; history = sizes.history; scripts = replicate sizes.workers []; plan = [] }
+
+-- where a session of so many workers stands that has this book
+abbrev pub state_in : ℕ → Book → State
+state_in workers book =
+    record { memory = memory_of_book book; table = table_of_book book; scripts = replicate workers []; entries = book.entries }
+
+-- the sizes of a session
+abbrev pub sizes_of : Session → Sizes
+sizes_of session = record { pages = session.job.pages; history = session.job.history; workers = length session.job.scripts }
+
+-- the heap of a session, with root cells and journal
+abbrev pub book_of : Session → Book
+book_of session = book_of_turns session.turns
+
+-- where a session stands: what its heap and its journal are to the definitions, and no command in a script
+abbrev pub state_of : Session → State
+state_of session = state_in (sizes_of session).workers (book_of session)
+
+-- a session's job has nothing to do, and stands where the session does
+pub record IsSession (session : Session) : Type 0 where
+  pub idle : session.job ≡ job_of (sizes_of session)
+  pub workers : worker_count session.turns ≡ (sizes_of session).workers
+  pub at : IsAt session.job (state_of session) (book_of session) (places_of session.turns)

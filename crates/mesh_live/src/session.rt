@@ -1,0 +1,106 @@
+//! A session, and its answer to a line.
+ghost use Rattle.std.specs.Prelude.{◌≡◌, ◌≤◌, ◌++◌, Err, IfOk, OnOk};
+ghost use Rattle.model_jobs.specs.Jobs.{opening};
+ghost use Rattle.model_words.specs.declared.faults.FaultKind.{FaultKind};
+ghost use Rattle.mesh_job.specs.LiveLines.{IsValidLive, live_line, live_of};
+ghost use Rattle.mesh_mutator.specs.Headline.{EndsInMeaning, IsHistory};
+ghost use Rattle.mesh_live.specs.Answers.{live_told, told};
+ghost use Rattle.mesh_live.specs.Sessions.{HasFairSizes, IsSession, book_of, job_of, sizes_of, state_of};
+
+use crate::Sizes;
+use crate::answers::add_fault;
+use crate::opening::idle_job;
+use mesh_job::{Job, LineFault, LiveLine, read_live_line};
+use mesh_mutator::Book;
+use mesh_text::Turns;
+use std::alloc::{AllocError, Global};
+
+/// A heap that is asked line by line.
+#[derive(Drop)]
+pub struct Session {
+    /// A job of the session's sizes, which has no command and no line of a plan.
+    pub(crate) job: Job,
+    /// The heap, and how far each of the job's scripts was run: all are over.
+    pub(crate) turns: Turns,
+}
+
+impl Session {
+    /// A session over a fresh heap. An error is an allocation failure.
+    pub fn open(alloc: Global, sizes: &Sizes) -> Result<Session, AllocError>
+        requires { HasFairSizes sizes.now }
+        ensures sizes { IfOk result (λ session. sizes_of session ≡ sizes.now) }
+        ensures opening { IfOk result (λ session. state_of session ≡ opening (job_of sizes.now)) }
+        ensures sound { IfOk result IsSession }
+    {
+        let job = idle_job(alloc, sizes)?;
+        let turns = Turns::open(alloc, &job)?;
+        Ok(Session { job, turns })
+    }
+
+    /// The heap with its root cells and its journal, as the lines so far have left them. The journal is a legal history of the plain memory,
+    /// and ends in what heap and cells mean; `Book::headline` says what else holds of it at any moment.
+    pub fn book(&self) -> &Book
+        ensures value { result.now ≡ book_of self.now }
+        ensures legal { IsHistory (book_of self.now).entries }
+        ensures ends { EndsInMeaning (book_of self.now) }
+    {
+        let book = self.turns.book();
+        book.headline();
+        book
+    }
+
+    /// Answers a line, which has no end: adds what it is told to `text`, without a line end.
+    ///
+    /// `run W COMMAND` is an attempt of worker W at this command, spelt as in a script of version 2. Any other line is one of a plan of version 2,
+    /// but `run W` is none. Each is answered as in a replay, `blocked` and `history full` among the answers. To a line that is neither the answer
+    /// is `fault KIND`, with the kind that a reader of job files tells, and nothing changes.
+    ///
+    /// An error is an allocation failure. It may come behind the effect of the line, so that the session can't go on after it.
+    pub fn answer(
+        &mut self,
+        alloc: Global,
+        line: &[u8],
+        text: &mut Vec<u8>,
+    ) -> Result<(), AllocError>
+        requires sound { IsSession self.old }
+        ensures sound { OnOk result (IsSession self.new) }
+        ensures sizes { OnOk result (sizes_of self.new ≡ sizes_of self.old) }
+        ensures told { OnOk result (text.new.items ≡ text.old.items ++ (told (sizes_of self.old) (state_of self.old) line.now).text) }
+        ensures stands { OnOk result (state_of self.new ≡ (told (sizes_of self.old) (state_of self.old) line.now).state) }
+        ensures fault { (kind : FaultKind) → live_line (sizes_of self.old).workers line.now ≡ Err kind → self.new ≡ self.old }
+    {
+        match read_live_line(alloc, self.workers(), line) {
+            Ok(line) => self.answer_line(alloc, &line, text),
+            Err(LineFault::Kind(kind)) => add_fault(text, kind),
+            Err(LineFault::Memory) => Err(AllocError),
+        }
+    }
+
+    /// How many workers there are.
+    fn workers(&self) -> u32
+        ensures value { result ≡ (sizes_of self.now).workers }
+        ensures some { 1 ≤ result }
+    {
+        self.job.scripts.count() as u32
+    }
+
+    /// Answers a line that was read.
+    fn answer_line(
+        &mut self,
+        alloc: Global,
+        line: &LiveLine,
+        text: &mut Vec<u8>,
+    ) -> Result<(), AllocError>
+        requires sound { IsSession self.old }
+        requires in_range { IsValidLive (sizes_of self.old).workers (live_of line.now) }
+        ensures sound { OnOk result (IsSession self.new) }
+        ensures sizes { OnOk result (sizes_of self.new ≡ sizes_of self.old) }
+        ensures told { OnOk result (text.new.items ≡ text.old.items ++ (live_told (sizes_of self.old) (state_of self.old) (live_of line.now)).text) }
+        ensures stands { OnOk result (state_of self.new ≡ (live_told (sizes_of self.old) (state_of self.old) (live_of line.now)).state) }
+    {
+        match line {
+            LiveLine::Attempt(worker, command) => self.turns.attempt(*worker, command, text),
+            LiveLine::Call(line) => self.turns.answer(alloc, &self.job, line, text),
+        }
+    }
+}
