@@ -2,7 +2,6 @@
 use Rattle.std.proofs.Common.{◌≡◌, ℕ, zero, suc, List, [], ◌∷◌, ◌++◌, drop, length, replicate, slice_index, slice_index_or, ap, refl, subst, sym, ◌∙◌}
 use Rattle.std.proofs.lemmas.List.{length-replicate}
 use Rattle.model_jobs.specs.Jobs.{Job, Line, Next, State, answer, run_next}
-use Rattle.model_jobs.specs.Texts.{answer_text}
 use Rattle.model_words.specs.declared.commands.Command.{Command}
 use Rattle.mesh_job.specs.LiveLines.{Attempt, Call}
 use Rattle.mesh_mutator.specs.Book.{Book}

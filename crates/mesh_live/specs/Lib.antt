@@ -1,3 +1,4 @@
 pub mod Answers
 pub mod LineRows
+pub mod Runs
 pub mod Sessions

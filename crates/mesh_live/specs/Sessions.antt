@@ -1,5 +1,5 @@
 -- A live session: its sizes, the job that it is, and where it stands.
-use Rattle.std.specs.Prelude.{◌≡◌, ℕ, ◌≤◌, List, [], length, replicate}
+use Rattle.std.specs.Prelude.{◌≡◌, ℕ, ◌≤◌, [], length, replicate}
 use Rattle.model_jobs.specs.Jobs.{Job, State}
 use Rattle.model_words.specs.declared.versions.Version.TheVariants.{Two}
 use Rattle.mesh_mutator.specs.Book.{Book, memory_of_book, table_of_book}

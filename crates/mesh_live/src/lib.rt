@@ -7,8 +7,10 @@
 mod answers;
 pub mod line_rows;
 mod opening;
+mod run;
 mod session;
 mod sizes;
 
+pub use run::live;
 pub use session::Session;
 pub use sizes::Sizes;

@@ -10,6 +10,7 @@ mod devices;
 mod faults;
 mod files;
 mod histories;
+mod live;
 mod rows;
 mod threads;
 mod words;

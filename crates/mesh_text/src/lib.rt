@@ -25,5 +25,5 @@ pub use mesh_job::{Commands, Job, Plan, PlanLine, ReadFault, Script, Scripts, re
 pub use model_words::{Command, FaultKind, MAX_BYTES, Reply, TextFault, Version};
 pub use reading::read_job;
 pub use run::replay;
-pub use transfer::write_all;
+pub use transfer::{read_some, write_all};
 pub use turns::Turns;

@@ -6,7 +6,7 @@ ghost use Rattle.mesh_text.specs.Transfer.{AppendsBeginning};
 use crate::{DeviceFault, ReplayError, Sink, Source};
 
 /// How many bytes one call read into the front of `buf`.
-pub(crate) fn read_some<I: Source>(input: &mut I, buf: &mut [u8]) -> Result<usize, ReplayError>
+pub fn read_some<I: Source>(input: &mut I, buf: &mut [u8]) -> Result<usize, ReplayError>
     requires { I.has_failed input.old ≡ false }
     ensures within { IfOk result (λ count. count ≤ length buf.new) }
     ensures bytes { IfOk result (λ count. Consumes (I.remaining input.old) (I.remaining input.new) (take count buf.new)) }

@@ -1,0 +1,27 @@
+use Rattle.std.proofs.Common.{true, false, refl, subst}
+use Rattle.std.proofs.lemmas.Result.{on_ok_weaker}
+use Rattle.std.specs.Io.KnownBytes.{Appends}
+use Rattle.mesh_live.specs.Runs.{HasFed, told_rest}
+use Rattle.mesh_live.specs.Sessions.{sizes_of}
+use Rattle.mesh_live.proofs.Runs.{lived, nothing_written}
+use Rattle.mesh_live.proofs.run.live_on.Goals as goal
+
+pub returns-then-branch-clause-lived : goal.returns-then-branch-clause-lived
+returns-then-branch-clause-lived g c =
+    let left = g.I.Source.remaining in
+    let wrote = g.O.Sink.written in
+    let fed = subst (λ over. HasFed over c.args.session.now c.feed.new.session c.feed.new.line.items (left c.args.input.now) (left c.feed.new.input) (wrote c.args.output.now) (wrote c.feed.new.output))
+    c.if-branch.true c.in_ok-feed.ensures.fed in
+    lived true (sizes_of c.args.session.now) c.args.session.now c.feed.new.session c.feed.new.line.items (left c.args.input.now) (left c.feed.new.input)
+    (wrote c.args.output.now) (wrote c.feed.new.output) (wrote c.feed.new.output) refl c.requires.opening fed (nothing_written (wrote c.feed.new.output))
+
+pub returns-clause-lived : goal.returns-clause-lived
+returns-clause-lived g c =
+    let left = g.I.Source.remaining in
+    let wrote = g.O.Sink.written in
+    let fed = subst (λ over. HasFed over c.args.session.now c.feed.new.session c.feed.new.line.items (left c.args.input.now) (left c.feed.new.input) (wrote c.args.output.now) (wrote c.feed.new.output))
+    c.if-branch.false c.in_ok-feed.ensures.fed in
+    on_ok_weaker c.write_rest.result
+    (λ rest. lived false (sizes_of c.args.session.now) c.args.session.now c.feed.new.session c.feed.new.line.items (left c.args.input.now) (left c.feed.new.input)
+    (wrote c.args.output.now) (wrote c.feed.new.output) (wrote c.write_rest.new.output) refl c.requires.opening fed
+    (subst (λ bytes. Appends (wrote c.feed.new.output) (wrote c.write_rest.new.output) (told_rest bytes)) c.as_slice.ensures.value rest)) c.write_rest.ensures.wrote

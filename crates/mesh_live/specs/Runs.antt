@@ -1,0 +1,85 @@
+-- What a session tells that is fed a text: the answers to its lines.
+use Rattle.std.specs.Prelude.{◌≡◌, ◌⊎◌, ◌^◌, ◌≤◌, ◌+◌, ℕ, Bool, true, false, ◌||◌, if◌then◌else◌, nat_eq, nat_lt, List, [], ◌∷◌, ◌++◌, Option, codes, length, take}
+use Rattle.std.specs.List.{All}
+use Rattle.std.specs.Io.KnownBytes.{Appends, Consumes, IsAtEnd}
+use Rattle.model_jobs.specs.JobFiles.{are_same}
+use Rattle.model_jobs.specs.Jobs.{State, opening}
+use Rattle.model_jobs.specs.Texts.{ended}
+use Rattle.model_words.specs.declared.faults.FaultKind.{FaultKind}
+use Rattle.model_words.specs.declared.faults.FaultKind.TheVariants.{Cut, LongLine}
+use Rattle.mesh_job.specs.Reading.{text_lines}
+use Rattle.mesh_live.specs.Answers.{fault_text, told}
+use Rattle.mesh_live.specs.Sessions.{IsSession, job_of, sizes_of, state_of}
+use Rattle.mesh_live.specs.declared.session.Session.{Session}
+use Rattle.mesh_live.specs.declared.sizes.Sizes.{Sizes}
+
+-- the fault of what follows the last line end: the line is cut off, unless it is too long already
+abbrev pub rest_fault : List ℕ → FaultKind
+rest_fault rest = if nat_lt 1024 (length rest) then LongLine else Cut
+
+-- what is told of the bytes that follow the last line end: nothing, where there are none
+abbrev pub told_rest : List ℕ → List ℕ
+told_rest [] = []
+told_rest (byte ∷ bytes) = ended (fault_text (rest_fault (byte ∷ bytes)))
+
+-- the line is the one that ends a session
+abbrev pub is_end : List ℕ → Bool
+is_end line = are_same line (codes "end")
+
+-- what the lines of a text are told, one after another, up to the line `end`; the last of them is what follows the last line end
+abbrev pub told_lines : Sizes → State → List (List ℕ) → List ℕ
+told_lines sizes state [] = []
+told_lines sizes state (rest ∷ []) = told_rest rest
+told_lines sizes state (line ∷ next ∷ lines) =
+    if is_end line then []
+    else (let first = told sizes state line in ended first.text ++ told_lines sizes first.state (next ∷ lines))
+
+-- what a session of these sizes tells that is fed this text
+abbrev pub live_output : Sizes → List ℕ → List ℕ
+live_output sizes text = told_lines sizes (opening (job_of sizes)) (text_lines text)
+
+-- the line `end` is among lines, of which the last is what follows the last line end
+abbrev pub have_end : List (List ℕ) → Bool
+have_end [] = false
+have_end (rest ∷ []) = false
+have_end (line ∷ next ∷ lines) = is_end line || have_end (next ∷ lines)
+
+-- a session was fed this text, to the input's end or with the line `end` in it, and what it told was written
+pub record HasLived (sizes : Sizes) (left left' written written' : Option (List ℕ)) : Type 0 where
+  pub text : List ℕ
+  pub taken : Consumes left left' text
+  pub whole : (IsAtEnd left' ⊎ (have_end (text_lines text) ≡ true)) ⊎ (2 ^ 64 ≤ length text + 1)
+  pub wrote : Appends written written' (live_output sizes text)
+
+-- of the beginning of a line these bytes are kept: as many as tell that it is too long. None of it is a line end
+pub record IsKept (kept begun : List ℕ) : Type 0 where
+  pub front : kept ≡ take 1025 begun
+  pub unended : All (λ b. nat_eq b 10 ≡ false) begun
+
+-- what a session tells of a text, the beginning of whose first line was taken, and whether the line `end` is in it; nothing more once it was
+abbrev pub told_on : Bool → Session → List ℕ → List ℕ → List ℕ
+told_on true session begun text = []
+told_on false session begun text = told_lines (sizes_of session) (state_of session) (text_lines (begun ++ text))
+
+abbrev pub ends_on : Bool → List ℕ → List ℕ → Bool
+ends_on true begun text = true
+ends_on false begun text = have_end (text_lines (begun ++ text))
+
+-- a session with the beginning of a line before it took these bytes, up to the line `end` or to the beginning of a line of which these bytes are kept, and wrote
+-- what it told: whatever follows, it is told what it was told, and what is told from here on
+pub record HasTaken (over : Bool) (old new : Session) (begun kept bytes : List ℕ) (written written' : Option (List ℕ)) : Type 0 where
+  pub sound : IsSession new
+  pub sizes : sizes_of new ≡ sizes_of old
+  pub wrote : List ℕ
+  pub appended : Appends written written' wrote
+  pub begun' : List ℕ
+  pub is_kept : IsKept kept begun'
+  pub tells : (more : List ℕ) → told_on false old begun (bytes ++ more) ≡ wrote ++ told_on over new begun' more
+  pub ends : (more : List ℕ) → ends_on false begun (bytes ++ more) ≡ ends_on over begun' more
+
+-- a session was fed this text, up to the line `end`, or to the input's end; these bytes are kept of what follows the last line end
+pub record HasFed (over : Bool) (old new : Session) (kept : List ℕ) (left left' written written' : Option (List ℕ)) : Type 0 where
+  pub text : List ℕ
+  pub taken : Consumes left left' text
+  pub whole : over ≡ false → IsAtEnd left' ⊎ (2 ^ 64 ≤ length text + 1)
+  pub told : HasTaken over old new [] kept text written written'

@@ -1,0 +1,241 @@
+//! A whole session: its lines come from a device, and its answers go to one.
+ghost use Rattle.std.specs.Prelude.{◌≡◌, ◌≤◌, ◌⊎◌, ℕ, List, [], ◌∷◌, Err, false, true, is_err, length, vec_len, IfErr, IfOk, OnOk};
+ghost use Rattle.std.specs.Io.KnownBytes.{Appends};
+ghost use Rattle.model_jobs.specs.Jobs.{opening};
+ghost use Rattle.model_jobs.specs.Texts.{ended};
+ghost use Rattle.mesh_live.specs.Answers.{told};
+ghost use Rattle.mesh_live.specs.Runs.{HasFed, HasLived, HasTaken, IsKept, is_end, rest_fault, told_rest};
+ghost use Rattle.mesh_live.specs.Sessions.{HasFairSizes, IsSession, job_of, sizes_of, state_of};
+
+use crate::answers::add_fault;
+use crate::{Session, Sizes};
+use mesh_text::{ReplayError, Sink, Source, read_some, write_all};
+use model_words::FaultKind;
+use std::alloc::{AllocError, Global};
+
+/// The most bytes of one read.
+const READ_BYTES: usize = 16_384;
+
+/// The most bytes of a line, without its end.
+const MAX_LINE_BYTES: usize = 1024;
+
+/// Answers the lines that the input gives, one by one: each answer is a line, and is written before the next line is taken.
+///
+/// A line is what `Session::answer` takes, and each fault is told as an answer. The line `end` ends the session, and so does the input's end; what
+/// follows the last line end is told as the fault CUT, or LONG_LINE where it has more than 1,024 bytes, unless it is empty.
+///
+/// Read comes where the input failed, Write where the output failed, and Memory where memory was refused; Text never comes.
+pub fn live<I: Source, O: Sink>(
+    alloc: Global,
+    sizes: &Sizes,
+    input: &mut I,
+    output: &mut O,
+) -> Result<(), ReplayError>
+    requires sizes { HasFairSizes sizes.now }
+    requires input { I.has_failed input.old ≡ false }
+    requires output { O.has_failed output.old ≡ false }
+    ensures ok { OnOk result ((I.has_failed input.new ≡ false) × (O.has_failed output.new ≡ false)) }
+    ensures lived { OnOk result (HasLived sizes.now (I.remaining input.old) (I.remaining input.new) (O.written output.old) (O.written output.new)) }
+    ensures read { result ≡ Err ReplayError.Read → I.has_failed input.new ≡ true }
+    ensures write { result ≡ Err ReplayError.Write → O.has_failed output.new ≡ true }
+{
+    let mut session = Session::open(alloc, sizes)?;
+    live_on(alloc, &mut session, input, output)
+}
+
+/// The same, of a session to which no line was given yet.
+fn live_on<I: Source, O: Sink>(
+    alloc: Global,
+    session: &mut Session,
+    input: &mut I,
+    output: &mut O,
+) -> Result<(), ReplayError>
+    requires sound { IsSession session.old }
+    requires opening { state_of session.old ≡ opening (job_of (sizes_of session.old)) }
+    requires input { I.has_failed input.old ≡ false }
+    requires output { O.has_failed output.old ≡ false }
+    ensures ok { OnOk result ((I.has_failed input.new ≡ false) × (O.has_failed output.new ≡ false)) }
+    ensures lived { OnOk result (HasLived (sizes_of session.old) (I.remaining input.old) (I.remaining input.new) (O.written output.old) (O.written output.new)) }
+    ensures read { result ≡ Err ReplayError.Read → I.has_failed input.new ≡ true }
+    ensures write { result ≡ Err ReplayError.Write → O.has_failed output.new ≡ true }
+{
+    let mut line = Vec::new(alloc);
+    let mut buffer = room_to_read(alloc)?;
+    if feed(alloc, session, &mut line, &mut buffer, input, output)? {
+        return Ok(());
+    }
+    write_rest(alloc, line.as_slice(), output)
+}
+
+/// Room for the bytes of one read.
+fn room_to_read(alloc: Global) -> Result<Vec<u8>, AllocError>
+    ensures { IfOk result (λ room. vec_len room ≡ 16384) }
+{
+    vec![in alloc; 0; READ_BYTES]
+}
+
+/// Reads the input, and takes each piece of it as it comes. True once the line `end` was read, and false where the input has ended: then `line`
+/// is what is kept of the bytes behind the last line end.
+fn feed<I: Source, O: Sink>(
+    alloc: Global,
+    session: &mut Session,
+    line: &mut Vec<u8>,
+    buffer: &mut [u8],
+    input: &mut I,
+    output: &mut O,
+) -> Result<bool, ReplayError>
+    requires sound { IsSession session.old }
+    requires room { 1 ≤ length buffer.old }
+    requires empty { line.old.items ≡ [] }
+    requires input { I.has_failed input.old ≡ false }
+    requires output { O.has_failed output.old ≡ false }
+    ensures ok { OnOk result ((I.has_failed input.new ≡ false) × (O.has_failed output.new ≡ false)) }
+    ensures fed { IfOk result (λ over. HasFed over session.old session.new line.new.items (I.remaining input.old) (I.remaining input.new) (O.written output.old) (O.written output.new)) }
+    ensures read { result ≡ Err ReplayError.Read → I.has_failed input.new ≡ true }
+    ensures write { result ≡ Err ReplayError.Write → O.has_failed output.new ≡ true }
+{
+    for _read in 0..u64::MAX {
+        let count = read_some(input, buffer)?;
+        if count == 0 {
+            return Ok(false);
+        }
+        if take_bytes(alloc, session, line, &buffer[..count], output)? {
+            return Ok(true);
+        }
+    }
+    Ok(false)
+}
+
+/// Takes bytes one by one. True where the line `end` was among them: nothing behind it is taken.
+fn take_bytes<O: Sink>(
+    alloc: Global,
+    session: &mut Session,
+    line: &mut Vec<u8>,
+    bytes: &[u8],
+    output: &mut O,
+) -> Result<bool, ReplayError>
+    requires sound { IsSession session.old }
+    requires output { O.has_failed output.old ≡ false }
+    ensures ok { OnOk result (O.has_failed output.new ≡ false) }
+    ensures sound { OnOk result (IsSession session.new) }
+    ensures taken { IfOk result (λ over. (begun : List ℕ) → IsKept line.old.items begun
+        → HasTaken over session.old session.new begun line.new.items bytes.now (O.written output.old) (O.written output.new)) }
+    ensures kinds { IfErr result (λ error. (error ≡ ReplayError.Write) ⊎ (error ≡ ReplayError.Memory)) }
+    ensures write { result ≡ Err ReplayError.Write → O.has_failed output.new ≡ true }
+{
+    for byte in bytes {
+        if take_byte(alloc, session, line, *byte, output)? {
+            return Ok(true);
+        }
+    }
+    Ok(false)
+}
+
+/// Takes a byte of a line, or answers the line where the byte is its end. True where that line is `end`.
+fn take_byte<O: Sink>(
+    alloc: Global,
+    session: &mut Session,
+    line: &mut Vec<u8>,
+    byte: u8,
+    output: &mut O,
+) -> Result<bool, ReplayError>
+    requires sound { IsSession session.old }
+    requires output { O.has_failed output.old ≡ false }
+    ensures ok { OnOk result (O.has_failed output.new ≡ false) }
+    ensures sound { OnOk result (IsSession session.new) }
+    ensures taken { IfOk result (λ over. (begun : List ℕ) → IsKept line.old.items begun
+        → HasTaken over session.old session.new begun line.new.items (byte ∷ []) (O.written output.old) (O.written output.new)) }
+    ensures kinds { IfErr result (λ error. (error ≡ ReplayError.Write) ⊎ (error ≡ ReplayError.Memory)) }
+    ensures write { result ≡ Err ReplayError.Write → O.has_failed output.new ≡ true }
+{
+    if byte != b'\n' {
+        if line.len() <= MAX_LINE_BYTES {
+            line.extend_from_slice(&[byte])?;
+        }
+        return Ok(false);
+    }
+    if is_end(line.as_slice()) {
+        return Ok(true);
+    }
+    write_answer(alloc, session, line.as_slice(), output)?;
+    line.clear();
+    Ok(false)
+}
+
+/// Whether a line ends the session.
+fn is_end(line: &[u8]) -> bool
+    ensures { result ≡ is_end line.now }
+{
+    line == b"end".as_slice()
+}
+
+/// Answers a line, and writes the answer with its end.
+fn write_answer<O: Sink>(
+    alloc: Global,
+    session: &mut Session,
+    line: &[u8],
+    output: &mut O,
+) -> Result<(), ReplayError>
+    requires sound { IsSession session.old }
+    requires output { O.has_failed output.old ≡ false }
+    ensures ok { OnOk result (O.has_failed output.new ≡ false) }
+    ensures sound { OnOk result (IsSession session.new) }
+    ensures sizes { OnOk result (sizes_of session.new ≡ sizes_of session.old) }
+    ensures stands { OnOk result (state_of session.new ≡ (told (sizes_of session.old) (state_of session.old) line.now).state) }
+    ensures wrote { OnOk result (Appends (O.written output.old) (O.written output.new) (ended (told (sizes_of session.old) (state_of session.old) line.now).text)) }
+    ensures kinds { IfErr result (λ error. (error ≡ ReplayError.Write) ⊎ (error ≡ ReplayError.Memory)) }
+    ensures write { result ≡ Err ReplayError.Write → O.has_failed output.new ≡ true }
+{
+    let mut text = Vec::new(alloc);
+    session.answer(alloc, line, &mut text)?;
+    write_line(&mut text, output)
+}
+
+/// Writes a text with a line end behind it.
+fn write_line<O: Sink>(text: &mut Vec<u8>, output: &mut O) -> Result<(), ReplayError>
+    requires { O.has_failed output.old ≡ false }
+    ensures ok { OnOk result (O.has_failed output.new ≡ false) }
+    ensures wrote { OnOk result (Appends (O.written output.old) (O.written output.new) (ended text.old.items)) }
+    ensures kinds { IfErr result (λ error. (error ≡ ReplayError.Write) ⊎ (error ≡ ReplayError.Memory)) }
+    ensures write { result ≡ Err ReplayError.Write → O.has_failed output.new ≡ true }
+{
+    text.extend_from_slice(b"\n")?;
+    write_out(output, text.as_slice())
+}
+
+/// Writes bytes.
+fn write_out<O: Sink>(output: &mut O, bytes: &[u8]) -> Result<(), ReplayError>
+    requires { O.has_failed output.old ≡ false }
+    ensures ok { OnOk result (Appends (O.written output.old) (O.written output.new) bytes.now) }
+    ensures fault { IfErr result (λ error. error ≡ ReplayError.Write) }
+    ensures fails { O.has_failed output.new ≡ is_err result }
+{
+    write_all(output, bytes).map_err(|_| ReplayError::Write)
+}
+
+/// Writes what is told of the bytes behind the last line end.
+fn write_rest<O: Sink>(alloc: Global, rest: &[u8], output: &mut O) -> Result<(), ReplayError>
+    requires { O.has_failed output.old ≡ false }
+    ensures ok { OnOk result (O.has_failed output.new ≡ false) }
+    ensures wrote { OnOk result (Appends (O.written output.old) (O.written output.new) (told_rest rest.now)) }
+    ensures kinds { IfErr result (λ error. (error ≡ ReplayError.Write) ⊎ (error ≡ ReplayError.Memory)) }
+    ensures write { result ≡ Err ReplayError.Write → O.has_failed output.new ≡ true }
+{
+    if rest.is_empty() {
+        return Ok(());
+    }
+    let mut text = Vec::new(alloc);
+    add_fault(&mut text, rest_fault(rest))?;
+    write_line(&mut text, output)
+}
+
+/// The fault of bytes behind the last line end.
+fn rest_fault(rest: &[u8]) -> FaultKind
+    ensures { result ≡ rest_fault rest.now }
+{
+    if rest.len() > MAX_LINE_BYTES {
+        FaultKind::LongLine
+    } else {
+        FaultKind::Cut
+    }
+}
