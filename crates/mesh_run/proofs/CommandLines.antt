@@ -9,7 +9,7 @@ use Rattle.clap.specs.declared.parser.matches.ArgMatches.TheViews.{out-ArgMatche
 use Rattle.clap.specs.declared.parser.matches.Found.{Found}
 use Rattle.clap.proofs.OnLiterals.{clap_on_literals}
 use Rattle.clap.proofs.WalkLemmas.{first_value-rows}
-use Rattle.mesh_run.specs.CommandLine.{IsSaidOf, asked, asked_in, asked_on, is_taken, kinds_of, draw_of, meshrun_app, replay_of, threads_of}
+use Rattle.mesh_run.specs.CommandLine.{IsSaidOf, asked, asked_by, asked_in, asked_of, is_taken, kinds_of, draw_of, live_of, meshrun_app, replay_of, threads_of}
 
 -- the command line is one whose matches and faults `clap` tells
 pub is_told : is_simple_and_free meshrun_app ≡ true
@@ -51,21 +51,23 @@ name_of_rows : (matches : ArgMatches) (name : Text) → Some name ≡ subcommand
 name_of_rows matches name is = is ∙ first_parts (λ b. ((out-SubCommand (box_value b)).name.now, rows_of (found_of (out-SubCommand (box_value b)).matches))) (out-ArgMatches matches).subcommand
 
 -- what a subcommand that was met asks for, by its name and its rows
-asked_by : (found : Option (Text × List Row)) (name : Text) (rows : List Row) → Some name ≡ option_map (λ p. p.0) found → Some rows ≡ option_map (λ p. p.1) found
-    → asked_in found ≡ option_and_then (asked_on name rows) (first_of (codes "FILE") rows)
-asked_by None name rows named has = absurd (cc named)
-asked_by (Some found) name rows named has =
+met : (found : Option (Text × List Row)) (name : Text) (rows : List Row) → Some name ≡ option_map (λ p. p.0) found → Some rows ≡ option_map (λ p. p.1) found
+    → asked_in found ≡ asked_by name rows
+met None name rows named has = absurd (cc named)
+met (Some found) name rows named has =
     let name_is : name ≡ found.0 = cc named in
     let rows_are : rows ≡ found.1 = cc has in
     rw (name_is, rows_are) refl
 
--- what a subcommand that was met asks for, by its name, its matches and what they have for the file
-pub asked_by_file : (matches : ArgMatches) (name : Text) (found : Found) (file : Option Text) → Some name ≡ subcommand_name_of matches
-    → Some (rows_of found) ≡ option_map (λ p. p.1) (subcommand_rows_of matches) → file ≡ first_value found (codes "FILE")
-    → option_and_then (asked_on name (rows_of found)) file ≡ asked_in (subcommand_rows_of matches)
-asked_by_file matches name found file named has file_is =
-    sym (asked_by (subcommand_rows_of matches) name (rows_of found) (name_of_rows matches name named) has
-    ∙ ap (option_and_then (asked_on name (rows_of found))) (sym (file_is ∙ first_value-rows found (codes "FILE"))))
+-- and by its name and its matches
+pub asked_by_matches : (matches : ArgMatches) (name : Text) (found : Found) → Some name ≡ subcommand_name_of matches
+    → Some (rows_of found) ≡ option_map (λ p. p.1) (subcommand_rows_of matches) → asked_by name (rows_of found) ≡ asked_in (subcommand_rows_of matches)
+asked_by_matches matches name found named has = sym (met (subcommand_rows_of matches) name (rows_of found) (name_of_rows matches name named) has)
+
+-- what it asks for with the file that its matches have
+pub asked_of_file : (name : Text) (found : Found) (file : Option Text) → file ≡ first_value found (codes "FILE")
+    → option_and_then (asked_of name (rows_of found)) file ≡ option_and_then (asked_of name (rows_of found)) (first_of (codes "FILE") (rows_of found))
+asked_of_file name found file is = ap (option_and_then (asked_of name (rows_of found))) (is ∙ first_value-rows found (codes "FILE"))
 
 -- `meshrun replay hello.job` is a command line of the program, and asks a replay of `hello.job`
 abbrev hello : List Text
@@ -122,3 +124,27 @@ early = codes "meshrun" ∷ codes "draw" ∷ codes "a.job" ∷ codes "--from=0" 
 early_is_refused : is_taken early ≡ false
 unfolding clap_on_literals is_taken
 early_is_refused = refl
+
+-- `meshrun live` asks for a session of the largest sizes
+abbrev largest : List Text
+largest = codes "meshrun" ∷ codes "live" ∷ []
+
+largest_is_asked : (is_taken largest ≡ true) × (asked largest ≡ Some (live_of (record { pages = 4096; history = 65536; workers = 64 })))
+unfolding clap_on_literals asked is_taken
+largest_is_asked = (refl, refl)
+
+-- smaller ones may be asked for, and a journal with no room
+abbrev smallest : List Text
+smallest = codes "meshrun" ∷ codes "live" ∷ codes "--workers=1" ∷ codes "--history" ∷ codes "0" ∷ codes "--pages=1" ∷ []
+
+smallest_is_asked : (is_taken smallest ≡ true) × (asked smallest ≡ Some (live_of (record { pages = 1; history = 0; workers = 1 })))
+unfolding clap_on_literals asked is_taken
+smallest_is_asked = (refl, refl)
+
+-- a session has no file
+abbrev filed : List Text
+filed = codes "meshrun" ∷ codes "live" ∷ codes "a.job" ∷ []
+
+filed_is_refused : is_taken filed ≡ false
+unfolding clap_on_literals is_taken
+filed_is_refused = refl

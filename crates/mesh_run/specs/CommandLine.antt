@@ -10,9 +10,10 @@ use Rattle.clap.specs.declared.error.kind.ErrorKind.{ErrorKind}
 use Rattle.clap.specs.declared.error.kind.ErrorKind.TheVariants.{DisplayHelp, DisplayVersion, MissingSubcommand, OutOfMemory}
 use Rattle.model_jobs.specs.Texts.{ended}
 use Rattle.mesh_run.specs.declared.command_line.Args.{Args}
-use Rattle.mesh_run.specs.declared.command_line.Args.TheVariants.{Draw, Replay, Threads}
+use Rattle.mesh_run.specs.declared.command_line.Args.TheVariants.{Draw, Live, Replay, Threads}
 use Rattle.mesh_run.specs.declared.command_line.Stop.{Stop}
 use Rattle.mesh_run.specs.declared.draw_args.DrawArgs.{DrawArgs}
+use Rattle.mesh_run.specs.declared.live_args.LiveArgs.{LiveArgs}
 use Rattle.mesh_run.specs.declared.threads_args.ThreadsArgs.{ThreadsArgs}
 
 -- ---- what the program takes
@@ -49,14 +50,19 @@ draw_app = with_rule (with_rule (with_rule (with_rule (new_app (codes "draw")) f
     (number_or (codes "from") 1 1048576 (codes "1"))) (number_or (codes "to") 1 1048576 (codes "1048576")))
     (number_or (codes "columns") 0 64 (codes "0"))
 
+-- `live [--pages P] [--history H] [--workers N]`
+abbrev pub live_app : App
+live_app = with_rule (with_rule (with_rule (new_app (codes "live")) (number_or (codes "pages") 1 4096 (codes "4096")))
+    (number_or (codes "history") 0 65536 (codes "65536"))) (number_or (codes "workers") 1 64 (codes "64"))
+
 -- the program alone: it has a version, wants a subcommand, and shows its help without a word
 abbrev pub bare_app : App
 bare_app = let app = new_app (codes "meshrun") in
     record app { top = record app.top { has_version = true; subcommand_required = true; arg_required_else_help = true } }
 
--- `meshrun replay FILE`, `meshrun threads FILE ..` and `meshrun draw FILE ..`
+-- `meshrun replay FILE`, `meshrun threads FILE ..`, `meshrun draw FILE ..` and `meshrun live ..`
 abbrev pub meshrun_app : App
-meshrun_app = with_subcommand (with_subcommand (with_subcommand bare_app replay_app.top) threads_app.top) draw_app.top
+meshrun_app = with_subcommand (with_subcommand (with_subcommand (with_subcommand bare_app replay_app.top) threads_app.top) draw_app.top) live_app.top
 
 -- ---- what words ask for
 
@@ -75,11 +81,18 @@ pub record Shown : Type 0 where
   pub to : ℕ
   pub columns : ℕ
 
--- a replay of the job file at this path, its scripts run by threads with these numbers, or a picture of what is shown of its plan
+-- the sizes of a session: its pages, the entries that its journal has room for, and its workers
+pub record SessionSizes : Type 0 where
+  pub pages : ℕ
+  pub history : ℕ
+  pub workers : ℕ
+
+-- a replay of the job file at this path, its scripts run by threads with these numbers, or a picture of what is shown of its plan; or a session of these sizes
 pub data Asked : Type 0 where
   replay_of : Text → Asked
   threads_of : Text → Numbers → Asked
   draw_of : Text → Shown → Asked
+  live_of : SessionSizes → Asked
 
 -- the number of this text, where `clap` takes it as one in the range
 abbrev pub number_of : ℕ → ℕ → Text → Option ℕ
@@ -103,17 +116,28 @@ shown_in rows =
     option_and_then (λ from. option_and_then (λ to. option_map (λ columns. record { from = from; to = to; columns = columns })
     (number_in (codes "columns") 0 64 rows)) (number_in (codes "to") 1 1048576 rows)) (number_in (codes "from") 1 1048576 rows)
 
+-- the sizes that the matches have for `live`
+abbrev pub sizes_in : List Row → Option SessionSizes
+sizes_in rows =
+    option_and_then (λ pages. option_and_then (λ history. option_map (λ workers. record { pages = pages; history = history; workers = workers })
+    (number_in (codes "workers") 1 64 rows)) (number_in (codes "history") 0 65536 rows)) (number_in (codes "pages") 1 4096 rows)
+
 -- what a subcommand of this name with these matches asks for, on the file
-abbrev pub asked_on : Text → List Row → Text → Option Asked
-asked_on name rows file =
+abbrev pub asked_of : Text → List Row → Text → Option Asked
+asked_of name rows file =
     if bytes_eq name (codes "replay") then Some (replay_of file)
     else (if bytes_eq name (codes "threads") then option_map (threads_of file) (numbers_in rows)
     else (if bytes_eq name (codes "draw") then option_map (draw_of file) (shown_in rows) else None))
 
+-- what a subcommand of this name with these matches asks for: a session needs no file
+abbrev pub asked_by : Text → List Row → Option Asked
+asked_by name rows =
+    if bytes_eq name (codes "live") then option_map live_of (sizes_in rows) else option_and_then (asked_of name rows) (first_of (codes "FILE") rows)
+
 -- what a subcommand's name and matches ask for
 abbrev pub asked_in : Option (Text × List Row) → Option Asked
 asked_in None = None
-asked_in (Some found) = option_and_then (asked_on found.0 found.1) (first_of (codes "FILE") found.1)
+asked_in (Some found) = asked_by found.0 found.1
 
 -- what words ask for
 unfoldable pub asked : List Text → Option Asked
@@ -135,11 +159,16 @@ numbers_of args = record { probe = args.probe; rounds = args.rounds; workers = a
 abbrev pub shown_of : DrawArgs → Shown
 shown_of args = record { from = args.from; to = args.to; columns = args.columns }
 
+-- the sizes that were read
+abbrev pub sizes_of : LiveArgs → SessionSizes
+sizes_of args = record { pages = args.pages; history = args.history; workers = args.workers }
+
 -- what the program was told to do
 abbrev pub asking : Args → Asked
 asking (Replay path) = replay_of path.now
 asking (Threads path args) = threads_of path.now (numbers_of args)
 asking (Draw path args) = draw_of path.now (shown_of args)
+asking (Live args) = live_of (sizes_of args)
 
 -- the words ask for this
 abbrev pub IsAsked : List Text → Args → Type 0

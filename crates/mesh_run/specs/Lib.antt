@@ -1,5 +1,7 @@
 pub mod CommandLine
 pub mod DrawArgs
+pub mod LiveArgs
+pub mod LiveSizes
 pub mod Runs
 pub mod Status
 pub mod StatusLaws

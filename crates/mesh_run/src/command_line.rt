@@ -1,12 +1,12 @@
 //! The command line.
-ghost use Rattle.std.specs.Prelude.{◌≡◌, ◌≢◌, ◌⊎◌, ◌≤◌, None, true, IfErr, IfOk, IfSome, map, option_map};
+ghost use Rattle.std.specs.Prelude.{◌≡◌, ◌≢◌, ◌⊎◌, ◌≤◌, None, true, IfErr, IfOk, IfSome, codes, map, option_and_then, option_map};
 ghost use Rattle.std.specs.IoError.{error_kind};
 ghost use Rattle.std.specs.declared.io.ErrorKind.TheVariants.{OutOfMemory as IoOutOfMemory};
-ghost use Rattle.clap.specs.Words.{app_of, found_of, kind_of, rows_of, rule_of, subcommand_rows_of};
-ghost use Rattle.mesh_run.specs.CommandLine.{IsAllowedOf, IsAsked, IsNoText, IsOutOfMemory, IsSaidOf, IsStopAt, asked, asked_in, asking, draw_app, file_rule, is_taken, meshrun_app, number_in, number_or, number_rule, numbers_in, numbers_of, replay_app, required_number, shown_in, shown_of, status_of_kind, threads_app};
+ghost use Rattle.clap.specs.Words.{app_of, first_of, found_of, kind_of, rows_of, rule_of, subcommand_rows_of};
+ghost use Rattle.mesh_run.specs.CommandLine.{IsAllowedOf, IsAsked, IsNoText, IsOutOfMemory, IsSaidOf, IsStopAt, asked, asked_in, asked_of, asking, draw_app, file_rule, is_taken, live_app, meshrun_app, number_in, number_or, number_rule, numbers_in, numbers_of, replay_app, required_number, shown_in, shown_of, sizes_in, sizes_of, status_of_kind, threads_app};
 
 use crate::status::{DONE, FAILED, FAULTY};
-use crate::{DrawArgs, ThreadsArgs};
+use crate::{DrawArgs, LiveArgs, ThreadsArgs};
 use clap::builder::ValueParser;
 use clap::error::ErrorKind;
 use clap::{Arg, ArgMatches, Command, Error};
@@ -93,6 +93,30 @@ const COLUMNS: NumberOption = NumberOption {
     help: "How many columns the picture has, 1 to 64, or 0 for as many as fit",
 };
 
+const PAGES: NumberOption = NumberOption {
+    name: "pages",
+    value: "P",
+    least: 1,
+    most: 4096,
+    help: "How many physical pages the heap has, 1 to 4096",
+};
+
+const HISTORY: NumberOption = NumberOption {
+    name: "history",
+    value: "H",
+    least: 0,
+    most: 65536,
+    help: "How many entries the journal has room for, 0 to 65536",
+};
+
+const SESSION_WORKERS: NumberOption = NumberOption {
+    name: "workers",
+    value: "N",
+    least: 1,
+    most: 64,
+    help: "How many workers there are, 1 to 64",
+};
+
 /// The version that `--version` tells.
 const VERSION: &str = "0.1.0";
 
@@ -105,6 +129,8 @@ pub enum Args<'a> {
     Threads(&'a str, ThreadsArgs),
     /// `draw FILE ..`: draw the plan of the job file at this path, with these lines and columns.
     Draw(&'a str, DrawArgs),
+    /// `live ..`: answer the lines of standard input, on a heap of these sizes.
+    Live(LiveArgs),
 }
 
 /// Why the program ends before it begins, and what it says.
@@ -164,6 +190,16 @@ fn asked_for<'a>(matches: &ArgMatches<'a>) -> Option<Args<'a>>
     ensures { option_map asking result ≡ asked_in (subcommand_rows_of matches.now) }
 {
     let (name, matches) = matches.subcommand()?;
+    match name {
+        "live" => Some(Args::Live(sizes(matches)?)),
+        _ => asked_of(name, matches),
+    }
+}
+
+/// The command of this name with the file that its matches have, and its numbers.
+fn asked_of<'a>(name: &str, matches: &ArgMatches<'a>) -> Option<Args<'a>>
+    ensures { option_map asking result ≡ option_and_then (asked_of name.now (rows_of (found_of matches.now))) (first_of (codes "FILE") (rows_of (found_of matches.now))) }
+{
     let file = matches.get_str(FILE)?;
     match name {
         "replay" => Some(Args::Replay(file)),
@@ -197,6 +233,17 @@ fn shown<'a>(matches: &ArgMatches<'a>) -> Option<DrawArgs>
     })
 }
 
+/// The sizes of the session that is asked for.
+fn sizes<'a>(matches: &ArgMatches<'a>) -> Option<LiveArgs>
+    ensures { option_map sizes_of result ≡ sizes_in (rows_of (found_of matches.now)) }
+{
+    Some(LiveArgs {
+        pages: number(matches, PAGES)? as u32,
+        history: number(matches, HISTORY)? as u32,
+        workers: number(matches, SESSION_WORKERS)? as u32,
+    })
+}
+
 /// The number that an option was given, where it is one that the option takes.
 fn number<'a>(matches: &ArgMatches<'a>, option: NumberOption) -> Option<u64>
     ensures value { result ≡ number_in option.name.now option.least option.most (rows_of (found_of matches.now)) }
@@ -217,6 +264,7 @@ fn meshrun_command<'a>(alloc: Global) -> Result<Command<'a>, AllocError>
     let replay = replay_command(alloc)?;
     let threads = threads_command(alloc)?;
     let draw = draw_command(alloc)?;
+    let live = live_command(alloc)?;
     Command::new(alloc, "meshrun")
         .about("A modelled heap that is compacted by meshing")
         .version(VERSION)
@@ -224,7 +272,8 @@ fn meshrun_command<'a>(alloc: Global) -> Result<Command<'a>, AllocError>
         .arg_required_else_help(true)
         .subcommand(replay)?
         .subcommand(threads)?
-        .subcommand(draw)
+        .subcommand(draw)?
+        .subcommand(live)
 }
 
 /// `replay FILE`.
@@ -262,6 +311,17 @@ fn draw_command<'a>(alloc: Global) -> Result<Command<'a>, AllocError>
         .arg(number_or(alloc, FROM, "1"))?
         .arg(number_or(alloc, TO, "1048576"))?
         .arg(number_or(alloc, COLUMNS, "0"))
+}
+
+/// `live [--pages P] [--history H] [--workers N]`.
+fn live_command<'a>(alloc: Global) -> Result<Command<'a>, AllocError>
+    ensures { IfOk result (λ command. app_of command ≡ live_app) }
+{
+    Command::new(alloc, "live")
+        .about("Answer the lines of standard input one by one, on a fresh heap")
+        .arg(number_or(alloc, PAGES, "4096"))?
+        .arg(number_or(alloc, HISTORY, "65536"))?
+        .arg(number_or(alloc, SESSION_WORKERS, "64"))
 }
 
 /// The job file.

@@ -2,12 +2,15 @@
 //!
 //! `meshrun replay FILE` runs the plan of a job file and prints one answer line for each of its lines. `meshrun threads FILE ..` runs its
 //! scripts, each on a thread of its own, while other threads search and mesh, and prints each worker's answers. `meshrun draw FILE ..` prints
-//! a picture of the plan.
+//! a picture of the plan. `meshrun live ..` answers the lines of standard input one by one.
 #![tactic(auto)]
 
+ghost use Rattle.std.specs.Prelude.{◌≡◌, false, IfOk};
+ghost use Rattle.mesh_text.specs.Devices.{input_has_failed};
+
 use mesh_run::{
-    Args, Input, Output, arguments, draw_run, replay_run, stop_run, threads_run, unopened_run,
-    unread_words,
+    Args, Input, Output, Sink, arguments, draw_run, live_run, replay_run, stop_run, threads_run,
+    unopened_run, unread_words,
 };
 use std::fs::File;
 use std::process::ExitCode;
@@ -18,33 +21,7 @@ fn main(rt: HostRuntime) -> ExitCode {
     let mut errors = Output::new(rt.stderr());
     let status = match words(&rt) {
         Ok(words) => match arguments(rt.alloc(), words.as_slice()) {
-            Ok(args) => match File::open(&rt, path_of(args)) {
-                Ok(file) => {
-                    let mut input = Input::new(file);
-                    match args {
-                        Args::Replay(_) => {
-                            replay_run(rt.alloc(), &mut input, &mut output, &mut errors)
-                        }
-                        Args::Threads(_, args) => threads_run(
-                            &rt,
-                            rt.alloc(),
-                            &mut input,
-                            &mut output,
-                            &mut errors,
-                            &args,
-                        ),
-                        Args::Draw(path, args) => draw_run(
-                            rt.alloc(),
-                            path,
-                            &args,
-                            &mut input,
-                            &mut output,
-                            &mut errors,
-                        ),
-                    }
-                }
-                Err(_) => unopened_run(&mut errors),
-            },
+            Ok(args) => run(&rt, args, &mut output, &mut errors),
             Err(stop) => stop_run(&stop, &mut output, &mut errors),
         },
         Err(error) => stop_run(&unread_words(&error), &mut output, &mut errors),
@@ -52,10 +29,38 @@ fn main(rt: HostRuntime) -> ExitCode {
     ExitCode::from(status)
 }
 
-/// The path of the job file.
-fn path_of<'a>(args: Args<'a>) -> &'a str {
+/// Does what the command line asks for, and gives the exit status.
+fn run<O: Sink, E: Sink>(rt: &HostRuntime, args: Args<'_>, output: &mut O, errors: &mut E) -> u8
+    requires { O.has_failed output.old ≡ false }
+{
+    let alloc = rt.alloc();
     match args {
-        Args::Replay(path) | Args::Threads(path, _) | Args::Draw(path, _) => path,
+        Args::Replay(path) => match opened(rt, path, errors) {
+            Ok(mut input) => replay_run(alloc, &mut input, output, errors),
+            Err(status) => status,
+        },
+        Args::Threads(path, args) => match opened(rt, path, errors) {
+            Ok(mut input) => threads_run(rt, alloc, &mut input, output, errors, &args),
+            Err(status) => status,
+        },
+        Args::Draw(path, args) => match opened(rt, path, errors) {
+            Ok(mut input) => draw_run(alloc, path, &args, &mut input, output, errors),
+            Err(status) => status,
+        },
+        Args::Live(args) => {
+            let mut input = Input::new(rt.stdin());
+            live_run(alloc, &args, &mut input, output, errors)
+        }
+    }
+}
+
+/// The job file as an input, or the exit status where it can't be opened.
+fn opened<E: Sink>(rt: &HostRuntime, path: &str, errors: &mut E) -> Result<Input<File>, u8>
+    ensures { IfOk result (λ input. input_has_failed input ≡ false) }
+{
+    match File::open(rt, path) {
+        Ok(file) => Ok(Input::new(file)),
+        Err(_) => Err(unopened_run(errors)),
     }
 }
 

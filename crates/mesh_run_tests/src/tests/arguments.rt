@@ -3,7 +3,7 @@ use mesh_run::{Args, Output, arguments, stop_run, unopened_run};
 use std::test::Fail;
 
 /// For each command line that asks for no run its words, the exit status, and how the text that it prints begins.
-static STOPS: [(&[&str], u8, &str); 11] = [
+static STOPS: [(&[&str], u8, &str); 12] = [
     (&["meshrun", "--help"], 0, "A modelled heap"),
     (&["meshrun", "--version"], 0, "meshrun 0.1.0\n"),
     (&["meshrun", "replay", "--help"], 0, "Run a job file's plan"),
@@ -13,6 +13,7 @@ static STOPS: [(&[&str], u8, &str); 11] = [
         "Run a job file's scripts",
     ),
     (&["meshrun", "draw", "--help"], 0, "Draw a job file's plan"),
+    (&["meshrun", "live", "--help"], 0, "Answer the lines"),
     (&["meshrun"], 2, "A modelled heap"),
     (&["meshrun", "replay"], 2, "error: "),
     (&["meshrun", "draw"], 2, "error: "),
@@ -102,8 +103,19 @@ static SHOWN: [(&str, [u32; 3]); 8] = [
     ),
 ];
 
-/// Command lines of `threads` and of `draw` with a fault, and one of `replay`.
-static FAULTY: [&str; 34] = [
+/// Command lines, and the sizes of the session that they ask for: pages, entries and workers.
+static SIZES: [(&str, [u32; 3]); 4] = [
+    ("meshrun live", [4096, 65536, 64]),
+    ("meshrun live --pages 1 --history 0 --workers 1", [1, 0, 1]),
+    ("meshrun live --workers=2", [4096, 65536, 2]),
+    (
+        "meshrun live --history=65536 --pages=4096 --workers=64",
+        [4096, 65536, 64],
+    ),
+];
+
+/// Command lines of `threads`, of `draw` and of `live` with a fault, and one of `replay`.
+static FAULTY: [&str; 40] = [
     "meshrun threads a.job --probe 65 --rounds 3 --workers 4 --seed 5 --meshers 6",
     "meshrun threads a.job --probe 2 --rounds 1001 --workers 4 --seed 5 --meshers 6",
     "meshrun threads a.job --probe 2 --rounds 3 --workers 0 --seed 5 --meshers 6",
@@ -138,6 +150,12 @@ static FAULTY: [&str; 34] = [
     "meshrun draw a.job b.job",
     "meshrun draw --from 1 --to 2",
     "meshrun draw a.job --version",
+    "meshrun live a.job",
+    "meshrun live --pages 0",
+    "meshrun live --pages 4097",
+    "meshrun live --history 65537",
+    "meshrun live --workers 0",
+    "meshrun live --workers 65",
 ];
 
 #[test]
@@ -198,6 +216,21 @@ fn reads_what_is_drawn(rt: HostRuntime) -> Result<(), Fail> {
         };
         assert_eq!(rt; file, "a.job", "{line}");
         assert!(rt; [args.from, args.to, args.columns] == *shown, "{line}");
+    }
+    Ok(())
+}
+
+#[test]
+fn reads_sizes(rt: HostRuntime) -> Result<(), Fail> {
+    for (line, sizes) in SIZES.iter() {
+        let words: Vec<&str> = line.split(' ').collect(rt.alloc())?;
+        let Ok(Args::Live(args)) = arguments(rt.alloc(), words.as_slice()) else {
+            panic!(rt; "no session: {line}");
+        };
+        assert!(rt;
+            [args.pages, args.history, args.workers] == *sizes,
+            "{line}"
+        );
     }
     Ok(())
 }

@@ -1,30 +1,12 @@
 use Rattle.std.proofs.Common.{◌∙◌, option_map, ap, sym}
 use Rattle.clap.specs.Words.{found_of, rows_of}
-use Rattle.mesh_run.specs.CommandLine.{asked_on, asking, draw_of, threads_of}
-use Rattle.mesh_run.proofs.CommandLines.{asked_by_file}
+use Rattle.mesh_run.specs.CommandLine.{asked_by, live_of}
+use Rattle.mesh_run.proofs.CommandLines.{asked_by_matches}
 use Rattle.mesh_run.proofs.command_line.asked_for.Goals as goal
 
-pub returns-in_err-file : goal.returns-in_err-file
-returns-in_err-file c =
-    ap (option_map asking) c.from_residual-in_err-file.ensures
-    ∙ asked_by_file c.args.matches.now c.in_ok-name.name.now (found_of c.in_ok-name.matches.now) _ c.in_ok-name.ensures.name c.in_ok-name.ensures.rows c.in_err-file.ensures
-
-pub returns-in-replay : goal.returns-in-replay
-returns-in-replay c =
+pub returns-in_ok-sizes-in-live : goal.returns-in_ok-sizes-in-live
+returns-in_ok-sizes-in-live c =
     let found = found_of c.in_ok-name.matches.now in
-    sym (ap (λ text. asked_on text (rows_of found) c.in_ok-file.file.now) c.in-replay.is)
-    ∙ asked_by_file c.args.matches.now c.in_ok-name.name.now found _ c.in_ok-name.ensures.name c.in_ok-name.ensures.rows c.in_ok-file.ensures
-
-pub returns-in_ok-numbers-in-threads : goal.returns-in_ok-numbers-in-threads
-returns-in_ok-numbers-in-threads c =
-    let found = found_of c.in_ok-name.matches.now in
-    ap (option_map (threads_of c.in_ok-file.file.now)) c.in_ok-numbers-in-threads.ensures
-    ∙ sym (ap (λ text. asked_on text (rows_of found) c.in_ok-file.file.now) c.in-threads.is)
-    ∙ asked_by_file c.args.matches.now c.in_ok-name.name.now found _ c.in_ok-name.ensures.name c.in_ok-name.ensures.rows c.in_ok-file.ensures
-
-pub returns-in_ok-shown-in-draw : goal.returns-in_ok-shown-in-draw
-returns-in_ok-shown-in-draw c =
-    let found = found_of c.in_ok-name.matches.now in
-    ap (option_map (draw_of c.in_ok-file.file.now)) c.in_ok-shown-in-draw.ensures
-    ∙ sym (ap (λ text. asked_on text (rows_of found) c.in_ok-file.file.now) c.in-draw.is)
-    ∙ asked_by_file c.args.matches.now c.in_ok-name.name.now found _ c.in_ok-name.ensures.name c.in_ok-name.ensures.rows c.in_ok-file.ensures
+    ap (option_map live_of) c.in_ok-sizes-in-live.ensures
+    ∙ sym (ap (λ text. asked_by text (rows_of found)) c.in-live.is)
+    ∙ asked_by_matches c.args.matches.now c.in_ok-name.name.now found c.in_ok-name.ensures.name c.in_ok-name.ensures.rows

@@ -10,4 +10,5 @@ returns c =
     let bare_is : app_of c.arg_required_else_help.result ≡ bare_app = search rules in
     let with_replay = with_command _ _ _ _ _ c.in_ok-subcommand.ensures bare_is c.in_ok-replay.ensures refl in
     let with_threads = with_command _ _ _ _ _ c.in_ok-subcommand-2.ensures with_replay c.in_ok-threads.ensures refl in
-    IfOk-weaker c.subcommand-3.result _ _ (λ command adds. with_command _ _ _ _ _ adds with_threads c.in_ok-draw.ensures refl) c.subcommand-3.ensures
+    let with_draw = with_command _ _ _ _ _ c.in_ok-subcommand-3.ensures with_threads c.in_ok-draw.ensures refl in
+    IfOk-weaker c.subcommand-4.result _ _ (λ command adds. with_command _ _ _ _ _ adds with_draw c.in_ok-live.ensures refl) c.subcommand-4.ensures
