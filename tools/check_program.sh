@@ -173,6 +173,42 @@ for job in jobs/rows/*/*.job; do
     fi
 done
 
+# live sessions: the worked rows of version 2 asked line by line, then faults and ends
+live() {
+    name=$1 status=$2 output=$3 errors=$4 input=$5
+    shift 5
+    "$program" live "$@" >"$room/output" 2>"$room/errors" <"$input"
+    ended "$name" $? "$status" "$output" "$errors"
+}
+for job in jobs/rows/*/*.job; do
+    row=${job%.job}
+    if [ -f "$row.out" ] && sizes=$(python3 tools/live_lines.py "$job" "$row.out" "$room/asked" "$room/wanted"); then
+        # shellcheck disable=SC2086
+        live "live: $row" 0 "$room/wanted" "$room/nothing" "$room/asked" $sizes
+    fi
+done
+printf 'run 0 new 0 16 0\nrun 0\nrun 64 free 0\n\nstep\nrun 0 put 0 0 zz\nreport\nend\nreport\n' >"$room/asked"
+printf 'object 0 at 1000\nfault WORD\nfault NUMBER\nfault WORD\nfault WORD\nfault HEX\nreport objects 1 bytes 16 mapped 1 taken 1 saved 0\n' >"$room/wanted"
+live "live: faults between lines, and nothing behind the end" 0 "$room/wanted" "$room/nothing" "$room/asked"
+printf 'report' >"$room/asked"
+live "live: a line that is cut off" 0 "$(line 'fault CUT')" "$room/nothing" "$room/asked"
+live "live: no line" 0 "$room/nothing" "$room/nothing" /dev/null
+live "live: a directory as standard input" 1 "$room/nothing" "$(line 'read fault')" jobs
+check "live: help" 0 any "$room/nothing" live --help
+check "live: a file" 2 "$room/nothing" any live jobs/mesh.job
+check "live: 65 workers" 2 "$room/nothing" any live --workers 65
+: >"$room/output"
+echo report | "$program" live >/dev/full 2>"$room/errors"
+ended "live: a full device as standard output" $? 1 "$room/nothing" "$(line 'write fault')"
+
+# another allocator beside a session: one without a fault, then one with
+python3 examples/fuzz_live.py "$program" --lines 5000 --seed 1 >"$room/output" 2>"$room/errors"
+ended "live: 5,000 lines beside another allocator" $? 0 any "$room/nothing"
+python3 examples/fuzz_live.py "$program" --lines 5000 --seed 1 --bug >"$room/output" 2>"$room/errors"
+ended "live: another allocator with a bug" $? 1 any any
+cp "$room/output" "$room/found.job"
+check "live: what was found, as a job" 0 any "$room/nothing" replay "$room/found.job"
+
 # the worked rows
 for job in jobs/rows/*/*.job; do
     row=${job%.job}
