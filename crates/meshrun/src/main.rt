@@ -17,41 +17,36 @@ use std::process::ExitCode;
 use std::{env, io};
 
 fn main(rt: HostRuntime) -> ExitCode {
+    let alloc = rt.alloc();
     let mut output = Output::new(rt.stdout());
     let mut errors = Output::new(rt.stderr());
     let status = match words(&rt) {
-        Ok(words) => match arguments(rt.alloc(), words.as_slice()) {
-            Ok(args) => run(&rt, args, &mut output, &mut errors),
+        Ok(words) => match arguments(alloc, words.as_slice()) {
+            Ok(Args::Replay(path)) => match opened(&rt, path, &mut errors) {
+                Ok(mut input) => replay_run(alloc, &mut input, &mut output, &mut errors),
+                Err(status) => status,
+            },
+            Ok(Args::Threads(path, args)) => match opened(&rt, path, &mut errors) {
+                Ok(mut input) => {
+                    threads_run(&rt, alloc, &mut input, &mut output, &mut errors, &args)
+                }
+                Err(status) => status,
+            },
+            Ok(Args::Draw(path, args)) => match opened(&rt, path, &mut errors) {
+                Ok(mut input) => {
+                    draw_run(alloc, path, &args, &mut input, &mut output, &mut errors)
+                }
+                Err(status) => status,
+            },
+            Ok(Args::Live(args)) => {
+                let mut input = Input::new(rt.stdin());
+                live_run(alloc, &args, &mut input, &mut output, &mut errors)
+            }
             Err(stop) => stop_run(&stop, &mut output, &mut errors),
         },
         Err(error) => stop_run(&unread_words(&error), &mut output, &mut errors),
     };
     ExitCode::from(status)
-}
-
-/// Does what the command line asks for, and gives the exit status.
-fn run<O: Sink, E: Sink>(rt: &HostRuntime, args: Args<'_>, output: &mut O, errors: &mut E) -> u8
-    requires { O.has_failed output.old ≡ false }
-{
-    let alloc = rt.alloc();
-    match args {
-        Args::Replay(path) => match opened(rt, path, errors) {
-            Ok(mut input) => replay_run(alloc, &mut input, output, errors),
-            Err(status) => status,
-        },
-        Args::Threads(path, args) => match opened(rt, path, errors) {
-            Ok(mut input) => threads_run(rt, alloc, &mut input, output, errors, &args),
-            Err(status) => status,
-        },
-        Args::Draw(path, args) => match opened(rt, path, errors) {
-            Ok(mut input) => draw_run(alloc, path, &args, &mut input, output, errors),
-            Err(status) => status,
-        },
-        Args::Live(args) => {
-            let mut input = Input::new(rt.stdin());
-            live_run(alloc, &args, &mut input, output, errors)
-        }
-    }
 }
 
 /// The job file as an input, or the exit status where it can't be opened.
