@@ -166,14 +166,25 @@ end_taken session begun kept b written written' sound is at_end ended none =
       ends = λ more. end_of_text begun more is.unended ∙ ap (λ (o : Bool). o || have_end (text_lines more)) over;
     })
 
+-- what is told from the end of a line on that isn't `end`, of which these bytes are kept
+pub line_told : (session : Session) (begun kept more : List ℕ) → IsKept kept begun → is_end kept ≡ false
+    → told_on false session begun (10 ∷ more) ≡ ended (told (sizes_of session) (state_of session) kept).text
+    ++ told_lines (sizes_of session) (told (sizes_of session) (state_of session) kept).state (text_lines more)
+line_told session begun kept more is going =
+    let same = kept_of kept begun is.front in
+    let first : told (sizes_of session) (state_of session) kept ≡ told (sizes_of session) (state_of session) begun
+    = kept_told (sizes_of session) (state_of session) kept begun same in
+    let on : is_end begun ≡ false = sym (kept_ends kept begun same) ∙ going in
+    told_of_text (sizes_of session) (state_of session) begun more is.unended
+    ∙ ap (λ (o : Bool). told_first o (sizes_of session) (text_lines more) (told (sizes_of session) (state_of session) begun)) on
+    ∙ ap (λ (t : Told). ended t.text ++ told_lines (sizes_of session) t.state (text_lines more)) (sym first)
+
 -- the end of another line was taken, and the line was answered
 pub line_taken : (old new : Session) (begun kept : List ℕ) (b : ℕ) (written written' : Option (List ℕ)) → IsSession new → sizes_of new ≡ sizes_of old
     → state_of new ≡ (told (sizes_of old) (state_of old) kept).state → IsKept kept begun → b ≡ 10 → is_end kept ≡ false
     → Appends written written' (ended (told (sizes_of old) (state_of old) kept).text) → HasTaken false old new begun [] (b ∷ []) written written'
 line_taken old new begun kept b written written' sound sizes stands is at_end going wrote =
-    let same = kept_of kept begun is.front in
-    let first : told (sizes_of old) (state_of old) kept ≡ told (sizes_of old) (state_of old) begun = kept_told (sizes_of old) (state_of old) kept begun same in
-    let on : is_end begun ≡ false = sym (kept_ends kept begun same) ∙ going in
+    let on : is_end begun ≡ false = sym (kept_ends kept begun (kept_of kept begun is.front)) ∙ going in
     subst (λ (b : ℕ). HasTaken false old new begun [] (b ∷ []) written written') (sym at_end) (record {
       sound = sound;
       sizes = sizes;
@@ -181,9 +192,7 @@ line_taken old new begun kept b written written' sound sizes stands is at_end go
       appended = wrote;
       begun' = [];
       is_kept = none_kept;
-      tells = λ more. told_of_text (sizes_of old) (state_of old) begun more is.unended
-          ∙ ap (λ (o : Bool). told_first o (sizes_of old) (text_lines more) (told (sizes_of old) (state_of old) begun)) on
-          ∙ ap (λ (t : Told). ended t.text ++ told_lines (sizes_of old) t.state (text_lines more)) (sym first)
+      tells = λ more. line_told old begun kept more is going
           ∙ ap (λ (s : State). ended (told (sizes_of old) (state_of old) kept).text ++ told_lines (sizes_of old) s (text_lines more)) (sym stands)
           ∙ ap (λ (s : Sizes). ended (told (sizes_of old) (state_of old) kept).text ++ told_lines s (state_of new) (text_lines more)) (sym sizes);
       ends = λ more. end_of_text begun more is.unended ∙ ap (λ (o : Bool). o || have_end (text_lines more)) on;
@@ -236,7 +245,7 @@ taken_over old new begun kept bytes more written written' taken = record {
 }
 
 -- what is told of the bytes behind the last line end, of which these are kept, once a text has ended without the line `end`
-abbrev rest_on : Bool → List ℕ → List ℕ
+abbrev pub rest_on : Bool → List ℕ → List ℕ
 rest_on true kept = []
 rest_on false kept = told_rest kept
 
@@ -263,24 +272,31 @@ ended_where : (over : Bool) (text begun : List ℕ) (left : Option (List ℕ)) �
 ended_where true text begun left whole ends = inl (inr (subst (λ t. have_end (text_lines t) ≡ true) (append-nil text) ends))
 ended_where false text begun left whole ends = elim (whole refl) [ inl at_end ↦ inl (inl at_end) | inr many ↦ inr many ]
 
+-- what a session that was opened tells of a text
+pub from_opening : (sizes : Sizes) (session : Session) (text : List ℕ) → sizes_of session ≡ sizes → state_of session ≡ opening (job_of sizes)
+    → told_on false session [] text ≡ live_output sizes text
+from_opening sizes session text sizes_are at_opening =
+    ap (λ (s : State). told_lines (sizes_of session) s (text_lines text)) at_opening
+    ∙ ap (λ (z : Sizes). told_lines z (opening (job_of sizes)) (text_lines text)) sizes_are
+
+-- all that a session tells that was fed a text
+pub all_told : (over : Bool) (sizes : Sizes) (old new : Session) (kept : List ℕ) (left left' written written' : Option (List ℕ)) → sizes_of old ≡ sizes
+    → state_of old ≡ opening (job_of sizes) → (fed : HasFed over old new kept left left' written written') → live_output sizes fed.text ≡ fed.told.wrote ++ rest_on over kept
+all_told over sizes old new kept left left' written written' sizes_are at_opening fed =
+    sym (from_opening sizes old fed.text sizes_are at_opening) ∙ ap (told_on false old []) (sym (append-nil fed.text)) ∙ fed.told.tells []
+    ∙ ap (λ t. fed.told.wrote ++ t) (rest_told over new fed.told.begun' kept fed.told.is_kept)
+
 -- a session that was opened, fed a text and told what is left of it
 pub lived : (over : Bool) (sizes : Sizes) (old new : Session) (kept : List ℕ) (left left' written written' written'' : Option (List ℕ)) → sizes_of old ≡ sizes
     → state_of old ≡ opening (job_of sizes) → HasFed over old new kept left left' written written' → Appends written' written'' (rest_on over kept)
     → HasLived sizes left left' written written''
-lived over sizes old new kept left left' written written' written'' sizes_are at_opening fed rest =
-    let from_opening : told_on false old [] (fed.text ++ []) ≡ live_output sizes fed.text
-    = ap (λ t. told_lines (sizes_of old) (state_of old) (text_lines t)) (append-nil fed.text)
-    ∙ ap (λ (s : State). told_lines (sizes_of old) s (text_lines fed.text)) at_opening
-    ∙ ap (λ (z : Sizes). told_lines z (opening (job_of sizes)) (text_lines fed.text)) sizes_are in
-    let all : live_output sizes fed.text ≡ fed.told.wrote ++ rest_on over kept
-    = sym from_opening ∙ fed.told.tells [] ∙ ap (λ t. fed.told.wrote ++ t) (rest_told over new fed.told.begun' kept fed.told.is_kept) in
-    record {
-      text = fed.text;
-      taken = fed.taken;
-      whole = ended_where over fed.text fed.told.begun' left' fed.whole (fed.told.ends []);
-      wrote = subst (λ t. Appends written written'' t) (sym all)
-          (Appends-trans written written' written'' fed.told.wrote (rest_on over kept) fed.told.appended rest);
-    }
+lived over sizes old new kept left left' written written' written'' sizes_are at_opening fed rest = record {
+  text = fed.text;
+  taken = fed.taken;
+  whole = ended_where over fed.text fed.told.begun' left' fed.whole (fed.told.ends []);
+  wrote = subst (λ t. Appends written written'' t) (sym (all_told over sizes old new kept left left' written written' sizes_are at_opening fed))
+      (Appends-trans written written' written'' fed.told.wrote (rest_on over kept) fed.told.appended rest);
+}
 
 -- a session read so many times, which gave a byte at least each time, and isn't over
 pub record HasReadOn (times : ℕ) (old new : Session) (kept : List ℕ) (left left' written written' : Option (List ℕ)) : Type 0 where
@@ -294,7 +310,7 @@ pub nothing_written : (written : Option (List ℕ)) → Appends written written 
 nothing_written None = tt
 nothing_written (Some xs) = sym (append-nil xs)
 
-nothing_read : (left : Option (List ℕ)) → Consumes left left []
+pub nothing_read : (left : Option (List ℕ)) → Consumes left left []
 nothing_read None = tt
 nothing_read (Some xs) = refl
 

@@ -8,6 +8,7 @@ use Rattle.model_jobs.specs.Texts.{ended}
 use Rattle.model_words.specs.declared.faults.FaultKind.{FaultKind}
 use Rattle.model_words.specs.declared.faults.FaultKind.TheVariants.{Cut, LongLine}
 use Rattle.mesh_job.specs.Reading.{text_lines}
+use Rattle.mesh_text.specs.Transfer.{AppendsBeginning}
 use Rattle.mesh_live.specs.Answers.{fault_text, told}
 use Rattle.mesh_live.specs.Sessions.{IsSession, job_of, sizes_of, state_of}
 use Rattle.mesh_live.specs.declared.session.Session.{Session}
@@ -51,6 +52,13 @@ pub record HasLived (sizes : Sizes) (left left' written written' : Option (List 
   pub whole : (IsAtEnd left' ⊎ (have_end (text_lines text) ≡ true)) ⊎ (2 ^ 64 ≤ length text + 1)
   pub wrote : Appends written written' (live_output sizes text)
 
+-- a session was stopped by an error: of what it is told that is fed a beginning of its input, a beginning was written
+pub record HasStopped (sizes : Sizes) (left written written' : Option (List ℕ)) : Type 0 where
+  pub text : List ℕ
+  pub rest : Option (List ℕ)
+  pub taken : Consumes left rest text
+  pub wrote : AppendsBeginning written written' (live_output sizes text)
+
 -- of the beginning of a line these bytes are kept: as many as tell that it is too long. None of it is a line end
 pub record IsKept (kept begun : List ℕ) : Type 0 where
   pub front : kept ≡ take 1025 begun
@@ -83,3 +91,15 @@ pub record HasFed (over : Bool) (old new : Session) (kept : List ℕ) (left left
   pub taken : Consumes left left' text
   pub whole : over ≡ false → IsAtEnd left' ⊎ (2 ^ 64 ≤ length text + 1)
   pub told : HasTaken over old new [] kept text written written'
+
+-- a session was stopped while it took these bytes: whatever follows, a beginning was written of what it is told of them
+abbrev pub IsStopped : Session → List ℕ → List ℕ → Option (List ℕ) → Option (List ℕ) → Type 0
+IsStopped session kept bytes written written' =
+    (begun : List ℕ) → IsKept kept begun → (more : List ℕ) → AppendsBeginning written written' (told_on false session begun (bytes ++ more))
+
+-- a session was stopped while it was fed the first bytes of its input
+pub record IsFedPart (session : Session) (left written written' : Option (List ℕ)) : Type 0 where
+  pub text : List ℕ
+  pub rest : Option (List ℕ)
+  pub taken : Consumes left rest text
+  pub wrote : AppendsBeginning written written' (told_on false session [] text)

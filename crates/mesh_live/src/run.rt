@@ -1,10 +1,11 @@
 //! A whole session: its lines come from a device, and its answers go to one.
-ghost use Rattle.std.specs.Prelude.{◌≡◌, ◌≤◌, ◌⊎◌, ℕ, List, [], ◌∷◌, Err, false, true, is_err, length, vec_len, IfErr, IfOk, OnOk};
+ghost use Rattle.std.specs.Prelude.{◌≡◌, ◌≤◌, ◌⊎◌, ℕ, List, [], ◌∷◌, Err, false, true, is_err, length, vec_len, IfErr, IfOk, OnErr, OnOk};
 ghost use Rattle.std.specs.Io.KnownBytes.{Appends};
 ghost use Rattle.model_jobs.specs.Jobs.{opening};
 ghost use Rattle.model_jobs.specs.Texts.{ended};
+ghost use Rattle.mesh_text.specs.Transfer.{AppendsBeginning};
 ghost use Rattle.mesh_live.specs.Answers.{told};
-ghost use Rattle.mesh_live.specs.Runs.{HasFed, HasLived, HasTaken, IsKept, is_end, rest_fault, told_rest};
+ghost use Rattle.mesh_live.specs.Runs.{HasFed, HasLived, HasStopped, HasTaken, IsFedPart, IsKept, IsStopped, is_end, rest_fault, told_rest};
 ghost use Rattle.mesh_live.specs.Sessions.{HasFairSizes, IsSession, job_of, sizes_of, state_of};
 
 use crate::answers::add_fault;
@@ -36,6 +37,7 @@ pub fn live<I: Source, O: Sink>(
     requires output { O.has_failed output.old ≡ false }
     ensures ok { OnOk result ((I.has_failed input.new ≡ false) × (O.has_failed output.new ≡ false)) }
     ensures lived { OnOk result (HasLived sizes.now (I.remaining input.old) (I.remaining input.new) (O.written output.old) (O.written output.new)) }
+    ensures stopped { OnErr result (HasStopped sizes.now (I.remaining input.old) (O.written output.old) (O.written output.new)) }
     ensures read { result ≡ Err ReplayError.Read → I.has_failed input.new ≡ true }
     ensures write { result ≡ Err ReplayError.Write → O.has_failed output.new ≡ true }
 {
@@ -56,6 +58,7 @@ fn live_on<I: Source, O: Sink>(
     requires output { O.has_failed output.old ≡ false }
     ensures ok { OnOk result ((I.has_failed input.new ≡ false) × (O.has_failed output.new ≡ false)) }
     ensures lived { OnOk result (HasLived (sizes_of session.old) (I.remaining input.old) (I.remaining input.new) (O.written output.old) (O.written output.new)) }
+    ensures stopped { OnErr result (HasStopped (sizes_of session.old) (I.remaining input.old) (O.written output.old) (O.written output.new)) }
     ensures read { result ≡ Err ReplayError.Read → I.has_failed input.new ≡ true }
     ensures write { result ≡ Err ReplayError.Write → O.has_failed output.new ≡ true }
 {
@@ -91,6 +94,7 @@ fn feed<I: Source, O: Sink>(
     requires output { O.has_failed output.old ≡ false }
     ensures ok { OnOk result ((I.has_failed input.new ≡ false) × (O.has_failed output.new ≡ false)) }
     ensures fed { IfOk result (λ over. HasFed over session.old session.new line.new.items (I.remaining input.old) (I.remaining input.new) (O.written output.old) (O.written output.new)) }
+    ensures stopped { OnErr result (IsFedPart session.old (I.remaining input.old) (O.written output.old) (O.written output.new)) }
     ensures read { result ≡ Err ReplayError.Read → I.has_failed input.new ≡ true }
     ensures write { result ≡ Err ReplayError.Write → O.has_failed output.new ≡ true }
 {
@@ -120,6 +124,7 @@ fn take_bytes<O: Sink>(
     ensures sound { OnOk result (IsSession session.new) }
     ensures taken { IfOk result (λ over. (begun : List ℕ) → IsKept line.old.items begun
         → HasTaken over session.old session.new begun line.new.items bytes.now (O.written output.old) (O.written output.new)) }
+    ensures stopped { OnErr result (IsStopped session.old line.old.items bytes.now (O.written output.old) (O.written output.new)) }
     ensures kinds { IfErr result (λ error. (error ≡ ReplayError.Write) ⊎ (error ≡ ReplayError.Memory)) }
     ensures write { result ≡ Err ReplayError.Write → O.has_failed output.new ≡ true }
 {
@@ -145,6 +150,7 @@ fn take_byte<O: Sink>(
     ensures sound { OnOk result (IsSession session.new) }
     ensures taken { IfOk result (λ over. (begun : List ℕ) → IsKept line.old.items begun
         → HasTaken over session.old session.new begun line.new.items (byte ∷ []) (O.written output.old) (O.written output.new)) }
+    ensures stopped { OnErr result (IsStopped session.old line.old.items (byte ∷ []) (O.written output.old) (O.written output.new)) }
     ensures kinds { IfErr result (λ error. (error ≡ ReplayError.Write) ⊎ (error ≡ ReplayError.Memory)) }
     ensures write { result ≡ Err ReplayError.Write → O.has_failed output.new ≡ true }
 {
@@ -183,6 +189,7 @@ fn write_answer<O: Sink>(
     ensures sizes { OnOk result (sizes_of session.new ≡ sizes_of session.old) }
     ensures stands { OnOk result (state_of session.new ≡ (told (sizes_of session.old) (state_of session.old) line.now).state) }
     ensures wrote { OnOk result (Appends (O.written output.old) (O.written output.new) (ended (told (sizes_of session.old) (state_of session.old) line.now).text)) }
+    ensures begun { OnErr result (AppendsBeginning (O.written output.old) (O.written output.new) (ended (told (sizes_of session.old) (state_of session.old) line.now).text)) }
     ensures kinds { IfErr result (λ error. (error ≡ ReplayError.Write) ⊎ (error ≡ ReplayError.Memory)) }
     ensures write { result ≡ Err ReplayError.Write → O.has_failed output.new ≡ true }
 {
@@ -196,6 +203,7 @@ fn write_line<O: Sink>(text: &mut Vec<u8>, output: &mut O) -> Result<(), ReplayE
     requires { O.has_failed output.old ≡ false }
     ensures ok { OnOk result (O.has_failed output.new ≡ false) }
     ensures wrote { OnOk result (Appends (O.written output.old) (O.written output.new) (ended text.old.items)) }
+    ensures begun { OnErr result (AppendsBeginning (O.written output.old) (O.written output.new) (ended text.old.items)) }
     ensures kinds { IfErr result (λ error. (error ≡ ReplayError.Write) ⊎ (error ≡ ReplayError.Memory)) }
     ensures write { result ≡ Err ReplayError.Write → O.has_failed output.new ≡ true }
 {
@@ -207,6 +215,7 @@ fn write_line<O: Sink>(text: &mut Vec<u8>, output: &mut O) -> Result<(), ReplayE
 fn write_out<O: Sink>(output: &mut O, bytes: &[u8]) -> Result<(), ReplayError>
     requires { O.has_failed output.old ≡ false }
     ensures ok { OnOk result (Appends (O.written output.old) (O.written output.new) bytes.now) }
+    ensures err { OnErr result (AppendsBeginning (O.written output.old) (O.written output.new) bytes.now) }
     ensures fault { IfErr result (λ error. error ≡ ReplayError.Write) }
     ensures fails { O.has_failed output.new ≡ is_err result }
 {
@@ -218,6 +227,7 @@ fn write_rest<O: Sink>(alloc: Global, rest: &[u8], output: &mut O) -> Result<(),
     requires { O.has_failed output.old ≡ false }
     ensures ok { OnOk result (O.has_failed output.new ≡ false) }
     ensures wrote { OnOk result (Appends (O.written output.old) (O.written output.new) (told_rest rest.now)) }
+    ensures begun { OnErr result (AppendsBeginning (O.written output.old) (O.written output.new) (told_rest rest.now)) }
     ensures kinds { IfErr result (λ error. (error ≡ ReplayError.Write) ⊎ (error ≡ ReplayError.Memory)) }
     ensures write { result ≡ Err ReplayError.Write → O.has_failed output.new ≡ true }
 {

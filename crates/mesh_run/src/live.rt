@@ -2,7 +2,7 @@
 ghost use Rattle.std.specs.Prelude.{◌≡◌, ◌<◌, ◌≤◌, false};
 ghost use Rattle.std.specs.Io.KnownBytes.{Keeps};
 ghost use Rattle.model_jobs.specs.Texts.{ended};
-ghost use Rattle.mesh_live.specs.Runs.{HasLived};
+ghost use Rattle.mesh_live.specs.Runs.{HasLived, HasStopped};
 ghost use Rattle.mesh_run.specs.LiveSizes.{session_sizes};
 ghost use Rattle.mesh_run.specs.Runs.{HasFailed, HasTold, error_text};
 ghost use Rattle.mesh_run.specs.Status.{status_of_error};
@@ -32,6 +32,7 @@ pub fn live_run<I: Source, O: Sink, E: Sink>(
     ensures sound { result ≡ 0 → (I.has_failed input.new ≡ false) × (O.has_failed output.new ≡ false) }
     ensures untold { result ≡ 0 → Keeps (E.written errors.old) (E.written errors.new) }
     ensures stopped { 0 < result → (error : ReplayError) × (result ≡ status_of_error error)
+        × HasStopped (session_sizes args.now) (I.remaining input.old) (O.written output.old) (O.written output.new)
         × HasFailed (I.has_failed input.new) (O.has_failed output.new) error
         × HasTold (E.has_failed errors.new) (E.written errors.old) (E.written errors.new) (ended (error_text error)) }
     ensures small { result ≤ 2 }

@@ -2,6 +2,7 @@ use Rattle.std.proofs.Common.{rules, ◌≡◌, ◌≤◌, ℕ, List, length, ta
 use Rattle.std.proofs.lemmas.List.{length-take-le}
 use Rattle.mesh_live.specs.Runs.{HasTaken, IsKept}
 use Rattle.mesh_live.proofs.Runs.{read_end, read_more}
+use Rattle.mesh_live.proofs.Stops.{fed_stopped, on_error, read_stopped}
 use Rattle.mesh_live.proofs.run.feed.Goals as goal
 
 pub returns-then-branch-clause-fed : goal.returns-then-branch-clause-fed
@@ -35,3 +36,18 @@ loop-read-preserved g c =
           (left c.args.input.now) (left c.loop-read.input) (left c.read_some.new.input) (wrote c.args.output.now) (wrote c.loop-read.output) (wrote c.take_bytes.new.output)
           c.loop-read.invariant.read c.in_ok-count.ensures.bytes some at;
     }
+
+pub returns-in_err-count-clause-stopped : goal.returns-in_err-count-clause-stopped
+returns-in_err-count-clause-stopped g c =
+    let left = g.I.Source.remaining in
+    let wrote = g.O.Sink.written in
+    on_error _ _ (read_stopped c.loop-read._read c.args.session.now c.loop-read.session c.loop-read.line.items (left c.args.input.now) (left c.loop-read.input)
+    (wrote c.args.output.now) (wrote c.loop-read.output) c.loop-read.invariant.read)
+
+pub returns-in_err-take_bytes-clause-stopped : goal.returns-in_err-take_bytes-clause-stopped
+returns-in_err-take_bytes-clause-stopped g c =
+    let left = g.I.Source.remaining in
+    let wrote = g.O.Sink.written in
+    on_error _ _ (fed_stopped c.loop-read._read c.args.session.now c.loop-read.session c.loop-read.line.items (take c.in_ok-count.count c.read_some.new.buf)
+    (left c.args.input.now) (left c.loop-read.input) (left c.read_some.new.input) (wrote c.args.output.now) (wrote c.loop-read.output) (wrote c.take_bytes.new.output)
+    c.loop-read.invariant.read c.in_ok-count.ensures.bytes c.in_err-take_bytes.ensures.stopped)

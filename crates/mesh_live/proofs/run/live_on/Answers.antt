@@ -4,6 +4,8 @@ use Rattle.std.specs.Io.KnownBytes.{Appends}
 use Rattle.mesh_live.specs.Runs.{HasFed, told_rest}
 use Rattle.mesh_live.specs.Sessions.{sizes_of}
 use Rattle.mesh_live.proofs.Runs.{lived, nothing_written}
+use Rattle.mesh_text.specs.Transfer.{AppendsBeginning}
+use Rattle.mesh_live.proofs.Stops.{none_stopped, on_error, on_error_weaker, part_stopped, rest_stopped}
 use Rattle.mesh_live.proofs.run.live_on.Goals as goal
 
 pub returns-then-branch-clause-lived : goal.returns-then-branch-clause-lived
@@ -25,3 +27,23 @@ returns-clause-lived g c =
     (λ rest. lived false (sizes_of c.args.session.now) c.args.session.now c.feed.new.session c.feed.new.line.items (left c.args.input.now) (left c.feed.new.input)
     (wrote c.args.output.now) (wrote c.feed.new.output) (wrote c.write_rest.new.output) refl c.requires.opening fed
     (subst (λ bytes. Appends (wrote c.feed.new.output) (wrote c.write_rest.new.output) (told_rest bytes)) c.as_slice.ensures.value rest)) c.write_rest.ensures.wrote
+
+pub returns-in_err-buffer-clause-stopped : goal.returns-in_err-buffer-clause-stopped
+returns-in_err-buffer-clause-stopped g c =
+    on_error _ _ (none_stopped (sizes_of c.args.session.now) (g.I.Source.remaining c.args.input.now) (g.O.Sink.written c.args.output.now))
+
+pub returns-in_err-feed-clause-stopped : goal.returns-in_err-feed-clause-stopped
+returns-in_err-feed-clause-stopped g c =
+    on_error _ _ (part_stopped c.args.session.now (g.I.Source.remaining c.args.input.now) (g.O.Sink.written c.args.output.now) (g.O.Sink.written c.feed.new.output)
+    c.requires.opening c.in_err-feed.ensures.stopped)
+
+pub returns-clause-stopped : goal.returns-clause-stopped
+returns-clause-stopped g c =
+    let left = g.I.Source.remaining in
+    let wrote = g.O.Sink.written in
+    let fed = subst (λ over. HasFed over c.args.session.now c.feed.new.session c.feed.new.line.items (left c.args.input.now) (left c.feed.new.input) (wrote c.args.output.now) (wrote c.feed.new.output))
+    c.if-branch.false c.in_ok-feed.ensures.fed in
+    on_error_weaker c.write_rest.result
+    (λ part. rest_stopped c.args.session.now c.feed.new.session c.feed.new.line.items (left c.args.input.now) (left c.feed.new.input)
+    (wrote c.args.output.now) (wrote c.feed.new.output) (wrote c.write_rest.new.output) c.requires.opening fed
+    (subst (λ bytes. AppendsBeginning (wrote c.feed.new.output) (wrote c.write_rest.new.output) (told_rest bytes)) c.as_slice.ensures.value part)) c.write_rest.ensures.begun

@@ -6,6 +6,8 @@ use Rattle.mesh_live.specs.Answers.{told}
 use Rattle.mesh_live.specs.Runs.{HasTaken, IsKept, is_end}
 use Rattle.mesh_live.specs.Sessions.{sizes_of, state_of}
 use Rattle.mesh_live.proofs.Runs.{byte_taken, end_taken, keep_none, keep_one, line_taken, nothing_written}
+use Rattle.mesh_text.specs.Transfer.{AppendsBeginning}
+use Rattle.mesh_live.proofs.Stops.{byte_stopped, line_stopped, on_error}
 use Rattle.mesh_live.proofs.run.take_byte.Goals as goal
 
 pub returns-in_ok-extend_from_slice-clause-taken : goal.returns-in_ok-extend_from_slice-clause-taken
@@ -40,3 +42,15 @@ returns-clause-taken g c = λ begun is.
     subst (λ kept. HasTaken false old new begun kept (c.args.byte ∷ []) (g.O.Sink.written c.args.output.now) (g.O.Sink.written c.write_answer.new.output))
     (sym c.clear.ensures.items)
     (line_taken old new begun c.args.line.now.items c.args.byte _ _ c.in_ok-write_answer.ensures.sound c.in_ok-write_answer.ensures.sizes stands is c.if-byte-ne10.false going wrote)
+
+pub returns-in_err-extend_from_slice-clause-stopped : goal.returns-in_err-extend_from_slice-clause-stopped
+returns-in_err-extend_from_slice-clause-stopped g c =
+    on_error _ _ (byte_stopped c.args.session.now c.args.line.now.items (c.args.byte ∷ []) (g.O.Sink.written c.args.output.now))
+
+pub returns-in_err-write_answer-clause-stopped : goal.returns-in_err-write_answer-clause-stopped
+returns-in_err-write_answer-clause-stopped g c =
+    let going : is_end c.args.line.now.items ≡ false = ap is_end (sym c.as_slice.ensures.value) ∙ sym c.is_end.ensures ∙ c.if-is_end.false in
+    let old = c.args.session.now in
+    let begun = subst (λ line. AppendsBeginning (g.O.Sink.written c.args.output.now) (g.O.Sink.written c.write_answer.new.output) (ended (told (sizes_of old) (state_of old) line).text))
+    c.as_slice-2.ensures.value c.in_err-write_answer.ensures.begun in
+    on_error _ _ (line_stopped old c.args.line.now.items c.args.byte (g.O.Sink.written c.args.output.now) (g.O.Sink.written c.write_answer.new.output) c.if-byte-ne10.false going begun)

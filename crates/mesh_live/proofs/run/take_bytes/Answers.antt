@@ -1,7 +1,8 @@
-use Rattle.std.proofs.Common.{◌≡◌, ◌+◌, ℕ, List, [], ◌∷◌, ◌++◌, true, false, drop, slice_index, take, take-append-drop, subst, sym}
+use Rattle.std.proofs.Common.{◌∙◌, ap, append_assoc, ◌≡◌, ◌+◌, ℕ, List, [], ◌∷◌, ◌++◌, true, false, drop, slice_index, take, take-append-drop, subst, sym}
 use Rattle.std.proofs.lemmas.List.{take_all, take_more}
 use Rattle.mesh_live.specs.Runs.{HasTaken, IsKept}
 use Rattle.mesh_live.proofs.Runs.{nothing_taken, nothing_written, taken_more, taken_over}
+use Rattle.mesh_live.proofs.Stops.{bytes_stopped, on_error}
 use Rattle.mesh_live.proofs.run.take_bytes.Goals as goal
 
 pub loop-byte-init : goal.loop-byte-init
@@ -47,3 +48,13 @@ pub returns-clause-taken : goal.returns-clause-taken
 returns-clause-taken g c = λ begun is.
     subst (λ all. HasTaken false c.args.session.now c.loop-byte.session begun c.loop-byte.line.items all (g.O.Sink.written c.args.output.now) (g.O.Sink.written c.loop-byte.output))
     (take_all c.loop-byte.byte-index c.args.bytes.now c.loop-byte-test.false) (c.loop-byte.invariant.taken begun is)
+
+pub returns-in_err-take_byte-clause-stopped : goal.returns-in_err-take_byte-clause-stopped
+returns-in_err-take_byte-clause-stopped g c =
+    let bytes = c.args.bytes.now in
+    let i = c.loop-byte.byte-index in
+    let whole : bytes ≡ take i bytes ++ (slice_index bytes i ∷ drop (i + 1) bytes)
+    = sym (take-append-drop (i + 1) bytes) ∙ ap (λ (front : List ℕ). front ++ drop (i + 1) bytes) (take_more bytes i 0 c.loop-byte-test.true)
+    ∙ append_assoc (take i bytes) (slice_index bytes i ∷ []) (drop (i + 1) bytes) in
+    on_error _ _ (bytes_stopped c.args.session.now c.loop-byte.session c.args.line.now.items c.loop-byte.line.items bytes (take i bytes) (drop (i + 1) bytes) (slice_index bytes i)
+    (g.O.Sink.written c.args.output.now) (g.O.Sink.written c.loop-byte.output) (g.O.Sink.written c.take_byte.new.output) c.loop-byte.invariant.taken c.in_err-take_byte.ensures.stopped whole)
