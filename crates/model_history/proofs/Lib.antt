@@ -1,0 +1,4 @@
+mod Counted
+mod Given
+mod Steps
+mod Widened
