@@ -12,10 +12,10 @@ use Rattle.model_jobs.proofs.Fields.{with_digit}
 use Rattle.model_jobs.proofs.FieldReadings.{address_told, digit_told, digits_told}
 use Rattle.model_jobs.specs.JobFiles.{byte_from, decimal_value, hex_number, hex_value, with_hex}
 use Rattle.model_jobs.specs.Texts.{address_text, byte_text, bytes_text, hex_digit}
-use Rattle.mesh_job.specs.Reading.{LeadsNoZero, is_decimal_digit, is_hex_digit}
-use Rattle.mesh_job.proofs.Decimals.{digits_spell, next_value}
-use Rattle.mesh_job.proofs.HexFields.{address_spelt, two_digits}
-use Rattle.mesh_job.proofs.Sames.{between_by_test}
+use Rattle.mesh_fields.specs.Fields.{LeadsNoZero, is_decimal_digit, is_hex_digit}
+use Rattle.mesh_fields.proofs.Decimals.{digits_spell, next_value}
+use Rattle.mesh_fields.proofs.HexFields.{address_spelt, two_digits}
+use Rattle.mesh_fields.proofs.Sames.{between_by_test}
 
 -- so many decimal digits of a text were read to a number
 pub record AreDigitsOf (text : List ℕ) (place number : ℕ) : Type 0 where
