@@ -1,4 +1,4 @@
--- Fields of hexadecimal digits: an address, and bytes of two digits each.
+-- Fields of hexadecimal digits: a number, and bytes of two digits each.
 use Rattle.std.proofs.Common.{◌≡◌, ◌≢◌, ℕ, zero, suc, ◌+◌, ◌*◌, ◌/◌, ◌%◌, ◌^◌, ◌<◌, ◌≤◌, true, false, ◌&&◌, if◌then◌else◌, nat_le, Bool, List, [], ◌∷◌, ◌++◌, Option, Some, None, Result, Ok, Err, length, get_or, take, drop, ap, refl, sym, subst, ◌∙◌, arith, inl, inr, append-nil, append_assoc, length-append}
 use Rattle.std.specs.Prelude.{◌⊎◌, is_some}
 use Rattle.std.specs.List.{fold, list_all}
@@ -9,12 +9,12 @@ use Rattle.std.proofs.lemmas.List.Folds.{list_all-append}
 use Rattle.std.proofs.Math.Nat.{pow-suc}
 use Rattle.model_jobs.proofs.Fields.{value_of_digit}
 use Rattle.model_jobs.proofs.FieldReadings.{digit_told, same_by_test}
-use Rattle.model_jobs.specs.JobFiles.{are_same, hex_value, with_hex, hex_number, address_in, byte_from, bytes_from, bytes_in}
-use Rattle.model_jobs.specs.Texts.{hex_digit, hex_from, address_text}
+use Rattle.model_jobs.specs.JobFiles.{are_same, hex_value, with_hex, hex_number, byte_from, bytes_from, bytes_in}
+use Rattle.model_jobs.specs.Texts.{hex_digit, hex_from}
 use Rattle.model_words.specs.Words.{◌>>=◌, or_refuse}
 use Rattle.model_words.specs.declared.faults.FaultKind.{FaultKind}
 use Rattle.model_words.specs.declared.faults.FaultKind.TheVariants.{Number, Hex}
-use Rattle.mesh_fields.specs.Fields.{is_hex_digit}
+use Rattle.mesh_fields.specs.Fields.{hex_in, is_hex_digit}
 use Rattle.mesh_fields.proofs.Digits.{front_grows, grows}
 use Rattle.mesh_fields.proofs.Sames.{fails, same_bytes}
 
@@ -57,43 +57,61 @@ fewer_digits (suc more) n small = elim (leb_tells (suc n) 16) [
       rw (high.0, fewer_digits more (n / 16) (div_below n 16 (16 ^ suc more) (omega arith) (omega (arith, small, pow-suc 16 (suc more))))) refl
 ]
 
+-- a digit is spelt as it is
+one_digit : (more d : ℕ) → d < 16 → hex_from more d ≡ hex_digit d ∷ []
+one_digit zero d small = let same : d % 16 ≡ d = omega (arith, small) in ap (λ (n : ℕ). hex_digit n ∷ []) same
+one_digit (suc more) d small = rw (le-leb (suc d) 16 small) refl
+
 -- one more digit of a number above 0 is spelt behind its digits
-one_more_digit : (n d : ℕ) → 1 ≤ n → n ≤ 268435455 → d < 16 → hex_from 7 (16 * n + d) ≡ hex_from 7 n ++ hex_digit d ∷ []
-one_more_digit n d some small below =
+one_more_digit : (more n d : ℕ) → 1 ≤ n → d < 16 → 16 * n + d < 16 ^ suc more → hex_from more (16 * n + d) ≡ hex_from more n ++ hex_digit d ∷ []
+one_more_digit zero n d some below small = absurd (omega (arith, some, small))
+one_more_digit (suc more) n d some below small =
     let front : (16 * n + d) / 16 ≡ n = omega (arith, below) in let last : (16 * n + d) % 16 ≡ d = omega (arith, below) in
-    rw (lt-leb (suc (16 * n + d)) 16 (omega (arith, some)), front, last, fewer_digits 6 n (omega (arith, small))) refl
+    let fewer : n < 16 ^ suc more = omega (arith, small, pow-suc 16 (suc more)) in
+    rw (lt-leb (suc (16 * n + d)) 16 (omega (arith, some)), front, last, fewer_digits more n fewer) refl
 
 -- digits behind a number above 0 are spelt behind its digits
-digits_behind : (n : ℕ) (digits : List ℕ) → 1 ≤ n → list_all is_hex_digit digits ≡ true → fold with_hex n digits ≤ 268435455
-    → hex_from 7 (fold with_hex n digits) ≡ hex_from 7 n ++ digits
-digits_behind n [] some are small = sym (append-nil (hex_from 7 n))
-digits_behind n (b ∷ bs) some are small =
+digits_behind : (more n : ℕ) (digits : List ℕ) → 1 ≤ n → list_all is_hex_digit digits ≡ true → fold with_hex n digits < 16 ^ suc more
+    → hex_from more (fold with_hex n digits) ≡ hex_from more n ++ digits
+digits_behind more n [] some are small = sym (append-nil (hex_from more n))
+digits_behind more n (b ∷ bs) some are small =
     let parts = and_parts (is_hex_digit b) (list_all is_hex_digit bs) are in
     let value = value_of (hex_value b) parts.0 in let told = digit_told b value.0 value.1 in
     let step : with_hex n b ≡ 16 * n + value.0 = ap (λ (c : ℕ). with_hex n c) told.0 ∙ with_digit n value.0 told.1 in
     let large : 16 * n + value.0 ≤ fold with_hex n (b ∷ bs) = omega (arith, grows 16 with_hex (λ m d. omega arith) (λ m d. omega arith) (with_hex n b) bs, step) in
-    let later = digits_behind (with_hex n b) bs (omega (arith, step, some)) parts.1 small in
-    let one : hex_from 7 (with_hex n b) ≡ hex_from 7 n ++ b ∷ [] =
-    ap (hex_from 7) step ∙ one_more_digit n value.0 some (omega (arith, large, small)) told.1 ∙ ap (λ (c : ℕ). hex_from 7 n ++ c ∷ []) (sym told.0) in
-    later ∙ ap (λ (front : List ℕ). front ++ bs) one ∙ append_assoc (hex_from 7 n) (b ∷ []) bs
+    let later = digits_behind more (with_hex n b) bs (omega (arith, step, some)) parts.1 small in
+    let one : hex_from more (with_hex n b) ≡ hex_from more n ++ b ∷ [] =
+    ap (hex_from more) step ∙ one_more_digit more n value.0 some told.1 (omega (arith, large, small)) ∙ ap (λ (c : ℕ). hex_from more n ++ c ∷ []) (sym told.0) in
+    later ∙ ap (λ (front : List ℕ). front ++ bs) one ∙ append_assoc (hex_from more n) (b ∷ []) bs
 
 -- the number of the digits before one of them is a sixteenth at most of that of them all
 pub hex_front : (digits : List ℕ) (i : ℕ) → i < length digits → 16 * hex_number (take i digits) ≤ hex_number digits
 hex_front = front_grows 16 with_hex (λ n d. omega arith) (λ n d. omega arith)
 
--- what isn't the spelling of an address is refused
-refused : (field : List ℕ) → (field ≡ address_text (hex_number field) → hex_number field ≤ 268435455 → ⊥) → address_in field ≡ Err Number
-refused field other =
-    rw (fails (are_same (address_text (hex_number field)) field && nat_le (hex_number field) 268435455) (λ passes.
-    let parts = and_parts (are_same (address_text (hex_number field)) field) (nat_le (hex_number field) 268435455) passes in
-    other (sym (same_by_test (address_text (hex_number field)) field parts.0)) (leb-true (hex_number field) 268435455 parts.1))) refl
+-- what isn't the spelling of a number in the range is refused
+refused : (more most : ℕ) (field : List ℕ) → (field ≡ hex_from more (hex_number field) → hex_number field ≤ most → ⊥) → hex_in more most field ≡ Err Number
+refused more most field other =
+    rw (fails (are_same (hex_from more (hex_number field)) field && nat_le (hex_number field) most) (λ passes.
+    let parts = and_parts (are_same (hex_from more (hex_number field)) field) (nat_le (hex_number field) most) passes in
+    other (sym (same_by_test (hex_from more (hex_number field)) field parts.0)) (leb-true (hex_number field) most parts.1))) refl
 
-pub not_digits : (field : List ℕ) → list_all is_hex_digit field ≡ false → address_in field ≡ Err Number
-not_digits field other = refused field (λ is small.
-    true≢false (sym (all_digits 7 (hex_number field)) ∙ ap (list_all is_hex_digit) (sym is) ∙ other))
+pub not_digits : (more most : ℕ) (field : List ℕ) → list_all is_hex_digit field ≡ false → hex_in more most field ≡ Err Number
+not_digits more most field other = refused more most field (λ is small.
+    true≢false (sym (all_digits more (hex_number field)) ∙ ap (list_all is_hex_digit) (sym is) ∙ other))
 
-pub too_great : (field : List ℕ) → 268435455 < hex_number field → address_in field ≡ Err Number
-too_great field large = refused field (λ is small. omega (arith, large, small))
+pub too_great : (more most : ℕ) (field : List ℕ) → most < hex_number field → hex_in more most field ≡ Err Number
+too_great more most field large = refused more most field (λ is small. omega (arith, large, small))
+
+-- a spelling has a digit
+some_digit : (more n : ℕ) → 1 ≤ length (hex_from more n)
+some_digit zero n = omega arith
+some_digit (suc more) n = elim (leb_tells (suc n) 16) [
+  | inl low ↦ rw low.0 (omega arith)
+  | inr high ↦ rw high.0 (omega (arith, length-append (hex_from more (n / 16)) (hex_digit (n % 16) ∷ [])))
+]
+
+pub no_digit : (more most : ℕ) (field : List ℕ) → length field ≡ 0 → hex_in more most field ≡ Err Number
+no_digit more most field none = refused more most field (λ is small. omega (arith, none, some_digit more (hex_number field), ap (λ (f : List ℕ). length f) is))
 
 -- the digit of a value above 0 isn't that of 0, and the other way round
 other_digit : (d : ℕ) → 1 ≤ d → hex_digit d ≢ 48
@@ -124,45 +142,44 @@ first_digit (suc more) n some small = elim (leb_tells (suc n) 16) [
       )
 ]
 
-no_leading_zero : (n : ℕ) → n ≤ 268435455 → 2 ≤ length (address_text n) → get_or (address_text n) 0 0 ≡ 48 → ⊥
-no_leading_zero zero small long zero_first = absurd (omega (arith, long))
-no_leading_zero (suc n) small long zero_first = (first_digit 7 (suc n) (omega arith) (omega (arith, small))).0 zero_first
+no_leading_zero : (more n : ℕ) → n < 16 ^ suc more → 2 ≤ length (hex_from more n) → get_or (hex_from more n) 0 0 ≡ 48 → ⊥
+no_leading_zero more zero small long zero_first = omega (arith, long, ap (λ (f : List ℕ). length f) (one_digit more 0 (omega arith)))
+no_leading_zero more (suc n) small long zero_first = (first_digit more (suc n) (omega arith) small).0 zero_first
 
-pub leading_zero : (field : List ℕ) → 2 ≤ length field → get_or field 0 0 ≡ 48 → address_in field ≡ Err Number
-leading_zero field long zero_first = refused field (λ is small.
-    no_leading_zero (hex_number field) small (subst (λ (f : List ℕ). 2 ≤ length f) is long) (subst (λ (f : List ℕ). get_or f 0 0 ≡ 48) is zero_first))
+pub leading_zero : (more most : ℕ) (field : List ℕ) → most < 16 ^ suc more → 2 ≤ length field → get_or field 0 0 ≡ 48 → hex_in more most field ≡ Err Number
+leading_zero more most field fits long zero_first = refused more most field (λ is small.
+    no_leading_zero more (hex_number field) (omega (arith, fits, small))
+    (subst (λ (f : List ℕ). 2 ≤ length f) is long) (subst (λ (f : List ℕ). get_or f 0 0 ≡ 48) is zero_first))
 
 -- digits behind a first digit that isn't 0
-spelt_behind : (d : ℕ) (digits : List ℕ) → 1 ≤ d → d < 16 → list_all is_hex_digit digits ≡ true → fold with_hex d digits ≤ 268435455
-    → address_text (fold with_hex d digits) ≡ hex_digit d ∷ digits
-spelt_behind d digits some below are small =
-    let one : hex_from 7 d ≡ hex_digit d ∷ [] = rw (le-leb (suc d) 16 below) refl in
-    digits_behind d digits some are small ∙ ap (λ (front : List ℕ). front ++ digits) one
+spelt_behind : (more d : ℕ) (digits : List ℕ) → 1 ≤ d → d < 16 → list_all is_hex_digit digits ≡ true → fold with_hex d digits < 16 ^ suc more
+    → hex_from more (fold with_hex d digits) ≡ hex_digit d ∷ digits
+spelt_behind more d digits some below are small =
+    digits_behind more d digits some are small ∙ ap (λ (front : List ℕ). front ++ digits) (one_digit more d below)
 
 -- the spelling of its number is read as it
-spelt_so : (field : List ℕ) → address_text (hex_number field) ≡ field → hex_number field ≤ 268435455 → address_in field ≡ Ok (hex_number field)
-spelt_so field spelt small =
-    let same : are_same (address_text (hex_number field)) field ≡ true = ap (λ (f : List ℕ). are_same f field) spelt ∙ same_bytes field in
-    rw (same, le-leb (hex_number field) 268435455 small) refl
+spelt_so : (more most : ℕ) (field : List ℕ) → hex_from more (hex_number field) ≡ field → hex_number field ≤ most → hex_in more most field ≡ Ok (hex_number field)
+spelt_so more most field spelt small =
+    let same : are_same (hex_from more (hex_number field)) field ≡ true = ap (λ (f : List ℕ). are_same f field) spelt ∙ same_bytes field in
+    rw (same, le-leb (hex_number field) most small) refl
 
 -- a field of digits without a leading zero is read as its number
-pub address_spelt : (field : List ℕ) → 1 ≤ length field → ((2 ≤ length field) × (get_or field 0 0 ≡ 48) → ⊥) → list_all is_hex_digit field ≡ true
-    → hex_number field ≤ 268435455 → address_in field ≡ Ok (hex_number field)
-address_spelt [] some first are small = absurd (omega (arith, some))
-address_spelt (b ∷ []) some first are small =
+pub hex_spelt : (more most : ℕ) (field : List ℕ) → most < 16 ^ suc more → 1 ≤ length field → ((2 ≤ length field) × (get_or field 0 0 ≡ 48) → ⊥)
+    → list_all is_hex_digit field ≡ true → hex_number field ≤ most → hex_in more most field ≡ Ok (hex_number field)
+hex_spelt more most [] fits some first are small = absurd (omega (arith, some))
+hex_spelt more most (b ∷ []) fits some first are small =
     let parts = and_parts (is_hex_digit b) true are in
     let value = value_of (hex_value b) parts.0 in let told = digit_told b value.0 value.1 in
     let number : hex_number (b ∷ []) ≡ value.0 = ap (λ (c : ℕ). with_hex 0 c) told.0 ∙ with_digit 0 value.0 told.1 ∙ omega arith in
-    let one : address_text value.0 ≡ hex_digit value.0 ∷ [] = rw (le-leb (suc value.0) 16 told.1) refl in
-    spelt_so (b ∷ []) (ap address_text number ∙ one ∙ ap (λ (c : ℕ). c ∷ []) (sym told.0)) small
-address_spelt (b ∷ c ∷ cs) some first are small =
+    spelt_so more most (b ∷ []) (ap (hex_from more) number ∙ one_digit more value.0 told.1 ∙ ap (λ (c : ℕ). c ∷ []) (sym told.0)) small
+hex_spelt more most (b ∷ c ∷ cs) fits some first are small =
     let parts = and_parts (is_hex_digit b) (list_all is_hex_digit (c ∷ cs)) are in
     let value = value_of (hex_value b) parts.0 in let told = digit_told b value.0 value.1 in
     let above : 1 ≤ value.0 = above_zero value.0 (λ e. first (omega arith, told.0 ∙ e)) in
     let front : with_hex 0 b ≡ value.0 = ap (λ (c : ℕ). with_hex 0 c) told.0 ∙ with_digit 0 value.0 told.1 ∙ omega arith in
     let number : hex_number (b ∷ c ∷ cs) ≡ fold with_hex value.0 (c ∷ cs) = ap (λ (n : ℕ). fold with_hex n (c ∷ cs)) front in
-    let spelt = spelt_behind value.0 (c ∷ cs) above told.1 parts.1 (omega (arith, number, small)) in
-    spelt_so (b ∷ c ∷ cs) (ap address_text number ∙ spelt ∙ ap (λ (d : ℕ). d ∷ c ∷ cs) (sym told.0)) small
+    let spelt = spelt_behind more value.0 (c ∷ cs) above told.1 parts.1 (omega (arith, number, small, fits)) in
+    spelt_so more most (b ∷ c ∷ cs) (ap (hex_from more) number ∙ spelt ∙ ap (λ (d : ℕ). d ∷ c ∷ cs) (sym told.0)) small
 
 -- the one kind of fault that two digits can have, and bytes of digits
 pair_kind : (a b : Option ℕ) (kind : FaultKind) → (or_refuse Hex a >>= λ h. or_refuse Hex b >>= λ l. Ok (16 * h + l)) ≡ Err kind → kind ≡ Hex

@@ -1,15 +1,18 @@
 //! Fields of hexadecimal digits, which are in lower case.
-ghost use Rattle.std.specs.Prelude.{◌≡◌, ◌<◌, ◌≤◌, ◌^◌, ◌⊎◌, ◌↔◌, Ok, Err, true, false, IfSome, IfOk, IfErr, IsNone, IsTrue, length, slice_index};
+ghost use Rattle.std.specs.Prelude.{◌≡◌, ◌<◌, ◌≤◌, ◌^◌, ◌⊎◌, ◌↔◌, ℕ, suc, Ok, Err, true, false, IfSome, IfOk, IfErr, IsNone, IsTrue, length, slice_index};
 ghost use Rattle.std.specs.List.{list_all};
 ghost use Rattle.arrayvec.specs.ArrayVec.{array_vec_len};
 ghost use Rattle.model_jobs.specs.JobFiles.{address_in, byte_from, byte_in, bytes_in, hex_number, hex_value};
-ghost use Rattle.mesh_fields.specs.Fields.{is_hex_digit};
+ghost use Rattle.mesh_fields.specs.Fields.{hex_in, is_hex_digit};
 
 use arrayvec::ArrayVec;
 use model_words::{FaultKind, MAX_BYTES};
 
-/// The greatest address, the last byte of the last virtual page.
+/// The greatest address of a job, the last byte of the last virtual page.
 const MAX_ADDRESS: u32 = 0xfff_ffff;
+
+/// The greatest address of 48 bits.
+const MAX_WIDE_ADDRESS: u64 = 0xffff_ffff_ffff;
 
 /// What is no value of a digit.
 const NO_DIGIT: u8 = 16;
@@ -84,6 +87,23 @@ pub fn bytes(field: &[u8]) -> Result<ArrayVec<u8, MAX_BYTES>, FaultKind>
 pub fn address(field: &[u8]) -> Result<u32, FaultKind>
     ensures { result ≡ address_in field.now }
 {
+    let address = hex_within(field, u64::from(MAX_ADDRESS))?;
+    Ok(address as u32)
+}
+
+/// An address of 48 bits, from 0 to ffffffffffff, without a leading zero. NUMBER where it is anything else.
+pub fn wide_address(field: &[u8]) -> Result<u64, FaultKind>
+    ensures value { result ≡ hex_in 11 281474976710655 field.now }
+    ensures most { IfOk result (λ a. a ≤ 281474976710655) }
+{
+    hex_within(field, MAX_WIDE_ADDRESS)
+}
+
+/// A field of hexadecimal digits from 0 to `most`, without a leading zero. NUMBER where it is anything else.
+fn hex_within(field: &[u8], most: u64) -> Result<u64, FaultKind>
+    ensures value { (more : ℕ) → most < 16 ^ suc more → result ≡ hex_in more most field.now }
+    ensures most { IfOk result (λ value. value ≤ most) }
+{
     if field.is_empty() {
         return Err(FaultKind::Number);
     }
@@ -93,7 +113,7 @@ pub fn address(field: &[u8]) -> Result<u32, FaultKind>
     let Some(value) = digits_value(field) else {
         return Err(FaultKind::Number);
     };
-    if value > MAX_ADDRESS {
+    if value > most {
         return Err(FaultKind::Number);
     }
     Ok(value)
@@ -109,16 +129,16 @@ pub fn has_leading_zero(digits: &[u8]) -> bool
     }
 }
 
-/// The value of hexadecimal digits, where they are nothing else and the value fits 32 bits.
-fn digits_value(digits: &[u8]) -> Option<u32>
+/// The value of hexadecimal digits, where they are nothing else and the value fits 64 bits.
+fn digits_value(digits: &[u8]) -> Option<u64>
     ensures digits { IfSome result (λ value. list_all is_hex_digit digits.now ≡ true) }
     ensures value { IfSome result (λ value. value ≡ hex_number digits.now) }
-    ensures none { IsNone result → (list_all is_hex_digit digits.now ≡ false) ⊎ (2 ^ 32 ≤ hex_number digits.now) }
+    ensures none { IsNone result → (list_all is_hex_digit digits.now ≡ false) ⊎ (2 ^ 64 ≤ hex_number digits.now) }
 {
-    let mut value = 0u32;
+    let mut value = 0u64;
     for byte in digits {
         let next = digit(*byte)?;
-        value = value.checked_mul(16)?.checked_add(u32::from(next))?;
+        value = value.checked_mul(16)?.checked_add(u64::from(next))?;
     }
     Some(value)
 }
