@@ -4,8 +4,8 @@ use Rattle.std.specs.List.{onto_first}
 use Rattle.std.proofs.lemmas.Bool.{lt-leb}
 use Rattle.model_jobs.specs.JobFiles.{Draft, fault_at, has_ended, job_of, lines_in}
 use Rattle.model_words.specs.declared.faults.FaultKind.TheVariants.{Cut, Trailing}
-use Rattle.mesh_job.specs.Reading.{IsPartOfLine, text_lines}
-use Rattle.mesh_job.proofs.Splits.{Parts, some_part}
+use Rattle.mesh_fields.specs.Lines.{IsPartOfLine, text_lines}
+use Rattle.mesh_fields.proofs.Splits.{Parts, some_part}
 
 -- bytes behind the end
 trailing : (number : ℕ) (draft : Draft) (b : ℕ) (passes : Bool) (parts : List (List ℕ)) → Parts parts → has_ended draft.section ≡ true

@@ -12,10 +12,10 @@ use Rattle.model_jobs.proofs.Fields.{with_digit}
 use Rattle.model_jobs.proofs.FieldReadings.{address_told, digit_told, digits_told}
 use Rattle.model_jobs.specs.JobFiles.{byte_from, decimal_value, hex_number, hex_value, with_hex}
 use Rattle.model_jobs.specs.Texts.{address_text, byte_text, bytes_text, hex_digit}
-use Rattle.mesh_job.specs.Reading.{LeadsNoZero, is_decimal_digit, is_hex_digit}
-use Rattle.mesh_job.proofs.Decimals.{digits_spell, next_value}
-use Rattle.mesh_job.proofs.HexFields.{address_spelt, two_digits}
-use Rattle.mesh_job.proofs.Sames.{between_by_test}
+use Rattle.mesh_fields.specs.Fields.{LeadsNoZero, is_decimal_digit, is_hex_digit}
+use Rattle.mesh_fields.proofs.Decimals.{digits_spell, next_value}
+use Rattle.mesh_fields.proofs.HexFields.{hex_spelt, two_digits}
+use Rattle.mesh_fields.proofs.Sames.{between_by_test}
 
 -- so many decimal digits of a text were read to a number
 pub record AreDigitsOf (text : List ℕ) (place number : ℕ) : Type 0 where
@@ -89,7 +89,7 @@ pub address_is_spelt : (text : List ℕ) (place value : ℕ) → 1 ≤ length (t
     → LeadsNoZero (take place text) → text ≡ address_text value ++ drop place text
 address_is_spelt text place value some few read leads =
     let small = fits_address value place read.below few in
-    let is = address_spelt (take place text) some leads read.digits (omega (arith, read.value, small)) in
+    let is = hex_spelt 7 268435455 (take place text) (omega arith) some leads read.digits (omega (arith, read.value, small)) in
     let told = address_told (take place text) (hex_number (take place text)) is in
     sym (take-append-drop place text) ∙ ap (λ (front : List ℕ). front ++ drop place text) (told.0 ∙ ap address_text (sym read.value))
 

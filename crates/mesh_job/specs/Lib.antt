@@ -9,3 +9,4 @@ pub mod Taken
 pub use Rattle.model_words.specs.Commands
 pub use Rattle.model_jobs.specs.JobFiles
 pub use Rattle.model_jobs.specs.Jobs
+pub use Rattle.mesh_fields.specs.Lines

@@ -1,7 +1,7 @@
 -- The lines of a live session, each of which is answered at once. This project's own choice.
-use Rattle.std.specs.Prelude.{ℕ, ◌-◌, ◌<◌, Bool, true, false, not, if◌then◌else◌, nat_lt, List, [], ◌∷◌, Result, Ok, Err, length, codes}
-use Rattle.std.specs.List.{list_all, list_any}
-use Rattle.model_jobs.specs.JobFiles.{IsValidLine, are_same, command_in, is_empty, is_printable, line_in, number_in}
+use Rattle.std.specs.Prelude.{ℕ, ◌-◌, ◌<◌, Bool, true, false, if◌then◌else◌, List, [], ◌∷◌, Result, Ok, Err, codes}
+use Rattle.std.specs.List.{list_any}
+use Rattle.model_jobs.specs.JobFiles.{IsValidLine, are_same, command_in, is_empty, line_in, number_in}
 use Rattle.model_jobs.specs.Jobs.{Line}
 use Rattle.model_words.specs.Commands.{IsInRange}
 use Rattle.model_words.specs.Words.{◌>>=◌, refuse_if}
@@ -9,8 +9,8 @@ use Rattle.model_words.specs.declared.commands.Command.{Command}
 use Rattle.model_words.specs.declared.faults.FaultKind.{FaultKind}
 use Rattle.model_words.specs.declared.faults.FaultKind.TheVariants.{TooLong, Trailing, LongLine, Cut, Byte, Word, Number, Hex}
 use Rattle.model_words.specs.declared.versions.Version.TheVariants.{Two}
+use Rattle.mesh_fields.specs.Lines.{bytes_fit, line_fields}
 use Rattle.mesh_job.specs.Plan.{line_of}
-use Rattle.mesh_job.specs.Reading.{line_fields}
 use Rattle.mesh_job.specs.declared.live_lines.LiveLine.{LiveLine as ReadLine}
 use Rattle.mesh_job.specs.declared.live_lines.LiveLine.TheVariants.{Attempt as ReadAttempt, Call as ReadCall}
 
@@ -60,10 +60,6 @@ live_in workers word fields =
 abbrev pub live_of_fields : ℕ → List (List ℕ) → Result LiveLine FaultKind
 live_of_fields workers [] = Err Word
 live_of_fields workers (word ∷ fields) = refuse_if Word (list_any is_empty (word ∷ fields)) >>= λ _. live_in workers word fields
-
--- a line without its end is short enough, and has no byte that may not stand in one
-abbrev pub bytes_fit : List ℕ → Result (Unit {0}) FaultKind
-bytes_fit line = refuse_if LongLine (nat_lt 1024 (length line)) >>= λ _. refuse_if Byte (not (list_all is_printable line))
 
 -- what a line without its end is read as, in a session of so many workers, or its fault
 abbrev pub live_line : ℕ → List ℕ → Result LiveLine FaultKind

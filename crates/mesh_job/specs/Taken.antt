@@ -3,8 +3,8 @@ use Rattle.std.specs.Prelude.{◌≡◌, ℕ, ◌+◌, ◌≤◌, Bool, false, �
 use Rattle.model_jobs.specs.JobFiles.{Draft as PlainDraft, blank_draft, has_ended, lines_in}
 use Rattle.model_jobs.specs.Jobs.{Job}
 use Rattle.model_words.specs.declared.faults.TextFault.{TextFault}
+use Rattle.mesh_fields.specs.Lines.{IsPartOfLine, text_lines}
 use Rattle.mesh_job.specs.Draft.{IsDraft, draft_of}
-use Rattle.mesh_job.specs.Reading.{IsPartOfLine, text_lines}
 use Rattle.mesh_job.specs.declared.reader.Reading.{Reading}
 
 -- what a file is read to that ends in these bytes: its fault, where one was found before them, and else what the draft comes to

@@ -2,11 +2,11 @@
 ghost use Rattle.std.specs.Prelude.{◌≡◌, IfOk};
 ghost use Rattle.model_words.specs.Commands.{IsInRange};
 ghost use Rattle.model_jobs.specs.JobFiles.{addr_in, alias_in, command_in, copy_in, free_in, get_in, is_second, new_in, peek_in, poke_in, put_in};
-ghost use Rattle.mesh_job.specs.Reading.{texts};
+ghost use Rattle.mesh_fields.specs.Lines.{texts};
 
-use crate::hex::{address, byte, bytes};
-use crate::lines::{five_fields, is_word, one_field, three_fields, two_fields};
-use crate::numbers::{cell, number, number32};
+use mesh_fields::hex::{address, byte, bytes};
+use mesh_fields::lines::{five_fields, is_word, one_field, three_fields, two_fields};
+use mesh_fields::numbers::{cell, number, number32};
 use model_words::{Command, FaultKind, Version};
 
 /// The greatest length that a `new` may ask for, and the greatest offset of a `put`, a `get` or a `copy`.

@@ -2,19 +2,20 @@
 ghost use Rattle.std.specs.Prelude.{◌≡◌, ◌<◌, true, false, Ok, Err, length, OnOk, IfOk, IfErr, IfSome, IsNone};
 ghost use Rattle.std.specs.List.{list_any};
 ghost use Rattle.model_jobs.specs.JobFiles.{blank_draft, has_ended, is_empty, job_of, plan_line, script_line, take_fields, take_in, version_of};
+ghost use Rattle.mesh_fields.specs.Lines.{IsPartOfLine, texts};
 ghost use Rattle.mesh_job.specs.Draft.{IsDraft, draft_of, is_in_header, section_of};
-ghost use Rattle.mesh_job.specs.Reading.{IsFaultOfLine, IsFaultOfStep, IsPartOfLine, IsReadOn, texts};
+ghost use Rattle.mesh_job.specs.Reading.{IsFaultOfLine, IsFaultOfStep, IsReadOn};
 
 use crate::commands::command_of;
 use crate::faults::LineFault;
-use crate::lines::{
-    FewFields, few_fields, fields_of, header, is_word, next_line, no_field, one_field,
-};
-use crate::numbers::number32;
 use crate::plan_lines::plan_line;
 use crate::quick::{quick_command, quick_line};
 use crate::script::close_script;
 use crate::{Job, Plan, PlanLine, Script, Scripts};
+use mesh_fields::lines::{
+    FewFields, few_fields, fields_of, header, is_word, next_line, no_field, one_field,
+};
+use mesh_fields::numbers::number32;
 use model_jobs::text_laws::lines_read_back;
 use model_words::{FaultKind, Version};
 use std::alloc::{AllocError, Global};

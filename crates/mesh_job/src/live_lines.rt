@@ -2,15 +2,16 @@
 ghost use Rattle.std.specs.Prelude.{◌≡◌, ◌≤◌, false, Ok, IfErr, IfOk};
 ghost use Rattle.std.specs.List.{list_any};
 ghost use Rattle.model_jobs.specs.JobFiles.{is_empty};
+ghost use Rattle.mesh_fields.specs.Lines.{texts};
 ghost use Rattle.mesh_job.specs.LiveLines.{IsValidLive, attempt_in, call_in, is_no_command, live_line, live_of, live_of_fields, read_live};
-ghost use Rattle.mesh_job.specs.Reading.{IsFaultOfStep, texts};
+ghost use Rattle.mesh_job.specs.Reading.{IsFaultOfStep};
 
 use crate::PlanLine;
 use crate::commands::command_of;
 use crate::faults::LineFault;
-use crate::lines::{check_bytes, fields_of, is_word};
-use crate::numbers::number32;
 use crate::plan_lines::plan_line;
+use mesh_fields::lines::{check_bytes, fields_of, is_word};
+use mesh_fields::numbers::number32;
 use model_words::{Command, FaultKind, Version};
 use std::alloc::Global;
 

@@ -3,14 +3,15 @@ ghost use Rattle.std.specs.Prelude.{◌≡◌, ◌≤◌, ◌↔◌, ℕ, false,
 ghost use Rattle.model_words.specs.Classes.{row_of};
 ghost use Rattle.model_jobs.specs.JobFiles.{are_same, begin_in, class_in, line_in, of_class_in, of_mesh_in, pair_in, run_in, sweep_in, whole_in, words_in};
 ghost use Rattle.model_jobs.specs.Jobs.{Line, CancelMesh, CancelClass, StepMesh, StepClass};
+ghost use Rattle.mesh_fields.specs.Lines.{texts};
 ghost use Rattle.mesh_job.specs.Plan.{line_of, read_line};
-ghost use Rattle.mesh_job.specs.Reading.{IsFaultOfStep, texts};
+ghost use Rattle.mesh_job.specs.Reading.{IsFaultOfStep};
 
 use crate::faults::LineFault;
-use crate::lines::{is_word, no_field, one_field, two_fields};
-use crate::numbers::{number, number32};
 use crate::{PlanLine, Search};
 use mesh_class::{Class, class_of};
+use mesh_fields::lines::{is_word, no_field, one_field, two_fields};
+use mesh_fields::numbers::{number, number32};
 use model_words::{FaultKind, Version};
 use std::alloc::Global;
 

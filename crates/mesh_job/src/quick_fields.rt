@@ -3,10 +3,10 @@
 ghost use Rattle.std.specs.Prelude.{◌≡◌, ◌∷◌, ◌++◌, ◌≤◌, decimal, length, IfSome, IsTrue};
 ghost use Rattle.std.specs.List.{All};
 ghost use Rattle.model_jobs.specs.Texts.{address_text, byte_text, bytes_text};
-ghost use Rattle.mesh_job.specs.Reading.{LeadsNoZero, is_decimal_digit};
+ghost use Rattle.mesh_fields.specs.Fields.{LeadsNoZero, is_decimal_digit};
 
-use crate::hex::{byte_of, digit, has_leading_zero};
 use arrayvec::ArrayVec;
+use mesh_fields::hex::{byte_of, digit, has_leading_zero};
 use model_words::MAX_BYTES;
 
 /// The most decimal digits that are read: so many fit 64 bits, whatever they are.

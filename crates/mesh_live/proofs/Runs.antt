@@ -16,7 +16,7 @@ use Rattle.model_jobs.specs.Texts.{ended}
 use Rattle.model_words.specs.declared.faults.FaultKind.{FaultKind}
 use Rattle.model_words.specs.declared.faults.FaultKind.TheVariants.{LongLine}
 use Rattle.mesh_job.specs.LiveLines.{live_line}
-use Rattle.mesh_job.specs.Reading.{text_lines}
+use Rattle.mesh_job.specs.Lines.{text_lines}
 use Rattle.mesh_live.specs.Answers.{Told, fault_text, told, told_read}
 use Rattle.mesh_live.specs.Runs.{HasFed, HasLived, HasTaken, IsKept, ends_on, live_output, have_end, is_end, rest_fault, told_lines, told_on, told_rest}
 use Rattle.mesh_live.specs.Sessions.{IsSession, job_of, sizes_of, state_of}

@@ -6,7 +6,7 @@ use Rattle.std.proofs.Math.Seq.{take-append-add, take-append_seam}
 use Rattle.std.specs.Io.KnownBytes.{Appends, Consumes}
 use Rattle.model_jobs.specs.Jobs.{opening}
 use Rattle.model_jobs.specs.Texts.{ended}
-use Rattle.mesh_job.specs.Reading.{text_lines}
+use Rattle.mesh_job.specs.Lines.{text_lines}
 use Rattle.mesh_text.specs.Transfer.{AppendsBeginning}
 use Rattle.mesh_live.specs.Answers.{told}
 use Rattle.mesh_live.specs.Runs.{HasFed, HasStopped, HasTaken, IsFedPart, IsKept, IsStopped, is_end, live_output, told_lines, told_on, told_rest}

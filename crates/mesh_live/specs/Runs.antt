@@ -7,7 +7,7 @@ use Rattle.model_jobs.specs.Jobs.{State, opening}
 use Rattle.model_jobs.specs.Texts.{ended}
 use Rattle.model_words.specs.declared.faults.FaultKind.{FaultKind}
 use Rattle.model_words.specs.declared.faults.FaultKind.TheVariants.{Cut, LongLine}
-use Rattle.mesh_job.specs.Reading.{text_lines}
+use Rattle.mesh_job.specs.Lines.{text_lines}
 use Rattle.mesh_text.specs.Transfer.{AppendsBeginning}
 use Rattle.mesh_live.specs.Answers.{fault_text, told}
 use Rattle.mesh_live.specs.Sessions.{IsSession, job_of, sizes_of, state_of}

@@ -8,5 +8,5 @@ pub mod Transfer
 pub mod Turns
 pub use Rattle.model_words.specs.Commands
 pub use Rattle.mesh_job.specs.Job
-pub use Rattle.mesh_job.specs.Reading
+pub use Rattle.mesh_job.specs.Lines
 pub use Rattle.mesh_job.specs.Taken

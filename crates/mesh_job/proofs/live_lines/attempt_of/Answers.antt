@@ -1,4 +1,3 @@
-use Rattle.mesh_job.specs.Reading.{texts}
 use Rattle.mesh_job.proofs.LiveFields.{no_attempt}
 use Rattle.mesh_job.proofs.live_lines.attempt_of.Goals as goal
 

@@ -1,7 +1,7 @@
 use Rattle.model_words.specs.declared.versions.Version.TheVariants.{Two}
 use Rattle.model_jobs.proofs.LineReadings.{line_in_range}
+use Rattle.mesh_fields.specs.Lines.{texts}
 use Rattle.mesh_job.specs.Plan.{line_of}
-use Rattle.mesh_job.specs.Reading.{texts}
 use Rattle.mesh_job.proofs.live_lines.call_of.Goals as goal
 
 pub returns-clause-in_range : goal.returns-clause-in_range

@@ -1,7 +1,8 @@
 use Rattle.std.proofs.Common.{rules, ◌≡◌, Ok, IfOk, IfErr, true, codes, subst, sym}
 use Rattle.model_jobs.specs.JobFiles.{are_same}
+use Rattle.mesh_fields.specs.Lines.{texts}
 use Rattle.mesh_job.specs.Plan.{line_of}
-use Rattle.mesh_job.specs.Reading.{IsFaultOfStep, texts}
+use Rattle.mesh_job.specs.Reading.{IsFaultOfStep}
 use Rattle.mesh_job.proofs.PlanReadings.{pair_chosen}
 use Rattle.mesh_job.proofs.plan_lines.plan_line.Goals as goal
 

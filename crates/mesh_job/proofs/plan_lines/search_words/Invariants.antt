@@ -1,7 +1,7 @@
 use Rattle.std.proofs.Common.{◌≡◌, ◌++◌, Ok, length}
 use Rattle.model_jobs.specs.JobFiles.{words_in}
 use Rattle.model_words.specs.Words.{◌>>=◌}
-use Rattle.mesh_job.specs.Reading.{texts}
+use Rattle.mesh_fields.specs.Lines.{texts}
 use Rattle.mesh_job.proofs.plan_lines.search_words.Given as goal
 
 -- what all fields say is what was read, and after it what the rest says

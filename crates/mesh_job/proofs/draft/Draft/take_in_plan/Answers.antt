@@ -1,6 +1,6 @@
 use Rattle.std.proofs.Common.{rules, ◌≡◌, ◌++◌, ◌∷◌, [], subst, sym}
+use Rattle.mesh_fields.specs.Lines.{texts}
 use Rattle.mesh_job.specs.Draft.{HasAllBefore}
-use Rattle.mesh_job.specs.Reading.{texts}
 use Rattle.mesh_job.proofs.PlanReadings.{plan_fits_more}
 use Rattle.mesh_job.proofs.draft.Draft.take_in_plan.Goals as goal
 

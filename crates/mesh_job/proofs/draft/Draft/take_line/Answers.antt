@@ -1,8 +1,9 @@
 use Rattle.std.proofs.Common.{◌≡◌, Ok, ap, ◌∙◌, rules, subst}
 use Rattle.std.proofs.lemmas.Result.{err_from_is_err_and}
 use Rattle.model_jobs.specs.JobFiles.{take_fields}
+use Rattle.mesh_fields.specs.Lines.{line_fields, texts}
 use Rattle.mesh_job.specs.Draft.{draft_of}
-use Rattle.mesh_job.specs.Reading.{IsFaultOfStep, line_fields, texts}
+use Rattle.mesh_job.specs.Reading.{IsFaultOfStep}
 use Rattle.mesh_job.specs.declared.draft.Draft.{Draft}
 use Rattle.mesh_job.proofs.TextLines.{line_fault, line_taken, split_is_line}
 use Rattle.mesh_job.proofs.draft.Draft.take_line.Goals as goal

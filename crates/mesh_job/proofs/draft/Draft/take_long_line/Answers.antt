@@ -2,8 +2,9 @@ use Rattle.std.proofs.Common.{◌≡◌, Ok, ap, ◌∙◌, subst, rules}
 use Rattle.std.proofs.lemmas.Result.{err_from_is_err_and}
 use Rattle.model_jobs.specs.JobFiles.{take_fields}
 use Rattle.model_words.specs.declared.faults.FaultKind.TheVariants.{Word}
+use Rattle.mesh_fields.specs.Lines.{line_fields, texts}
 use Rattle.mesh_job.specs.Draft.{draft_of}
-use Rattle.mesh_job.specs.Reading.{IsFaultOfStep, line_fields, texts}
+use Rattle.mesh_job.specs.Reading.{IsFaultOfStep}
 use Rattle.mesh_job.specs.declared.faults.LineFault.TheVariants.{Kind as LineKind}
 use Rattle.mesh_job.proofs.ManyFields.{no_fields}
 use Rattle.mesh_job.proofs.TextLines.{IsLine, line_taken, line_fault}

@@ -1,0 +1,7 @@
+pub mod Decimals
+mod Digits
+pub mod FewFields
+pub mod HexFields
+pub mod LineSteps
+pub mod Sames
+pub mod Splits

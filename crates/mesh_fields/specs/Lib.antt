@@ -1,0 +1,4 @@
+pub mod Fields
+pub mod Lines
+pub use Rattle.model_jobs.specs.JobFiles
+pub use Rattle.model_jobs.specs.Texts

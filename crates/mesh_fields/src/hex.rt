@@ -1,0 +1,144 @@
+//! Fields of hexadecimal digits, which are in lower case.
+ghost use Rattle.std.specs.Prelude.{◌≡◌, ◌<◌, ◌≤◌, ◌^◌, ◌⊎◌, ◌↔◌, ℕ, suc, Ok, Err, true, false, IfSome, IfOk, IfErr, IsNone, IsTrue, length, slice_index};
+ghost use Rattle.std.specs.List.{list_all};
+ghost use Rattle.arrayvec.specs.ArrayVec.{array_vec_len};
+ghost use Rattle.model_jobs.specs.JobFiles.{address_in, byte_from, byte_in, bytes_in, hex_number, hex_value};
+ghost use Rattle.mesh_fields.specs.Fields.{hex_in, is_hex_digit};
+
+use arrayvec::ArrayVec;
+use model_words::{FaultKind, MAX_BYTES};
+
+/// The greatest address of a job, the last byte of the last virtual page.
+const MAX_ADDRESS: u32 = 0xfff_ffff;
+
+/// The greatest address of 48 bits.
+const MAX_WIDE_ADDRESS: u64 = 0xffff_ffff_ffff;
+
+/// What is no value of a digit.
+const NO_DIGIT: u8 = 16;
+
+/// The value of a hexadecimal digit in lower case.
+#[inline]
+pub fn digit(byte: u8) -> Option<u8>
+    ensures value { result ≡ hex_value byte }
+    ensures below { IfSome result (λ value. value < 16) }
+{
+    // The digits of a text fall as they like, so no branch is to depend on which they are: both readings are made, and one is chosen.
+    let letter = byte.wrapping_sub(b'a');
+    let decimal = byte.wrapping_sub(b'0');
+    let value = if letter < 6 {
+        letter + 10
+    } else if decimal < 10 {
+        decimal
+    } else {
+        NO_DIGIT
+    };
+    if value == NO_DIGIT {
+        return None;
+    }
+    Some(value)
+}
+
+/// The byte of two hexadecimal digits. HEX where one of them is no such digit.
+#[inline]
+pub fn byte_of(high: u8, low: u8) -> Result<u8, FaultKind>
+    ensures { result ≡ byte_from high low }
+{
+    let high = digit(high).ok_or(FaultKind::Hex)?;
+    let low = digit(low).ok_or(FaultKind::Hex)?;
+    Ok(high * 16 + low)
+}
+
+/// A field of one byte. HEX where it is anything but two hexadecimal digits.
+pub fn byte(field: &[u8]) -> Result<u8, FaultKind>
+    ensures { result ≡ byte_in field.now }
+{
+    match field {
+        [high, low] => byte_of(*high, *low),
+        _ => Err(FaultKind::Hex),
+    }
+}
+
+/// From 1 to 32 bytes of two hexadecimal digits each. HEX where it is anything else.
+pub fn bytes(field: &[u8]) -> Result<ArrayVec<u8, MAX_BYTES>, FaultKind>
+    ensures ok { IfOk result (λ bytes. bytes_in field.now ≡ Ok bytes.items) }
+    ensures err { IfErr result (λ kind. bytes_in field.now ≡ Err kind) }
+    ensures some { IfOk result (λ bytes. 1 ≤ array_vec_len bytes) }
+{
+    let mut bytes = ArrayVec::new();
+    let mut rest = field;
+    while let [high, low, behind @ ..] = rest {
+        let byte = byte_of(*high, *low)?;
+        if bytes.try_push(byte).is_err() {
+            return Err(FaultKind::Hex);
+        }
+        rest = behind;
+    }
+    if !rest.is_empty() {
+        return Err(FaultKind::Hex);
+    }
+    if bytes.is_empty() {
+        return Err(FaultKind::Hex);
+    }
+    Ok(bytes)
+}
+
+/// An address from 0 to fffffff, without a leading zero. NUMBER where it is anything else.
+pub fn address(field: &[u8]) -> Result<u32, FaultKind>
+    ensures { result ≡ address_in field.now }
+{
+    let address = hex_within(field, u64::from(MAX_ADDRESS))?;
+    Ok(address as u32)
+}
+
+/// An address of 48 bits, from 0 to ffffffffffff, without a leading zero. NUMBER where it is anything else.
+pub fn wide_address(field: &[u8]) -> Result<u64, FaultKind>
+    ensures value { result ≡ hex_in 11 281474976710655 field.now }
+    ensures most { IfOk result (λ a. a ≤ 281474976710655) }
+{
+    hex_within(field, MAX_WIDE_ADDRESS)
+}
+
+/// A field of hexadecimal digits from 0 to `most`, without a leading zero. NUMBER where it is anything else.
+fn hex_within(field: &[u8], most: u64) -> Result<u64, FaultKind>
+    ensures value { (more : ℕ) → most < 16 ^ suc more → result ≡ hex_in more most field.now }
+    ensures most { IfOk result (λ value. value ≤ most) }
+{
+    if field.is_empty() {
+        return Err(FaultKind::Number);
+    }
+    if has_leading_zero(field) {
+        return Err(FaultKind::Number);
+    }
+    let Some(value) = digits_value(field) else {
+        return Err(FaultKind::Number);
+    };
+    if value > most {
+        return Err(FaultKind::Number);
+    }
+    Ok(value)
+}
+
+/// Whether some digits begin with a 0 and are more than that.
+pub fn has_leading_zero(digits: &[u8]) -> bool
+    ensures { IsTrue result ↔ (2 ≤ length digits.now) × (slice_index digits.now 0 ≡ 48) }
+{
+    match digits {
+        [first, _, ..] => *first == b'0',
+        _ => false,
+    }
+}
+
+/// The value of hexadecimal digits, where they are nothing else and the value fits 64 bits.
+fn digits_value(digits: &[u8]) -> Option<u64>
+    ensures digits { IfSome result (λ value. list_all is_hex_digit digits.now ≡ true) }
+    ensures value { IfSome result (λ value. value ≡ hex_number digits.now) }
+    ensures none { IsNone result → (list_all is_hex_digit digits.now ≡ false) ⊎ (2 ^ 64 ≤ hex_number digits.now) }
+{
+    let mut value = 0u64;
+    for byte in digits {
+        let next = digit(*byte)?;
+        value = value.checked_mul(16)?.checked_add(u64::from(next))?;
+    }
+    Some(value)
+}
