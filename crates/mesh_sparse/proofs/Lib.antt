@@ -1,0 +1,2 @@
+mod Overwritten
+mod Kept

@@ -1,0 +1,2 @@
+pub use Rattle.model_memory.specs.Memory
+pub mod Chunks

@@ -1,0 +1,58 @@
+//! Stores and loads whose answers were worked out by hand.
+ghost use Rattle.std.specs.Prelude.{◌+◌, ◌≤◌, length};
+
+use super::SparseBytes;
+use std::process::Abort;
+
+/// The bytes from an offset on are these.
+fn holds<R: Abort>(rt: &R, all: &SparseBytes, start: u32, bytes: &[u8])
+    requires fits { start + length bytes.now ≤ length all.now }
+    requires few { length bytes.now ≤ 32 }
+{
+    assert_eq!(rt;
+        all.load(start, bytes.len() as u32).as_slice(),
+        bytes,
+        "from {start} on"
+    );
+}
+
+#[test]
+fn bytes_that_were_never_stored_are_zeros(rt: HostRuntime) {
+    let mut all = SparseBytes::new(rt.alloc(), 200);
+    assert_eq!(rt; all.len(), 200);
+    holds(&rt, &all, 0, &[0; 32]);
+    assert_eq!(rt; all.store(70, &[7]), Ok(()));
+    holds(&rt, &all, 50, &[0; 20]);
+    holds(&rt, &all, 70, &[7, 0, 0]);
+    holds(&rt, &all, 168, &[0; 32]);
+    assert_eq!(rt; all.chunks.len(), 1);
+}
+
+#[test]
+fn bytes_are_stored_across_the_border_of_two_chunks(rt: HostRuntime) {
+    let mut all = SparseBytes::new(rt.alloc(), 130);
+    assert_eq!(rt; all.store(62, &[1, 2, 3, 4, 5]), Ok(()));
+    holds(&rt, &all, 60, &[0, 0, 1, 2, 3, 4, 5, 0]);
+    assert_eq!(rt; all.store(63, &[6, 7]), Ok(()));
+    holds(&rt, &all, 62, &[1, 6, 7, 4, 5]);
+    holds(&rt, &all, 128, &[0, 0]);
+    assert_eq!(rt; all.chunks.len(), 2);
+}
+
+/// The last byte of an object of so many is stored and loaded, and one chunk is kept then.
+///
+/// The length is an argument, since a proof writes out all the zeros of a length that stands in the code.
+fn last_byte_takes_one_chunk<R: AllocGlobal + Abort>(rt: &R, len: u32)
+    requires { 4 ≤ len }
+{
+    let mut all = SparseBytes::new(rt.alloc(), len);
+    assert_eq!(rt; all.store(len - 1, &[9]), Ok(()));
+    holds(rt, &all, len - 4, &[0, 0, 0, 9]);
+    holds(rt, &all, 0, &[0]);
+    assert_eq!(rt; all.chunks.len(), 1);
+}
+
+#[test]
+fn the_last_byte_of_the_longest_object_takes_one_chunk(rt: HostRuntime) {
+    last_byte_takes_one_chunk(&rt, u32::MAX);
+}
