@@ -24,7 +24,7 @@ const FEW_FIELDS: usize = 6;
 pub type FewFields<'a> = ArrayVec<&'a [u8], FEW_FIELDS>;
 
 /// The bytes before the first `at` and the bytes behind it.
-fn cut(bytes: &[u8], at: u8) -> Option<(&[u8], &[u8])>
+pub fn cut(bytes: &[u8], at: u8) -> Option<(&[u8], &[u8])>
     ensures none { IsNone result → slice_split (λ b. nat_eq b at) bytes.now ≡ bytes.now ∷ [] }
     ensures some { IfSome result (λ pieces. slice_split (λ b. nat_eq b at) bytes.now ≡ pieces.0.now ∷ slice_split (λ b. nat_eq b at) pieces.1.now) }
     ensures shorter { IfSome result (λ pieces. length pieces.1.now < length bytes.now) }
