@@ -1,0 +1,197 @@
+-- Reading the lines of a recorded history. The format is this project's own choice.
+use Rattle.std.specs.Prelude.{ℕ, ◌+◌, not, if◌then◌else◌, nat_eq, nat_lt, Bool, List, [], ◌∷◌, Option, Some, None, Result, Ok, Err, codes, drop, length, take}
+use Rattle.std.specs.List.{list_any, position}
+use Rattle.model_jobs.specs.JobFiles.{are_same, byte_in, bytes_in, five_fields, header_in, is_empty, no_field, number_in, one_field, three_fields, two_fields, word_in}
+use Rattle.model_memory.specs.Plain.{Entry}
+use Rattle.model_words.specs.Refusals.{name_of}
+use Rattle.model_words.specs.Words.{◌>>=◌, or_refuse, refuse_if}
+use Rattle.model_words.specs.declared.commands.Command.{Command}
+use Rattle.model_words.specs.declared.commands.Command.TheVariants.{New, Put, Get, Free, Alias, Addr, Peek, Poke, Copy as CopyBytes}
+use Rattle.model_words.specs.declared.commands.Reply.{Reply}
+use Rattle.model_words.specs.declared.commands.Reply.TheVariants.{Object as Made, Done, Bytes, At, Byte, Refused}
+use Rattle.model_words.specs.declared.faults.FaultKind.{FaultKind}
+use Rattle.model_words.specs.declared.faults.FaultKind.TheVariants.{Word}
+use Rattle.model_words.specs.declared.refusals.Refusal.{Refusal}
+use Rattle.model_words.specs.declared.refusals.Refusal.TheVariants.{Zero, TooLarge, NoPages, NoAddresses, Empty, Freed, Outside, Stray, NoGroup, Same, Class, Busy, Overlap, Members, NoMesh, TooLate, NotEmpty}
+use Rattle.mesh_fields.specs.Fields.{hex_in}
+use Rattle.mesh_fields.specs.Lines.{bytes_fit, line_fields}
+
+-- a cell, a length, an offset or a serial: any number of 32 bits
+abbrev pub wide_in : List ℕ → Result ℕ FaultKind
+wide_in field = number_in 0 4294967295 field
+
+-- an address: any number of 48 bits
+abbrev pub place_in : List ℕ → Result ℕ FaultKind
+place_in field = hex_in 11 281474976710655 field
+
+-- how many bytes are loaded or copied
+abbrev pub count_in : List ℕ → Result ℕ FaultKind
+count_in field = number_in 1 32 field
+
+-- `new CELL LEN WORD`
+abbrev pub new_in : List (List ℕ) → Result Command FaultKind
+new_in fields =
+    three_fields fields >>= λ f. wide_in f.0 >>= λ cell. wide_in f.1 >>= λ len. word_in f.2 >>= λ word. Ok (New cell len word)
+
+-- `put CELL OFF HEX`
+abbrev pub put_in : List (List ℕ) → Result Command FaultKind
+put_in fields =
+    three_fields fields >>= λ f. wide_in f.0 >>= λ cell. wide_in f.1 >>= λ off. bytes_in f.2 >>= λ bytes.
+    Ok (Put cell off (record { items = bytes }))
+
+-- `get CELL OFF LEN`
+abbrev pub get_in : List (List ℕ) → Result Command FaultKind
+get_in fields =
+    three_fields fields >>= λ f. wide_in f.0 >>= λ cell. wide_in f.1 >>= λ off. count_in f.2 >>= λ len. Ok (Get cell off len)
+
+-- `free CELL`
+abbrev pub free_in : List (List ℕ) → Result Command FaultKind
+free_in fields = one_field fields >>= λ f. wide_in f >>= λ cell. Ok (Free cell)
+
+-- `alias CELL FROM`
+abbrev pub alias_in : List (List ℕ) → Result Command FaultKind
+alias_in fields = two_fields fields >>= λ f. wide_in f.0 >>= λ to. wide_in f.1 >>= λ from. Ok (Alias to from)
+
+-- `addr CELL`
+abbrev pub addr_in : List (List ℕ) → Result Command FaultKind
+addr_in fields = one_field fields >>= λ f. wide_in f >>= λ cell. Ok (Addr cell)
+
+-- `peek ADDR`
+abbrev pub peek_in : List (List ℕ) → Result Command FaultKind
+peek_in fields = one_field fields >>= λ f. place_in f >>= λ address. Ok (Peek address)
+
+-- `poke ADDR BYTE`
+abbrev pub poke_in : List (List ℕ) → Result Command FaultKind
+poke_in fields = two_fields fields >>= λ f. place_in f.0 >>= λ address. byte_in f.1 >>= λ byte. Ok (Poke address byte)
+
+-- `copy TO OFF FROM OFF LEN`
+abbrev pub copy_in : List (List ℕ) → Result Command FaultKind
+copy_in fields =
+    five_fields fields >>= λ f. wide_in f.0 >>= λ to. wide_in f.1 >>= λ to_off. wide_in f.2 >>= λ from. wide_in f.3 >>= λ from_off.
+    count_in f.4 >>= λ len. Ok (CopyBytes to to_off from from_off len)
+
+-- a command by its word
+abbrev pub command_in : List ℕ → List (List ℕ) → Result Command FaultKind
+command_in word fields =
+    if are_same word (codes "new") then new_in fields
+    else (if are_same word (codes "put") then put_in fields
+    else (if are_same word (codes "get") then get_in fields
+    else (if are_same word (codes "free") then free_in fields
+    else (if are_same word (codes "alias") then alias_in fields
+    else (if are_same word (codes "addr") then addr_in fields
+    else (if are_same word (codes "peek") then peek_in fields
+    else (if are_same word (codes "poke") then poke_in fields
+    else (if are_same word (codes "copy") then copy_in fields else Err Word))))))))
+
+-- the refusal of a number from 1 to 17
+abbrev pub refusal_of : ℕ → Refusal
+refusal_of n =
+    if nat_eq n 1 then Zero
+    else (if nat_eq n 2 then TooLarge
+    else (if nat_eq n 3 then NoPages
+    else (if nat_eq n 4 then NoAddresses
+    else (if nat_eq n 5 then Empty
+    else (if nat_eq n 6 then Freed
+    else (if nat_eq n 7 then Outside
+    else (if nat_eq n 8 then Stray
+    else (if nat_eq n 9 then NoGroup
+    else (if nat_eq n 10 then Same
+    else (if nat_eq n 11 then Class
+    else (if nat_eq n 12 then Busy
+    else (if nat_eq n 13 then Overlap
+    else (if nat_eq n 14 then Members
+    else (if nat_eq n 15 then NoMesh
+    else (if nat_eq n 16 then TooLate else NotEmpty)))))))))))))))
+
+-- a refusal that was told by its number, with its own name
+abbrev pub named_in : Refusal → List ℕ → Result Refusal FaultKind
+named_in refusal name = refuse_if Word (not (are_same name (name_of refusal))) >>= λ _. Ok refusal
+
+-- a refusal by its number and its name
+abbrev pub refusal_in : List ℕ → List ℕ → Result Refusal FaultKind
+refusal_in number name = number_in 1 17 number >>= λ n. named_in (refusal_of n) name
+
+-- `object SERIAL at ADDR`
+abbrev pub object_in : List (List ℕ) → Result Reply FaultKind
+object_in fields =
+    three_fields fields >>= λ f. wide_in f.0 >>= λ serial. refuse_if Word (not (are_same f.1 (codes "at"))) >>= λ _.
+    place_in f.2 >>= λ address. Ok (Made serial address)
+
+-- `done`
+abbrev pub done_in : List (List ℕ) → Result Reply FaultKind
+done_in fields = no_field fields >>= λ _. Ok Done
+
+-- `bytes HEX`
+abbrev pub loaded_in : List (List ℕ) → Result Reply FaultKind
+loaded_in fields = one_field fields >>= λ f. bytes_in f >>= λ bytes. Ok (Bytes (record { items = bytes }))
+
+-- `at ADDR`
+abbrev pub at_in : List (List ℕ) → Result Reply FaultKind
+at_in fields = one_field fields >>= λ f. place_in f >>= λ address. Ok (At address)
+
+-- `byte HH`
+abbrev pub peeked_in : List (List ℕ) → Result Reply FaultKind
+peeked_in fields = one_field fields >>= λ f. byte_in f >>= λ byte. Ok (Byte byte)
+
+-- `refused NUMBER NAME`
+abbrev pub refused_in : List (List ℕ) → Result Reply FaultKind
+refused_in fields = two_fields fields >>= λ f. refusal_in f.0 f.1 >>= λ refusal. Ok (Refused refusal)
+
+-- a reply by its word
+abbrev pub reply_in : List ℕ → List (List ℕ) → Result Reply FaultKind
+reply_in word fields =
+    if are_same word (codes "object") then object_in fields
+    else (if are_same word (codes "done") then done_in fields
+    else (if are_same word (codes "bytes") then loaded_in fields
+    else (if are_same word (codes "at") then at_in fields
+    else (if are_same word (codes "byte") then peeked_in fields
+    else (if are_same word (codes "refused") then refused_in fields else Err Word)))))
+
+-- the field is the arrow between a command and its answer
+abbrev pub is_arrow : List ℕ → Bool
+is_arrow field = are_same field (codes "->")
+
+-- the fields before the one at a place, and those behind it
+abbrev pub parts_at : List (List ℕ) → Option ℕ → Option (List (List ℕ) × List (List ℕ))
+parts_at fields None = None
+parts_at fields (Some place) = Some (take place fields, drop (place + 1) fields)
+
+-- the fields before the first arrow, and those behind it
+abbrev pub arrow_split : List (List ℕ) → Option (List (List ℕ) × List (List ℕ))
+arrow_split fields = parts_at fields (position is_arrow fields)
+
+-- `W COMMAND`: a worker and what it asked
+abbrev pub asked_in : List (List ℕ) → Result (ℕ × Command) FaultKind
+asked_in [] = Err Word
+asked_in (worker ∷ []) = Err Word
+asked_in (worker ∷ word ∷ fields) = number_in 0 65535 worker >>= λ asking. command_in word fields >>= λ command. Ok (asking, command)
+
+-- what was answered
+abbrev pub answer_in : List (List ℕ) → Result Reply FaultKind
+answer_in [] = Err Word
+answer_in (word ∷ fields) = reply_in word fields
+
+-- an entry by the fields before its arrow and those behind it, from left to right
+abbrev pub entry_of : List (List ℕ) → List (List ℕ) → Result Entry FaultKind
+entry_of before behind =
+    asked_in before >>= λ asked. answer_in behind >>= λ reply. Ok (record { worker = asked.0; command = asked.1; reply = reply })
+
+-- an entry by its fields
+abbrev pub entry_fields : List (List ℕ) → Result Entry FaultKind
+entry_fields fields =
+    refuse_if Word (list_any is_empty fields) >>= λ _. refuse_if Word (nat_lt 35 (length fields)) >>= λ _.
+    or_refuse Word (arrow_split fields) >>= λ parts. entry_of parts.0 parts.1
+
+-- what the line of an entry, without its end, is read as, or its fault
+abbrev pub entry_in : List ℕ → Result Entry FaultKind
+entry_in line = bytes_fit line >>= λ _. entry_fields (line_fields line)
+
+-- the first line by its fields: `history 1`
+abbrev pub head_fields : List (List ℕ) → Result (Unit {0}) FaultKind
+head_fields [] = Err Word
+head_fields (word ∷ fields) =
+    refuse_if Word (list_any is_empty (word ∷ fields)) >>= λ _. header_in (codes "history") 1 1 word fields >>= λ _. Ok tt
+
+-- that a line, without its end, is the first one of a history, or its fault
+abbrev pub head_in : List ℕ → Result (Unit {0}) FaultKind
+head_in line = bytes_fit line >>= λ _. head_fields (line_fields line)

@@ -1,0 +1,2 @@
+pub mod HistoryFiles
+pub mod RecordedWords

@@ -1,0 +1,104 @@
+//! The lines of a recorded history: the first one, and the entries.
+ghost use Rattle.std.specs.Prelude.{◌≡◌, IfOk, IfErr, IfSome, IsNone, Ok, Err, Some, None};
+ghost use Rattle.model_words.specs.Commands.{IsInRange};
+ghost use Rattle.mesh_fields.specs.Lines.{texts};
+ghost use Rattle.mesh_history.specs.HistoryFiles.{answer_in, arrow_split, asked_in, entry_in, entry_of, head_in};
+ghost use Rattle.mesh_history.specs.RecordedWords.{IsNarrow, plain_command, plain_entry, plain_reply};
+
+use crate::commands::command_of;
+use crate::replies::reply_of;
+use crate::{RecordedCommand, RecordedEntry, RecordedReply};
+use mesh_fields::lines::{check_bytes, fields_of, header, is_word};
+use mesh_fields::numbers::number32;
+use model_words::FaultKind;
+
+/// The only version of a recorded history.
+const VERSION: u32 = 1;
+
+/// The greatest number of a worker.
+const MAX_WORKER: u32 = 65_535;
+
+/// Reads the first line of a history, `history 1`, without its end.
+///
+/// The first kind of fault that holds for the line is told: LONG_LINE where it has more than 1,024 bytes, BYTE where one of them isn't from 20
+/// to 7e, WORD where it isn't the word `history` and one field behind it, and NUMBER where that field isn't `1`.
+pub fn read_head(line: &[u8]) -> Result<(), FaultKind>
+    ensures { result ≡ head_in line.now }
+{
+    check_bytes(line)?;
+    let fields = fields_of(line)?;
+    let [word, fields @ ..] = fields.as_slice() else {
+        return Err(FaultKind::Word);
+    };
+    header(*word, fields, b"history", VERSION, VERSION)?;
+    Ok(())
+}
+
+/// Reads the line of an entry, `W COMMAND -> ANSWER`, without its end.
+///
+/// LONG_LINE where the line has more than 1,024 bytes, BYTE where one of them isn't from 20 to 7e, and WORD where a field is empty, where there
+/// are more than 35, or where none is `->`. Else the leftmost fault: WORD where a worker and a word, or the word of the answer, are missing,
+/// where a word is unknown, or where it has a wrong number of fields; NUMBER where a number or an address is spelt wrongly or out of its
+/// range; HEX where bytes are spelt wrongly or of a wrong length; and WORD where `at` or the name of a refusal is another field.
+pub fn read_entry(line: &[u8]) -> Result<RecordedEntry, FaultKind>
+    ensures ok { IfOk result (λ entry. entry_in line.now ≡ Ok (plain_entry entry)) }
+    ensures err { IfErr result (λ kind. entry_in line.now ≡ Err kind) }
+    ensures in_range { IfOk result (λ entry. IsInRange (plain_command entry.command)) }
+    ensures narrow { IfOk result (λ entry. IsNarrow entry.reply) }
+{
+    check_bytes(line)?;
+    let fields = fields_of(line)?;
+    let (before, behind) = arrow_split(fields.as_slice()).ok_or(FaultKind::Word)?;
+    entry_of(before, behind)
+}
+
+/// The fields before the first arrow, and those behind it. None where no field is an arrow.
+fn arrow_split<'a, 'b>(fields: &'b [&'a [u8]]) -> Option<(&'b [&'a [u8]], &'b [&'a [u8]])>
+    ensures some { IfSome result (λ parts. arrow_split (texts fields.now) ≡ Some (texts parts.0.now, texts parts.1.now)) }
+    ensures none { IsNone result → arrow_split (texts fields.now) ≡ None }
+{
+    let place = fields.iter().position(|field| is_word(*field, b"->"))?;
+    Some((&fields[..place], &fields[place + 1..]))
+}
+
+/// The entry with these fields before its arrow and these behind it.
+fn entry_of(before: &[&[u8]], behind: &[&[u8]]) -> Result<RecordedEntry, FaultKind>
+    ensures ok { IfOk result (λ entry. entry_of (texts before.now) (texts behind.now) ≡ Ok (plain_entry entry)) }
+    ensures err { IfErr result (λ kind. entry_of (texts before.now) (texts behind.now) ≡ Err kind) }
+    ensures in_range { IfOk result (λ entry. IsInRange (plain_command entry.command)) }
+    ensures narrow { IfOk result (λ entry. IsNarrow entry.reply) }
+{
+    let (worker, command) = asked_of(before)?;
+    let reply = answer_of(behind)?;
+    Ok(RecordedEntry {
+        worker,
+        command,
+        reply,
+    })
+}
+
+/// `W COMMAND`: a worker and what it asked.
+fn asked_of(fields: &[&[u8]]) -> Result<(u32, RecordedCommand), FaultKind>
+    ensures ok { IfOk result (λ asked. asked_in (texts fields.now) ≡ Ok (asked.0, plain_command asked.1)) }
+    ensures err { IfErr result (λ kind. asked_in (texts fields.now) ≡ Err kind) }
+    ensures in_range { IfOk result (λ asked. IsInRange (plain_command asked.1)) }
+{
+    let [worker, word, fields @ ..] = fields else {
+        return Err(FaultKind::Word);
+    };
+    let worker = number32(*worker, 0, MAX_WORKER)?;
+    let command = command_of(*word, fields)?;
+    Ok((worker, command))
+}
+
+/// What was answered.
+fn answer_of(fields: &[&[u8]]) -> Result<RecordedReply, FaultKind>
+    ensures ok { IfOk result (λ reply. answer_in (texts fields.now) ≡ Ok (plain_reply reply)) }
+    ensures err { IfErr result (λ kind. answer_in (texts fields.now) ≡ Err kind) }
+    ensures narrow { IfOk result IsNarrow }
+{
+    let [word, fields @ ..] = fields else {
+        return Err(FaultKind::Word);
+    };
+    reply_of(*word, fields)
+}

@@ -1,0 +1,13 @@
+//! The lines of a recorded history: commands and answers of any allocator, read.
+//!
+//! Cells, lengths and addresses have wider ranges than in a job file. A contract sees what was read as commands and replies of the plain memory.
+#![tactic(auto)]
+
+mod commands;
+mod entries;
+mod refusals;
+mod replies;
+mod words;
+
+pub use entries::{read_entry, read_head};
+pub use words::{RecordedCommand, RecordedEntry, RecordedReply};
