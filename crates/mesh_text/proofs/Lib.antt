@@ -8,4 +8,5 @@ pub mod Parts
 pub mod Pieces
 pub mod PlanLines
 pub mod PlayEnds
+pub mod RecordedTexts
 pub mod WorkerTurns

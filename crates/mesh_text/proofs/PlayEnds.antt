@@ -1,7 +1,7 @@
 -- What a play answers where it ends.
 use Rattle.std.proofs.Common.{◌≡◌, ℕ, Bool, true, false, List, [], Option, None, Some, Result, Ok, Err, ◌⊎◌, inl, inr, append-nil, sym, ◌∙◌}
 use Rattle.std.specs.Prelude.{is_err, OnOk, IfErr}
-use Rattle.std.specs.Result.{IsErr, IsErrAnd}
+use Rattle.std.specs.Result.{IsErr, IsErrAnd, OnErr}
 use Rattle.std.specs.Io.KnownBytes.{Appends}
 use Rattle.model_jobs.specs.Jobs.{Job}
 use Rattle.mesh_text.specs.Turns.{HasGathered}
@@ -56,3 +56,8 @@ module _ {T : Type 0} where
   pub last_kind : (r : Result T ReplayError) → IfErr r (λ e. e ≡ Write) → IfErr r (λ e. (e ≡ Write) ⊎ (e ≡ Memory))
   last_kind (Ok x) told = tt
   last_kind (Err e) told = inl told
+
+  -- and a beginning was written where the last write failed
+  pub last_begins : (P : Type 0) (r : Result T ReplayError) → OnErr r P → r ≡ Err Write → P
+  last_begins P (Ok x) part is = absurd (cc is)
+  last_begins P (Err e) part is = part

@@ -3,6 +3,8 @@ pub mod Devices
 pub mod Faults
 pub mod Histories
 pub mod HistoryRows
+pub mod RecordingRows
+pub mod Recordings
 pub mod Replay
 pub mod Transfer
 pub mod Turns

@@ -1,4 +1,4 @@
-//! The answer lines, without their ends.
+//! The answer lines, without their ends, and the words that they are made of.
 ghost use Rattle.std.specs.Prelude.{◌≡◌, ◌+◌, ◌<◌, ◌≤◌, ◌++◌, decimal, length, vec_capacity, vec_len, OnOk};
 ghost use Rattle.model_jobs.specs.Texts.{address_text, byte_text, bytes_text, hex_digit, refusal_text, reply_text};
 
@@ -43,8 +43,8 @@ fn add_object(text: &mut Vec<u8>, serial: u32, address: u32) -> Result<(), Alloc
     add_address(text, address)
 }
 
-/// Adds `refused NUMBER NAME`.
-fn add_refusal(text: &mut Vec<u8>, refusal: Refusal) -> Result<(), AllocError>
+/// Adds `refused NUMBER NAME`. An error is an allocation failure.
+pub fn add_refusal(text: &mut Vec<u8>, refusal: Refusal) -> Result<(), AllocError>
     ensures { OnOk result (text.new.items ≡ text.old.items ++ refusal_text refusal) }
 {
     text.extend_from_slice(b"refused ")?;
@@ -53,8 +53,8 @@ fn add_refusal(text: &mut Vec<u8>, refusal: Refusal) -> Result<(), AllocError>
     text.extend_from_slice(refusal.name().as_bytes())
 }
 
-/// Adds a number in decimal digits without a leading zero.
-pub(crate) fn add_decimal(text: &mut Vec<u8>, number: u64) -> Result<(), AllocError>
+/// Adds a number in decimal digits without a leading zero. An error is an allocation failure.
+pub fn add_decimal(text: &mut Vec<u8>, number: u64) -> Result<(), AllocError>
     ensures { OnOk result (text.new.items ≡ text.old.items ++ decimal number) }
 {
     let mut digits = Buffer::new();
@@ -65,7 +65,7 @@ pub(crate) fn add_decimal(text: &mut Vec<u8>, number: u64) -> Result<(), AllocEr
 const MAX_DIGITS: usize = 8;
 
 /// Adds an address in hexadecimal digits without a leading zero.
-fn add_address(text: &mut Vec<u8>, address: u32) -> Result<(), AllocError>
+pub(crate) fn add_address(text: &mut Vec<u8>, address: u32) -> Result<(), AllocError>
     ensures { OnOk result (text.new.items ≡ text.old.items ++ address_text address) }
 {
     text.reserve(MAX_DIGITS)?;
@@ -86,8 +86,8 @@ fn push_address(text: &mut Vec<u8>, address: u32)
     text.push_reserved(digit((address % 16) as u8));
 }
 
-/// Adds up to 32 bytes, two hexadecimal digits each.
-fn add_bytes(text: &mut Vec<u8>, bytes: &[u8]) -> Result<(), AllocError>
+/// Adds up to 32 bytes, two hexadecimal digits each, in lower case. An error is an allocation failure.
+pub fn add_bytes(text: &mut Vec<u8>, bytes: &[u8]) -> Result<(), AllocError>
     requires { length bytes.now ≤ 32 }
     ensures { OnOk result (text.new.items ≡ text.old.items ++ bytes_text bytes.now) }
 {

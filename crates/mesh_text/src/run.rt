@@ -82,15 +82,15 @@ fn play_lines<O: Sink>(
         turns.answer(alloc, job, line, text)?;
         text.extend_from_slice(b"\n")?;
         if text.len() >= CHUNK_BYTES {
-            write_answers(output, text.as_slice())?;
+            write_lines(output, text.as_slice())?;
             text.clear();
         }
     }
-    write_answers(output, text.as_slice())
+    write_lines(output, text.as_slice())
 }
 
-/// Writes lines of answers. Where the output fails, a beginning of them was written.
-fn write_answers<O: Sink>(output: &mut O, lines: &[u8]) -> Result<(), ReplayError>
+/// Writes lines of text. Write comes where the output failed, and then a beginning of them was written.
+pub fn write_lines<O: Sink>(output: &mut O, lines: &[u8]) -> Result<(), ReplayError>
     requires { O.has_failed output.old ≡ false }
     ensures ok { OnOk result (Appends (O.written output.old) (O.written output.new) lines.now) }
     ensures err { OnErr result (AppendsBeginning (O.written output.old) (O.written output.new) lines.now) }

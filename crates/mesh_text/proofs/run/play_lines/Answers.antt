@@ -12,7 +12,7 @@ use Rattle.mesh_text.proofs.AnswerLines.{all_written, line_gathered, output_writ
 use Rattle.mesh_text.proofs.PlanLines.{all_lines, line_fits}
 use Rattle.mesh_text.proofs.PlayEnds.{gathered_none, is_write, last_fails, last_kind, last_not_memory, last_ok, not_memory}
 use Rattle.mesh_text.proofs.run.play_lines.Goals as goal
-use Rattle.mesh_text.proofs.run.play_lines.Goals.{then-len-ge-CHUNK_BYTES+in_ok-write_answers, else-len-ge-CHUNK_BYTES}
+use Rattle.mesh_text.proofs.run.play_lines.Goals.{then-len-ge-CHUNK_BYTES+in_ok-write_lines, else-len-ge-CHUNK_BYTES}
 
 pub answer-requires-clause-fits : goal.answer-requires-clause-fits
 answer-requires-clause-fits g c =
@@ -32,12 +32,12 @@ loop-line-preserved g c =
     (c.in_ok-answer.ensures.told (state_up_to c.args.job.now c.loop-line.line-index) c.loop-line.invariant.at) c.loop-line.invariant.gathered c.in_ok-extend_from_slice.ensures.items in
     let workers = c.in_ok-answer.ensures.workers ∙ c.loop-line.invariant.workers in
     elim c.if-len-ge-CHUNK_BYTES.branch [
-      | then-len-ge-CHUNK_BYTES+in_ok-write_answers w ↦
-          let wrote : Appends (g.O.Sink.written c.loop-line.output) (g.O.Sink.written w.write_answers.new.output) c.extend_from_slice.new.self.items
-          = subst (λ bytes. Appends (g.O.Sink.written c.loop-line.output) (g.O.Sink.written w.write_answers.new.output) bytes) w.as_slice.ensures.value w.in_ok-write_answers.ensures.ok in
+      | then-len-ge-CHUNK_BYTES+in_ok-write_lines w ↦
+          let wrote : Appends (g.O.Sink.written c.loop-line.output) (g.O.Sink.written w.write_lines.new.output) c.extend_from_slice.new.self.items
+          = subst (λ bytes. Appends (g.O.Sink.written c.loop-line.output) (g.O.Sink.written w.write_lines.new.output) bytes) w.as_slice.ensures.value w.in_ok-write_lines.ensures.ok in
           record {
             workers = workers;
-            fresh = ap (λ o. g.O.Sink.has_failed o) w.output-is ∙ w.in_ok-write_answers.ensures.fails;
+            fresh = ap (λ o. g.O.Sink.has_failed o) w.output-is ∙ w.in_ok-write_lines.ensures.fails;
             at = line.1;
             gathered = rw (w.output-is, w.text-is, w.clear.ensures.items) (all_written c.args.job.now (c.loop-line.line-index + 1) _ _ _ c.extend_from_slice.new.self.items line.0 wrote);
           }
@@ -49,31 +49,31 @@ loop-line-preserved g c =
       }
     ]
 
-pub returns-in_err-write_answers-clause-beginning : goal.returns-in_err-write_answers-clause-beginning
-returns-in_err-write_answers-clause-beginning g c is =
+pub returns-in_err-write_lines-clause-beginning : goal.returns-in_err-write_lines-clause-beginning
+returns-in_err-write_lines-clause-beginning g c is =
     part_written c.args.job.now (c.loop-line.line-index + 1) _ _ _ c.extend_from_slice.new.self.items
     (line_gathered c.args.job.now c.loop-line.line-index c.lines-line-items.result.now c.line-item.result c.answer.new.self.book c.answer.new.self.next.items
     (g.O.Sink.written c.args.output.now) (g.O.Sink.written c.loop-line.output) c.loop-line.text.items c.answer.new.text.items c.extend_from_slice.new.self.items
     (c.lines-line-items.ensures ∙ ap (λ (j : Job). j.plan) c.job.view_is) c.loop-line-test.true c.line-item.is
     (c.in_ok-answer.ensures.told (state_up_to c.args.job.now c.loop-line.line-index) c.loop-line.invariant.at) c.loop-line.invariant.gathered c.in_ok-extend_from_slice.ensures.items).0
-    (subst (λ bytes. AppendsBeginning (g.O.Sink.written c.loop-line.output) (g.O.Sink.written c.write_answers.new.output) bytes) c.as_slice.ensures.value c.in_err-write_answers.ensures.err)
+    (subst (λ bytes. AppendsBeginning (g.O.Sink.written c.loop-line.output) (g.O.Sink.written c.write_lines.new.output) bytes) c.as_slice.ensures.value c.in_err-write_lines.ensures.err)
 
 pub returns-clause-whole : goal.returns-clause-whole
 returns-clause-whole g c =
     let job : Job = c.args.job.now in
     let all : take c.loop-line.line-index job.plan ≡ job.plan
     = all_lines c.lines-line-items.result.now job.plan c.loop-line.line-index (c.lines-line-items.ensures ∙ ap (λ (j : Job). j.plan) c.job.view_is) c.loop-line-test.false in
-    on_ok_weaker c.write_answers-2.result
+    on_ok_weaker c.write_lines-2.result
     (λ wrote. output_written job c.loop-line.line-index _ _ _ c.loop-line.text.items all c.loop-line.invariant.gathered
-    (subst (λ bytes. Appends (g.O.Sink.written c.loop-line.output) (g.O.Sink.written c.write_answers-2.new.output) bytes) c.as_slice-2.ensures.value wrote))
-    c.write_answers-2.ensures.ok
+    (subst (λ bytes. Appends (g.O.Sink.written c.loop-line.output) (g.O.Sink.written c.write_lines-2.new.output) bytes) c.as_slice-2.ensures.value wrote))
+    c.write_lines-2.ensures.ok
 
 pub returns-clause-beginning : goal.returns-clause-beginning
 returns-clause-beginning g c is =
-    let part : AppendsBeginning (g.O.Sink.written c.loop-line.output) (g.O.Sink.written c.write_answers-2.new.output) c.as_slice-2.result.now
-    = subst (λ r. OnErr r (AppendsBeginning (g.O.Sink.written c.loop-line.output) (g.O.Sink.written c.write_answers-2.new.output) c.as_slice-2.result.now)) is c.write_answers-2.ensures.err in
+    let part : AppendsBeginning (g.O.Sink.written c.loop-line.output) (g.O.Sink.written c.write_lines-2.new.output) c.as_slice-2.result.now
+    = subst (λ r. OnErr r (AppendsBeginning (g.O.Sink.written c.loop-line.output) (g.O.Sink.written c.write_lines-2.new.output) c.as_slice-2.result.now)) is c.write_lines-2.ensures.err in
     part_written c.args.job.now c.loop-line.line-index _ _ _ c.loop-line.text.items c.loop-line.invariant.gathered
-    (subst (λ bytes. AppendsBeginning (g.O.Sink.written c.loop-line.output) (g.O.Sink.written c.write_answers-2.new.output) bytes) c.as_slice-2.ensures.value part)
+    (subst (λ bytes. AppendsBeginning (g.O.Sink.written c.loop-line.output) (g.O.Sink.written c.write_lines-2.new.output) bytes) c.as_slice-2.ensures.value part)
 
 pub returns-in_err-answer-clause-lines : goal.returns-in_err-answer-clause-lines
 returns-in_err-answer-clause-lines g c is = (c.loop-line.invariant.gathered.lines, c.loop-line.invariant.gathered.wrote)
@@ -81,32 +81,32 @@ returns-in_err-answer-clause-lines g c is = (c.loop-line.invariant.gathered.line
 pub returns-in_err-extend_from_slice-clause-lines : goal.returns-in_err-extend_from_slice-clause-lines
 returns-in_err-extend_from_slice-clause-lines g c is = (c.loop-line.invariant.gathered.lines, c.loop-line.invariant.gathered.wrote)
 
-pub returns-in_err-write_answers-clause-fails : goal.returns-in_err-write_answers-clause-fails
-returns-in_err-write_answers-clause-fails g c is = c.in_err-write_answers.ensures.fails
+pub returns-in_err-write_lines-clause-fails : goal.returns-in_err-write_lines-clause-fails
+returns-in_err-write_lines-clause-fails g c is = c.in_err-write_lines.ensures.fails
 
-pub returns-in_err-write_answers-clause-lines : goal.returns-in_err-write_answers-clause-lines
-returns-in_err-write_answers-clause-lines g c is = absurd (not_memory c.from_residual-in_err-write_answers.result c.in_err-write_answers.field-0.0 c.from_residual-in_err-write_answers.ensures.1 c.in_err-write_answers.ensures.fault is)
+pub returns-in_err-write_lines-clause-lines : goal.returns-in_err-write_lines-clause-lines
+returns-in_err-write_lines-clause-lines g c is = absurd (not_memory c.from_residual-in_err-write_lines.result c.in_err-write_lines.field-0.0 c.from_residual-in_err-write_lines.ensures.1 c.in_err-write_lines.ensures.fault is)
 
-pub returns-in_err-write_answers-clause-kinds : goal.returns-in_err-write_answers-clause-kinds
-returns-in_err-write_answers-clause-kinds g c = is_write c.from_residual-in_err-write_answers.result c.in_err-write_answers.field-0.0 c.from_residual-in_err-write_answers.ensures.1 c.in_err-write_answers.ensures.fault
+pub returns-in_err-write_lines-clause-kinds : goal.returns-in_err-write_lines-clause-kinds
+returns-in_err-write_lines-clause-kinds g c = is_write c.from_residual-in_err-write_lines.result c.in_err-write_lines.field-0.0 c.from_residual-in_err-write_lines.ensures.1 c.in_err-write_lines.ensures.fault
 
-pub write_answers-requires : goal.write_answers-requires
-write_answers-requires g c = c.loop-line.invariant.fresh
+pub write_lines-requires : goal.write_lines-requires
+write_lines-requires g c = c.loop-line.invariant.fresh
 
-pub write_answers-requires-2 : goal.write_answers-requires-2
-write_answers-requires-2 g c = c.loop-line.invariant.fresh
+pub write_lines-requires-2 : goal.write_lines-requires-2
+write_lines-requires-2 g c = c.loop-line.invariant.fresh
 
 pub returns-clause-ok : goal.returns-clause-ok
-returns-clause-ok g c = last_ok c.write_answers-2.result _ c.write_answers-2.ensures.fails
+returns-clause-ok g c = last_ok c.write_lines-2.result _ c.write_lines-2.ensures.fails
 
 pub returns-clause-fails : goal.returns-clause-fails
-returns-clause-fails g c is = last_fails c.write_answers-2.result _ c.write_answers-2.ensures.fails is
+returns-clause-fails g c is = last_fails c.write_lines-2.result _ c.write_lines-2.ensures.fails is
 
 pub returns-clause-lines : goal.returns-clause-lines
-returns-clause-lines g c is = absurd (last_not_memory c.write_answers-2.result c.write_answers-2.ensures.fault is)
+returns-clause-lines g c is = absurd (last_not_memory c.write_lines-2.result c.write_lines-2.ensures.fault is)
 
 pub returns-clause-kinds : goal.returns-clause-kinds
-returns-clause-kinds g c = last_kind c.write_answers-2.result c.write_answers-2.ensures.fault
+returns-clause-kinds g c = last_kind c.write_lines-2.result c.write_lines-2.ensures.fault
 
 pub loop-line-init : goal.loop-line-init
 loop-line-init g c = record {
