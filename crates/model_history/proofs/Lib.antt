@@ -1,4 +1,4 @@
 mod Counted
 mod Given
-mod Steps
+pub mod Steps
 mod Widened

@@ -1,0 +1,11 @@
+use Rattle.model_memory.specs.Memory.{with_root}
+use Rattle.mesh_check.proofs.Commands.{alias_done}
+use Rattle.mesh_check.proofs.Trees.{pointed_stands}
+use Rattle.mesh_check.proofs.memory.Tracked.alias.Goals as goal
+
+pub returns-clause-done : goal.returns-clause-done
+returns-clause-done c = λ r st. (
+  with_root r.memory c.args.to c.in_ok-number.number,
+  alias_done r.memory c.args.to c.args.from _ (c.in_ok-number.ensures.named r st),
+  pointed_stands _ _ _ _ r _ _ c.args.to c.in_ok-number.number st c.ranges.to.fits c.in_ok-point.ensures,
+)

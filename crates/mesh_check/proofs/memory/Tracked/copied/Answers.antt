@@ -1,0 +1,31 @@
+use Rattle.std.proofs.Common.{◌≡◌, ◌+◌, ℕ, List, length, Some, Ok, ap, sym, subst, arith, ◌∙◌}
+use Rattle.std.specs.List.{slice_range}
+use Rattle.model_memory.specs.Memory.{Object, overwritten, with_object}
+use Rattle.model_memory.specs.Plain.{plain}
+use Rattle.model_words.specs.declared.commands.Command.TheVariants.{Copy as CopyBytes}
+use Rattle.model_words.specs.declared.commands.Reply.TheVariants.{Done}
+use Rattle.mesh_check.proofs.Commands.{copy_done, inside, range_length}
+use Rattle.mesh_check.proofs.memory.Tracked.copied.Goals as goal
+
+pub returns-clause-copied : goal.returns-clause-copied
+returns-clause-copied c =
+    let target = c.in_ok-target.target in
+    let into = c.in_ok-into.into.now in
+    let out_of = c.in_ok-out_of.out_of.now in
+    let fits = sym c.if-ends_outside.ensures in
+    let fits' = sym c.if-ends_outside-2.ensures in
+    let bytes : c.load.result.items ≡ slice_range out_of.bytes c.args.from_off (c.args.from_off + c.args.len)
+    = c.load.ensures ∙ ap (λ (o : Object). slice_range o.bytes c.args.from_off (c.args.from_off + c.args.len)) c.out_of.view_is in
+    let len : length c.load.result.items ≡ c.args.len
+    = ap (λ (all : List ℕ). length all) bytes ∙ range_length out_of.bytes c.args.from_off c.args.len (inside out_of c.args.from_off c.args.len fits') in
+    let within = inside into c.args.to_off c.args.len fits in (
+      into,
+      c.in_ok-into.ensures.live,
+      omega (arith, len, within),
+      λ r st.
+          subst (λ (all : List ℕ). plain r.memory 0 (CopyBytes c.args.to c.args.to_off c.args.from c.args.from_off c.args.len)
+          ≡ Ok (Done, with_object r.memory target (Some (record into { bytes = overwritten into.bytes c.args.to_off all })))) (sym bytes)
+          (copy_done r.memory c.args.to c.args.to_off c.args.from c.args.from_off c.args.len target c.in_ok-source.source into out_of
+          (c.in_ok-target.ensures.held r st) (c.in_ok-source.ensures.held r st) (st.object target ∙ c.in_ok-into.ensures.live)
+          (st.object c.in_ok-source.source ∙ c.in_ok-out_of.ensures.live) fits fits'),
+    )

@@ -1,0 +1,15 @@
+use Rattle.std.proofs.Common.{◌≡◌, ℕ, false, subst, sym}
+use Rattle.model_memory.specs.Plain.{ends_outside, stored}
+use Rattle.mesh_check.proofs.Commands.{inside, put_done}
+use Rattle.mesh_check.proofs.Trees.{overwritten_stands}
+use Rattle.mesh_check.proofs.memory.Tracked.put.Goals as goal
+
+pub returns-clause-done : goal.returns-clause-done
+returns-clause-done c = λ r st.
+    let object = c.in_ok-number.object.now in
+    let fits = subst (λ (len : ℕ). ends_outside object c.args.off len ≡ false) c.len.ensures.value (sym c.if-ends_outside.ensures) in (
+      stored r.memory (record { serial = c.in_ok-number.number; object = object }) c.args.off c.args.bytes.now.items,
+      put_done r.memory c.args.cell c.args.off c.args.bytes.now _ (c.in_ok-number.ensures.named r st) fits,
+      overwritten_stands _ _ _ _ _ _ r c.in_ok-number.number c.args.off object c.args.bytes.now.items c.as_slice.result.now st c.in_ok-number.ensures.live c.as_slice.ensures.value
+          (inside object c.args.off _ fits) (c.in_ok-store.ensures object c.in_ok-number.ensures.live),
+    )

@@ -1,0 +1,39 @@
+-- What is found of one entry.
+use Rattle.std.specs.Prelude.{◌≡◌, Bool, true, false, Result, Ok, Err}
+use Rattle.model_memory.specs.Memory.{Memory}
+use Rattle.model_memory.specs.Plain.{Follows, plain}
+use Rattle.model_history.specs.Recorded.{Recorded, RecordedStep, any_allocator}
+use Rattle.model_words.specs.declared.commands.Command.{Command}
+use Rattle.model_words.specs.declared.commands.Command.TheVariants.{New}
+use Rattle.model_words.specs.declared.commands.Reply.{Reply}
+use Rattle.mesh_history.specs.declared.words.RecordedReply.{RecordedReply}
+use Rattle.mesh_history.specs.declared.words.RecordedReply.TheVariants.{Done, Refused}
+use Rattle.std.specs.declared.alloc.AllocError.{AllocError}
+use Rattle.mesh_check.specs.Stands.{Stands, with_memory}
+use Rattle.mesh_check.specs.declared.faults.Fault.{Fault}
+use Rattle.mesh_check.specs.declared.faults.Fault.TheVariants.{Refused as IsRefused, Memory as OfMemory}
+use Rattle.mesh_check.specs.declared.memory.Tracked.{Tracked}
+
+-- the command makes an object
+abbrev pub is_new : Command → Bool
+is_new (New cell len word) = true
+is_new command = false
+
+-- the plain memory answers so, and the trees stand for what it leaves
+abbrev pub IsAnswered : Tracked → Tracked → Command → Reply → Type 0
+IsAnswered old new command reply = (r : Recorded) → Stands old r → (m : Memory) × Follows (plain r.memory 0 command) r.memory reply m × Stands new (with_memory r m)
+
+-- the entry is a step of a recorded history, and the trees stand for what it leaves
+abbrev pub IsTaken : Tracked → Tracked → Command → Reply → Type 0
+IsTaken old new command reply = (r : Recorded) → Stands old r → (n : Recorded) × RecordedStep any_allocator r command reply n × Stands new n
+
+-- it is none
+abbrev pub IsWrong : Tracked → Command → Reply → Type 0
+IsWrong old command reply = (r : Recorded) → Stands old r → (n : Recorded) → RecordedStep any_allocator r command reply n → ⊥
+
+-- what is told of a command that is done or refused; where memory was refused, an error
+abbrev pub IsTold : Result (Unit {0}) Fault → Result RecordedReply AllocError → Type 0
+IsTold (Ok _) (Ok reply) = reply ≡ Done
+IsTold (Err (IsRefused refusal)) (Ok reply) = reply ≡ Refused refusal
+IsTold (Err OfMemory) (Err error) = Unit {0}
+IsTold outcome told = ⊥

@@ -1,0 +1,10 @@
+pub mod Checks
+pub mod Judged
+pub mod Objects
+pub mod Outcomes
+pub mod Pieces
+pub mod Reasons
+pub mod Stands
+pub mod VerdictLaws
+pub mod VerdictTexts
+pub use Rattle.model_words.specs.Commands

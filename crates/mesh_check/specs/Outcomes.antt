@@ -1,0 +1,105 @@
+-- What is found of a text: whether it is a recorded history, and where not.
+use Rattle.std.specs.Prelude.{◌≡◌, ◌⊎◌, ℕ, ◌+◌, ◌-◌, Bool, true, false, if◌then◌else◌, nat_eq, nat_le, nat_lt, List, [], ◌∷◌, Result, Ok, Err, length}
+use Rattle.model_jobs.specs.JobFiles.{fault_at, is_empty}
+use Rattle.model_memory.specs.Plain.{Entry}
+use Rattle.model_history.specs.Recorded.{Recorded, RecordedStep, any_allocator, nothing_recorded}
+use Rattle.model_words.specs.Words.{◌>>=◌}
+use Rattle.model_words.specs.declared.faults.FaultKind.{FaultKind}
+use Rattle.model_words.specs.declared.faults.FaultKind.TheVariants.{Cut, LongLine, TooLong}
+use Rattle.model_words.specs.declared.faults.TextFault.{TextFault}
+use Rattle.mesh_fields.specs.Lines.{text_lines}
+use Rattle.mesh_history.specs.HistoryFiles.{entry_in, head_in}
+use Rattle.mesh_job.specs.declared.faults.ReadFault.{ReadFault}
+use Rattle.mesh_job.specs.declared.faults.ReadFault.TheVariants.{Text, Memory as OfMemory}
+use Rattle.mesh_check.specs.Stands.{Stands}
+use Rattle.mesh_check.specs.declared.lines.Judge.{Judge}
+use Rattle.mesh_check.specs.declared.verdicts.Verdict.{Verdict}
+use Rattle.mesh_check.specs.declared.verdicts.Verdict.TheVariants.{Legal as IsLegal, Wrong as IsWrong}
+
+-- a text is a legal history of so many entries, or the entry of a line is the first that isn't taken, or there is a fault before one
+pub data Outcome : Type 0 where
+  Legal : ℕ → Outcome
+  Wrong : ℕ → Outcome
+  Faulty : TextFault → Outcome
+
+-- the outcome that a verdict tells
+abbrev pub outcome_of : Verdict → Outcome
+outcome_of (IsLegal entries) = Legal entries
+outcome_of (IsWrong line reason) = Wrong line
+
+-- what a line is read as: the head of a history, or an entry
+pub data LineRead : Type 0 where
+  Head : LineRead
+  OfEntry : Entry → LineRead
+
+-- what a line is read as that has so many before it: the first is the head
+abbrev pub line_in : ℕ → List ℕ → Result LineRead FaultKind
+line_in lines line = if nat_eq lines 0 then (head_in line >>= λ _. Ok Head) else (entry_in line >>= λ entry. Ok (OfEntry entry))
+
+-- from here the line leads there: the head changes nothing, an entry is a recorded step
+abbrev pub LeadsTo : Recorded → LineRead → Recorded → Type 0
+LeadsTo r Head n = n ≡ r
+LeadsTo r (OfEntry entry) n = RecordedStep any_allocator r entry.command entry.reply n
+
+-- so many lines are all that a history may have
+abbrev pub is_full : ℕ → Bool
+is_full lines = nat_le 4294967295 lines
+
+-- the fault of a text that has more
+abbrev pub too_long : TextFault
+too_long = fault_at 0 TooLong
+
+-- behind so many lines a line is taken
+abbrev pub IsTakenLine : ℕ → Recorded → List ℕ → Recorded → Type 0
+IsTakenLine lines r line n = (is_full lines ≡ false) × ((read : LineRead) × (line_in lines line ≡ Ok read) × LeadsTo r read n)
+
+-- or it has a fault
+abbrev pub IsFaultyLine : ℕ → Recorded → List ℕ → Outcome → Type 0
+IsFaultyLine lines r line o = (is_full lines ≡ false) × ((kind : FaultKind) × (line_in lines line ≡ Err kind) × (o ≡ Faulty (fault_at (lines + 1) kind)))
+
+-- or it is an entry that isn't taken
+abbrev pub IsWrongLine : ℕ → Recorded → List ℕ → Outcome → Type 0
+IsWrongLine lines r line o = (is_full lines ≡ false) × ((read : LineRead) × (line_in lines line ≡ Ok read) × ((n : Recorded) → LeadsTo r read n → ⊥) × (o ≡ Wrong (lines + 1)))
+
+-- or it is one too many
+abbrev pub IsStopLine : ℕ → Recorded → List ℕ → Outcome → Type 0
+IsStopLine lines r line o = IsFaultyLine lines r line o ⊎ (IsWrongLine lines r line o ⊎ ((is_full lines ≡ true) × (o ≡ Faulty too_long)))
+
+-- the fault of a line behind so many that is too long
+abbrev pub long_line : ℕ → TextFault
+long_line lines = if is_full lines then too_long else fault_at (lines + 1) LongLine
+
+-- the fault of what follows the last line end: the line is cut off, unless it is too long already
+abbrev pub rest_fault : List ℕ → FaultKind
+rest_fault rest = if nat_lt 1024 (length rest) then LongLine else Cut
+
+-- what is found where a text ends with these bytes behind its last line end: a fault, where there are some, or where there is no line
+abbrev pub end_of : ℕ → List ℕ → Outcome
+end_of lines rest =
+    if is_full lines then (if is_empty rest then Legal (lines - 1) else Faulty too_long)
+    else (if is_empty rest then (if nat_eq lines 0 then Faulty (fault_at 1 Cut) else Legal (lines - 1)) else Faulty (fault_at (lines + 1) (rest_fault rest)))
+
+-- what is found of the lines that are left, the last of which is what follows the last line end
+abbrev pub IsJudged : ℕ → Recorded → List (List ℕ) → Outcome → Type 0
+IsJudged lines r [] o = ⊥
+IsJudged lines r (rest ∷ []) o = o ≡ end_of lines rest
+IsJudged lines r (line ∷ next ∷ more) o =
+    IsStopLine lines r line o ⊎ ((n : Recorded) × IsTakenLine lines r line n × IsJudged (lines + 1) n (next ∷ more) o)
+
+-- this is found of a text
+abbrev pub IsVerdict : List ℕ → Outcome → Type 0
+IsVerdict text o = IsJudged 0 (nothing_recorded any_allocator) (text_lines text) o
+
+-- wherever a judge stands, the line is taken, and the judge stands behind it
+abbrev pub Takes : Judge → Judge → List ℕ → Type 0
+Takes old new line =
+    (r : Recorded) → Stands old.memory r → (n : Recorded) × IsTakenLine old.lines r line n × Stands new.memory n × (new.lines ≡ old.lines + 1)
+
+-- wherever a judge stands, this is found at the line
+abbrev pub Stops : Judge → List ℕ → Outcome → Type 0
+Stops judge line o = (r : Recorded) → Stands judge.memory r → IsStopLine judge.lines r line o
+
+-- the fault is found at the line; where memory was refused nothing is said
+abbrev pub HasFault : Judge → List ℕ → ReadFault → Type 0
+HasFault judge line (Text fault) = Stops judge line (Faulty fault)
+HasFault judge line OfMemory = Unit {0}

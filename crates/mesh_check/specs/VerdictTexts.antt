@@ -1,0 +1,39 @@
+-- The text of a verdict. This project's own choice.
+use Rattle.std.specs.Prelude.{ℕ, List, ◌++◌, codes}
+use Rattle.model_jobs.specs.Texts.{byte_text, bytes_text, ended, field, hex_from, number_field, refusal_text}
+use Rattle.mesh_history.specs.declared.words.RecordedReply.{RecordedReply}
+use Rattle.mesh_history.specs.declared.words.RecordedReply.TheVariants.{Object, Done, Bytes, At, Byte, Refused}
+use Rattle.mesh_check.specs.declared.reasons.Reason.{Reason}
+use Rattle.mesh_check.specs.declared.reasons.Reason.TheVariants.{Differs, NoObject, LiveRefused, SerialAgain, Overlaps}
+use Rattle.mesh_check.specs.declared.verdicts.Verdict.{Verdict}
+use Rattle.mesh_check.specs.declared.verdicts.Verdict.TheVariants.{Legal, Wrong}
+
+-- an address of up to 64 bits, in hexadecimal digits without a leading zero
+unfoldable pub wide_text : ℕ → List ℕ
+wide_text address = hex_from 15 address
+
+-- an answer, as a recorded history has it
+abbrev pub recorded_text : RecordedReply → List ℕ
+recorded_text (Object serial address) = codes "object" ++ number_field serial ++ codes " at" ++ field (wide_text address)
+recorded_text Done = codes "done"
+recorded_text (Bytes bytes) = codes "bytes" ++ field (bytes_text bytes.items)
+recorded_text (At address) = codes "at" ++ field (wide_text address)
+recorded_text (Byte byte) = codes "byte" ++ field (byte_text byte)
+recorded_text (Refused refusal) = refusal_text refusal
+
+-- why an entry is not taken
+abbrev pub reason_text : Reason → List ℕ
+reason_text (Differs wanted) = codes "answer differs: " ++ recorded_text wanted ++ codes " wanted"
+reason_text NoObject = codes "answer differs: object wanted"
+reason_text LiveRefused = codes "live object is refused"
+reason_text SerialAgain = codes "serial again"
+reason_text (Overlaps serial) = codes "overlaps object" ++ number_field serial
+
+-- what a verdict says
+abbrev pub found_text : Verdict → List ℕ
+found_text (Legal entries) = codes "legal" ++ number_field entries ++ codes " entries"
+found_text (Wrong line reason) = codes "line" ++ number_field line ++ codes ": " ++ reason_text reason
+
+-- its line, with its end
+abbrev pub verdict_text : Verdict → List ℕ
+verdict_text verdict = ended (found_text verdict)
