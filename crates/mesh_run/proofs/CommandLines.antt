@@ -9,7 +9,8 @@ use Rattle.clap.specs.declared.parser.matches.ArgMatches.TheViews.{out-ArgMatche
 use Rattle.clap.specs.declared.parser.matches.Found.{Found}
 use Rattle.clap.proofs.OnLiterals.{clap_on_literals}
 use Rattle.clap.proofs.WalkLemmas.{first_value-rows}
-use Rattle.mesh_run.specs.CommandLine.{IsSaidOf, asked, asked_by, asked_in, asked_of, is_taken, kinds_of, draw_of, live_of, meshrun_app, replay_of, threads_of}
+use Rattle.mesh_run.specs.CommandLine.{IsSaidOf, asked, asked_by, asked_in, asked_of, is_taken, kinds_of, check_of, draw_of, live_of, meshrun_app, replay_of, threads_of}
+use Rattle.mesh_run.specs.declared.printed.Printed.TheVariants.{Answers, History}
 
 -- the command line is one whose matches and faults `clap` tells
 pub is_told : is_simple_and_free meshrun_app ≡ true
@@ -69,27 +70,43 @@ pub asked_of_file : (name : Text) (found : Found) (file : Option Text) → file 
     → option_and_then (asked_of name (rows_of found)) file ≡ option_and_then (asked_of name (rows_of found)) (first_of (codes "FILE") (rows_of found))
 asked_of_file name found file is = ap (option_and_then (asked_of name (rows_of found))) (is ∙ first_value-rows found (codes "FILE"))
 
--- `meshrun replay hello.job` is a command line of the program, and asks a replay of `hello.job`
+-- `meshrun replay hello.job` is a command line of the program, and asks a replay of `hello.job` that prints the answers
 abbrev hello : List Text
 hello = codes "meshrun" ∷ codes "replay" ∷ codes "hello.job" ∷ []
 
-hello_is_asked : (is_taken hello ≡ true) × (asked hello ≡ Some (replay_of (codes "hello.job")))
+hello_is_asked : (is_taken hello ≡ true) × (asked hello ≡ Some (replay_of (codes "hello.job") Answers))
 unfolding clap_on_literals asked is_taken
 hello_is_asked = (refl, refl)
+
+-- with `--history`, before the file or behind it, it prints the history
+abbrev recorded : List Text
+recorded = codes "meshrun" ∷ codes "replay" ∷ codes "--history" ∷ codes "hello.job" ∷ []
+
+recorded_is_asked : (is_taken recorded ≡ true) × (asked recorded ≡ Some (replay_of (codes "hello.job") History))
+unfolding clap_on_literals asked is_taken
+recorded_is_asked = (refl, refl)
+
+-- the flag has no value
+abbrev valued : List Text
+valued = codes "meshrun" ∷ codes "replay" ∷ codes "hello.job" ∷ codes "--history=no" ∷ []
+
+valued_is_refused : is_taken valued ≡ false
+unfolding clap_on_literals is_taken
+valued_is_refused = refl
 
 -- without `--meshers` one thread meshes
 abbrev small : List Text
 small = codes "meshrun" ∷ codes "threads" ∷ codes "a.job" ∷ codes "--probe" ∷ codes "2" ∷ codes "--rounds" ∷ codes "3" ∷ codes "--workers" ∷ codes "4" ∷ codes "--seed" ∷ codes "5" ∷ []
 
-small_is_asked : (is_taken small ≡ true) × (asked small ≡ Some (threads_of (codes "a.job") (record { probe = 2; rounds = 3; workers = 4; seed = 5; meshers = 1 })))
+small_is_asked : (is_taken small ≡ true) × (asked small ≡ Some (threads_of (codes "a.job") (record { probe = 2; rounds = 3; workers = 4; seed = 5; meshers = 1 }) Answers))
 unfolding clap_on_literals asked is_taken
 small_is_asked = (refl, refl)
 
--- options stand in any order, and take the most that they may
+-- options stand in any order, and take the most that they may; the history is printed
 abbrev large : List Text
-large = codes "meshrun" ∷ codes "threads" ∷ codes "--meshers=10" ∷ codes "--seed=18446744073709551615" ∷ codes "--workers=16" ∷ codes "a.job" ∷ codes "--rounds=1000" ∷ codes "--probe=64" ∷ []
+large = codes "meshrun" ∷ codes "threads" ∷ codes "--meshers=10" ∷ codes "--seed=18446744073709551615" ∷ codes "--workers=16" ∷ codes "a.job" ∷ codes "--rounds=1000" ∷ codes "--history" ∷ codes "--probe=64" ∷ []
 
-large_is_asked : (is_taken large ≡ true) × (asked large ≡ Some (threads_of (codes "a.job") (record { probe = 64; rounds = 1000; workers = 16; seed = 18446744073709551615; meshers = 10 })))
+large_is_asked : (is_taken large ≡ true) × (asked large ≡ Some (threads_of (codes "a.job") (record { probe = 64; rounds = 1000; workers = 16; seed = 18446744073709551615; meshers = 10 }) History))
 unfolding clap_on_literals asked is_taken
 large_is_asked = (refl, refl)
 
@@ -148,3 +165,26 @@ filed = codes "meshrun" ∷ codes "live" ∷ codes "a.job" ∷ []
 filed_is_refused : is_taken filed ≡ false
 unfolding clap_on_literals is_taken
 filed_is_refused = refl
+
+-- `meshrun check a.history` asks whether that history is legal, and `-` is a file's name to the command line
+abbrev judged : List Text
+judged = codes "meshrun" ∷ codes "check" ∷ codes "a.history" ∷ []
+
+judged_is_asked : (is_taken judged ≡ true) × (asked judged ≡ Some (check_of (codes "a.history")))
+unfolding clap_on_literals asked is_taken
+judged_is_asked = (refl, refl)
+
+abbrev piped : List Text
+piped = codes "meshrun" ∷ codes "check" ∷ codes "-" ∷ []
+
+piped_is_asked : (is_taken piped ≡ true) × (asked piped ≡ Some (check_of (codes "-")))
+unfolding clap_on_literals asked is_taken
+piped_is_asked = (refl, refl)
+
+-- a picture isn't of a history
+abbrev pictured : List Text
+pictured = codes "meshrun" ∷ codes "draw" ∷ codes "a.job" ∷ codes "--history" ∷ []
+
+pictured_is_refused : is_taken pictured ≡ false
+unfolding clap_on_literals is_taken
+pictured_is_refused = refl

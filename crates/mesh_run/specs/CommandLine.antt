@@ -5,20 +5,23 @@ use Rattle.std.specs.Str.{bytes_eq}
 use Rattle.std.specs.Str.Parse.{digits_value, without_leading_plus}
 use Rattle.clap.specs.ValueTests.{is_unsigned_in}
 use Rattle.clap.specs.Words.{App, IsAmong, Kinds, Row, Rule, Text, fault_of, first_of, new_app, new_rule, one_of, subcommand_of, takes, with_rule, with_subcommand}
+use Rattle.clap.specs.declared.builder.action.ArgAction.TheVariants.{SetTrue}
 use Rattle.clap.specs.declared.builder.value_parser.ValueParser.TheVariants.{Unsigned}
 use Rattle.clap.specs.declared.error.kind.ErrorKind.{ErrorKind}
 use Rattle.clap.specs.declared.error.kind.ErrorKind.TheVariants.{DisplayHelp, DisplayVersion, MissingSubcommand, OutOfMemory}
 use Rattle.model_jobs.specs.Texts.{ended}
 use Rattle.mesh_run.specs.declared.command_line.Args.{Args}
-use Rattle.mesh_run.specs.declared.command_line.Args.TheVariants.{Draw, Live, Replay, Threads}
+use Rattle.mesh_run.specs.declared.command_line.Args.TheVariants.{Check, Draw, Live, Replay, Threads}
 use Rattle.mesh_run.specs.declared.command_line.Stop.{Stop}
 use Rattle.mesh_run.specs.declared.draw_args.DrawArgs.{DrawArgs}
 use Rattle.mesh_run.specs.declared.live_args.LiveArgs.{LiveArgs}
+use Rattle.mesh_run.specs.declared.printed.Printed.{Printed}
+use Rattle.mesh_run.specs.declared.printed.Printed.TheVariants.{Answers, History}
 use Rattle.mesh_run.specs.declared.threads_args.ThreadsArgs.{ThreadsArgs}
 
 -- ---- what the program takes
 
--- the job file
+-- the file
 abbrev pub file_rule : Rule
 file_rule = record (new_rule (codes "FILE")) { required = true }
 
@@ -34,15 +37,20 @@ required_number name least most = record (number_rule name least most) { require
 abbrev pub number_or : Text → ℕ → ℕ → Text → Rule
 number_or name least most default = record (number_rule name least most) { defaults = default ∷ [] }
 
--- `replay FILE`
-abbrev pub replay_app : App
-replay_app = with_rule (new_app (codes "replay")) file_rule
+-- a flag of this name
+abbrev pub flag_rule : Text → Rule
+flag_rule name = record (new_rule name) { long = Some name; action = Some SetTrue }
 
--- `threads FILE --probe T --rounds R --workers N --seed S [--meshers M]`
+-- `replay FILE [--history]`
+abbrev pub replay_app : App
+replay_app = with_rule (with_rule (new_app (codes "replay")) file_rule) (flag_rule (codes "history"))
+
+-- `threads FILE --probe T --rounds R --workers N --seed S [--meshers M] [--history]`
 abbrev pub threads_app : App
-threads_app = with_rule (with_rule (with_rule (with_rule (with_rule (with_rule (new_app (codes "threads")) file_rule)
+threads_app = with_rule (with_rule (with_rule (with_rule (with_rule (with_rule (with_rule (new_app (codes "threads")) file_rule)
     (required_number (codes "probe") 0 64)) (required_number (codes "rounds") 0 1000)) (required_number (codes "workers") 1 16))
-    (required_number (codes "seed") 0 18446744073709551615)) (number_or (codes "meshers") 1 10 (codes "1"))
+    (required_number (codes "seed") 0 18446744073709551615)) (number_or (codes "meshers") 1 10 (codes "1")))
+    (flag_rule (codes "history"))
 
 -- `draw FILE [--from N] [--to N] [--columns N]`
 abbrev pub draw_app : App
@@ -55,14 +63,20 @@ abbrev pub live_app : App
 live_app = with_rule (with_rule (with_rule (new_app (codes "live")) (number_or (codes "pages") 1 4096 (codes "4096")))
     (number_or (codes "history") 0 65536 (codes "65536"))) (number_or (codes "workers") 1 64 (codes "64"))
 
+-- `check FILE`
+abbrev pub check_app : App
+check_app = with_rule (new_app (codes "check")) file_rule
+
 -- the program alone: it has a version, wants a subcommand, and shows its help without a word
 abbrev pub bare_app : App
 bare_app = let app = new_app (codes "meshrun") in
     record app { top = record app.top { has_version = true; subcommand_required = true; arg_required_else_help = true } }
 
--- `meshrun replay FILE`, `meshrun threads FILE ..`, `meshrun draw FILE ..` and `meshrun live ..`
+-- `meshrun replay FILE ..`, `meshrun threads FILE ..`, `meshrun draw FILE ..`, `meshrun live ..` and `meshrun check FILE`
 abbrev pub meshrun_app : App
-meshrun_app = with_subcommand (with_subcommand (with_subcommand (with_subcommand bare_app replay_app.top) threads_app.top) draw_app.top) live_app.top
+meshrun_app =
+    with_subcommand (with_subcommand (with_subcommand (with_subcommand (with_subcommand bare_app replay_app.top) threads_app.top) draw_app.top) live_app.top)
+    check_app.top
 
 -- ---- what words ask for
 
@@ -87,12 +101,14 @@ pub record SessionSizes : Type 0 where
   pub history : ℕ
   pub workers : ℕ
 
--- a replay of the job file at this path, its scripts run by threads with these numbers, or a picture of what is shown of its plan; or a session of these sizes
+-- a replay of the job file at this path, its scripts run by threads with these numbers, each of which prints this, or a picture of what is shown of its
+-- plan; a session of these sizes; or a judgement of the recorded history at this path
 pub data Asked : Type 0 where
-  replay_of : Text → Asked
-  threads_of : Text → Numbers → Asked
+  replay_of : Text → Printed → Asked
+  threads_of : Text → Numbers → Printed → Asked
   draw_of : Text → Shown → Asked
   live_of : SessionSizes → Asked
+  check_of : Text → Asked
 
 -- the number of this text, where `clap` takes it as one in the range
 abbrev pub number_of : ℕ → ℕ → Text → Option ℕ
@@ -101,6 +117,14 @@ number_of least most text = if is_unsigned_in least most text then Some (digits_
 -- the number in the range that the matches have for the option of this name
 abbrev pub number_in : Text → ℕ → ℕ → List Row → Option ℕ
 number_in name least most rows = option_and_then (number_of least most) (one_of name rows)
+
+-- what the value of the flag `--history` asks to be printed: it is `true` where the flag is given
+abbrev pub printed_by : Text → Printed
+printed_by value = if bytes_eq value (codes "true") then History else Answers
+
+-- what the matches have to be printed
+abbrev pub printed_in : List Row → Option Printed
+printed_in rows = option_map printed_by (first_of (codes "history") rows)
 
 -- the numbers that the matches have for `threads`
 abbrev pub numbers_in : List Row → Option Numbers
@@ -125,9 +149,10 @@ sizes_in rows =
 -- what a subcommand of this name with these matches asks for, on the file
 abbrev pub asked_of : Text → List Row → Text → Option Asked
 asked_of name rows file =
-    if bytes_eq name (codes "replay") then Some (replay_of file)
-    else (if bytes_eq name (codes "threads") then option_map (threads_of file) (numbers_in rows)
-    else (if bytes_eq name (codes "draw") then option_map (draw_of file) (shown_in rows) else None))
+    if bytes_eq name (codes "replay") then option_map (replay_of file) (printed_in rows)
+    else (if bytes_eq name (codes "threads") then option_and_then (λ numbers. option_map (threads_of file numbers) (printed_in rows)) (numbers_in rows)
+    else (if bytes_eq name (codes "draw") then option_map (draw_of file) (shown_in rows)
+    else (if bytes_eq name (codes "check") then Some (check_of file) else None)))
 
 -- what a subcommand of this name with these matches asks for: a session needs no file
 abbrev pub asked_by : Text → List Row → Option Asked
@@ -165,10 +190,11 @@ sizes_of args = record { pages = args.pages; history = args.history; workers = a
 
 -- what the program was told to do
 abbrev pub asking : Args → Asked
-asking (Replay path) = replay_of path.now
-asking (Threads path args) = threads_of path.now (numbers_of args)
+asking (Replay path printed) = replay_of path.now printed
+asking (Threads path args printed) = threads_of path.now (numbers_of args) printed
 asking (Draw path args) = draw_of path.now (shown_of args)
 asking (Live args) = live_of (sizes_of args)
+asking (Check path) = check_of path.now
 
 -- the words ask for this
 abbrev pub IsAsked : List Text → Args → Type 0

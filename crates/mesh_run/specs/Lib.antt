@@ -1,3 +1,4 @@
+pub mod Checks
 pub mod CommandLine
 pub mod DrawArgs
 pub mod LiveArgs

@@ -10,6 +10,8 @@ use Rattle.model_words.specs.declared.commands.Command.{Command}
 use Rattle.mesh_mutator.specs.Book.{Book, memory_of_book, table_of_book}
 use Rattle.mesh_run.specs.Runs.{HasFailed, error_text}
 use Rattle.mesh_run.specs.Status.{status_of_error}
+use Rattle.mesh_run.specs.declared.printed.Printed.{Printed}
+use Rattle.mesh_run.specs.declared.printed.Printed.TheVariants.{Answers, History as Recorded}
 use Rattle.mesh_run.specs.declared.threads_args.ThreadsArgs.{ThreadsArgs}
 use Rattle.mesh_run.specs.Words.{words_of}
 use Rattle.mesh_run.specs.declared.threads_error.ThreadsError.{ThreadsError}
@@ -20,6 +22,7 @@ use Rattle.mesh_shared.specs.declared.plan.MeshPlan.{MeshPlan}
 use Rattle.mesh_shared.specs.declared.stops.RunError.{RunError}
 use Rattle.mesh_shared.specs.declared.stops.RunError.TheVariants.{Memory as RunMemory, Thread as RunThread, History, Finish}
 use Rattle.mesh_text.specs.Histories.{history_text}
+use Rattle.mesh_text.specs.Recordings.{recorded_text}
 use Rattle.mesh_text.specs.Replay.{HasFound, HasReadJob}
 use Rattle.mesh_text.specs.Transfer.{AppendsBeginning}
 use Rattle.mesh_text.specs.declared.faults.ReplayError.TheVariants.{Read, Write, Text, Memory as NoMemory}
@@ -36,27 +39,32 @@ HasRoom job = command_count job.scripts ≤ job.history
 abbrev pub IsTooShort : Job → Type 0
 IsTooShort job = job.history < command_count job.scripts
 
--- the scripts were run, each to its end, and left a legal history that has this text
-pub record IsTextOfRun (scripts : List (List Command)) (text : List ℕ) : Type 0 where
+-- what is printed of a run of so many workers that left this history: each one's answers, or the history as it is recorded
+abbrev pub text_of_run : Printed → ℕ → List Entry → List ℕ
+text_of_run Answers workers history = history_text workers history
+text_of_run Recorded workers history = recorded_text history
+
+-- the scripts were run, each to its end, and left a legal history of which this is printed
+pub record IsTextOfRun (printed : Printed) (scripts : List (List Command)) (text : List ℕ) : Type 0 where
   pub history : List Entry
   pub end : Memory
   pub run : HasRun scripts history end
-  pub is_text : text ≡ history_text (length scripts) history
+  pub is_text : text ≡ text_of_run printed (length scripts) history
 
--- a job was read whose history has room for its commands, and this is the text of a run of its scripts
-pub record HasRunJob (left left' : Option (List ℕ)) (text : List ℕ) : Type 0 where
+-- a job was read whose history has room for its commands, and this is printed of a run of its scripts
+pub record HasRunJob (printed : Printed) (left left' : Option (List ℕ)) (text : List ℕ) : Type 0 where
   pub job : Job
   pub read : HasReadJob left left' job
   pub room : HasRoom job
-  pub run : IsTextOfRun job.scripts text
+  pub run : IsTextOfRun printed job.scripts text
 
--- a job was read, its scripts were run, and the text of their history was written
-abbrev pub HasWrittenRun : Option (List ℕ) → Option (List ℕ) → Option (List ℕ) → Option (List ℕ) → Type 0
-HasWrittenRun left left' written written' = (text : List ℕ) × HasRunJob left left' text × Appends written written' text
+-- a job was read, its scripts were run, and what is printed of it was written
+abbrev pub HasWrittenRun : Printed → Option (List ℕ) → Option (List ℕ) → Option (List ℕ) → Option (List ℕ) → Type 0
+HasWrittenRun printed left left' written written' = (text : List ℕ) × HasRunJob printed left left' text × Appends written written' text
 
--- a job was read, its scripts were run, and a beginning of the text of their history was written
-abbrev pub HasBegunToWrite : Option (List ℕ) → Option (List ℕ) → Option (List ℕ) → Option (List ℕ) → Type 0
-HasBegunToWrite left left' written written' = (text : List ℕ) × HasRunJob left left' text × AppendsBeginning written written' text
+-- a job was read, its scripts were run, and a beginning of what is printed of it was written
+abbrev pub HasBegunToWrite : Printed → Option (List ℕ) → Option (List ℕ) → Option (List ℕ) → Option (List ℕ) → Type 0
+HasBegunToWrite printed left left' written written' = (text : List ℕ) × HasRunJob printed left left' text × AppendsBeginning written written' text
 
 -- a job was read whose history has room for all its commands
 abbrev pub HasReadRoomy : Option (List ℕ) → Option (List ℕ) → Type 0
@@ -67,14 +75,14 @@ abbrev pub HasReadTooShort : Option (List ℕ) → Option (List ℕ) → Type 0
 HasReadTooShort left left' = (job : Job) × HasReadJob left left' job × IsTooShort job
 
 -- what was read and written, by the error that a run stopped for
-abbrev pub HasStoppedRun : Option (List ℕ) → Option (List ℕ) → Option (List ℕ) → Option (List ℕ) → ThreadsError → Type 0
-HasStoppedRun left left' written written' (Replay Read) = Keeps written written'
-HasStoppedRun left left' written written' (Replay Write) = HasBegunToWrite left left' written written'
-HasStoppedRun left left' written written' (Replay (Text fault)) = HasFound left left' fault × Keeps written written'
-HasStoppedRun left left' written written' (Replay NoMemory) = Keeps written written'
-HasStoppedRun left left' written written' TooShort = HasReadTooShort left left' × Keeps written written'
-HasStoppedRun left left' written written' Thread = HasReadRoomy left left' × Keeps written written'
-HasStoppedRun left left' written written' Run = HasReadRoomy left left' × Keeps written written'
+abbrev pub HasStoppedRun : Printed → Option (List ℕ) → Option (List ℕ) → Option (List ℕ) → Option (List ℕ) → ThreadsError → Type 0
+HasStoppedRun printed left left' written written' (Replay Read) = Keeps written written'
+HasStoppedRun printed left left' written written' (Replay Write) = HasBegunToWrite printed left left' written written'
+HasStoppedRun printed left left' written written' (Replay (Text fault)) = HasFound left left' fault × Keeps written written'
+HasStoppedRun printed left left' written written' (Replay NoMemory) = Keeps written written'
+HasStoppedRun printed left left' written written' TooShort = HasReadTooShort left left' × Keeps written written'
+HasStoppedRun printed left left' written written' Thread = HasReadRoomy left left' × Keeps written written'
+HasStoppedRun printed left left' written written' Run = HasReadRoomy left left' × Keeps written written'
 
 -- which device has failed: the one that the error tells of, and none where a job was read and nothing was to be written
 abbrev pub HasFailedRun : Bool → Bool → ThreadsError → Type 0

@@ -3,20 +3,23 @@ ghost use Rattle.std.specs.Prelude.{◌≡◌, ◌≢◌, ◌⊎◌, ◌≤◌, 
 ghost use Rattle.std.specs.IoError.{error_kind};
 ghost use Rattle.std.specs.declared.io.ErrorKind.TheVariants.{OutOfMemory as IoOutOfMemory};
 ghost use Rattle.clap.specs.Words.{app_of, first_of, found_of, kind_of, rows_of, rule_of, subcommand_rows_of};
-ghost use Rattle.mesh_run.specs.CommandLine.{IsAllowedOf, IsAsked, IsNoText, IsOutOfMemory, IsSaidOf, IsStopAt, asked, asked_in, asked_of, asking, draw_app, file_rule, is_taken, live_app, meshrun_app, number_in, number_or, number_rule, numbers_in, numbers_of, replay_app, required_number, shown_in, shown_of, sizes_in, sizes_of, status_of_kind, threads_app};
+ghost use Rattle.mesh_run.specs.CommandLine.{IsAllowedOf, IsAsked, IsNoText, IsOutOfMemory, IsSaidOf, IsStopAt, asked, asked_in, asked_of, asking, check_app, draw_app, file_rule, flag_rule, is_taken, live_app, meshrun_app, number_in, number_or, number_rule, numbers_in, numbers_of, printed_in, replay_app, required_number, shown_in, shown_of, sizes_in, sizes_of, status_of_kind, threads_app};
 
 use crate::status::{DONE, FAILED, FAULTY};
-use crate::{DrawArgs, LiveArgs, ThreadsArgs};
+use crate::{DrawArgs, LiveArgs, Printed, ThreadsArgs};
 use clap::builder::ValueParser;
 use clap::error::ErrorKind;
-use clap::{Arg, ArgMatches, Command, Error};
+use clap::{Arg, ArgAction, ArgMatches, Command, Error};
 use std::alloc::{AllocError, Global};
 use std::borrow::CowStr;
 use std::convert::AsStr;
 use std::io;
 
-/// The job file, as the command line and the help call it.
+/// The file, as the command line and the help call it.
 const FILE: &str = "FILE";
+
+/// The flag that asks for a recorded history.
+const RECORDED: &str = "history";
 
 /// An option with a number.
 #[derive(Clone, Copy)]
@@ -123,14 +126,16 @@ const VERSION: &str = "0.1.0";
 /// What the command line asks for.
 #[derive(Clone, Copy, Debug, PartialEq, Eq)]
 pub enum Args<'a> {
-    /// `replay FILE`: replay the job file at this path.
-    Replay(&'a str),
-    /// `threads FILE ..`: run the scripts of the job file at this path by threads, with these numbers.
-    Threads(&'a str, ThreadsArgs),
+    /// `replay FILE [--history]`: replay the job file at this path, and print this.
+    Replay(&'a str, Printed),
+    /// `threads FILE .. [--history]`: run the scripts of the job file at this path by threads, with these numbers, and print this.
+    Threads(&'a str, ThreadsArgs, Printed),
     /// `draw FILE ..`: draw the plan of the job file at this path, with these lines and columns.
     Draw(&'a str, DrawArgs),
     /// `live ..`: answer the lines of standard input, on a heap of these sizes.
     Live(LiveArgs),
+    /// `check FILE`: judge the recorded history at this path, or at `-` that of standard input.
+    Check(&'a str),
 }
 
 /// Why the program ends before it begins, and what it says.
@@ -196,16 +201,27 @@ fn asked_for<'a>(matches: &ArgMatches<'a>) -> Option<Args<'a>>
     }
 }
 
-/// The command of this name with the file that its matches have, and its numbers.
+/// The command of this name with the file that its matches have, its numbers and its flag.
 fn asked_of<'a>(name: &str, matches: &ArgMatches<'a>) -> Option<Args<'a>>
     ensures { option_map asking result ≡ option_and_then (asked_of name.now (rows_of (found_of matches.now))) (first_of (codes "FILE") (rows_of (found_of matches.now))) }
 {
     let file = matches.get_str(FILE)?;
     match name {
-        "replay" => Some(Args::Replay(file)),
-        "threads" => Some(Args::Threads(file, numbers(matches)?)),
+        "replay" => Some(Args::Replay(file, printed(matches)?)),
+        "threads" => Some(Args::Threads(file, numbers(matches)?, printed(matches)?)),
         "draw" => Some(Args::Draw(file, shown(matches)?)),
+        "check" => Some(Args::Check(file)),
         _ => None,
+    }
+}
+
+/// What is to be printed. The value of the flag is `true` where it is given, and `false` where it isn't.
+fn printed<'a>(matches: &ArgMatches<'a>) -> Option<Printed>
+    ensures { result ≡ printed_in (rows_of (found_of matches.now)) }
+{
+    match matches.get_str(RECORDED)? {
+        "true" => Some(Printed::History),
+        _ => Some(Printed::Answers),
     }
 }
 
@@ -265,6 +281,7 @@ fn meshrun_command<'a>(alloc: Global) -> Result<Command<'a>, AllocError>
     let threads = threads_command(alloc)?;
     let draw = draw_command(alloc)?;
     let live = live_command(alloc)?;
+    let check = check_command(alloc)?;
     Command::new(alloc, "meshrun")
         .about("A modelled heap that is compacted by meshing")
         .version(VERSION)
@@ -273,19 +290,25 @@ fn meshrun_command<'a>(alloc: Global) -> Result<Command<'a>, AllocError>
         .subcommand(replay)?
         .subcommand(threads)?
         .subcommand(draw)?
-        .subcommand(live)
+        .subcommand(live)?
+        .subcommand(check)
 }
 
-/// `replay FILE`.
+/// `replay FILE [--history]`.
 fn replay_command<'a>(alloc: Global) -> Result<Command<'a>, AllocError>
     ensures { IfOk result (λ command. app_of command ≡ replay_app) }
 {
     Command::new(alloc, "replay")
         .about("Run a job file's plan and print one answer a line")
-        .arg(file(alloc, "The job file to replay"))
+        .arg(file(alloc, "The job file to replay"))?
+        .arg(flag(
+            alloc,
+            RECORDED,
+            "Print the journal as a recorded history in place of the answers",
+        ))
 }
 
-/// `threads FILE --probe T --rounds R --workers N --seed S [--meshers M]`.
+/// `threads FILE --probe T --rounds R --workers N --seed S [--meshers M] [--history]`.
 fn threads_command<'a>(alloc: Global) -> Result<Command<'a>, AllocError>
     ensures { IfOk result (λ command. app_of command ≡ threads_app) }
 {
@@ -298,7 +321,12 @@ fn threads_command<'a>(alloc: Global) -> Result<Command<'a>, AllocError>
         .arg(required_number(alloc, ROUNDS))?
         .arg(required_number(alloc, WORKERS))?
         .arg(required_number(alloc, SEED))?
-        .arg(number_or(alloc, MESHERS, "1"))
+        .arg(number_or(alloc, MESHERS, "1"))?
+        .arg(flag(
+            alloc,
+            RECORDED,
+            "Print the history of all threads as a recorded history in place of each worker's answers",
+        ))
 }
 
 /// `draw FILE [--from N] [--to N] [--columns N]`.
@@ -324,11 +352,30 @@ fn live_command<'a>(alloc: Global) -> Result<Command<'a>, AllocError>
         .arg(number_or(alloc, SESSION_WORKERS, "64"))
 }
 
-/// The job file.
+/// `check FILE`.
+fn check_command<'a>(alloc: Global) -> Result<Command<'a>, AllocError>
+    ensures { IfOk result (λ command. app_of command ≡ check_app) }
+{
+    Command::new(alloc, "check")
+        .about("Judge a recorded history by the plain memory and say whether it is legal")
+        .arg(file(alloc, "The recorded history, or - for standard input"))
+}
+
+/// The file.
 fn file<'a>(alloc: Global, help: &'static str) -> Arg<'a>
     ensures { rule_of result ≡ file_rule }
 {
     Arg::new(alloc, FILE).required(true).help(help)
+}
+
+/// A flag that is given by its name.
+fn flag<'a>(alloc: Global, name: &'static str, help: &'static str) -> Arg<'a>
+    ensures { rule_of result ≡ flag_rule name.now }
+{
+    Arg::new(alloc, name)
+        .long(name)
+        .action(ArgAction::SetTrue)
+        .help(help)
 }
 
 /// An option with a number that has to be given.

@@ -1,11 +1,8 @@
 //! The program's picture of a plan.
 ghost use Rattle.std.specs.Prelude.{◌≡◌, ◌<◌, ◌≤◌, false};
 ghost use Rattle.std.specs.Io.KnownBytes.{Keeps};
-ghost use Rattle.model_jobs.specs.Texts.{ended};
 ghost use Rattle.mesh_draw.specs.Draws.{HasNotDrawn};
-ghost use Rattle.mesh_run.specs.Runs.{HasFailed, HasTold, error_text};
-ghost use Rattle.mesh_run.specs.Status.{status_of_error};
-ghost use Rattle.mesh_text.specs.declared.faults.ReplayError.{ReplayError};
+ghost use Rattle.mesh_run.specs.Runs.{IsStopped};
 
 use crate::DrawArgs;
 use crate::runs::finished;
@@ -28,10 +25,8 @@ pub fn draw_run<I: Source, O: Sink, E: Sink>(
     requires output { O.has_failed output.old ≡ false }
     ensures sound { result ≡ 0 → (I.has_failed input.new ≡ false) × (O.has_failed output.new ≡ false) }
     ensures untold { result ≡ 0 → Keeps (E.written errors.old) (E.written errors.new) }
-    ensures stopped { 0 < result → (error : ReplayError) × (result ≡ status_of_error error)
-        × HasNotDrawn (I.remaining input.old) (I.remaining input.new) (O.written output.old) (O.written output.new) error
-        × HasFailed (I.has_failed input.new) (O.has_failed output.new) error
-        × HasTold (E.has_failed errors.new) (E.written errors.old) (E.written errors.new) (ended (error_text error)) }
+    ensures stopped { 0 < result → IsStopped (HasNotDrawn (I.remaining input.old) (I.remaining input.new) (O.written output.old) (O.written output.new))
+        (I.has_failed input.new) (O.has_failed output.new) (E.has_failed errors.new) (E.written errors.old) (E.written errors.new) result }
     ensures small { result ≤ 2 }
 {
     let options = DrawOptions {

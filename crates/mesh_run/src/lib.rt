@@ -4,12 +4,15 @@
 //! sinks for standard output and standard error, and ends with the status that it is given.
 #![tactic(auto)]
 
+mod check;
 mod command_line;
 mod draw;
 mod draw_args;
 mod fault_line;
+mod history;
 mod live;
 mod live_args;
+mod printed;
 mod runs;
 mod shuffle_words;
 mod status;
@@ -19,12 +22,15 @@ mod threads_args;
 mod threads_error;
 pub mod word_laws;
 
+pub use check::check_run;
 pub use command_line::{Args, Stop, arguments, unread_words};
 pub use draw::draw_run;
 pub use draw_args::DrawArgs;
+pub use history::history_run;
 pub use live::live_run;
 pub use live_args::LiveArgs;
 pub use mesh_text::{DeviceFault, Input, Output, Sink, Source};
+pub use printed::Printed;
 pub use runs::{replay_run, stop_run, unopened_run};
 pub use shuffle_words::words;
 pub use threads::threads_run;

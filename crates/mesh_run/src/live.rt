@@ -1,12 +1,9 @@
 //! The program's live session.
 ghost use Rattle.std.specs.Prelude.{◌≡◌, ◌<◌, ◌≤◌, false};
 ghost use Rattle.std.specs.Io.KnownBytes.{Keeps};
-ghost use Rattle.model_jobs.specs.Texts.{ended};
 ghost use Rattle.mesh_live.specs.Runs.{HasLived, HasStopped};
 ghost use Rattle.mesh_run.specs.LiveSizes.{session_sizes};
-ghost use Rattle.mesh_run.specs.Runs.{HasFailed, HasTold, error_text};
-ghost use Rattle.mesh_run.specs.Status.{status_of_error};
-ghost use Rattle.mesh_text.specs.declared.faults.ReplayError.{ReplayError};
+ghost use Rattle.mesh_run.specs.Runs.{IsStopped};
 
 use crate::LiveArgs;
 use crate::runs::finished;
@@ -31,10 +28,8 @@ pub fn live_run<I: Source, O: Sink, E: Sink>(
     ensures done { result ≡ 0 → HasLived (session_sizes args.now) (I.remaining input.old) (I.remaining input.new) (O.written output.old) (O.written output.new) }
     ensures sound { result ≡ 0 → (I.has_failed input.new ≡ false) × (O.has_failed output.new ≡ false) }
     ensures untold { result ≡ 0 → Keeps (E.written errors.old) (E.written errors.new) }
-    ensures stopped { 0 < result → (error : ReplayError) × (result ≡ status_of_error error)
-        × HasStopped (session_sizes args.now) (I.remaining input.old) (O.written output.old) (O.written output.new)
-        × HasFailed (I.has_failed input.new) (O.has_failed output.new) error
-        × HasTold (E.has_failed errors.new) (E.written errors.old) (E.written errors.new) (ended (error_text error)) }
+    ensures stopped { 0 < result → IsStopped (λ _. HasStopped (session_sizes args.now) (I.remaining input.old) (O.written output.old) (O.written output.new))
+        (I.has_failed input.new) (O.has_failed output.new) (E.has_failed errors.new) (E.written errors.old) (E.written errors.new) result }
     ensures small { result ≤ 2 }
 {
     let sizes = Sizes {

@@ -3,7 +3,7 @@ ghost use Rattle.std.specs.Prelude.{◌≡◌, ◌<◌, ◌≤◌, ◌||◌, fal
 ghost use Rattle.std.specs.Cow.{cow_str_bytes};
 ghost use Rattle.std.specs.Io.KnownBytes.{Keeps};
 ghost use Rattle.model_jobs.specs.Texts.{ended};
-ghost use Rattle.mesh_run.specs.Runs.{HasFailed, HasTold, error_text};
+ghost use Rattle.mesh_run.specs.Runs.{HasTold, IsStopped, error_text};
 ghost use Rattle.mesh_run.specs.Status.{status_of_error};
 ghost use Rattle.mesh_text.specs.Replay.{HasReplayed, HasStopped};
 ghost use Rattle.mesh_text.specs.declared.faults.ReplayError.{ReplayError};
@@ -29,10 +29,8 @@ pub fn replay_run<I: Source, O: Sink, E: Sink>(
     ensures done { result ≡ 0 → HasReplayed (I.remaining input.old) (I.remaining input.new) (O.written output.old) (O.written output.new) }
     ensures sound { result ≡ 0 → (I.has_failed input.new ≡ false) × (O.has_failed output.new ≡ false) }
     ensures untold { result ≡ 0 → Keeps (E.written errors.old) (E.written errors.new) }
-    ensures stopped { 0 < result → (error : ReplayError) × (result ≡ status_of_error error)
-        × HasStopped (I.remaining input.old) (I.remaining input.new) (O.written output.old) (O.written output.new) error
-        × HasFailed (I.has_failed input.new) (O.has_failed output.new) error
-        × HasTold (E.has_failed errors.new) (E.written errors.old) (E.written errors.new) (ended (error_text error)) }
+    ensures stopped { 0 < result → IsStopped (HasStopped (I.remaining input.old) (I.remaining input.new) (O.written output.old) (O.written output.new))
+        (I.has_failed input.new) (O.has_failed output.new) (E.has_failed errors.new) (E.written errors.old) (E.written errors.new) result }
     ensures small { result ≤ 2 }
 {
     let outcome = replay(alloc, input, output);
@@ -86,7 +84,7 @@ pub(crate) fn finished<E: Sink>(errors: &mut E, outcome: Result<(), ReplayError>
 }
 
 /// Writes the line of an error.
-fn tell_error<E: Sink>(errors: &mut E, error: ReplayError)
+pub(crate) fn tell_error<E: Sink>(errors: &mut E, error: ReplayError)
     ensures { HasTold (E.has_failed errors.new) (E.written errors.old) (E.written errors.new) (ended (error_text error)) }
 {
     tell(errors, line_of(error).as_slice());

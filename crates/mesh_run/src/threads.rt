@@ -6,7 +6,7 @@ ghost use Rattle.model_words.specs.Commands.{IsInRange};
 ghost use Rattle.model_jobs.specs.Texts.{ended};
 ghost use Rattle.mesh_mutator.specs.Book.{memory_in};
 ghost use Rattle.mesh_run.specs.Runs.{HasTold};
-ghost use Rattle.mesh_run.specs.Threads.{HasFailedRun, HasRoom, HasStoppedRun, HasWrittenRun, IsBookOf, IsNoRun, IsPlanOf, IsTextOfRun, command_count, threads_status, threads_text};
+ghost use Rattle.mesh_run.specs.Threads.{HasFailedRun, HasRoom, HasStoppedRun, HasWrittenRun, IsBookOf, IsNoRun, IsPlanOf, IsTextOfRun, command_count, text_of_run, threads_status, threads_text};
 ghost use Rattle.mesh_run.specs.declared.threads_error.ThreadsError.{ThreadsError};
 ghost use Rattle.mesh_shared.specs.Runs.{HasRun};
 ghost use Rattle.mesh_text.specs.Transfer.{AppendsBeginning};
@@ -16,18 +16,20 @@ use crate::fault_line::threads_line_of;
 use crate::runs::{status_of, tell};
 use crate::shuffle_words::words;
 use crate::status::{DONE, FAILED, FAULTY};
-use crate::{ThreadsArgs, ThreadsError};
-use mesh_mutator::Book;
+use crate::{Printed, ThreadsArgs, ThreadsError};
+use mesh_mutator::{Book, Entry};
 use mesh_shared::{Ended, MeshPlan, NoGate, run_threads};
 use mesh_text::{
-    Command, Commands, Job, ReplayError, Scripts, Sink, Source, history_lines, read_job, write_all,
+    Command, Commands, Job, ReplayError, Scripts, Sink, Source, history_lines, read_job,
+    recorded_history, write_all,
 };
 use std::alloc::{AllocError, Global};
 use std::sync::Wait;
 use std::thread::Threads;
 
-/// Runs the scripts of the job that the input gives, each on a thread of its own while meshers search and mesh, writes the answers of each
-/// worker and the number of all entries to the output, or a fault to `errors`, and gives the exit status. The file's plan isn't used.
+/// Runs the scripts of the job that the input gives, each on a thread of its own while meshers search and mesh, writes what is to be printed to
+/// the output, or a fault to `errors`, and gives the exit status. The file's plan isn't used. As answers are printed those of each worker and
+/// the number of all entries.
 ///
 /// The status is 0 where everything was written, and nothing is written before all threads have ended. It is 2 with the line `line N: KIND`
 /// where the job's text has a fault, and with the line `history too short` where the file's history has fewer entries than its scripts have
@@ -42,19 +44,20 @@ pub fn threads_run<R: Threads + Wait + Sync, I: Source, O: Sink, E: Sink>(
     output: &mut O,
     errors: &mut E,
     args: &ThreadsArgs,
+    printed: Printed,
 ) -> u8
     requires input { I.has_failed input.old ≡ false }
     requires output { O.has_failed output.old ≡ false }
-    ensures done { result ≡ 0 → HasWrittenRun (I.remaining input.old) (I.remaining input.new) (O.written output.old) (O.written output.new) }
+    ensures done { result ≡ 0 → HasWrittenRun printed (I.remaining input.old) (I.remaining input.new) (O.written output.old) (O.written output.new) }
     ensures sound { result ≡ 0 → (I.has_failed input.new ≡ false) × (O.has_failed output.new ≡ false) }
     ensures untold { result ≡ 0 → Keeps (E.written errors.old) (E.written errors.new) }
     ensures stopped { 0 < result → (error : ThreadsError) × (result ≡ threads_status error)
-        × HasStoppedRun (I.remaining input.old) (I.remaining input.new) (O.written output.old) (O.written output.new) error
+        × HasStoppedRun printed (I.remaining input.old) (I.remaining input.new) (O.written output.old) (O.written output.new) error
         × HasFailedRun (I.has_failed input.new) (O.has_failed output.new) error
         × HasTold (E.has_failed errors.new) (E.written errors.old) (E.written errors.new) (ended (threads_text error)) }
     ensures small { result ≤ 2 }
 {
-    match run_file(rt, alloc, input, output, args) {
+    match run_file(rt, alloc, input, output, args, printed) {
         Ok(()) => DONE,
         Err(error) => {
             tell(errors, threads_line_of(error).as_slice());
@@ -63,34 +66,36 @@ pub fn threads_run<R: Threads + Wait + Sync, I: Source, O: Sink, E: Sink>(
     }
 }
 
-/// Runs the scripts of the job that the input gives, and writes the text of their history.
+/// Runs the scripts of the job that the input gives, and writes what is printed of their history.
 fn run_file<R: Threads + Wait + Sync, I: Source, O: Sink>(
     rt: &R,
     alloc: Global,
     input: &mut I,
     output: &mut O,
     args: &ThreadsArgs,
+    printed: Printed,
 ) -> Result<(), ThreadsError>
     requires input { I.has_failed input.old ≡ false }
     requires output { O.has_failed output.old ≡ false }
     ensures ok { OnOk result ((I.has_failed input.new ≡ false) × (O.has_failed output.new ≡ false)) }
-    ensures written { OnOk result (HasWrittenRun (I.remaining input.old) (I.remaining input.new) (O.written output.old) (O.written output.new)) }
-    ensures stopped { IfErr result (HasStoppedRun (I.remaining input.old) (I.remaining input.new) (O.written output.old) (O.written output.new)) }
+    ensures written { OnOk result (HasWrittenRun printed (I.remaining input.old) (I.remaining input.new) (O.written output.old) (O.written output.new)) }
+    ensures stopped { IfErr result (HasStoppedRun printed (I.remaining input.old) (I.remaining input.new) (O.written output.old) (O.written output.new)) }
     ensures failed { IfErr result (HasFailedRun (I.has_failed input.new) (O.has_failed output.new)) }
 {
     let job = read_job(alloc, input)?;
-    let text = run_job(rt, alloc, &job, args)?;
+    let text = run_job(rt, alloc, &job, args, printed)?;
     write_text(output, text.as_slice())
 }
 
-/// The text of the history that a run of a job's scripts leaves.
+/// What is printed of the history that a run of a job's scripts leaves.
 fn run_job<R: Threads + Wait + Sync>(
     rt: &R,
     alloc: Global,
     job: &Job,
     args: &ThreadsArgs,
+    printed: Printed,
 ) -> Result<Vec<u8>, ThreadsError>
-    ensures text { IfOk result (λ text. IsTextOfRun job.now.scripts text.items) }
+    ensures text { IfOk result (λ text. IsTextOfRun printed job.now.scripts text.items) }
     ensures room { OnOk result (HasRoom job.now) }
     ensures none { IfErr result (IsNoRun job.now) }
 {
@@ -99,8 +104,24 @@ fn run_job<R: Threads + Wait + Sync>(
     }
     let ended = run_scripts(rt, alloc, job, args)?;
     let workers = job.scripts.count() as u32;
-    let text = history_lines(alloc, workers, ended.history.as_slice())?;
+    let text = text_of(alloc, printed, workers, ended.history.as_slice())?;
     Ok(text)
+}
+
+/// What is printed of a history of so many workers.
+fn text_of(
+    alloc: Global,
+    printed: Printed,
+    workers: u32,
+    history: &[Entry],
+) -> Result<Vec<u8>, AllocError>
+    requires { All (λ entry. entry.worker < workers) history.now }
+    ensures { IfOk result (λ text. text.items ≡ text_of_run printed workers history.now) }
+{
+    match printed {
+        Printed::Answers => history_lines(alloc, workers, history),
+        Printed::History => recorded_history(alloc, history),
+    }
 }
 
 /// Runs a job's scripts on a fresh book, while meshers do what is asked for.

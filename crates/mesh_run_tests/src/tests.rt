@@ -6,6 +6,7 @@ use mesh_run::{Input, Output, replay_run};
 use std::alloc::Global;
 
 mod arguments;
+mod checks;
 mod devices;
 mod faults;
 mod files;

@@ -1,20 +1,24 @@
 //! The program `meshrun`: a modelled heap that is compacted by meshing.
 //!
 //! `meshrun replay FILE` runs the plan of a job file and prints one answer line for each of its lines. `meshrun threads FILE ..` runs its
-//! scripts, each on a thread of its own, while other threads search and mesh, and prints each worker's answers. `meshrun draw FILE ..` prints
-//! a picture of the plan. `meshrun live ..` answers the lines of standard input one by one.
+//! scripts, each on a thread of its own, while other threads search and mesh, and prints each worker's answers. With `--history` both print the
+//! journal, as a recorded history. `meshrun draw FILE ..` prints a picture of the plan. `meshrun live ..` answers the lines of standard input one
+//! by one. `meshrun check FILE` judges a recorded history.
 #![tactic(auto)]
 
 ghost use Rattle.std.specs.Prelude.{◌≡◌, false, IfOk};
 ghost use Rattle.mesh_text.specs.Devices.{input_has_failed};
 
 use mesh_run::{
-    Args, Input, Output, Sink, arguments, draw_run, live_run, replay_run, stop_run, threads_run,
-    unopened_run, unread_words,
+    Args, Input, Output, Printed, Sink, arguments, check_run, draw_run, history_run, live_run,
+    replay_run, stop_run, threads_run, unopened_run, unread_words,
 };
 use std::fs::File;
 use std::process::ExitCode;
 use std::{env, io};
+
+/// The path that names standard input.
+const STANDARD_INPUT: &str = "-";
 
 fn main(rt: HostRuntime) -> ExitCode {
     let alloc = rt.alloc();
@@ -22,14 +26,23 @@ fn main(rt: HostRuntime) -> ExitCode {
     let mut errors = Output::new(rt.stderr());
     let status = match words(&rt) {
         Ok(words) => match arguments(alloc, words.as_slice()) {
-            Ok(Args::Replay(path)) => match opened(&rt, path, &mut errors) {
-                Ok(mut input) => replay_run(alloc, &mut input, &mut output, &mut errors),
+            Ok(Args::Replay(path, printed)) => match opened(&rt, path, &mut errors) {
+                Ok(mut input) => match printed {
+                    Printed::Answers => replay_run(alloc, &mut input, &mut output, &mut errors),
+                    Printed::History => history_run(alloc, &mut input, &mut output, &mut errors),
+                },
                 Err(status) => status,
             },
-            Ok(Args::Threads(path, args)) => match opened(&rt, path, &mut errors) {
-                Ok(mut input) => {
-                    threads_run(&rt, alloc, &mut input, &mut output, &mut errors, &args)
-                }
+            Ok(Args::Threads(path, args, printed)) => match opened(&rt, path, &mut errors) {
+                Ok(mut input) => threads_run(
+                    &rt,
+                    alloc,
+                    &mut input,
+                    &mut output,
+                    &mut errors,
+                    &args,
+                    printed,
+                ),
                 Err(status) => status,
             },
             Ok(Args::Draw(path, args)) => match opened(&rt, path, &mut errors) {
@@ -42,6 +55,7 @@ fn main(rt: HostRuntime) -> ExitCode {
                 let mut input = Input::new(rt.stdin());
                 live_run(alloc, &args, &mut input, &mut output, &mut errors)
             }
+            Ok(Args::Check(path)) => check_at(&rt, path, &mut output, &mut errors),
             Err(stop) => stop_run(&stop, &mut output, &mut errors),
         },
         Err(error) => stop_run(&unread_words(&error), &mut output, &mut errors),
@@ -49,7 +63,22 @@ fn main(rt: HostRuntime) -> ExitCode {
     ExitCode::from(status)
 }
 
-/// The job file as an input, or the exit status where it can't be opened.
+/// Judges the history of the file at this path, or of standard input where it is `-`, and gives the exit status.
+fn check_at<O: Sink, E: Sink>(rt: &HostRuntime, path: &str, output: &mut O, errors: &mut E) -> u8
+    requires { O.has_failed output.old ≡ false }
+{
+    let alloc = rt.alloc();
+    if path == STANDARD_INPUT {
+        let mut input = Input::new(rt.stdin());
+        return check_run(alloc, &mut input, output, errors);
+    }
+    match opened(rt, path, errors) {
+        Ok(mut input) => check_run(alloc, &mut input, output, errors),
+        Err(status) => status,
+    }
+}
+
+/// The file as an input, or the exit status where it can't be opened.
 fn opened<E: Sink>(rt: &HostRuntime, path: &str, errors: &mut E) -> Result<Input<File>, u8>
     ensures { IfOk result (λ input. input_has_failed input ≡ false) }
 {

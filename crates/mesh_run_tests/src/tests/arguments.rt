@@ -1,9 +1,9 @@
 //! Command lines.
-use mesh_run::{Args, Output, arguments, stop_run, unopened_run};
+use mesh_run::{Args, Output, Printed, arguments, stop_run, unopened_run};
 use std::test::Fail;
 
 /// For each command line that asks for no run its words, the exit status, and how the text that it prints begins.
-static STOPS: [(&[&str], u8, &str); 12] = [
+static STOPS: [(&[&str], u8, &str); 14] = [
     (&["meshrun", "--help"], 0, "A modelled heap"),
     (&["meshrun", "--version"], 0, "meshrun 0.1.0\n"),
     (&["meshrun", "replay", "--help"], 0, "Run a job file's plan"),
@@ -14,13 +14,45 @@ static STOPS: [(&[&str], u8, &str); 12] = [
     ),
     (&["meshrun", "draw", "--help"], 0, "Draw a job file's plan"),
     (&["meshrun", "live", "--help"], 0, "Answer the lines"),
+    (
+        &["meshrun", "check", "--help"],
+        0,
+        "Judge a recorded history",
+    ),
     (&["meshrun"], 2, "A modelled heap"),
     (&["meshrun", "replay"], 2, "error: "),
     (&["meshrun", "draw"], 2, "error: "),
+    (&["meshrun", "check"], 2, "error: "),
     (&["meshrun", "replay", "a", "b"], 2, "error: "),
     (&["meshrun", "replay", "--version"], 2, "error: "),
     (&["meshrun", "report"], 2, "error: "),
 ];
+
+/// Command lines that replay `a.job`, or run its scripts in threads, and what they print.
+static PRINTED: [(&str, Printed); 7] = [
+    ("meshrun replay a.job", Printed::Answers),
+    ("meshrun replay a.job --history", Printed::History),
+    ("meshrun replay --history a.job", Printed::History),
+    (
+        "meshrun threads a.job --probe 2 --rounds 3 --workers 4 --seed 5",
+        Printed::Answers,
+    ),
+    (
+        "meshrun threads a.job --probe 2 --rounds 3 --workers 4 --seed 5 --history",
+        Printed::History,
+    ),
+    (
+        "meshrun threads --history a.job --probe 2 --rounds 3 --workers 4 --seed 5",
+        Printed::History,
+    ),
+    (
+        "meshrun threads --probe=2 --rounds=3 --history --workers=4 --seed=5 --meshers=1 a.job",
+        Printed::History,
+    ),
+];
+
+/// The file that `check` is given.
+static CHECKED: [&str; 3] = ["a.history", "-", "replay"];
 
 /// Command lines, and the numbers that they ask for on `a.job`: probe, rounds, workers, seed and meshers.
 static NUMBERS: [(&str, &[u64]); 14] = [
@@ -114,8 +146,8 @@ static SIZES: [(&str, [u32; 3]); 4] = [
     ),
 ];
 
-/// Command lines of `threads`, of `draw` and of `live` with a fault, and one of `replay`.
-static FAULTY: [&str; 40] = [
+/// Command lines with a fault, each of a command that has numbers or a flag, or of `check`.
+static FAULTY: [&str; 51] = [
     "meshrun threads a.job --probe 65 --rounds 3 --workers 4 --seed 5 --meshers 6",
     "meshrun threads a.job --probe 2 --rounds 1001 --workers 4 --seed 5 --meshers 6",
     "meshrun threads a.job --probe 2 --rounds 3 --workers 0 --seed 5 --meshers 6",
@@ -137,7 +169,14 @@ static FAULTY: [&str; 40] = [
     "meshrun threads --probe 2 --rounds 3 --workers 4 --seed 5 --meshers 6",
     "meshrun threads a.job",
     "meshrun threads",
+    "meshrun threads a.job --probe 2 --rounds 3 --workers 4 --seed 5 --history 6",
+    "meshrun threads a.job --probe 2 --rounds 3 --workers 4 --seed 5 --history=6",
+    "meshrun threads a.job --probe 2 --rounds 3 --workers 4 --seed 5 --history --history",
     "meshrun replay a.job --seed 5",
+    "meshrun replay a.job --history=true",
+    "meshrun replay a.job --history --history",
+    "meshrun replay a.job --history b.job",
+    "meshrun replay --history",
     "meshrun draw a.job --from 0",
     "meshrun draw a.job --from 1048577",
     "meshrun draw a.job --to 0",
@@ -147,6 +186,7 @@ static FAULTY: [&str; 40] = [
     "meshrun draw a.job --from 0x5",
     "meshrun draw a.job --from 1 --from 2",
     "meshrun draw a.job --seed 5",
+    "meshrun draw a.job --history",
     "meshrun draw a.job b.job",
     "meshrun draw --from 1 --to 2",
     "meshrun draw a.job --version",
@@ -156,14 +196,34 @@ static FAULTY: [&str; 40] = [
     "meshrun live --history 65537",
     "meshrun live --workers 0",
     "meshrun live --workers 65",
+    "meshrun check a.history b.history",
+    "meshrun check a.history --history",
+    "meshrun check a.history --version",
 ];
 
 #[test]
-fn reads_replay(rt: HostRuntime) {
-    let words = ["meshrun", "replay", "hello.job"];
-    match arguments(rt.alloc(), words.as_slice()) {
-        Ok(args) => assert!(rt; args == Args::Replay("hello.job")),
-        Err(stop) => assert!(rt; false, "{}", stop.text),
+fn reads_what_is_printed(rt: HostRuntime) -> Result<(), Fail> {
+    for (line, printed) in PRINTED.iter() {
+        let words: Vec<&str> = line.split(' ').collect(rt.alloc())?;
+        match arguments(rt.alloc(), words.as_slice()) {
+            Ok(Args::Replay(file, read)) | Ok(Args::Threads(file, _, read)) => {
+                assert!(rt; file == "a.job" && read == *printed, "{line}")
+            }
+            Ok(_) => panic!(rt; "another command: {line}"),
+            Err(stop) => panic!(rt; "{}", stop.text),
+        }
+    }
+    Ok(())
+}
+
+#[test]
+fn reads_checks(rt: HostRuntime) {
+    for file in CHECKED.iter() {
+        let words = ["meshrun", "check", *file];
+        match arguments(rt.alloc(), words.as_slice()) {
+            Ok(args) => assert!(rt; args == Args::Check(*file), "{file}"),
+            Err(stop) => panic!(rt; "{}", stop.text),
+        }
     }
 }
 
@@ -195,7 +255,7 @@ fn stops_at_others(rt: HostRuntime) {
 fn reads_numbers(rt: HostRuntime) -> Result<(), Fail> {
     for (line, numbers) in NUMBERS.iter() {
         let words: Vec<&str> = line.split(' ').collect(rt.alloc())?;
-        let Ok(Args::Threads(file, args)) = arguments(rt.alloc(), words.as_slice()) else {
+        let Ok(Args::Threads(file, args, _)) = arguments(rt.alloc(), words.as_slice()) else {
             panic!(rt; "no threads: {line}");
         };
         assert_eq!(rt; file, "a.job", "{line}");

@@ -1,6 +1,8 @@
-//! The text of a history.
+//! The text of a history: its answers, and as it is recorded.
+use crate::tests::files::FAULTS;
 use mesh_mutator::{Command, Entry, Refusal, Reply};
-use mesh_text::history_lines;
+use mesh_run::{Input, Output, history_run};
+use mesh_text::{history_lines, recorded_history};
 use std::alloc::AllocError;
 
 #[test]
@@ -25,4 +27,56 @@ fn an_empty_history_is_told(rt: HostRuntime) -> Result<(), AllocError> {
     let text = history_lines(rt.alloc(), 1, &[])?;
     assert_eq!(rt; text.as_slice(), b"worker 0\nhistory 0\n".as_slice());
     Ok(())
+}
+
+#[test]
+fn a_history_is_recorded_in_its_order(rt: HostRuntime) -> Result<(), AllocError> {
+    let history = [
+        Entry::of(1, &Command::New(0, 16, 7), &Reply::Object(0, 0x1000)),
+        Entry::of(0, &Command::Poke(0x100f, 10), &Reply::Done),
+        Entry::of(
+            12,
+            &Command::Copy(0, 1, 2, 3, 4),
+            &Reply::Refused(Refusal::Empty),
+        ),
+    ];
+    let text = recorded_history(rt.alloc(), &history)?;
+    assert_eq!(rt;
+        text.as_slice(),
+        b"history 1\n1 new 0 16 7 -> object 0 at 1000\n0 poke 100f 0a -> done\n12 copy 0 1 2 3 4 -> refused 5 EMPTY\n".as_slice()
+    );
+    Ok(())
+}
+
+/// Two workers. One command finds the journal full, one script is over when it is run again, and a report stands in no journal.
+const JOURNAL_FILE: &str =
+    "mesh 1\npages 16\nhistory 4\nworkers 2\nworker 0\nnew 0 2048 0\nput 0 0 6869\nget 0 0 2\nworker 1\naddr 0\nfree 0\nplan\nrun 0\nrun 1\nreport\nrun 0\nrun 0\nrun 1\nrun 0\nend\n";
+
+const JOURNAL: &str =
+    "history 1\n0 new 0 2048 0 -> object 0 at 1000\n1 addr 0 -> at 1000\n0 put 0 0 6869 -> done\n0 get 0 0 2 -> bytes 6869\n";
+
+#[test]
+fn a_replay_prints_its_journal(rt: HostRuntime) {
+    let mut input = Input::new(JOURNAL_FILE.as_bytes());
+    let mut output = Output::new(Vec::new(rt.alloc()));
+    let mut errors = Output::new(Vec::new(rt.alloc()));
+    let status = history_run(rt.alloc(), &mut input, &mut output, &mut errors);
+    let (output, errors) = (output.into_inner(), errors.into_inner());
+    assert_eq!(rt; output.as_slice(), JOURNAL.as_bytes());
+    assert_eq!(rt; errors.as_slice(), b"".as_slice());
+    assert_eq!(rt; status, 0);
+}
+
+#[test]
+fn a_faulty_file_has_no_journal(rt: HostRuntime) {
+    for (name, file, fault) in FAULTS.iter() {
+        let mut input = Input::new(file.as_bytes());
+        let mut output = Output::new(Vec::new(rt.alloc()));
+        let mut errors = Output::new(Vec::new(rt.alloc()));
+        let status = history_run(rt.alloc(), &mut input, &mut output, &mut errors);
+        let (output, errors) = (output.into_inner(), errors.into_inner());
+        assert_eq!(rt; output.as_slice(), b"".as_slice(), "of {name}");
+        assert_eq!(rt; errors.as_slice(), fault.as_bytes(), "of {name}");
+        assert_eq!(rt; status, 2, "of {name}");
+    }
 }

@@ -4,7 +4,7 @@ ghost use Rattle.std.specs.Prelude.{◌≡◌, ◌≤◌, false};
 use crate::tests::Ran;
 use crate::tests::devices::SlowSource;
 use crate::tests::files::FAULTS;
-use mesh_run::{Input, Output, Source, ThreadsArgs, threads_run};
+use mesh_run::{Input, Output, Printed, Source, ThreadsArgs, threads_run};
 use std::sync::Wait;
 use std::test::Fail;
 use std::thread::Threads;
@@ -22,7 +22,7 @@ const FEWEST: ThreadsArgs = ThreadsArgs {
     meshers: 1,
 };
 
-/// Runs the scripts of what a source gives.
+/// Runs the scripts of what a source gives, and prints the answers.
 fn ran<R: Threads + Wait + Sync + AllocGlobal, I: Source>(
     rt: &R,
     input: &mut I,
@@ -30,9 +30,29 @@ fn ran<R: Threads + Wait + Sync + AllocGlobal, I: Source>(
 ) -> Ran
     requires { I.has_failed input.old ≡ false }
 {
+    ran_and_printed(rt, input, args, Printed::Answers)
+}
+
+/// Runs the scripts of what a source gives, and prints this.
+fn ran_and_printed<R: Threads + Wait + Sync + AllocGlobal, I: Source>(
+    rt: &R,
+    input: &mut I,
+    args: &ThreadsArgs,
+    printed: Printed,
+) -> Ran
+    requires { I.has_failed input.old ≡ false }
+{
     let mut output = Output::new(Vec::new(rt.alloc()));
     let mut errors = Output::new(Vec::new(rt.alloc()));
-    let status = threads_run(rt, rt.alloc(), input, &mut output, &mut errors, args);
+    let status = threads_run(
+        rt,
+        rt.alloc(),
+        input,
+        &mut output,
+        &mut errors,
+        args,
+        printed,
+    );
     Ran {
         status,
         output: output.into_inner(),
@@ -64,10 +84,22 @@ const ONE_PAGE_FILE: &str =
 
 const ONE_PAGE_LINES: &str = "worker 0\nobject\nobject\nrefused 3 NO_PAGES\nhistory 3\n";
 
+const ONE_PAGE_HISTORY: &str =
+    "history 1\n0 new 0 2048 0 -> object 0 at 1000\n0 new 1 2048 0 -> object 1 at 1800\n0 new 2 2048 0 -> refused 3 NO_PAGES\n";
+
 #[test]
 fn has_no_more_pages_than_its_file_says(rt: HostRuntime) {
     let run = ran(&rt, &mut Input::new(ONE_PAGE_FILE.as_bytes()), &FEWEST);
     assert_eq!(rt; run.output.as_slice(), ONE_PAGE_LINES.as_bytes());
+    assert_eq!(rt; run.errors.as_slice(), b"".as_slice());
+    assert_eq!(rt; run.status, 0);
+}
+
+#[test]
+fn prints_the_history(rt: HostRuntime) {
+    let mut input = Input::new(ONE_PAGE_FILE.as_bytes());
+    let run = ran_and_printed(&rt, &mut input, &FEWEST, Printed::History);
+    assert_eq!(rt; run.output.as_slice(), ONE_PAGE_HISTORY.as_bytes());
     assert_eq!(rt; run.errors.as_slice(), b"".as_slice());
     assert_eq!(rt; run.status, 0);
 }

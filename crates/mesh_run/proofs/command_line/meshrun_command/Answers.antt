@@ -11,4 +11,5 @@ returns c =
     let with_replay = with_command _ _ _ _ _ c.in_ok-subcommand.ensures bare_is c.in_ok-replay.ensures refl in
     let with_threads = with_command _ _ _ _ _ c.in_ok-subcommand-2.ensures with_replay c.in_ok-threads.ensures refl in
     let with_draw = with_command _ _ _ _ _ c.in_ok-subcommand-3.ensures with_threads c.in_ok-draw.ensures refl in
-    IfOk-weaker c.subcommand-4.result _ _ (λ command adds. with_command _ _ _ _ _ adds with_draw c.in_ok-live.ensures refl) c.subcommand-4.ensures
+    let with_live = with_command _ _ _ _ _ c.in_ok-subcommand-4.ensures with_draw c.in_ok-live.ensures refl in
+    IfOk-weaker c.subcommand-5.result _ _ (λ command adds. with_command _ _ _ _ _ adds with_live c.in_ok-check.ensures refl) c.subcommand-5.ensures

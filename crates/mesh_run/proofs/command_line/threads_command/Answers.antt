@@ -12,4 +12,5 @@ returns c =
     let with_rounds = with_argument _ _ _ _ _ c.in_ok-arg-3.ensures with_probe c.required_number-2.ensures refl in
     let with_workers = with_argument _ _ _ _ _ c.in_ok-arg-4.ensures with_rounds c.required_number-3.ensures refl in
     let with_seed = with_argument _ _ _ _ _ c.in_ok-arg-5.ensures with_workers c.required_number-4.ensures refl in
-    IfOk-weaker c.arg-6.result _ _ (λ command adds. with_argument _ _ _ _ _ adds with_seed c.number_or.ensures refl) c.arg-6.ensures
+    let with_meshers = with_argument _ _ _ _ _ c.in_ok-arg-6.ensures with_seed c.number_or.ensures refl in
+    IfOk-weaker c.arg-7.result _ _ (λ command adds. with_argument _ _ _ _ _ adds with_meshers c.flag.ensures refl) c.arg-7.ensures

@@ -1,0 +1,10 @@
+//! What a run prints.
+
+/// What a run prints of what its workers asked for and were answered.
+#[derive(Clone, Copy, Debug, PartialEq, Eq)]
+pub enum Printed {
+    /// The answers alone.
+    Answers,
+    /// The journal, as a recorded history.
+    History,
+}
