@@ -209,6 +209,181 @@ ended "live: another allocator with a bug" $? 1 any any
 cp "$room/output" "$room/found.job"
 check "live: what was found, as a job" 0 any "$room/nothing" replay "$room/found.job"
 
+# histories: those by hand, that of an allocator in C, faults, then what replays and threads record
+histories=jobs/histories
+check "check: each kind of command and answer" 0 "$(line 'legal 33 entries')" "$room/nothing" check $histories/each_command.history
+check "check: the ends of the ranges" 0 "$(line 'legal 17 entries')" "$room/nothing" check $histories/wide.history
+check "check: an overlap of one byte" 1 "$(line 'line 6: overlaps object 0')" "$room/nothing" check $histories/overlap_of_one_byte.history
+check "check: a load of a freed object" 1 "$(line 'line 5: answer differs: refused 6 FREED wanted')" "$room/nothing" \
+    check $histories/load_of_a_freed_object.history
+check "check: a serial again" 1 "$(line 'line 5: serial again')" "$room/nothing" check $histories/serial_again.history
+check "check: a refused live object" 1 "$(line 'line 6: live object is refused')" "$room/nothing" check $histories/refused_live_object.history
+
+# checked NAME STATUS OUTPUT ERRORS: the history on standard input.
+checked() {
+    "$program" check - >"$room/output" 2>"$room/errors"
+    ended "$1" $? "$2" "$3" "$4"
+}
+checked "check: standard input" 0 "$(line 'legal 33 entries')" "$room/nothing" <$histories/each_command.history
+checked "check: a wrong entry on standard input" 1 "$(line 'line 5: serial again')" "$room/nothing" <$histories/serial_again.history
+checked "check: a directory as standard input" 1 "$room/nothing" "$(line 'read fault')" <./jobs
+
+gcc -std=c99 -O2 -Wall -Wextra -Werror -o "$room/slots" examples/recorded_slots.c >"$room/output" 2>"$room/errors"
+ended "an allocator in C that records" $? 0 "$room/nothing" "$room/nothing"
+"$room/slots" 3 >"$room/slots.history"
+check "check: its history" 0 "$(line 'legal 18089 entries')" "$room/nothing" check "$room/slots.history"
+"$room/slots" 3 --bug >"$room/bug.history"
+lost='line 306: answer differs: bytes a287dc00000000000000000000000000 wanted'
+check "check: its history with a bug" 1 "$(line "$lost")" "$room/nothing" check "$room/bug.history"
+checked "check: its history with a bug, on standard input" 1 "$(line "$lost")" "$room/nothing" <"$room/bug.history"
+
+# entries NAME STATUS OUTPUT ERRORS LINE..: a history of these lines behind its head.
+entries() {
+    name=$1 status=$2 output=$3 errors=$4
+    shift 4
+    echo 'history 1' >"$room/entries.history"
+    [ $# -eq 0 ] || printf '%s\n' "$@" >>"$room/entries.history"
+    check "check: $name" "$status" "$output" "$errors" check "$room/entries.history"
+}
+# wrong NAME REASON LINE..: the last of these lines is a wrong entry.
+wrong() {
+    name=$1 reason=$2
+    shift 2
+    entries "$name" 1 "$(line "line $(($# + 1)): $reason")" "$room/nothing" "$@"
+}
+# faulty NAME KIND LINE..: the last of these lines has a fault.
+faulty() {
+    name=$1 kind=$2
+    shift 2
+    entries "$name" 2 "$room/nothing" "$(line "line $(($# + 1)): $kind")" "$@"
+}
+made='0 new 0 16 0 -> object 0 at 1000'
+entries "no entry" 0 "$(line 'legal 0 entries')" "$room/nothing"
+entries "one entry" 0 "$(line 'legal 1 entries')" "$room/nothing" "$made"
+entries "nothing behind a wrong entry" 1 "$(line 'line 3: answer differs: done wanted')" "$room/nothing" "$made" '0 free 0 -> at 1000' '' 'free'
+wrong "other bytes" 'answer differs: bytes 0000 wanted' "$made" '0 get 0 0 2 -> bytes 0001'
+wrong "fewer bytes" 'answer differs: bytes 0000 wanted' "$made" '0 get 0 0 2 -> bytes 00'
+wrong "another byte" 'answer differs: byte 00 wanted' "$made" '0 peek 100f -> byte 01'
+wrong "another address" 'answer differs: at 1000 wanted' "$made" '0 addr 0 -> at 1010'
+wrong "a store past the object" 'answer differs: refused 7 OUTSIDE wanted' "$made" '0 put 0 15 0000 -> done'
+wrong "an alias of an empty cell" 'answer differs: refused 5 EMPTY wanted' "$made" '0 alias 0 1 -> done'
+wrong "another refusal" 'answer differs: refused 5 EMPTY wanted' "$made" '0 free 0 -> done' '0 copy 0 0 1 0 1 -> refused 6 FREED'
+wrong "a store at a freed address" 'answer differs: refused 8 STRAY wanted' "$made" '0 free 0 -> done' '0 poke 1000 00 -> done'
+wrong "a refused load by address" 'live object is refused' "$made" '0 peek 1000 -> refused 8 STRAY'
+wrong "an object of no byte" 'answer differs: refused 1 ZERO wanted' '0 new 0 0 0 -> object 0 at 1000'
+wrong "no byte too large" 'answer differs: refused 1 ZERO wanted' '0 new 0 0 0 -> refused 2 TOO_LARGE'
+wrong "some bytes refused as none" 'answer differs: object wanted' '0 new 0 1 0 -> refused 1 ZERO'
+wrong "a new object done" 'answer differs: object wanted' '0 new 0 1 0 -> done'
+wrong "a serial of a live object" 'serial again' "$made" '0 new 1 16 0 -> object 0 at 1000'
+wrong "an object around another" 'overlaps object 0' "$made" '0 new 1 4096 0 -> object 1 at 800'
+wrong "an object within another" 'overlaps object 0' "$made" '0 new 1 1 0 -> object 1 at 1008'
+faulty "an empty line" WORD "$made" ''
+faulty "two spaces" WORD "$made" '0 free  0 -> done'
+faulty "no arrow" WORD "$made" '0 free 0 done'
+faulty "no worker" WORD "$made" 'free -> done'
+faulty "no answer" WORD "$made" '0 free 0 ->'
+faulty "36 fields" WORD "$(seq -s ' ' 34) -> done"
+faulty "a command of the mesher" WORD '0 step 16 -> done'
+faulty "a store that is blocked" WORD "$made" '0 put 0 0 00 -> blocked'
+faulty "a journal that is full" WORD "$made" '0 free 0 -> history full'
+faulty "a refusal of another number" WORD "$made" '0 free 0 -> refused 5 FREED'
+faulty "a leading zero" NUMBER '0 new 0 016 0 -> object 0 at 1000'
+faulty "a worker above 16 bits" NUMBER '65536 new 0 16 0 -> object 0 at 1000'
+faulty "a worker before a command" NUMBER '65536 step 16 -> done'
+faulty "a cell above 32 bits" NUMBER '0 new 4294967296 16 0 -> object 0 at 1000'
+faulty "a length above 32 bits" NUMBER '0 new 0 4294967296 0 -> object 0 at 1000'
+faulty "a word above 64 bits" NUMBER '0 new 0 16 18446744073709551616 -> object 0 at 1000'
+faulty "an address above 48 bits" NUMBER '0 new 0 16 0 -> object 0 at 1000000000000'
+faulty "an address in upper case" NUMBER '0 new 0 16 0 -> object 0 at 100A'
+faulty "a load of 33 bytes" NUMBER "$made" '0 get 0 0 33 -> refused 7 OUTSIDE'
+faulty "refusal 18" NUMBER "$made" '0 free 0 -> refused 18 FREED'
+faulty "half a byte" HEX "$made" '0 put 0 0 000 -> done'
+faulty "an answer of half a byte" HEX "$made" '0 peek 1000 -> byte 0'
+faulty "a tab" BYTE "$made" "$(printf '0\tfree 0 -> done')"
+faulty "a line of 1,024 bytes" WORD "$(printf '%01024d' 0)"
+faulty "a line of 1,025 bytes" LONG_LINE "$(printf '%01025d' 0)"
+
+# text NAME FAULT TEXT: a file of this text, which has a fault.
+text() {
+    printf '%b' "$3" >"$room/text.history"
+    check "check: $1" 2 "$room/nothing" "$(line "$2")" check "$room/text.history"
+}
+text "an empty file" 'line 1: CUT' ''
+text "a head that is cut off" 'line 1: CUT' 'history 1'
+text "a line that is cut off" 'line 3: CUT' 'history 1\n0 new 0 16 0 -> object 0 at 1000\n0 free 0 -> done'
+text "a long line that is cut off" 'line 2: LONG_LINE' "history 1\n$(printf '%01025d' 0)"
+text "a head of version 2" 'line 1: NUMBER' 'history 2\n'
+text "a head of two numbers" 'line 1: WORD' 'history 1 1\n'
+text "the head of a job" 'line 1: WORD' 'mesh 1\n'
+text "an empty head" 'line 1: WORD' '\nhistory 1\n'
+text "line ends of two bytes" 'line 1: BYTE' 'history 1\r\n'
+check "check: an endless file" 2 "$room/nothing" "$(line 'line 1: LONG_LINE')" check /dev/zero
+check "check: a job file" 2 "$room/nothing" "$(line 'line 1: WORD')" check "$hello"
+check "check: a missing file" 1 "$room/nothing" "$(line 'read fault')" check "$room/missing.history"
+check "check: a directory" 1 "$room/nothing" "$(line 'read fault')" check jobs
+check "check: no file" 2 "$room/nothing" any check
+check "check: two files" 2 "$room/nothing" any check $histories/wide.history $histories/wide.history
+check "check: help" 0 any "$room/nothing" check --help
+
+for history in each_command serial_again; do
+    : >"$room/output"
+    "$program" check $histories/$history.history >/dev/full 2>"$room/errors" </dev/null
+    ended "check: a full device as standard output, $history" $? 1 "$room/nothing" "$(line 'write fault')"
+done
+
+# recorded JOB OUT: the history of a job's plan: each command that was answered and recorded, with its answer.
+recorded() {
+    awk '
+        BEGIN { print "history 1" }
+        NR == FNR && planned { plan[++lines] = $0; next }
+        NR == FNR && $1 == "plan" { planned = 1; next }
+        NR == FNR && $1 == "worker" { worker = $2; next }
+        NR == FNR { script[worker, commands[worker]++] = $0; next }
+        { split(plan[FNR], words) }
+        words[1] == "run" && $0 != "blocked" && $0 != "history full" && $0 != "over" { print words[2], script[words[2], done[words[2]]++], "->", $0 }
+    ' "$1" "$2"
+}
+
+# count FILE: what is said of a legal history of this file's lines.
+count() {
+    line "legal $(($(wc -l <"$1") - 1)) entries"
+}
+
+for job in jobs/mesh.job jobs/rows/*/*.job; do
+    row=${job%.job}
+    if [ -f "$row.out" ]; then
+        recorded "$job" "$row.out" >"$room/wanted"
+        check "history: $row" 0 "$room/wanted" "$room/nothing" replay "$job" --history
+        cp "$room/output" "$room/replayed.history"
+        checked "check: the history of $row" 0 "$(count "$room/replayed.history")" "$room/nothing" <"$room/replayed.history"
+    fi
+done
+check "history: a file with a fault" 2 "$room/nothing" "$(line 'line 7: HEX')" replay jobs/rows/faults/half_byte.job --history
+check "history: a missing file" 1 "$room/nothing" "$(line 'read fault')" replay "$room/missing.job" --history
+: >"$room/output"
+"$program" replay jobs/mesh.job --history >/dev/full 2>"$room/errors" </dev/null
+ended "history: a full device as standard output" $? 1 "$room/nothing" "$(line 'write fault')"
+
+# answered HISTORY: what each worker was answered, as a run by threads prints it.
+answered() {
+    awk '
+        NR > 1 { entries++; worker = $1; if (worker > last) last = worker; sub(/^.* -> /, ""); sub(/^object .*/, "object"); sub(/^at .*/, "at") }
+        NR > 1 { answers[worker] = answers[worker] $0 "\n" }
+        END { for (worker = 0; worker <= last; worker++) printf "worker %d\n%s", worker, answers[worker]; print "history " entries + 0 }
+    ' "$1"
+}
+
+for meshers in 1 2 10; do
+    # shellcheck disable=SC2086
+    "$program" threads "$threads" $small --meshers $meshers --history >"$room/threads.history" 2>"$room/errors" </dev/null
+    status=$?
+    answered "$room/threads.history" >"$room/output"
+    ended "history: threads, $meshers meshers" $status 0 jobs/threads.out "$room/nothing"
+    checked "check: the history of threads, $meshers meshers" 0 "$(count "$room/threads.history")" "$room/nothing" <"$room/threads.history"
+done
+# shellcheck disable=SC2086
+check "history: threads of a file with a fault" 2 "$room/nothing" "$(line 'line 7: HEX')" threads jobs/rows/faults/half_byte.job $small --history
+
 # the worked rows
 for job in jobs/rows/*/*.job; do
     row=${job%.job}

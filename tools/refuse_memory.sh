@@ -199,6 +199,19 @@ if [ "$begun" -eq 0 ]; then
     failed=$((failed + 1))
     echo "FAILED: no run had written a beginning when memory was refused"
 fi
+printf 'history 1\n0 new 0 64 7 -> object 0 at 1000\n0 put 0 0 6869 -> done\n0 get 0 0 2 -> bytes 6869\n' >"$room/short.history"
+{
+    printf 'mesh 1\npages 4\nhistory 10\nworkers 1\nworker 0\nnew 0 64 7\nput 0 0 6869\nget 0 0 2\nplan\n'
+    yes 'run 0' | head -n 3
+    echo end
+} >"$room/short.job"
+wanted=$room/short.history
+spare "$meshrun" replay "$room/no file" --history
+refuse_each "meshrun replay --history" replay_fault "$meshrun" replay "$room/short.job" --history
+echo 'legal 33 entries' >"$room/legal.out"
+wanted=$room/legal.out
+spare "$meshrun" check "$room/no file"
+refuse_each "meshrun check" replay_fault "$meshrun" check jobs/histories/each_command.history
 "$meshrun" draw jobs/hello.job >"$room/hello.svg"
 wanted=$room/hello.svg
 spare "$meshrun" draw "$room/no file"
