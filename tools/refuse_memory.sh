@@ -199,9 +199,9 @@ if [ "$begun" -eq 0 ]; then
     failed=$((failed + 1))
     echo "FAILED: no run had written a beginning when memory was refused"
 fi
-printf 'history 1\n0 new 0 64 7 -> object 0 at 1000\n0 put 0 0 6869 -> done\n0 get 0 0 2 -> bytes 6869\n' >"$room/short.history"
+printf 'history 1\n0 new 0 64 0 -> object 0 at 1000\n0 put 0 0 6869 -> done\n0 get 0 0 2 -> bytes 6869\n' >"$room/short.history"
 {
-    printf 'mesh 1\npages 4\nhistory 10\nworkers 1\nworker 0\nnew 0 64 7\nput 0 0 6869\nget 0 0 2\nplan\n'
+    printf 'mesh 1\npages 4\nhistory 10\nworkers 1\nworker 0\nnew 0 64 0\nput 0 0 6869\nget 0 0 2\nplan\n'
     yes 'run 0' | head -n 3
     echo end
 } >"$room/short.job"
