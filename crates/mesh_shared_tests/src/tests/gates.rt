@@ -58,24 +58,9 @@ impl Mark {
     }
 }
 
-/// Who comes to an event is held until others have been; who is the first there, at least for so many turns.
+/// Who comes to the first event is held until the others have been; who is the first there, at least for so many turns.
 #[derive(Clone, Copy, Debug)]
-pub(crate) struct Hold {
-    pub at: Event,
-    pub until: &'static [Event],
-    pub turns: u32,
-}
-
-impl Hold {
-    /// A hold for no more turns than it takes.
-    pub(crate) fn new(at: Event, until: &'static [Event]) -> Hold {
-        Hold {
-            at,
-            until,
-            turns: 0,
-        }
-    }
-}
+pub(crate) struct Hold(pub Event, pub &'static [Event], pub u32);
 
 /// A gate that holds threads, and notes where one was held in vain, or where an event came before another that it wants.
 #[derive(Drop)]
@@ -164,9 +149,9 @@ impl<'a, R: Clock> Gate for Holding<'a, R> {
                 self.missed.store(true, SeqCst);
             }
         }
-        for hold in self.holds {
-            if hold.at == event {
-                self.wait_for(hold.until, if first { hold.turns } else { 0 });
+        for Hold(at, until, turns) in self.holds {
+            if *at == event {
+                self.wait_for(until, if first { *turns } else { 0 });
             }
         }
     }

@@ -1,70 +1,54 @@
 //! The journal of a book, entry by entry.
-ghost use Rattle.std.specs.Prelude.{◌≡◌, length};
-ghost use Rattle.model_words.specs.Commands.{IsInRange};
 
-use arrayvec::ArrayVec;
-use mesh_mutator::{Attempt, Book, Command, Entry, Reply, reply_again};
+use crate::tests::calls::{Answer, Call, command_of, reply_of};
+use mesh_mutator::{Attempt, Book, Entry, Reply, reply_again};
 use model_words::Refusal;
 use std::alloc::AllocError;
+use std::process::Abort;
 
-/// Whether the book answers a command of worker 7 so, and its journal's last entry tells it.
-fn records(book: &mut Book, command: &Command, reply: &Reply) -> bool
-    requires { IsInRange command.now }
-{
-    if book.act(7, command) != Attempt::Done(reply_again(reply)) {
-        return false;
-    }
-    let journal = book.journal();
-    match journal.len().checked_sub(1) {
-        Some(last) => journal.entry(last) == Entry::of(7, command, reply),
-        None => false,
-    }
-}
+/// A store of two bytes.
+const PUT: Call = Call::Put(0, 2, &[0x68, 0x69]);
 
-/// Two bytes, as a command stores and a reply loads them.
-fn two(first: u8, second: u8) -> ArrayVec<u8, 32>
-    ensures { length result.items ≡ 2 }
-{
-    let mut bytes = ArrayVec::new();
-    bytes.push(first);
-    bytes.push(second);
-    bytes
+/// Commands of each kind, one after another, and what each is answered.
+static ENTRIES: [(Call, Answer); 11] = [
+    (Call::New(0, 16), Answer::Object(0, 0x1000)),
+    (PUT, Answer::Done),
+    (Call::Get(0, 2, 2), Answer::Bytes(&[0x68, 0x69])),
+    (Call::Alias(1, 0), Answer::Done),
+    (Call::Copy(1, 4, 0, 3, 1), Answer::Done),
+    (Call::Addr(1), Answer::At(0x1000)),
+    (Call::Peek(0x1004), Answer::Byte(0x69)),
+    (Call::Poke(0x1005, 0x21), Answer::Done),
+    (Call::Get(1, 4, 2), Answer::Bytes(&[0x69, 0x21])),
+    (Call::Free(0), Answer::Done),
+    (Call::Get(1, 0, 1), Answer::Refused(Refusal::Freed)),
+];
+
+/// Asserts that a book answers worker 7 so, one command after another, and that its journal's last entry tells each.
+fn check_entries(rt: &impl Abort, book: &mut Book, entries: &[(Call, Answer)]) {
+    for (call, answer) in entries {
+        let command = command_of(rt, *call);
+        let reply = reply_of(rt, *answer);
+        let attempt = book.act(7, &command);
+        assert_eq!(rt; attempt, Attempt::Done(reply_again(&reply)), "of {call:?}");
+        let journal = book.journal();
+        let last = journal.len().checked_sub(1).expect(rt, "an entry");
+        assert_eq!(rt;
+            journal.entry(last),
+            Entry::of(7, &command, &reply),
+            "of {call:?}"
+        );
+    }
 }
 
 #[test]
 fn the_journal_tells_each_kind_of_entry(rt: HostRuntime) -> Result<(), AllocError> {
     let mut book = Book::open(rt.alloc(), 1, 11)?;
-    let put = Command::Put(0, 2, two(0x68, 0x69));
-    let told = records(
-        &mut book,
-        &Command::New(0, 16, 0),
-        &Reply::Object(0, 0x1000),
-    ) && records(&mut book, &put, &Reply::Done)
-        && records(
-            &mut book,
-            &Command::Get(0, 2, 2),
-            &Reply::Bytes(two(0x68, 0x69)),
-        )
-        && records(&mut book, &Command::Alias(1, 0), &Reply::Done)
-        && records(&mut book, &Command::Copy(1, 4, 0, 3, 1), &Reply::Done)
-        && records(&mut book, &Command::Addr(1), &Reply::At(0x1000))
-        && records(&mut book, &Command::Peek(0x1004), &Reply::Byte(0x69))
-        && records(&mut book, &Command::Poke(0x1005, 0x21), &Reply::Done)
-        && records(
-            &mut book,
-            &Command::Get(1, 4, 2),
-            &Reply::Bytes(two(0x69, 0x21)),
-        )
-        && records(&mut book, &Command::Free(0), &Reply::Done)
-        && records(
-            &mut book,
-            &Command::Get(1, 0, 1),
-            &Reply::Refused(Refusal::Freed),
-        );
-    assert!(&rt; told, "each entry is told when it is the last");
+    check_entries(&rt, &mut book, &ENTRIES);
     let journal = book.journal();
-    assert!(&rt; journal.len() == 11, "the journal is full");
-    assert!(&rt;
+    assert!(rt; journal.len() == 11, "the journal is full");
+    let put = command_of(&rt, PUT);
+    assert!(rt;
         journal.entry(1) == Entry::of(7, &put, &Reply::Done),
         "a store's bytes stay"
     );

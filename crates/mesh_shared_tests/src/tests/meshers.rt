@@ -1,65 +1,32 @@
 //! Scripts on threads with meshers at work, held at points by a gate.
-ghost use Rattle.std.specs.Prelude.{◌≡◌, ◌≤◌};
+ghost use Rattle.std.specs.Prelude.{◌≡◌, ◌≤◌, length};
 ghost use Rattle.std.specs.List.{All};
 ghost use Rattle.model_words.specs.Commands.{IsInRange};
 
+use crate::tests::calls::{Call, GROUPS, command_of};
 use crate::tests::gates::{Event, Hold, Holding, Mark};
-use arrayvec::ArrayVec;
 use mesh_class::class_of;
 use mesh_job::Commands;
 use mesh_mutator::{Book, Command, Entry, Reply};
-use mesh_shared::{Ended, Gate, MeshPlan, NoGate, RunError, run_abandoned, run_threads};
+use mesh_shared::{Ended, MeshPlan, NoGate, run_abandoned, run_threads};
 use mesh_steps::{Heap, Report};
 use model_words::{Refusal, StepKind};
-use std::alloc::{AllocError, Global};
+use std::alloc::AllocError;
 use std::ops::Range;
+use std::process::Abort;
 use std::rt::Clock;
 use std::sync::Wait;
-use std::test::Fail;
 use std::thread::Threads;
 
-/// A command of a script: a cell with a length, or with a byte at the front of its object.
-#[derive(Clone, Copy, Debug)]
-enum Word {
-    New(u8, u32),
-    Put(u8, u8),
-    Get(u8),
-    Free(u8),
-}
-
-/// The command of a word.
-fn command_of(word: Word) -> Command
-    ensures { IsInRange result }
-{
-    match word {
-        Word::New(cell, len) => Command::New(cell, len, 0),
-        Word::Put(cell, byte) => {
-            let mut bytes = ArrayVec::new();
-            bytes.push(byte);
-            Command::Put(cell, 0, bytes)
-        }
-        Word::Get(cell) => Command::Get(cell, 0, 1),
-        Word::Free(cell) => Command::Free(cell),
-    }
-}
-
-/// The script of these words, one part after another.
-fn script_of(alloc: Global, parts: &[&[Word]]) -> Result<Commands, AllocError> {
-    let mut script = Commands::new(alloc);
+/// The script of these calls, one part after another.
+fn script_of(rt: &(impl Abort + AllocGlobal), parts: &[&[Call]]) -> Commands {
+    let mut script = Commands::new(rt.alloc());
     for part in parts {
-        for word in *part {
-            script.push(command_of(*word))?;
+        for call in *part {
+            script.push(command_of(rt, *call)).expect(rt, "memory");
         }
     }
-    Ok(script)
-}
-
-/// The scripts of a reader, who makes the groups before, and of a writer.
-fn reader_and_writer(alloc: Global) -> Result<(Commands, Commands), AllocError> {
-    Ok((
-        script_of(alloc, &[&GROUPS, &READS])?,
-        script_of(alloc, &[&WRITER])?,
-    ))
+    script
 }
 
 /// One script, as a run takes it.
@@ -76,18 +43,84 @@ fn both<'a>(first: &'a Commands, second: &'a Commands) -> [&'a [Command]; 2]
     [first.as_slice(), second.as_slice()]
 }
 
-/// A plan of so many rounds and meshers: one round of tries a search, all words 0.
-fn plan_of(alloc: Global, rounds: u32, meshers: u32) -> MeshPlan
-    ensures searchers { result.workers ≡ 1 }
+/// A plan of so many rounds, searchers and meshers: one round of tries a search, all words 0.
+fn plan_of(rt: &impl AllocGlobal, rounds: u32, workers: u32, meshers: u32) -> MeshPlan
+    ensures searchers { result.workers ≡ workers }
     ensures meshers { result.meshers ≡ meshers }
 {
     MeshPlan {
         t: 1,
         rounds,
-        workers: 1,
-        words: Vec::new(alloc),
+        workers,
+        words: Vec::new(rt.alloc()),
         meshers,
     }
+}
+
+/// A run of one script or two, and how it goes.
+struct Course {
+    // Each script in its parts.
+    first: &'static [&'static [Call]],
+    second: Option<&'static [&'static [Call]]>,
+    // What all has to be.
+    events: &'static [Event],
+    holds: &'static [Hold],
+    // The first of two events wants the second to have been.
+    orders: &'static [(Event, Event)],
+    // How many entries the journal has room for.
+    room: u32,
+    // The plan: rounds, searchers, 1 to 16, and meshers, 1 to 10.
+    rounds: u32,
+    searchers: u32,
+    meshers: u32,
+}
+
+/// How often a worker tries where meshers are abandoned.
+const TRIES: u32 = 10;
+
+/// Runs scripts on a book of 16 pages, with meshers that are abandoned after so many calls, if any, and asserts that it goes so.
+fn ran<R: Abort + AllocGlobal + Clock + Threads + Wait + Sync>(
+    rt: &R,
+    course: &Course,
+    scripts: &[&[Command]],
+    calls: Option<u32>,
+) -> Ended
+    requires some { 1 ≤ length scripts.now }
+    requires few { length scripts.now ≤ 64 }
+    requires range { All (λ script. All IsInRange script.now) scripts.now }
+{
+    let (searchers, meshers) = (course.searchers, course.meshers);
+    assert!(rt; 1 <= searchers && searchers <= 16, "{searchers} searchers");
+    assert!(rt; 1 <= meshers && meshers <= 10, "{meshers} meshers");
+    assert!(rt; course.room <= 65_536, "room for {}", course.room);
+    let alloc = rt.alloc();
+    let mut marks = Vec::new(alloc);
+    for event in course.events {
+        marks.push(Mark::of(*event)).expect(rt, "memory");
+    }
+    let gate = Holding::new(rt, marks.as_slice(), course.holds, course.orders);
+    let book = Book::open(alloc, 16, course.room).expect(rt, "memory");
+    let plan = plan_of(rt, course.rounds, searchers, meshers);
+    let ended = match calls {
+        None => run_threads(rt, alloc, book, scripts, &plan, &gate),
+        Some(calls) => run_abandoned(rt, alloc, book, scripts, &plan, calls, TRIES, &gate),
+    };
+    assert!(rt; gate.went_well(), "with {calls:?} calls of a mesher");
+    ended.expect(rt, "a history")
+}
+
+/// Runs the scripts of a course so.
+fn played<R: Abort + AllocGlobal + Clock + Threads + Wait + Sync>(
+    rt: &R,
+    course: &Course,
+    calls: Option<u32>,
+) -> Ended {
+    let first = script_of(rt, course.first);
+    let Some(parts) = course.second else {
+        return ran(rt, course, &alone(&first), calls);
+    };
+    let second = script_of(rt, parts);
+    ran(rt, course, &both(&first, &second), calls)
 }
 
 /// How many entries of a history are a worker's.
@@ -111,6 +144,16 @@ fn steps_left(heap: &mut Heap, size: u32) -> u32 {
     1000
 }
 
+/// The size of each class.
+static SIZES: [u32; 10] = [16, 32, 64, 128, 256, 384, 512, 1024, 1536, 2048];
+
+/// Asserts that no class of these sizes takes a step.
+fn are_unmeshed(rt: &impl Abort, heap: &mut Heap, sizes: &[u32]) {
+    for size in sizes {
+        assert_eq!(rt; steps_left(heap, *size), 0, "of {size}");
+    }
+}
+
 /// Whether the first of the addresses holds a byte, and each other one a zero.
 fn begins_with(heap: &Heap, addresses: Range<u32>, front: u8) -> bool {
     let mut wanted = front;
@@ -128,111 +171,99 @@ fn keep_bytes(heap: &Heap) -> bool {
     begins_with(heap, 0x1800..0x2000, 0xab) && begins_with(heap, 0x2000..0x2800, 0xcd)
 }
 
-/// Two groups with one object each.
-static GROUPS: [Word; 6] = [
-    Word::New(0, 2048),
-    Word::New(1, 2048),
-    Word::New(2, 2048),
-    Word::New(3, 2048),
-    Word::Free(0),
-    Word::Free(3),
-];
-
 /// A byte stored in each of the two objects.
-static STORES: [Word; 2] = [Word::Put(1, 0xab), Word::Put(2, 0xcd)];
+const STORES: &[Call] = &[Call::Put(1, 0, &[0xab]), Call::Put(2, 0, &[0xcd])];
 
 /// Four reads of the second object.
-static READS: [Word; 4] = [Word::Get(2); 4];
+const READS: &[Call] = &[Call::Get(2, 0, 1); 4];
 
 /// A read of an empty cell, and a store to the second object.
-static WRITER: [Word; 2] = [Word::Get(9), Word::Put(2, 0xcd)];
+const WRITER: &[Call] = &[Call::Get(9, 0, 1), Call::Put(2, 0, &[0xcd])];
 
-#[test]
-fn a_reader_runs_during_a_copy(rt: HostRuntime) -> Result<(), Fail> {
-    let alloc = rt.alloc();
-    let (reader, writer) = reader_and_writer(alloc)?;
-    let copied = Event::Stepped(0, StepKind::Copy);
-    let remapped = Event::Stepped(0, StepKind::Remap);
-    let marks = [
-        Mark::of(Event::Called(0, 5)),
-        Mark::of(Event::Called(0, 6)),
-        Mark::of(Event::Called(1, 0)),
-        Mark::of(Event::Called(1, 1)),
-        Mark::of(copied),
-        Mark::of(remapped),
-    ];
-    let holds = [
-        Hold::new(Event::Searching, &[Event::Called(0, 5)]),
-        Hold::new(
+/// A reader, who makes the groups before, reads while the second object is copied, and a writer stores only once that is remapped.
+static READ_IN_A_COPY: Course = Course {
+    first: &[GROUPS, READS],
+    second: Some(&[WRITER]),
+    events: &[
+        Event::Called(0, 5),
+        Event::Called(0, 6),
+        Event::Called(1, 0),
+        Event::Called(1, 1),
+        Event::Stepped(0, StepKind::Copy),
+        Event::Stepped(0, StepKind::Remap),
+    ],
+    holds: &[
+        Hold(Event::Searching, &[Event::Called(0, 5)], 0),
+        Hold(
             Event::Called(0, 5),
             &[Event::Called(1, 0), Event::Stepped(0, StepKind::Copy)],
+            0,
         ),
-        Hold::new(
+        Hold(
             Event::Called(1, 0),
             &[Event::Called(0, 5), Event::Stepped(0, StepKind::Copy)],
+            0,
         ),
-        Hold {
-            at: copied,
-            until: &[Event::Called(0, 6)],
-            turns: 10_000,
-        },
-    ];
-    let orders = [(Event::Called(1, 1), remapped)];
-    let gate = Holding::new(&rt, &marks, &holds, &orders);
-    let book = Book::open(alloc, 16, 64)?;
-    let plan = plan_of(alloc, 2, 1);
-    let mut ended = run_threads(&rt, alloc, book, &both(&reader, &writer), &plan, &gate).expect(
-        &rt,
-        "a history",
-    );
-    assert!(rt; gate.went_well());
+        Hold(
+            Event::Stepped(0, StepKind::Copy),
+            &[Event::Called(0, 6)],
+            10_000,
+        ),
+    ],
+    orders: &[(Event::Called(1, 1), Event::Stepped(0, StepKind::Remap))],
+    room: 64,
+    rounds: 2,
+    searchers: 1,
+    meshers: 1,
+};
+
+#[test]
+fn a_reader_runs_during_a_copy(rt: HostRuntime) {
+    let mut ended = played(&rt, &READ_IN_A_COPY, None);
     assert_eq!(rt; count_of(ended.history.as_slice(), 0), 10);
     assert_eq!(rt; count_of(ended.history.as_slice(), 1), 2);
-    for size in [16, 32, 64, 128, 256, 384, 512, 1024, 1536, 2048] {
-        assert_eq!(rt; steps_left(&mut ended.heap, size), 0);
-    }
-    Ok(())
+    are_unmeshed(&rt, &mut ended.heap, &SIZES);
 }
 
+/// Two reads of an empty cell, an object and a read of it.
+const FOUR_CALLS: &[Call] = &[
+    Call::Get(9, 0, 1),
+    Call::Get(9, 0, 1),
+    Call::New(0, 16),
+    Call::Get(0, 0, 1),
+];
+
+/// Two searchers are at work between the first call and the third.
+static SEARCH_BESIDE: Course = Course {
+    first: &[FOUR_CALLS],
+    second: None,
+    events: &[Event::Searching, Event::Called(0, 2)],
+    holds: &[
+        Hold(Event::Called(0, 0), &[Event::Searching], 0),
+        Hold(Event::Searching, &[Event::Called(0, 2)], 0),
+    ],
+    orders: &[],
+    room: 8,
+    rounds: 1,
+    searchers: 2,
+    meshers: 1,
+};
+
 #[test]
-fn a_search_runs_beside_a_script(rt: HostRuntime) -> Result<(), Fail> {
-    let alloc = rt.alloc();
-    let script = script_of(
-        alloc,
-        &[&[Word::Get(9), Word::Get(9), Word::New(0, 16), Word::Get(0)]],
-    )?;
-    let marks = [Mark::of(Event::Searching), Mark::of(Event::Called(0, 2))];
-    let holds = [
-        Hold::new(Event::Called(0, 0), &[Event::Searching]),
-        Hold::new(Event::Searching, &[Event::Called(0, 2)]),
-    ];
-    let gate = Holding::new(&rt, &marks, &holds, &[]);
-    let book = Book::open(alloc, 16, 8)?;
-    let plan = MeshPlan {
-        t: 1,
-        rounds: 1,
-        workers: 2,
-        words: Vec::new(alloc),
-        meshers: 1,
-    };
-    let ended = run_threads(&rt, alloc, book, &alone(&script), &plan, &gate).expect(
-        &rt,
-        "a history",
-    );
-    assert!(rt; gate.went_well());
+fn a_search_runs_beside_a_script(rt: HostRuntime) {
+    let ended = played(&rt, &SEARCH_BESIDE, None);
     assert_eq!(rt; ended.history.len(), 4);
-    Ok(())
 }
 
+/// Three objects of half a page.
+static HALF_PAGES: [Call; 3] = [Call::New(0, 2048), Call::New(1, 2048), Call::New(2, 2048)];
+
 #[test]
-fn a_book_of_one_page_has_no_second(rt: HostRuntime) -> Result<(), Fail> {
+fn a_book_of_one_page_has_no_second(rt: HostRuntime) -> Result<(), AllocError> {
+    let script = script_of(&rt, &[&HALF_PAGES]);
     let alloc = rt.alloc();
-    let script = script_of(
-        alloc,
-        &[&[Word::New(0, 2048), Word::New(1, 2048), Word::New(2, 2048)]],
-    )?;
     let book = Book::open(alloc, 1, 3)?;
-    let plan = plan_of(alloc, 1, 1);
+    let plan = plan_of(&rt, 1, 1, 1);
     let ended = run_threads(&rt, alloc, book, &alone(&script), &plan, &NoGate).expect(
         &rt,
         "a history",
@@ -243,101 +274,143 @@ fn a_book_of_one_page_has_no_second(rt: HostRuntime) -> Result<(), Fail> {
     Ok(())
 }
 
+/// A read of an empty cell.
+const ONE_READ: &[Call] = &[Call::Get(9, 0, 1)];
+
+/// Each of two reads waits for the other one.
+static TWO_READS: Course = Course {
+    first: &[ONE_READ],
+    second: Some(&[ONE_READ]),
+    events: &[Event::Reading(0, 0), Event::Reading(1, 0)],
+    holds: &[
+        Hold(Event::Reading(0, 0), &[Event::Reading(1, 0)], 0),
+        Hold(Event::Reading(1, 0), &[Event::Reading(0, 0)], 0),
+    ],
+    orders: &[],
+    room: 8,
+    rounds: 0,
+    searchers: 1,
+    meshers: 1,
+};
+
 #[test]
-fn two_scripts_read_at_once(rt: HostRuntime) -> Result<(), Fail> {
-    let alloc = rt.alloc();
-    let words = [Word::Get(9)];
-    let (first, second) = (script_of(alloc, &[&words])?, script_of(alloc, &[&words])?);
-    let marks = [
-        Mark::of(Event::Reading(0, 0)),
-        Mark::of(Event::Reading(1, 0)),
-    ];
-    let holds = [
-        Hold::new(Event::Reading(0, 0), &[Event::Reading(1, 0)]),
-        Hold::new(Event::Reading(1, 0), &[Event::Reading(0, 0)]),
-    ];
-    let gate = Holding::new(&rt, &marks, &holds, &[]);
-    let book = Book::open(alloc, 16, 8)?;
-    let plan = plan_of(alloc, 0, 1);
-    let ended = run_threads(&rt, alloc, book, &both(&first, &second), &plan, &gate).expect(
-        &rt,
-        "a history",
-    );
-    assert!(rt; gate.went_well());
+fn two_scripts_read_at_once(rt: HostRuntime) {
+    let ended = played(&rt, &TWO_READS, None);
     assert_eq!(rt; ended.history.len(), 2);
-    Ok(())
 }
 
-/// Groups of two classes that can be meshed: 36 commands.
-fn two_classes(alloc: Global) -> Result<Commands, AllocError> {
-    let mut script = script_of(alloc, &[&GROUPS])?;
-    for cell in 4..20 {
-        script.push(Command::New(cell, 512, 0))?;
-    }
-    for cell in 4..11 {
-        script.push(Command::Free(cell))?;
-    }
-    for cell in 13..20 {
-        script.push(Command::Free(cell))?;
-    }
-    Ok(script)
-}
+/// Two groups of class 512 that can be meshed, each with one object.
+const SMALL_GROUPS: &[Call] = &[
+    Call::New(4, 512),
+    Call::New(5, 512),
+    Call::New(6, 512),
+    Call::New(7, 512),
+    Call::New(8, 512),
+    Call::New(9, 512),
+    Call::New(10, 512),
+    Call::New(11, 512),
+    Call::New(12, 512),
+    Call::New(13, 512),
+    Call::New(14, 512),
+    Call::New(15, 512),
+    Call::New(16, 512),
+    Call::New(17, 512),
+    Call::New(18, 512),
+    Call::New(19, 512),
+    Call::Free(4),
+    Call::Free(5),
+    Call::Free(6),
+    Call::Free(7),
+    Call::Free(8),
+    Call::Free(9),
+    Call::Free(10),
+    Call::Free(13),
+    Call::Free(14),
+    Call::Free(15),
+    Call::Free(16),
+    Call::Free(17),
+    Call::Free(18),
+    Call::Free(19),
+];
 
-#[test]
-fn two_meshers_copy_at_once(rt: HostRuntime) -> Result<(), Fail> {
-    let alloc = rt.alloc();
-    let script = two_classes(alloc)?;
-    let (first, second) = (
+/// Each of two copies waits for the other one.
+static TWO_COPIES: Course = Course {
+    first: &[GROUPS, SMALL_GROUPS],
+    second: None,
+    events: &[
+        Event::Called(0, 35),
         Event::Stepped(0, StepKind::Copy),
         Event::Stepped(1, StepKind::Copy),
-    );
-    let marks = [
-        Mark::of(Event::Called(0, 35)),
-        Mark::of(first),
-        Mark::of(second),
-    ];
-    let holds = [
-        Hold::new(Event::Searching, &[Event::Called(0, 35)]),
-        Hold::new(first, &[Event::Stepped(1, StepKind::Copy)]),
-        Hold::new(second, &[Event::Stepped(0, StepKind::Copy)]),
-    ];
-    let gate = Holding::new(&rt, &marks, &holds, &[]);
-    let book = Book::open(alloc, 16, 64)?;
-    let plan = plan_of(alloc, 2, 2);
-    let ended = run_threads(&rt, alloc, book, &alone(&script), &plan, &gate).expect(
-        &rt,
-        "a history",
-    );
-    assert!(rt; gate.went_well());
+    ],
+    holds: &[
+        Hold(Event::Searching, &[Event::Called(0, 35)], 0),
+        Hold(
+            Event::Stepped(0, StepKind::Copy),
+            &[Event::Stepped(1, StepKind::Copy)],
+            0,
+        ),
+        Hold(
+            Event::Stepped(1, StepKind::Copy),
+            &[Event::Stepped(0, StepKind::Copy)],
+            0,
+        ),
+    ],
+    orders: &[],
+    room: 64,
+    rounds: 2,
+    searchers: 1,
+    meshers: 2,
+};
+
+#[test]
+fn two_meshers_copy_at_once(rt: HostRuntime) {
+    let ended = played(&rt, &TWO_COPIES, None);
     assert_eq!(rt; ended.history.len(), 36);
     let report = ended.heap.report();
     assert!(rt;
         report.mapped == 4 && report.taken == 2,
         "each class is on one page"
     );
-    Ok(())
 }
 
+/// Six groups with one object each, three of them in each of the two slots.
+const SIX_GROUPS: &[Call] = &[
+    Call::New(0, 2048),
+    Call::New(1, 2048),
+    Call::New(2, 2048),
+    Call::New(3, 2048),
+    Call::New(4, 2048),
+    Call::New(5, 2048),
+    Call::New(6, 2048),
+    Call::New(7, 2048),
+    Call::New(8, 2048),
+    Call::New(9, 2048),
+    Call::New(10, 2048),
+    Call::New(11, 2048),
+    Call::Free(1),
+    Call::Free(3),
+    Call::Free(5),
+    Call::Free(6),
+    Call::Free(8),
+    Call::Free(10),
+];
+
+/// The search waits for the last command.
+static SEARCH_BEHIND: Course = Course {
+    first: &[SIX_GROUPS],
+    second: None,
+    events: &[Event::Called(0, 17)],
+    holds: &[Hold(Event::Searching, &[Event::Called(0, 17)], 0)],
+    orders: &[],
+    room: 64,
+    rounds: 2,
+    searchers: 1,
+    meshers: 1,
+};
+
 #[test]
-fn every_pair_is_meshed(rt: HostRuntime) -> Result<(), Fail> {
-    let alloc = rt.alloc();
-    let mut script = Commands::new(alloc);
-    for cell in 0..12 {
-        script.push(Command::New(cell, 2048, 0))?;
-    }
-    for cell in [1, 3, 5, 6, 8, 10] {
-        script.push(Command::Free(cell))?;
-    }
-    let marks = [Mark::of(Event::Called(0, 17))];
-    let holds = [Hold::new(Event::Searching, &[Event::Called(0, 17)])];
-    let gate = Holding::new(&rt, &marks, &holds, &[]);
-    let book = Book::open(alloc, 16, 64)?;
-    let plan = plan_of(alloc, 2, 1);
-    let ended = run_threads(&rt, alloc, book, &alone(&script), &plan, &gate).expect(
-        &rt,
-        "a history",
-    );
-    assert!(rt; gate.went_well());
+fn every_pair_is_meshed(rt: HostRuntime) {
+    let ended = played(&rt, &SEARCH_BEHIND, None);
     let report = Report {
         objects: 6,
         bytes: 12_288,
@@ -346,35 +419,42 @@ fn every_pair_is_meshed(rt: HostRuntime) -> Result<(), Fail> {
         saved: 3,
     };
     assert!(rt; ended.heap.report() == report, "three pages are saved");
-    Ok(())
 }
 
-/// A mesher that is abandoned after so many calls, beside a reader: what is handed out.
-fn abandoned<R: Clock + Threads + Wait + Sync>(
-    rt: &R,
-    alloc: Global,
-    calls: u32,
-) -> Result<Option<Ended>, AllocError> {
-    let reader = script_of(alloc, &[&GROUPS, &STORES, &READS])?;
-    let marks = [Mark::of(Event::Called(0, 7)), Mark::of(Event::Begun(0))];
-    let holds = [
-        Hold::new(Event::Searching, &[Event::Called(0, 7)]),
-        Hold::new(Event::Called(0, 7), &[Event::Begun(0)]),
-    ];
-    // A mesher that makes no call begins no mesh that one could wait for.
-    let waits = if calls == 0 { 1 } else { 2 };
-    let gate = Holding::new(rt, &marks[..waits], &holds[..waits], &[]);
-    let book = Book::open(alloc, 16, 64)?;
-    let plan = plan_of(alloc, 2, 1);
-    let ended = run_abandoned(rt, alloc, book, &alone(&reader), &plan, calls, 10, &gate);
-    Ok(if gate.went_well() { ended.ok() } else { None })
-}
+/// The search waits for the stores, and the reads wait for the mesh.
+static MESH_AMID: Course = Course {
+    first: &[GROUPS, STORES, READS],
+    second: None,
+    events: &[Event::Called(0, 7), Event::Begun(0)],
+    holds: &[
+        Hold(Event::Searching, &[Event::Called(0, 7)], 0),
+        Hold(Event::Called(0, 7), &[Event::Begun(0)], 0),
+    ],
+    orders: &[],
+    room: 64,
+    rounds: 2,
+    searchers: 1,
+    meshers: 1,
+};
+
+/// The same of a mesher that makes no call, and so begins no mesh that one could wait for.
+static NO_MESH: Course = Course {
+    first: &[GROUPS, STORES, READS],
+    second: None,
+    events: &[Event::Called(0, 7)],
+    holds: &[Hold(Event::Searching, &[Event::Called(0, 7)], 0)],
+    orders: &[],
+    room: 64,
+    rounds: 2,
+    searchers: 1,
+    meshers: 1,
+};
 
 #[test]
-fn a_mesher_is_abandoned_after_each_call(rt: HostRuntime) -> Result<(), Fail> {
-    let alloc = rt.alloc();
+fn a_mesher_is_abandoned_after_each_call(rt: HostRuntime) {
     for calls in 0..8 {
-        let mut ended = abandoned(&rt, alloc, calls)?.expect(&rt, "a history");
+        let course = if calls == 0 { &NO_MESH } else { &MESH_AMID };
+        let mut ended = played(&rt, course, Some(calls));
         assert!(rt;
             ended.history.len() == 12,
             "all commands are answered, after {calls} calls"
@@ -393,40 +473,36 @@ fn a_mesher_is_abandoned_after_each_call(rt: HostRuntime) -> Result<(), Fail> {
             "both objects keep their bytes to the end, after {calls} calls"
         );
     }
-    Ok(())
 }
 
+/// A writer stores only once the page is read-only.
+static STORE_HELD_BACK: Course = Course {
+    first: &[GROUPS, READS],
+    second: Some(&[WRITER]),
+    events: &[
+        Event::Called(0, 5),
+        Event::Begun(0),
+        Event::Stepped(0, StepKind::Protect),
+    ],
+    holds: &[
+        Hold(Event::Searching, &[Event::Called(0, 5)], 0),
+        Hold(Event::Called(0, 5), &[Event::Begun(0)], 0),
+        Hold(
+            Event::Called(1, 0),
+            &[Event::Stepped(0, StepKind::Protect)],
+            0,
+        ),
+    ],
+    orders: &[],
+    room: 64,
+    rounds: 2,
+    searchers: 1,
+    meshers: 1,
+};
+
 #[test]
-fn a_store_is_given_up(rt: HostRuntime) -> Result<(), Fail> {
-    let alloc = rt.alloc();
-    let (reader, writer) = reader_and_writer(alloc)?;
-    let protected = Event::Stepped(0, StepKind::Protect);
-    let marks = [
-        Mark::of(Event::Called(0, 5)),
-        Mark::of(Event::Begun(0)),
-        Mark::of(protected),
-    ];
-    let holds = [
-        Hold::new(Event::Searching, &[Event::Called(0, 5)]),
-        Hold::new(Event::Called(0, 5), &[Event::Begun(0)]),
-        Hold::new(Event::Called(1, 0), &[Event::Stepped(0, StepKind::Protect)]),
-    ];
-    let gate = Holding::new(&rt, &marks, &holds, &[]);
-    let book = Book::open(alloc, 16, 64)?;
-    let plan = plan_of(alloc, 2, 1);
-    let ended = run_abandoned(
-        &rt,
-        alloc,
-        book,
-        &both(&reader, &writer),
-        &plan,
-        2,
-        10,
-        &gate,
-    )
-    .expect(&rt, "a history");
-    assert!(rt; gate.went_well());
+fn a_store_is_given_up(rt: HostRuntime) {
+    let ended = played(&rt, &STORE_HELD_BACK, Some(2));
     assert_eq!(rt; count_of(ended.history.as_slice(), 0), 10);
     assert_eq!(rt; count_of(ended.history.as_slice(), 1), 1);
-    Ok(())
 }

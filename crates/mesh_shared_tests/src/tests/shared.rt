@@ -1,18 +1,21 @@
 //! Seats, settled histories and threads that share a book.
-ghost use Rattle.std.specs.Prelude.{◌≡◌, ◌≤◌, length};
+ghost use Rattle.std.specs.Prelude.{◌≤◌, length};
 ghost use Rattle.model_words.specs.Commands.{IsInRange};
 
+use crate::tests::calls::{Answer, Call, GROUPS, command_of, reply_of};
 use arrayvec::ArrayVec;
 use mesh_class::{Class, class_of};
 use mesh_mutator::{Attempt, Book, Command, Reply};
 use mesh_shared::{Ended, FinishError, Seat, Shared};
-use mesh_steps::{Report, StepDone};
+use mesh_steps::Report;
 use model_words::{Refusal, StepKind};
 use std::alloc::{AllocError, Global};
+use std::process::Abort;
 use std::rt::Clock;
 use std::sync::Wait;
 use std::sync::atomic::AtomicBool;
 use std::sync::atomic::Ordering::SeqCst;
+use std::test::Fail;
 use std::thread;
 use std::thread::join;
 use std::time::Duration;
@@ -54,17 +57,6 @@ fn get_bytes(cell: u8) -> Command
     Command::Get(cell, 0, 2)
 }
 
-/// Which error it is, with its two numbers; 0 where there is none.
-fn told(ended: &Result<Ended, FinishError>) -> (u32, u32, usize) {
-    match ended {
-        Ok(_) => (0, 0, 0),
-        Err(FinishError::SeatMissing(seat)) => (1, *seat, 0),
-        Err(FinishError::SeatDiffers { seat, call }) => (2, *seat, *call),
-        Err(FinishError::ReadDiffers { seat, call }) => (3, *seat, *call),
-        Err(FinishError::Memory) => (4, 0, 0),
-    }
-}
-
 /// How many entries the history has; 0 where there is none.
 fn entries_of(ended: Result<Ended, FinishError>) -> usize {
     match ended {
@@ -101,147 +93,226 @@ fn two_threads_share_a_book(rt: HostRuntime) -> Result<(), AllocError> {
     Ok(())
 }
 
-#[test]
-fn seats_of_two_books_are_told(rt: HostRuntime) -> Result<(), AllocError> {
-    let alloc = rt.alloc();
-    let (a, seats_a) = opened(alloc, &[4, 4])?;
-    let (_b, mut b0, _b1) = opened_for_two(alloc)?;
-    let made = a.call(&rt, &mut b0, &new_object(0));
-    assert!(&rt;
-        matches!(made, Attempt::Done(Reply::Object(0, 0x1000))),
-        "an object for a strange seat"
+/// Asserts that a command of a seat is done, and answered so.
+fn check(
+    rt: &(impl Abort + Wait),
+    shared: &Shared,
+    seat: &mut Seat,
+    call: Call,
+    answer: Answer,
+    name: &str,
+) {
+    let attempt = shared.call(rt, seat, &command_of(rt, call));
+    assert_eq!(rt;
+        attempt,
+        Attempt::Done(reply_of(rt, answer)),
+        "of {call:?}, {name}"
     );
-    let ended = a.finish(alloc, seats_a);
-    assert!(&rt;
-        told(&ended) == (2, 0, 0),
-        "the entry is of no call of seat 0"
-    );
-    Ok(())
+}
+
+/// Which of two books is asked.
+#[derive(Clone, Copy)]
+enum Asked {
+    // The one that is finished.
+    Own,
+    // Another one.
+    Other,
+}
+
+/// What is asked before a book is finished: of which book, from the seat of which place, and the answer. The seats of the book that is finished
+/// have the places 0 and 1, those of the other one the places from 2 on.
+type Turn = (Asked, usize, Call, Answer);
+
+/// By their names, what is asked before a book is finished, the places of the seats that are handed in, and the fault that is told.
+static MISFITS: [(&str, &[Turn], &[usize], FinishError); 7] = [
+    (
+        "an entry of no call of seat 0",
+        &[(Asked::Own, 2, Call::New(0, 2048), Answer::Object(0, 0x1000))],
+        &[0, 1],
+        FinishError::SeatDiffers { seat: 0, call: 0 },
+    ),
+    (
+        "seats in the other order",
+        &[],
+        &[1, 0],
+        FinishError::SeatMissing(0),
+    ),
+    ("one seat of two", &[], &[0], FinishError::SeatMissing(1)),
+    (
+        "one seat more",
+        &[],
+        &[0, 1, 2],
+        FinishError::SeatMissing(2),
+    ),
+    (
+        "an entry of a worker without a seat",
+        &[(Asked::Own, 4, Call::New(0, 2048), Answer::Object(0, 0x1000))],
+        &[0, 1],
+        FinishError::SeatMissing(2),
+    ),
+    (
+        "a call that stands in another journal",
+        &[
+            (
+                Asked::Other,
+                0,
+                Call::New(0, 2048),
+                Answer::Object(0, 0x1000),
+            ),
+            (Asked::Other, 0, Call::Get(0, 0, 2), Answer::Bytes(&[0, 0])),
+        ],
+        &[0, 1],
+        FinishError::SeatDiffers { seat: 0, call: 0 },
+    ),
+    (
+        "a read that saw another journal",
+        &[
+            (
+                Asked::Other,
+                3,
+                Call::New(0, 2048),
+                Answer::Object(0, 0x1000),
+            ),
+            (Asked::Other, 0, Call::Get(0, 0, 2), Answer::Bytes(&[0, 0])),
+        ],
+        &[0, 1],
+        FinishError::ReadDiffers { seat: 0, call: 0 },
+    ),
+];
+
+/// The seats of two books in one row of places.
+fn placed(
+    alloc: Global,
+    own: Vec<Seat>,
+    other: Vec<Seat>,
+) -> Result<Vec<Option<Seat>>, AllocError> {
+    let mut places = Vec::new(alloc);
+    for seat in own {
+        places.push(Some(seat))?;
+    }
+    for seat in other {
+        places.push(Some(seat))?;
+    }
+    Ok(places)
+}
+
+/// The fault that is told when these seats are handed in after these turns.
+fn told(
+    rt: &(impl Abort + AllocGlobal + Wait),
+    turns: &[Turn],
+    handed: &[usize],
+    name: &str,
+) -> Result<FinishError, AllocError> {
+    let alloc = rt.alloc();
+    let (own, own_seats) = opened(alloc, &[4, 4])?;
+    let (other, other_seats) = opened(alloc, &[4, 4, 4])?;
+    let mut places = placed(alloc, own_seats, other_seats)?;
+    for (asked, place, call, answer) in turns {
+        let book = match asked {
+            Asked::Own => &own,
+            Asked::Other => &other,
+        };
+        let seat = places.get_mut(*place).expect(rt, "a place").as_mut();
+        check(rt, book, seat.expect(rt, "a seat"), *call, *answer, name);
+    }
+    let mut seats = Vec::new(alloc);
+    for place in handed {
+        let seat = places.get_mut(*place).expect(rt, "a place").take();
+        seats.push(seat.expect(rt, "a seat"))?;
+    }
+    Ok(own.finish(alloc, seats).err().expect(rt, "a fault"))
 }
 
 #[test]
-fn seats_in_the_other_order_are_told(rt: HostRuntime) -> Result<(), AllocError> {
-    let alloc = rt.alloc();
-    let (a, a0, a1) = opened_for_two(alloc)?;
-    let ended = a.finish(alloc, vec![in alloc; a1, a0]?);
-    assert!(&rt; told(&ended) == (1, 0, 0), "in the other order");
+fn seats_that_do_not_fit_are_told(rt: HostRuntime) -> Result<(), AllocError> {
+    for (name, turns, handed, fault) in MISFITS.iter() {
+        let error = told(&rt, turns, handed, name)?;
+        assert!(rt; error == *fault, "of {name}: {error}");
+    }
     Ok(())
 }
 
-#[test]
-fn too_few_seats_are_told(rt: HostRuntime) -> Result<(), AllocError> {
-    let alloc = rt.alloc();
-    let (a, a0, _a1) = opened_for_two(alloc)?;
-    let ended = a.finish(alloc, vec![in alloc; a0]?);
-    assert!(&rt; told(&ended) == (1, 1, 0), "one of two");
-    Ok(())
-}
-
-#[test]
-fn too_many_seats_are_told(rt: HostRuntime) -> Result<(), AllocError> {
-    let alloc = rt.alloc();
-    let (a, a0, a1) = opened_for_two(alloc)?;
-    let (_b, b0, _b1) = opened_for_two(alloc)?;
-    let ended = a.finish(alloc, vec![in alloc; a0, a1, b0]?);
-    assert!(&rt; told(&ended) == (1, 2, 0), "one more");
-    Ok(())
-}
-
-#[test]
-fn strangers_are_told(rt: HostRuntime) -> Result<(), AllocError> {
-    let alloc = rt.alloc();
-    let (a, seats) = opened(alloc, &[4, 4])?;
-    let (_c, mut others) = opened(alloc, &[4, 4, 4])?;
-    let Some(mut c2) = others.pop() else {
-        return Err(AllocError);
-    };
-    a.call(&rt, &mut c2, &new_object(0));
-    let ended = a.finish(alloc, seats);
-    assert!(&rt;
-        told(&ended) == (1, 2, 0),
-        "an entry of a worker without a seat"
-    );
-    Ok(())
-}
-
-#[test]
-fn calls_in_another_journal_are_told(rt: HostRuntime) -> Result<(), AllocError> {
-    let alloc = rt.alloc();
-    let (a, _a0, _a1) = opened_for_two(alloc)?;
-    let (b, mut b0, b1) = opened_for_two(alloc)?;
-    a.call(&rt, &mut b0, &new_object(0));
-    a.call(&rt, &mut b0, &get_bytes(0));
-    let ended = b.finish(alloc, vec![in alloc; b0, b1]?);
-    assert!(&rt;
-        told(&ended) == (2, 0, 0),
-        "the call stands in another journal"
-    );
-    Ok(())
-}
-
-#[test]
-fn reads_of_another_book_are_told(rt: HostRuntime) -> Result<(), AllocError> {
-    let alloc = rt.alloc();
-    let (a, _a0, mut a1) = opened_for_two(alloc)?;
-    let (b, mut b0, b1) = opened_for_two(alloc)?;
-    a.call(&rt, &mut a1, &new_object(0));
-    a.call(&rt, &mut b0, &get_bytes(0));
-    let ended = b.finish(alloc, vec![in alloc; b0, b1]?);
-    assert!(&rt; told(&ended) == (3, 0, 0), "the read saw another journal");
-    Ok(())
-}
+/// An object, a second name of it, and a read by that.
+static ALIASED: [(Call, Answer); 3] = [
+    (Call::New(0, 2048), Answer::Object(0, 0x1000)),
+    (Call::Alias(1, 0), Answer::Done),
+    (Call::Get(1, 0, 2), Answer::Bytes(&[0, 0])),
+];
 
 #[test]
 fn reads_come_into_the_history(rt: HostRuntime) -> Result<(), AllocError> {
     let alloc = rt.alloc();
-    let (a, mut a0, a1) = opened_for_two(alloc)?;
-    a.call(&rt, &mut a0, &new_object(0));
-    let alias = a.call(&rt, &mut a0, &Command::Alias(1, 0));
-    let bytes = a.call(&rt, &mut a0, &get_bytes(1));
-    assert!(&rt;
-        matches!(alias, Attempt::Done(Reply::Done)),
-        "the alias is done"
-    );
-    assert!(&rt;
-        matches!(bytes, Attempt::Done(Reply::Bytes(_))),
-        "the bytes are read"
-    );
-    let entries = entries_of(a.finish(alloc, vec![in alloc; a0, a1]?));
-    assert!(&rt; entries == 3, "{entries} entries");
+    let (shared, mut first, second) = opened_for_two(alloc)?;
+    for (call, answer) in ALIASED.iter() {
+        check(&rt, &shared, &mut first, *call, *answer, "an alias");
+    }
+    let entries = entries_of(shared.finish(alloc, vec![in alloc; first, second]?));
+    assert_eq!(rt; entries, 3);
     Ok(())
 }
 
-/// The commands before a mesher comes: two groups of class 2,048, each with one object.
-fn set_up<R: Wait>(rt: &R, shared: &Shared, seat: &mut Seat) {
-    for cell in 0..4u8 {
-        shared.call(rt, seat, &new_object(cell));
+/// What is there before a mesher comes: two groups of class 2,048, each with one object, and the seat that made them.
+fn set_up(rt: &(impl Abort + AllocGlobal + Wait)) -> (Shared, Seat, Class) {
+    let (shared, mut seats) = opened(rt.alloc(), &[16]).expect(rt, "memory");
+    let mut seat = seats.pop().expect(rt, "a seat");
+    for call in GROUPS.iter() {
+        shared.call(rt, &mut seat, &command_of(rt, *call));
     }
-    shared.call(rt, seat, &Command::Free(0));
-    shared.call(rt, seat, &Command::Free(3));
+    (shared, seat, class_of(2048).expect(rt, "a class"))
 }
 
-/// Begins a mesh, makes a step, cancels it and unwinds it, each under the lock: whether each answers as it should.
-fn begins_and_cancels<R: Wait>(rt: &R, shared: &Shared, class: Class) -> bool {
-    let begun = shared.book.write(rt).begin(1, 0);
-    let protected = shared.book.write(rt).step(class);
-    let cancelled = shared.book.write(rt).cancel(class);
-    let unprotected = shared.book.write(rt).step(class);
-    matches!(begun, Ok(6))
-        && matches!(
-            protected,
-            Ok(StepDone {
-                kind: StepKind::Protect,
-                left: 5
-            })
-        )
-        && matches!(cancelled, Ok(1))
-        && matches!(
-            unprotected,
-            Ok(StepDone {
-                kind: StepKind::Unprotect,
-                left: 0
-            })
-        )
+/// A call of a mesher.
+#[derive(Clone, Copy, Debug)]
+enum Meshing {
+    // Of a source into a destination.
+    Begin(u32, u32),
+    Step,
+    Cancel,
+    // Of a group.
+    Sweep(u32),
+}
+
+/// What a mesher's call under the lock is answered: of a step which it was, and steps to come or pages that came free.
+fn meshed(
+    rt: &impl Wait,
+    shared: &Shared,
+    class: Class,
+    meshing: Meshing,
+) -> Result<(Option<StepKind>, u32), Refusal> {
+    let mut book = shared.book.write(rt);
+    match meshing {
+        Meshing::Begin(source, destination) => Ok((None, book.begin(source, destination)?)),
+        Meshing::Step => {
+            let done = book.step(class)?;
+            Ok((Some(done.kind), done.left))
+        },
+        Meshing::Cancel => Ok((None, book.cancel(class)?)),
+        Meshing::Sweep(group) => Ok((None, book.sweep(group)?)),
+    }
+}
+
+/// A mesh that is begun and cancelled.
+static CANCELLED: [(Meshing, Option<StepKind>, u32); 4] = [
+    (Meshing::Begin(1, 0), None, 6),
+    (Meshing::Step, Some(StepKind::Protect), 5),
+    (Meshing::Cancel, None, 1),
+    (Meshing::Step, Some(StepKind::Unprotect), 0),
+];
+
+/// An empty group that is swept: a page comes free.
+static SWEPT: [(Meshing, Option<StepKind>, u32); 1] = [(Meshing::Sweep(0), None, 1)];
+
+/// Asserts that a mesher's calls, one after another and each under the lock, are answered so.
+fn play(
+    rt: &(impl Abort + Wait),
+    shared: &Shared,
+    class: Class,
+    calls: &[(Meshing, Option<StepKind>, u32)],
+) {
+    for (meshing, kind, count) in calls {
+        let answer = meshed(rt, shared, class, *meshing);
+        assert_eq!(rt; answer, Ok((*kind, *count)), "of {meshing:?}");
+    }
 }
 
 /// Whether group 1 alone may be paired.
@@ -256,27 +327,17 @@ fn has_one_group<R: Wait>(
 }
 
 #[test]
-fn a_mesher_takes_the_lock(rt: HostRuntime) -> Result<(), AllocError> {
+fn a_mesher_takes_the_lock(rt: HostRuntime) -> Result<(), Fail> {
     let alloc = rt.alloc();
-    let (shared, mut seats) = opened(alloc, &[16])?;
-    let (Some(mut seat), Ok(class)) = (seats.pop(), class_of(2048)) else {
-        return Err(AllocError);
-    };
-    set_up(&rt, &shared, &mut seat);
-    assert!(&rt;
-        begins_and_cancels(&rt, &shared, class),
-        "a mesh is begun and cancelled"
-    );
+    let (shared, mut seat, class) = set_up(&rt);
+    play(&rt, &shared, class, &CANCELLED);
     shared.call(&rt, &mut seat, &Command::Free(1));
-    let swept = shared.book.write(&rt).sweep(0);
-    assert!(&rt; matches!(swept, Ok(1)), "a page comes free");
+    play(&rt, &shared, class, &SWEPT);
     assert!(&rt;
         has_one_group(&rt, alloc, &shared, class)?,
         "group 1 is the only one"
     );
-    let Ok(ended) = shared.finish(alloc, vec![in alloc; seat]?) else {
-        return Err(AllocError);
-    };
+    let ended = shared.finish(alloc, vec![in alloc; seat]?)?;
     let report = Report {
         objects: 1,
         bytes: 2048,
@@ -289,47 +350,37 @@ fn a_mesher_takes_the_lock(rt: HostRuntime) -> Result<(), AllocError> {
 }
 
 #[test]
-fn a_call_tells_that_it_is_held_back(rt: HostRuntime) -> Result<(), AllocError> {
-    let alloc = rt.alloc();
-    let (shared, mut seats) = opened(alloc, &[16])?;
-    let (Some(mut seat), Ok(class)) = (seats.pop(), class_of(2048)) else {
-        return Err(AllocError);
-    };
-    set_up(&rt, &shared, &mut seat);
+fn a_call_tells_that_it_is_held_back(rt: HostRuntime) {
+    let (shared, mut seat, class) = set_up(&rt);
     assert!(&rt; !shared.book.read(&rt).running(class), "no mesh runs");
-    let begun = shared.book.write(&rt).begin(1, 0);
-    let protected = shared.book.write(&rt).step(class);
-    assert!(&rt; begun.is_ok() && protected.is_ok(), "a page is read-only");
+    play(&rt, &shared, class, &CANCELLED[..2]);
     assert!(&rt; shared.book.read(&rt).running(class), "a mesh runs");
-    let mut bytes = ArrayVec::new();
-    bytes.push(0x68);
-    let stored = shared.call(&rt, &mut seat, &Command::Put(2, 0, bytes));
+    let put = command_of(&rt, Call::Put(2, 0, &[0x68]));
+    let stored = shared.call(&rt, &mut seat, &put);
     assert!(&rt; stored == Attempt::Blocked, "the store is held back");
     assert!(&rt; seat.calls().len() == 6, "and isn't kept");
-    Ok(())
 }
 
+/// Three objects of half a page.
+static HALF_PAGES: [(Call, Answer); 3] = [
+    (Call::New(0, 2048), Answer::Object(0, 0x1000)),
+    (Call::New(1, 2048), Answer::Object(1, 0x1800)),
+    (Call::New(2, 2048), Answer::Refused(Refusal::NoPages)),
+];
+
 #[test]
-fn the_book_is_the_one_handed_in(rt: HostRuntime) -> Result<(), AllocError> {
+fn the_book_is_the_one_handed_in(rt: HostRuntime) -> Result<(), Fail> {
     let alloc = rt.alloc();
     let book = Book::open(alloc, 1, 3)?;
-    let Ok((shared, mut seats)) = Shared::open(alloc, book, &[4]) else {
-        return Err(AllocError);
-    };
-    let Some(mut seat) = seats.pop() else {
-        return Err(AllocError);
-    };
-    shared.call(&rt, &mut seat, &new_object(0));
-    shared.call(&rt, &mut seat, &new_object(1));
-    let third = shared.call(&rt, &mut seat, &new_object(2));
-    assert!(&rt;
-        third == Attempt::Done(Reply::Refused(Refusal::NoPages)),
-        "it has one page"
-    );
+    let (shared, mut seats) = Shared::open(alloc, book, &[4])?;
+    let mut seat = seats.pop().expect(&rt, "a seat");
+    for (call, answer) in HALF_PAGES.iter() {
+        check(&rt, &shared, &mut seat, *call, *answer, "one page");
+    }
     let fourth = shared.call(&rt, &mut seat, &new_object(3));
     assert!(&rt;
         fourth == Attempt::HistoryFull,
-        "and room for three entries"
+        "there is room for three entries"
     );
     Ok(())
 }

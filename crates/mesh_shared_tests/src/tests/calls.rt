@@ -1,0 +1,94 @@
+//! Commands and their replies as plain values, which tables of cases hold.
+ghost use Rattle.model_words.specs.Commands.{IsInRange};
+
+use arrayvec::ArrayVec;
+use mesh_mutator::{Command, Reply};
+use model_words::{MAX_BYTES, Refusal};
+use std::process::Abort;
+
+/// A command.
+#[derive(Clone, Copy, Debug)]
+pub(crate) enum Call {
+    // A cell, and the length of its object.
+    New(u8, u32),
+    // To an object's offset, 1 to 32 bytes.
+    Put(u8, u32, &'static [u8]),
+    // From an object's offset, so many bytes, 1 to 32.
+    Get(u8, u32, u32),
+    Free(u8),
+    Alias(u8, u8),
+    // To an object's offset, from an object's offset, so many bytes, 1 to 32.
+    Copy(u8, u32, u8, u32, u32),
+    Addr(u8),
+    Peek(u32),
+    Poke(u32, u8),
+}
+
+/// What a command is answered.
+#[derive(Clone, Copy)]
+pub(crate) enum Answer {
+    // The serial and the address of a new object.
+    Object(u32, u32),
+    Done,
+    Bytes(&'static [u8]),
+    At(u32),
+    Byte(u8),
+    Refused(Refusal),
+}
+
+/// Two groups of class 2,048 with one object each, of the cells 1 and 2.
+pub(crate) const GROUPS: &[Call] = &[
+    Call::New(0, 2048),
+    Call::New(1, 2048),
+    Call::New(2, 2048),
+    Call::New(3, 2048),
+    Call::Free(0),
+    Call::Free(3),
+];
+
+/// The command of a call.
+pub(crate) fn command_of(rt: &impl Abort, call: Call) -> Command
+    ensures { IsInRange result }
+{
+    match call {
+        Call::New(cell, len) => Command::New(cell, len, 0),
+        Call::Put(cell, off, bytes) => {
+            let stored = bytes_of(rt, bytes);
+            assert!(rt; !stored.is_empty(), "of {call:?}");
+            Command::Put(cell, off, stored)
+        },
+        Call::Get(cell, off, len) => {
+            assert!(rt; 1 <= len && len <= 32, "of {call:?}");
+            Command::Get(cell, off, len)
+        },
+        Call::Free(cell) => Command::Free(cell),
+        Call::Alias(to, from) => Command::Alias(to, from),
+        Call::Copy(to, to_off, from, from_off, len) => {
+            assert!(rt; 1 <= len && len <= 32, "of {call:?}");
+            Command::Copy(to, to_off, from, from_off, len)
+        },
+        Call::Addr(cell) => Command::Addr(cell),
+        Call::Peek(addr) => Command::Peek(addr),
+        Call::Poke(addr, byte) => Command::Poke(addr, byte),
+    }
+}
+
+/// The reply of an answer.
+pub(crate) fn reply_of(rt: &impl Abort, answer: Answer) -> Reply {
+    match answer {
+        Answer::Object(serial, addr) => Reply::Object(serial, addr),
+        Answer::Done => Reply::Done,
+        Answer::Bytes(bytes) => Reply::Bytes(bytes_of(rt, bytes)),
+        Answer::At(addr) => Reply::At(addr),
+        Answer::Byte(byte) => Reply::Byte(byte),
+        Answer::Refused(refusal) => Reply::Refused(refusal),
+    }
+}
+
+/// At most 32 bytes, as a command stores and a reply loads them.
+fn bytes_of(rt: &impl Abort, bytes: &[u8]) -> ArrayVec<u8, MAX_BYTES> {
+    let mut kept = ArrayVec::new();
+    let extended = kept.try_extend_from_slice(bytes);
+    assert!(rt; extended.is_ok(), "of {bytes:?}");
+    kept
+}
