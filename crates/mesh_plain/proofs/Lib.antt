@@ -2,3 +2,4 @@ mod Ties
 mod Holders
 mod Stores
 mod Serials
+pub mod Sameness

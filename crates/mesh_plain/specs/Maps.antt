@@ -27,6 +27,10 @@ memory_code = code_by (List (Option Object) × List (Option ℕ)) (coded× (code
 abbrev pub AreBelow : (ℕ → Option Object) → ℕ → Type 0
 AreBelow object next = (k : ℕ) (x : Object) → object k ≡ Some x → k < next
 
+-- both give the same below a number
+abbrev pub AgreeBelow : {X : Type 0} → ℕ → (ℕ → Option X) → (ℕ → Option X) → Type 0
+AgreeBelow next f g = (k : ℕ) → k < next → f k ≡ g k
+
 -- both give the same
 abbrev pub IsSameAt : {X : Type 0} → (ℕ → Option X) → (ℕ → Option X) → Type 0
 IsSameAt f g = (k : ℕ) → g k ≡ f k

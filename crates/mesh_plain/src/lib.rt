@@ -6,6 +6,7 @@
 
 mod bytes;
 mod commands;
+mod copies;
 mod faults;
 mod maps;
 mod plain;
