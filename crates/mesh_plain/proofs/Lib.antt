@@ -3,3 +3,4 @@ mod Holders
 mod Stores
 mod Serials
 pub mod Sameness
+mod Answered

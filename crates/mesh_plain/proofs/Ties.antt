@@ -9,7 +9,7 @@ use Rattle.model_memory.specs.Memory.{Object, next_serial, object_of, root_of, w
 use Rattle.model_memory.specs.Plain.{made}
 use Rattle.mesh_plain.specs.Maps.{AreBelow, IsSameAt, IsSetAt, memory_of_maps, values_from}
 
-values_length : {X : Type 0} (f : ℕ → X) (k n : ℕ) → length (values_from f k n) ≡ n
+pub values_length : {X : Type 0} (f : ℕ → X) (k n : ℕ) → length (values_from f k n) ≡ n
 values_length f k zero = refl
 values_length f k (suc n) = ap (λ (x : ℕ). suc x) (values_length f (suc k) n)
 

@@ -1,9 +1,11 @@
 -- How a fault answers for the plain step, and which commands may want memory.
-use Rattle.std.specs.Prelude.{◌≡◌, Result, Err, IsOk}
+use Rattle.std.specs.Prelude.{◌≡◌, ℕ, Result, Ok, Err, IsOk}
+use Rattle.model_memory.specs.Memory.{Memory, Object}
+use Rattle.model_memory.specs.Plain.{named_by}
 use Rattle.model_words.specs.declared.commands.Command.{Command}
 use Rattle.model_words.specs.declared.commands.Command.TheVariants.{New, Alias}
 use Rattle.model_words.specs.declared.commands.Reply.{Reply}
-use Rattle.model_words.specs.declared.commands.Reply.TheVariants.{Object}
+use Rattle.model_words.specs.declared.commands.Reply.TheVariants.{Object as Made}
 use Rattle.model_words.specs.declared.refusals.Refusal.{Refusal}
 use Rattle.model_words.specs.declared.refusals.Refusal.TheVariants.{Empty as IsEmpty, Freed as IsFreed, Outside as IsOutside, Stray as IsStray}
 use Rattle.mesh_plain.specs.declared.faults.PlainFault.{PlainFault}
@@ -24,6 +26,12 @@ IsRefusedOrMemory fault step = IsRefusedAs fault step
 
 -- the command may take memory where it was answered so: a `new` that made an object, and an `alias`
 abbrev pub MayTakeMemory : Command → Reply → Type 0
-MayTakeMemory (New cell len word) (Object serial address) = Unit {0}
+MayTakeMemory (New cell len word) (Made serial address) = Unit {0}
 MayTakeMemory (Alias to from) reply = Unit {0}
 MayTakeMemory command reply = ⊥
+
+-- a live object of this serial and address is the one that the cell names
+pub record IsNamedAt (m : Memory) (cell serial address : ℕ) : Type 0 where
+  pub object : Object
+  pub named : named_by m cell ≡ Ok (record { serial = serial; object = object })
+  pub address_is : object.address ≡ address

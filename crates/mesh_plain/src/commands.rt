@@ -1,14 +1,21 @@
 //! What the commands of a journal do to the plain memory, and what it answers to a read.
-ghost use Rattle.std.specs.Prelude.{◌≡◌, ◌^◌, ◌+◌, ◌-◌, ◌≤◌, ◌<◌, true, Result, Err, IfErr, IsErr, OnOk, OnErr};
+ghost use Rattle.std.specs.Prelude.{◌≡◌, ℕ, ◌^◌, ◌+◌, ◌-◌, ◌≤◌, ◌<◌, true, Result, Ok, Err, IfErr, IfOk, IsErr, OnOk, OnErr};
 ghost use Rattle.model_words.specs.Commands.{IsInRange};
 ghost use Rattle.model_memory.specs.Memory.{Memory, next_serial};
 ghost use Rattle.model_memory.specs.Reads.{is_read, left_by, read_reply, reply_in};
-ghost use Rattle.mesh_plain.specs.Refusals.{IsRefusedAs, MayTakeMemory};
+ghost use Rattle.model_memory.specs.Plain.{Follows, plain};
+ghost use Rattle.model_words.specs.declared.commands.Command.{Command};
+ghost use Rattle.model_words.specs.declared.commands.Reply.{Reply};
+ghost use Rattle.model_words.specs.declared.refusals.Refusal.{Refusal};
+ghost use Rattle.mesh_plain.specs.Refusals.{IsRefusedAs, IsRefusedOrMemory, MayTakeMemory};
 
 use crate::faults::PlainFault;
 use crate::plain::Plain;
 use model_words::{Command, Refusal, Reply};
 use std::alloc::AllocError;
+
+/// The most bytes that an object has.
+const MAX_OBJECT_BYTES: u32 = 2048;
 
 impl Plain {
     /// What it answers to a read: a refusal where it refuses. It takes no memory.
@@ -31,6 +38,45 @@ impl Plain {
                 Err(fault) => refused(fault),
             },
             _ => Reply::Done,
+        }
+    }
+
+    /// Does a command and gives its reply; a new object is put at `address`. The error is an allocation failure, and comes of a `New` and of an
+    /// `Alias` alone; then nothing changed.
+    pub fn answer(&mut self, command: &Command, address: u32) -> Result<Reply, AllocError>
+        requires range { IsInRange command.now }
+        requires few { next_serial self.old < 2 ^ 32 - 1 }
+        ensures follows { IfOk result (λ reply. Follows (plain self.old address command.now) self.old reply self.new) }
+        ensures unchanged { OnErr result (self.new ≡ self.old) }
+    {
+        match command {
+            Command::New(cell, len, _) => self.answer_new(*cell, *len, address),
+            Command::Put(cell, off, bytes) => done(self.put(*cell, *off, bytes.as_slice())),
+            Command::Free(cell) => done(self.free(*cell)),
+            Command::Alias(to, from) => done(self.alias(*to, *from)),
+            Command::Poke(at, byte) => done(self.poke(*at, *byte)),
+            Command::Copy(to, to_off, from, from_off, len) => {
+                done(self.copy(*to, *to_off, *from, *from_off, *len))
+            }
+            Command::Get(_, _, _) | Command::Addr(_) | Command::Peek(_) => Ok(self.look(command)),
+        }
+    }
+
+    /// Makes an object at an address, and gives the reply.
+    fn answer_new(&mut self, cell: u8, len: u32, address: u32) -> Result<Reply, AllocError>
+        requires few { next_serial self.old < 2 ^ 32 - 1 }
+        ensures follows { IfOk result (λ reply. (word : ℕ) → Follows (plain self.old address (Command.New cell len word)) self.old reply self.new) }
+        ensures unchanged { OnErr result (self.new ≡ self.old) }
+    {
+        if len == 0 {
+            return Ok(Reply::Refused(Refusal::Zero));
+        }
+        if len > MAX_OBJECT_BYTES {
+            return Ok(Reply::Refused(Refusal::TooLarge));
+        }
+        match self.make(cell, len, address) {
+            Ok(serial) => Ok(Reply::Object(serial, address)),
+            Err(_) => Err(AllocError),
         }
     }
 
@@ -60,6 +106,18 @@ impl Plain {
             }
             Command::Get(_, _, _) | Command::Addr(_) | Command::Peek(_) => Ok(()),
         }
+    }
+}
+
+/// The reply to a command that changes the memory, or an allocation failure.
+fn done(answer: Result<(), PlainFault>) -> Result<Reply, AllocError>
+    ensures done { OnOk answer (result ≡ Ok Reply.Done) }
+    ensures refused { IfErr answer (λ fault. IfOk result (λ reply. (step : Result (Reply × Memory) Refusal) → IsRefusedOrMemory fault step → reply ≡ reply_in step × IsErr step)) }
+{
+    match answer {
+        Ok(()) => Ok(Reply::Done),
+        Err(PlainFault::Memory) => Err(AllocError),
+        Err(fault) => Ok(refused(fault)),
     }
 }
 
