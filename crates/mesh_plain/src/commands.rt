@@ -48,6 +48,18 @@ impl Plain {
         requires few { next_serial self.old < 2 ^ 32 - 1 }
         ensures follows { IfOk result (λ reply. Follows (plain self.old address command.now) self.old reply self.new) }
         ensures unchanged { OnErr result (self.new ≡ self.old) }
+        ensures serials { next_serial self.new ≤ next_serial self.old + 1 }
+    {
+        let reply = self.answer_at(command, address)?;
+        Ok(reply)
+    }
+
+    /// Does a command and gives its reply.
+    fn answer_at(&mut self, command: &Command, address: u32) -> Result<Reply, AllocError>
+        requires range { IsInRange command.now }
+        requires few { next_serial self.old < 2 ^ 32 - 1 }
+        ensures follows { IfOk result (λ reply. Follows (plain self.old address command.now) self.old reply self.new) }
+        ensures unchanged { OnErr result (self.new ≡ self.old) }
     {
         match command {
             Command::New(cell, len, _) => self.answer_new(*cell, *len, address),
