@@ -2,7 +2,7 @@
 
 /// How far a mesh has come.
 #[derive(Clone, Copy, Debug, PartialEq, Eq)]
-pub(crate) enum Phase {
+pub enum Phase {
     /// `Made(d)`: so many of its steps were made.
     Made(u32),
     /// `Unwinding(q, u)`: it was cancelled, and of the `q` pages that it had protected `u` can be written again.
