@@ -10,8 +10,8 @@ pub(crate) use mesher::{add_counted, add_found, add_report, add_step};
 use model_words::{MAX_BYTES, Refusal, Reply};
 use std::alloc::AllocError;
 
-/// Adds what a reply's line says.
-pub(crate) fn add_reply(text: &mut Vec<u8>, reply: &Reply) -> Result<(), AllocError>
+/// Adds what a reply's line says. An error is an allocation failure.
+pub fn add_reply(text: &mut Vec<u8>, reply: &Reply) -> Result<(), AllocError>
     ensures { OnOk result (text.new.items ≡ text.old.items ++ reply_text reply.now) }
 {
     match reply {

@@ -7,8 +7,8 @@ use crate::answers::{add_address, add_bytes, add_decimal};
 use model_words::Command;
 use std::alloc::AllocError;
 
-/// Adds a command, as a job file spells it.
-pub(crate) fn add_command(text: &mut Vec<u8>, command: &Command) -> Result<(), AllocError>
+/// Adds a command, as a job file spells it. An error is an allocation failure.
+pub fn add_command(text: &mut Vec<u8>, command: &Command) -> Result<(), AllocError>
     ensures { OnOk result (text.new.items ≡ text.old.items ++ command_text command.now) }
 {
     match command {

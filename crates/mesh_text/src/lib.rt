@@ -22,7 +22,8 @@ mod run;
 mod transfer;
 mod turns;
 
-pub use answers::{add_bytes, add_decimal, add_refusal};
+pub use answers::{add_bytes, add_decimal, add_refusal, add_reply};
+pub use commands::add_command;
 pub use devices::{DeviceFault, Input, Output, Sink, Source};
 pub use faults::ReplayError;
 pub use histories::history_lines;
