@@ -1,6 +1,5 @@
 -- Slots of two groups joined one by one.
-use Rattle.std.proofs.Common.{◌≡◌, ℕ, zero, suc, ◌<◌, ◌≤◌, List, [], ◌∷◌, ◌++◌, Option, Some, None, length, drop, take, slice_index_or, refl, sym, ◌∙◌, arith}
-use Rattle.std.proofs.Math.Seq.{take-append_seam}
+use Rattle.std.proofs.Common.{◌≡◌, ℕ, zero, suc, ◌<◌, ◌≤◌, List, [], ◌∷◌, Option, Some, None, length, slice_index_or, refl, sym, ◌∙◌, arith}
 use Rattle.std.proofs.lemmas.List.{ext_get_or}
 use Rattle.model_heap.specs.Mesh.{either_slot, united}
 use Rattle.model_heap.specs.Table.{Slot}
@@ -28,10 +27,6 @@ pub united_long : (xs ys : List (Option Slot)) → length xs ≡ length ys → l
 united_long [] ys same = sym same
 united_long (x ∷ xs) [] same = refl
 united_long (x ∷ xs) (y ∷ ys) same = let rest = united_long xs ys (omega (arith, same)) in omega (arith, rest)
-
--- a list written over as long as it was
-pub refilled : (len : ℕ) (old new : List (Option Slot)) → len ≡ length old → length new ≡ length old → take len (new ++ drop (length new) old) ≡ new
-refilled len old new is long = rw (is, ← long) (take-append_seam new (drop (length new) old))
 
 -- the slots joined one by one
 pub united_by_slots : (old new others : List (Option Slot)) → length new ≡ length old → length old ≡ length others
