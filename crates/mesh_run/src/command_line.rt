@@ -195,8 +195,9 @@ pub struct Stop {
 
 /// What the words of a command line ask for, the program's name first.
 ///
-/// The words are read by `clap`, which words the texts of help, version and faults. The file is the word as it was given, and a
-/// number is what `clap` reads as a `u64`: decimal digits, perhaps after a plus.
+/// The words are read by `clap`, which words the texts of help, version and faults. The file is the word as it was given, a
+/// number is what `clap` reads as a `u64`: decimal digits, perhaps after a plus; and a mesh is two group numbers with a colon between them, each
+/// in its one spelling.
 pub fn arguments<'a, S: AsStr>(alloc: Global, words: &'a [S]) -> Result<Args<'a>, Stop>
     ensures asked { IfOk result (IsAsked (map S.text words.now)) }
     ensures stop { IfErr result (IsStopAt (map S.text words.now)) }
