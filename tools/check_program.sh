@@ -240,8 +240,10 @@ done
 
 cat $store.job | "$program" explore /dev/stdin --mesh 1:0 >"$room/output" 2>"$room/errors"
 ended "explore: a pipe as the file" $? 0 $store.out "$room/nothing"
+"$program" replay /dev/stdin >"$room/output" 2>"$room/closed" <&-
+status=$?
 "$program" explore /dev/stdin --mesh 1:0 >"$room/output" 2>"$room/errors" <&-
-ended "explore: a closed input" $? 1 "$room/nothing" "$(line 'read fault')"
+ended "explore: a closed input, as a replay tells it" $? $status "$room/nothing" "$room/closed"
 for words in "--mesh 1:0" "--mesh 1:0 --witness 0"; do
     # shellcheck disable=SC2086
     "$program" explore $store.job $words >/dev/full 2>"$room/errors" </dev/null
