@@ -10,7 +10,7 @@ use Rattle.std.specs.Prelude.{option_and_then}
 use Rattle.clap.specs.Words.{Text, first_value, matched_of, raw_values, rows_of}
 use Rattle.clap.specs.declared.parser.matches.Found.{Found}
 use Rattle.clap.proofs.WalkLemmas.{first_value-rows, raw_values-rows}
-use Rattle.mesh_run.specs.declared.meshes.MeshPair.{MeshPair}
+use Rattle.mesh_explore.specs.declared.pair.MeshPair.{MeshPair}
 use Rattle.mesh_run.specs.CommandLine.{given_in, meshes_in, number_in, pair_in, pair_of, pairs_in}
 
 -- a number that was given

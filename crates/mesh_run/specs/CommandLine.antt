@@ -19,7 +19,7 @@ use Rattle.mesh_run.specs.declared.command_line.Args.TheVariants.{Check, Draw, E
 use Rattle.mesh_run.specs.declared.command_line.Stop.{Stop}
 use Rattle.mesh_run.specs.declared.draw_args.DrawArgs.{DrawArgs}
 use Rattle.mesh_run.specs.declared.explore_args.ExploreArgs.{ExploreArgs}
-use Rattle.mesh_run.specs.declared.meshes.MeshPair.{MeshPair}
+use Rattle.mesh_explore.specs.declared.pair.MeshPair.{MeshPair}
 use Rattle.mesh_run.specs.declared.live_args.LiveArgs.{LiveArgs}
 use Rattle.mesh_run.specs.declared.printed.Printed.{Printed}
 use Rattle.mesh_run.specs.declared.printed.Printed.TheVariants.{Answers, History}

@@ -2,6 +2,7 @@ pub mod Checks
 pub mod CommandLine
 pub mod DrawArgs
 pub mod ExploreArgs
+pub mod Explores
 pub mod LiveArgs
 pub mod LiveSizes
 pub mod Meshes

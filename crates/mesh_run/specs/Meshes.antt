@@ -1,6 +1,6 @@
 -- The meshes that an exploration makes.
 use Rattle.std.specs.Prelude.{List, take}
-use Rattle.mesh_run.specs.declared.meshes.MeshPair.{MeshPair}
+use Rattle.mesh_explore.specs.declared.pair.MeshPair.{MeshPair}
 use Rattle.mesh_run.specs.declared.meshes.Meshes.{Meshes}
 
 -- the meshes in their order

@@ -8,10 +8,11 @@ ghost use Rattle.mesh_run.specs.CommandLine.{IsAllowedOf, IsAsked, IsNoText, IsO
 
 use crate::meshes::MOST_MESHES;
 use crate::status::{DONE, FAILED, FAULTY};
-use crate::{DrawArgs, ExploreArgs, LiveArgs, MeshPair, Meshes, Printed, ThreadsArgs};
+use crate::{DrawArgs, ExploreArgs, LiveArgs, Meshes, Printed, ThreadsArgs};
 use clap::builder::ValueParser;
 use clap::error::ErrorKind;
 use clap::{Arg, ArgAction, ArgMatches, Command, Error};
+use mesh_explore::MeshPair;
 use mesh_fields::lines::cut;
 use mesh_fields::numbers::number32;
 use std::alloc::{AllocError, Global};

@@ -1,17 +1,10 @@
 //! The meshes that an exploration makes.
 ghost use Rattle.std.specs.Prelude.{◌≡◌, ◌+◌, ◌<◌, ◌≤◌, [], ◌∷◌, ◌++◌, length, take};
 
+use mesh_explore::MeshPair;
+
 /// The most meshes of an exploration.
 pub(crate) const MOST_MESHES: usize = 10;
-
-/// A mesh that is to be made: of the source group into the destination group.
-#[derive(Clone, Copy, Debug, PartialEq, Eq)]
-pub struct MeshPair {
-    /// The number of the source group.
-    pub source: u32,
-    /// The number of the destination group.
-    pub destination: u32,
-}
 
 /// Up to ten meshes that are to be made, in the order in which they were asked for.
 #[derive(Clone, Copy, Debug, PartialEq, Eq)]
