@@ -173,6 +173,88 @@ for job in jobs/rows/*/*.job; do
     fi
 done
 
+# explorations: those by another engine, an outcome's job file, the tables of docs/INTERLEAVINGS.md, then faults
+explorations=jobs/explore
+# outcome K OUTPUT: the answers of an outcome, as an exploration prints them.
+outcome() {
+    awk -v k="$1" '/^outcome /{ here = $2 == k } here && /^  worker /' "$2"
+}
+# witnessed JOB K: whether the job file of outcome K is the job with the outcome's plan, and a replay gives its answers. The words are those of the
+# options.
+witnessed() {
+    job=$1 k=$2 row=${1%.job}
+    shift 2
+    {
+        sed '$d' "$job"
+        awk -v k="$k" '/^outcome /{ here = $2 == k } here && sub(/^  plan: /, "") { gsub(/, /, "\n"); print }' "$row.out"
+        echo end
+    } >"$room/wanted"
+    check "explore: $row, outcome $k as a job" 0 "$room/wanted" "$room/nothing" explore "$job" "$@" --witness "$k"
+    "$program" replay "$room/wanted" >"$room/answers" 2>"$room/errors" </dev/null
+    status=$?
+    sed '1,/^plan$/d' "$room/wanted" | sed '$d' | paste -d '|' - "$room/answers" | sed "1,$(sed '1,/^plan$/d' "$job" | sed '$d' | wc -l)d" | awk -F '|' '
+        sub(/^run /, "", $1) { if ($1 in told) told[$1] = told[$1] " | " $2; else told[$1] = $2; if ($1 + 0 > last) last = $1 + 0 }
+        END { for (w = 0; w <= last; w++) if (w in told) print "  worker " w ": " told[w] }
+    ' >"$room/output"
+    outcome "$k" "$row.out" >"$room/wanted"
+    ended "explore: $row, outcome $k replayed" $status 0 "$room/wanted" "$room/nothing"
+}
+for job in $explorations/*.job; do
+    row=${job%.job}
+    # shellcheck disable=SC2046
+    set -- $(cat "$row.args")
+    check "explore: $row" 0 "$row.out" "$room/nothing" explore "$job" "$@"
+    last=$(($(grep -c '^outcome ' "$row.out") - 1))
+    case $row in
+        */three_pages | */more_than_counted) shown=$last ;;
+        *) shown=$(seq 0 $last) ;;
+    esac
+    for k in $shown; do
+        witnessed "$job" "$k" "$@"
+    done
+done
+store=$explorations/store_and_copy
+check "explore: as many states as are kept" 0 $store.out "$room/nothing" explore $store.job --mesh 1:0 --states 64
+check "explore: one state more" 1 "$room/nothing" "$(line 'too many states')" explore $store.job --mesh 1:0 --states 63
+check "explore: one state more, and an outcome" 1 "$room/nothing" "$(line 'too many states')" explore $store.job --mesh 1:0 --states 63 --witness 0
+check "explore: no such outcome" 2 "$room/nothing" "$(line 'no such outcome')" explore $store.job --mesh 1:0 --witness 2
+check "explore: help" 0 any "$room/nothing" explore --help
+check "explore: a missing file" 1 "$room/nothing" "$(line 'read fault')" explore "$room/missing.job" --mesh 1:0
+check "explore: a directory" 1 "$room/nothing" "$(line 'read fault')" explore jobs --mesh 1:0
+check "explore: an endless file" 2 "$room/nothing" "$(line 'line 0: TOO_LONG')" explore /dev/zero --mesh 1:0
+check "explore: no file" 2 "$room/nothing" any explore --mesh 1:0
+check "explore: no mesh" 2 "$room/nothing" any explore $store.job
+for mesh in '' 1 : 1: :0 1:0:2 01:0 1:00 +1:0 1:65536 65536:0 1-0 'a:0' '1: 0'; do
+    check "explore: the mesh '$mesh'" 2 "$room/nothing" any explore $store.job --mesh "$mesh"
+done
+# shellcheck disable=SC2046
+check "explore: eleven meshes" 2 "$room/nothing" any explore $store.job $(yes -- '--mesh 1:0' | head -n 11)
+for option in '--cancel 1001' '--states 0' '--states 10000001' '--witness 1000001' '--cancel 1 --cancel 1' '--seed 1'; do
+    # shellcheck disable=SC2086
+    check "explore: $option" 2 "$room/nothing" any explore $store.job --mesh 1:0 $option
+done
+for error in jobs/rows/*/*.err; do
+    row=${error%.err}
+    check "explore: $row" 2 "$room/nothing" "$error" explore "$row.job" --mesh 1:0
+done
+
+cat $store.job | "$program" explore /dev/stdin --mesh 1:0 >"$room/output" 2>"$room/errors"
+ended "explore: a pipe as the file" $? 0 $store.out "$room/nothing"
+"$program" replay /dev/stdin >"$room/output" 2>"$room/closed" <&-
+status=$?
+"$program" explore /dev/stdin --mesh 1:0 >"$room/output" 2>"$room/errors" <&-
+ended "explore: a closed input, as a replay tells it" $? $status "$room/nothing" "$room/closed"
+for words in "--mesh 1:0" "--mesh 1:0 --witness 0"; do
+    # shellcheck disable=SC2086
+    "$program" explore $store.job $words >/dev/full 2>"$room/errors" </dev/null
+    status=$?
+    : >"$room/output"
+    ended "explore: a full device as standard output, $words" $status 1 "$room/nothing" "$(line 'write fault')"
+done
+
+python3 tools/explore_interleavings.py "$program" >"$room/output" 2>"$room/errors"
+ended "explore: the tables of docs/INTERLEAVINGS.md" $? 0 "$(line '192 cells, 0 differ')" "$room/nothing"
+
 # live sessions: the worked rows of version 2 asked line by line, then faults and ends
 live() {
     name=$1 status=$2 output=$3 errors=$4 input=$5

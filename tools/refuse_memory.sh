@@ -93,7 +93,7 @@ case_fault() {
     esac
 }
 
-# How a run of the replay or of a picture may end, whose whole output is the file $wanted.
+# How a run of the replay, of a picture or of an exploration may end, whose whole output is the file $wanted.
 replay_fault() {
     if [ "$status" -eq 0 ]; then
         cmp -s "$room/output" "$wanted" && [ ! -s "$room/errors" ] || echo " another output"
@@ -216,6 +216,9 @@ refuse_each "meshrun check" replay_fault "$meshrun" check jobs/histories/each_co
 wanted=$room/hello.svg
 spare "$meshrun" draw "$room/no file"
 refuse_each "meshrun draw" replay_fault "$meshrun" draw jobs/hello.job
+wanted=jobs/explore/cancelled_at_once.out
+spare "$meshrun" explore "$room/no file" --mesh 1:0 --cancel 0
+refuse_each "meshrun explore" replay_fault "$meshrun" explore jobs/explore/cancelled_at_once.job --mesh 1:0 --cancel 0
 numbers="--probe 8 --rounds 3 --workers 2 --seed 1 --meshers 2"
 spare "$meshrun" threads "$room/no file" $numbers
 refuse_each "meshrun threads" threads_fault "$meshrun" threads jobs/threads.job $numbers

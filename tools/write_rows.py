@@ -3,7 +3,7 @@
 
 Each folder there is a subject, and each NAME.job in it a row: NAME.out has the lines that the job is answered, or NAME.err the fault of a file
 that is no job. In mesh_rows a subject becomes a spec file, a function whose clauses are its rows, and that function's proof; in mesh_run_tests
-the rows become tables, one a subject. Run it from the top of the repository after a row was added or changed; what it writes is
+the rows become tables, one a subject. The explorations under jobs/explore become a table too. Run it from the top of the repository after a row was added or changed; what it writes is
 committed.
 """
 import pathlib
@@ -19,6 +19,10 @@ MAX_BYTES = 100_000
 
 # Subjects whose rows are too long for the tests' tables: the built program runs them, as it does all (tools/check_program.sh).
 UNTABLED = {"interleavings"}
+
+EXPLORATIONS = pathlib.Path("jobs/explore")
+# Explorations too large for the tests: the built program makes them (tools/check_program.sh).
+LARGE = {"more_than_counted", "six_and_six", "three_pages"}
 
 # Rows whose file and answers the tests name by themselves.
 NAMED = {
@@ -140,6 +144,18 @@ def write_tables():
     (TESTS / "src" / "tests" / "files.rt").write_text("\n".join(lines))
 
 
+def write_explorations():
+    """The explorations as a table of Rust: name, words of the command line, file, and what is printed."""
+    jobs = [job for job in sorted(EXPLORATIONS.glob("*.job")) if job.stem not in LARGE]
+    lines = ["//! The worked explorations. Written by `tools/write_rows.py`.", "",
+             "/// For each its name, the words of its command line, its file and what is printed.",
+             f"pub(crate) static EXPLORED: [(&str, &[&str], &str, &str); {len(jobs)}] = ["]
+    for job in jobs:
+        words = ["meshrun", "explore", "a.job"] + job.with_suffix(".args").read_text().split()
+        lines.append(f'    ("{job.stem}", &[{", ".join(map(literal, words))}], {literal(file_text(job))}, {literal(job.with_suffix(".out").read_text())}),')
+    (TESTS / "src" / "tests" / "explored.rt").write_text("\n".join(lines + ["];", ""]))
+
+
 def main():
     for part in ("src", "specs", "proofs"):
         shutil.rmtree(CRATE / part, ignore_errors=True)
@@ -156,6 +172,7 @@ def main():
     (CRATE / "specs" / "Rows.antt").write_text(ROW)
     (CRATE / "specs" / "Lib.antt").write_text("\n".join(f"pub mod {name}" for name in sorted([camel(name) for name in subjects] + ["Rows"])) + "\n")
     write_tables()
+    write_explorations()
     for crate in (CRATE, TESTS):
         subprocess.run(["rt", "fmt"], cwd=crate, check=True)
 

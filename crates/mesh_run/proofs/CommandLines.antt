@@ -1,6 +1,7 @@
 -- What `clap`'s contracts say of the program's command line.
 use Rattle.std.proofs.Common.{◌≡◌, true, false, List, [], ◌∷◌, Option, None, Some, Result, Ok, Err, IfErr, option_map, ap, refl, subst, sym, ◌∙◌, inl, inr}
 use Rattle.std.specs.Box.{box_value}
+use Rattle.std.specs.Fmt.{digits}
 use Rattle.std.specs.Prelude.{codes, option_and_then}
 use Rattle.clap.specs.Words.{App, FailsBy, HasKind, IsAmong, Row, Text, fault_of, first_of, first_value, is_simple, is_simple_and_free, kind_of, found_of, rows_of, subcommand_name_of, subcommand_of, subcommand_rows_of, takes}
 use Rattle.clap.specs.declared.error.Error.{Error}
@@ -9,7 +10,7 @@ use Rattle.clap.specs.declared.parser.matches.ArgMatches.TheViews.{out-ArgMatche
 use Rattle.clap.specs.declared.parser.matches.Found.{Found}
 use Rattle.clap.proofs.OnLiterals.{clap_on_literals}
 use Rattle.clap.proofs.WalkLemmas.{first_value-rows}
-use Rattle.mesh_run.specs.CommandLine.{IsSaidOf, asked, asked_by, asked_in, asked_of, is_taken, kinds_of, check_of, draw_of, live_of, meshrun_app, replay_of, threads_of}
+use Rattle.mesh_run.specs.CommandLine.{IsSaidOf, asked, asked_by, asked_in, asked_of, is_taken, kinds_of, check_of, draw_of, explore_of, live_of, meshrun_app, replay_of, threads_of}
 use Rattle.mesh_run.specs.declared.printed.Printed.TheVariants.{Answers, History}
 
 -- the command line is one whose matches and faults `clap` tells
@@ -188,3 +189,43 @@ pictured = codes "meshrun" ∷ codes "draw" ∷ codes "a.job" ∷ codes "--histo
 pictured_is_refused : is_taken pictured ≡ false
 unfolding clap_on_literals is_taken
 pictured_is_refused = refl
+
+-- `meshrun explore a.job --mesh 1:0` asks for that mesh, never cancelled, and for all outcomes, of at most 100,000 states
+abbrev one_mesh : List Text
+one_mesh = codes "meshrun" ∷ codes "explore" ∷ codes "a.job" ∷ codes "--mesh" ∷ codes "1:0" ∷ []
+
+one_mesh_is_asked : (is_taken one_mesh ≡ true) × (asked one_mesh
+    ≡ Some (explore_of (codes "a.job") (record { meshes = record { source = 1; destination = 0 } ∷ []; cancel = None; states = 100000; witness = None })))
+unfolding clap_on_literals asked is_taken digits
+one_mesh_is_asked = (refl, refl)
+
+-- two meshes in their order, between other options
+abbrev two_meshes : List Text
+two_meshes = codes "meshrun" ∷ codes "explore" ∷ codes "--mesh=65535:0" ∷ codes "--states" ∷ codes "1" ∷ codes "--cancel=1000" ∷ codes "a.job" ∷ codes "--mesh" ∷ codes "3:2" ∷ codes "--witness=0" ∷ []
+
+two_meshes_are_asked : (is_taken two_meshes ≡ true) × (asked two_meshes
+    ≡ Some (explore_of (codes "a.job") (record {
+      meshes = record { source = 65535; destination = 0 } ∷ record { source = 3; destination = 2 } ∷ [];
+      cancel = Some 1000;
+      states = 1;
+      witness = Some 0;
+    })))
+unfolding clap_on_literals asked is_taken digits
+two_meshes_are_asked = (refl, refl)
+
+-- a mesh has to be given
+abbrev unmeshed : List Text
+unmeshed = codes "meshrun" ∷ codes "explore" ∷ codes "a.job" ∷ []
+
+unmeshed_is_refused : is_taken unmeshed ≡ false
+unfolding clap_on_literals is_taken
+unmeshed_is_refused = refl
+
+-- a group has one spelling, and none is above 65,535: such words ask for nothing
+abbrev spelt : Text → List Text
+spelt pair = codes "meshrun" ∷ codes "explore" ∷ codes "a.job" ∷ codes "--mesh" ∷ pair ∷ []
+
+misspelt_asks_nothing : (asked (spelt (codes "01:0")) ≡ None) × (asked (spelt (codes "1:+0")) ≡ None) × (asked (spelt (codes "65536:0")) ≡ None)
+    × (asked (spelt (codes "1")) ≡ None) × (asked (spelt (codes "1:0:2")) ≡ None)
+unfolding clap_on_literals asked digits
+misspelt_asks_nothing = (refl, refl, refl, refl, refl)

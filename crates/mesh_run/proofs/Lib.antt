@@ -1,5 +1,6 @@
 pub mod CommandLines
 pub mod CommandsBuilt
+pub mod ExplorationsRead
 pub mod FirstWords
 pub mod Messages
 pub mod NumbersRead

@@ -1,19 +1,25 @@
 -- The command line as `clap` reads it, and how the program stops where it asks for no run.
-use Rattle.std.specs.Prelude.{◌≡◌, ◌⊎◌, ℕ, Bool, true, List, [], ◌∷◌, Option, Some, None, codes, if◌then◌else◌, option_and_then, option_map}
+use Rattle.std.specs.Prelude.{◌≡◌, ◌⊎◌, ◌&&◌, ℕ, Bool, true, List, [], ◌∷◌, Option, Some, None, Result, Ok, Err, codes, if◌then◌else◌, is_some, length, nat_eq, nat_le, option_and_then, option_map}
 use Rattle.std.specs.Cow.{cow_str_bytes}
+use Rattle.std.specs.List.{slice_split}
 use Rattle.std.specs.Str.{bytes_eq}
 use Rattle.std.specs.Str.Parse.{digits_value, without_leading_plus}
 use Rattle.clap.specs.ValueTests.{is_unsigned_in}
-use Rattle.clap.specs.Words.{App, IsAmong, Kinds, Row, Rule, Text, fault_of, first_of, new_app, new_rule, one_of, subcommand_of, takes, with_rule, with_subcommand}
-use Rattle.clap.specs.declared.builder.action.ArgAction.TheVariants.{SetTrue}
+use Rattle.clap.specs.Words.{App, IsAmong, Kinds, Row, Rule, Text, all_of, fault_of, first_of, new_app, new_rule, one_of, subcommand_of, takes, with_rule, with_subcommand}
+use Rattle.clap.specs.declared.builder.action.ArgAction.TheVariants.{Append, SetTrue}
 use Rattle.clap.specs.declared.builder.value_parser.ValueParser.TheVariants.{Unsigned}
 use Rattle.clap.specs.declared.error.kind.ErrorKind.{ErrorKind}
-use Rattle.clap.specs.declared.error.kind.ErrorKind.TheVariants.{DisplayHelp, DisplayVersion, MissingSubcommand, OutOfMemory}
+use Rattle.clap.specs.declared.error.kind.ErrorKind.TheVariants.{DisplayHelp, DisplayVersion, OutOfMemory, ValueValidation}
+use Rattle.model_jobs.specs.JobFiles.{short_in}
 use Rattle.model_jobs.specs.Texts.{ended}
+use Rattle.mesh_run.specs.Meshes.{pairs_of}
+use Rattle.model_words.specs.declared.faults.FaultKind.{FaultKind}
 use Rattle.mesh_run.specs.declared.command_line.Args.{Args}
-use Rattle.mesh_run.specs.declared.command_line.Args.TheVariants.{Check, Draw, Live, Replay, Threads}
+use Rattle.mesh_run.specs.declared.command_line.Args.TheVariants.{Check, Draw, Explore, Live, Replay, Threads}
 use Rattle.mesh_run.specs.declared.command_line.Stop.{Stop}
 use Rattle.mesh_run.specs.declared.draw_args.DrawArgs.{DrawArgs}
+use Rattle.mesh_run.specs.declared.explore_args.ExploreArgs.{ExploreArgs}
+use Rattle.mesh_explore.specs.declared.pair.MeshPair.{MeshPair}
 use Rattle.mesh_run.specs.declared.live_args.LiveArgs.{LiveArgs}
 use Rattle.mesh_run.specs.declared.printed.Printed.{Printed}
 use Rattle.mesh_run.specs.declared.printed.Printed.TheVariants.{Answers, History}
@@ -41,6 +47,10 @@ number_or name least most default = record (number_rule name least most) { defau
 abbrev pub flag_rule : Text → Rule
 flag_rule name = record (new_rule name) { long = Some name; action = Some SetTrue }
 
+-- the option that asks for a mesh: it has to be given, and each time it is given adds a value, one as help shows it
+abbrev pub mesh_rule : Rule
+mesh_rule = record (new_rule (codes "mesh")) { long = Some (codes "mesh"); action = Some Append; required = true; value_names = 1 }
+
 -- `replay FILE [--history]`
 abbrev pub replay_app : App
 replay_app = with_rule (with_rule (new_app (codes "replay")) file_rule) (flag_rule (codes "history"))
@@ -63,6 +73,11 @@ abbrev pub live_app : App
 live_app = with_rule (with_rule (with_rule (new_app (codes "live")) (number_or (codes "pages") 1 4096 (codes "4096")))
     (number_or (codes "history") 0 65536 (codes "65536"))) (number_or (codes "workers") 1 64 (codes "64"))
 
+-- `explore FILE --mesh SRC:DST [--mesh ..] [--cancel AFTER] [--states N] [--witness K]`
+abbrev pub explore_app : App
+explore_app = with_rule (with_rule (with_rule (with_rule (with_rule (new_app (codes "explore")) file_rule) mesh_rule)
+    (number_rule (codes "cancel") 0 1000)) (number_or (codes "states") 1 10000000 (codes "100000"))) (number_rule (codes "witness") 0 1000000)
+
 -- `check FILE`
 abbrev pub check_app : App
 check_app = with_rule (new_app (codes "check")) file_rule
@@ -72,11 +87,11 @@ abbrev pub bare_app : App
 bare_app = let app = new_app (codes "meshrun") in
     record app { top = record app.top { has_version = true; subcommand_required = true; arg_required_else_help = true } }
 
--- `meshrun replay FILE ..`, `meshrun threads FILE ..`, `meshrun draw FILE ..`, `meshrun live ..` and `meshrun check FILE`
+-- `meshrun replay FILE ..`, `meshrun threads FILE ..`, `meshrun draw FILE ..`, `meshrun live ..`, `meshrun explore FILE ..` and `meshrun check FILE`
 abbrev pub meshrun_app : App
 meshrun_app =
-    with_subcommand (with_subcommand (with_subcommand (with_subcommand (with_subcommand bare_app replay_app.top) threads_app.top) draw_app.top) live_app.top)
-    check_app.top
+    with_subcommand (with_subcommand (with_subcommand (with_subcommand (with_subcommand (with_subcommand bare_app replay_app.top) threads_app.top) draw_app.top)
+    live_app.top) explore_app.top) check_app.top
 
 -- ---- what words ask for
 
@@ -101,12 +116,20 @@ pub record SessionSizes : Type 0 where
   pub history : ℕ
   pub workers : ℕ
 
--- a replay of the job file at this path, its scripts run by threads with these numbers, each of which prints this, or a picture of what is shown of its
--- plan; a session of these sizes; or a judgement of the recorded history at this path
+-- the meshes that are to be explored, after how many steps each is cancelled, how many states are kept at most, and the outcome that is printed as a job file
+pub record Explored : Type 0 where
+  pub meshes : List MeshPair
+  pub cancel : Option ℕ
+  pub states : ℕ
+  pub witness : Option ℕ
+
+-- a replay of the job file at this path, its scripts run by threads with these numbers, each of which prints this, a picture of what is shown of its
+-- plan, or what is left of its scripts explored; a session of these sizes; or a judgement of the recorded history at this path
 pub data Asked : Type 0 where
   replay_of : Text → Printed → Asked
   threads_of : Text → Numbers → Printed → Asked
   draw_of : Text → Shown → Asked
+  explore_of : Text → Explored → Asked
   live_of : SessionSizes → Asked
   check_of : Text → Asked
 
@@ -140,6 +163,42 @@ shown_in rows =
     option_and_then (λ from. option_and_then (λ to. option_map (λ columns. record { from = from; to = to; columns = columns })
     (number_in (codes "columns") 0 64 rows)) (number_in (codes "to") 1 1048576 rows)) (number_in (codes "from") 1 1048576 rows)
 
+-- the number in the range that the matches have for the option of this name, where it is given
+abbrev pub given_in : Text → ℕ → ℕ → List Row → Option (Option ℕ)
+given_in name least most rows = if is_some (first_of name rows) then option_map Some (number_in name least most rows) else Some None
+
+-- two groups, each in the one spelling of its number
+abbrev pub pair_from : Result ℕ FaultKind → Result ℕ FaultKind → Option MeshPair
+pair_from (Ok source) (Ok destination) = Some (record { source = source; destination = destination })
+pair_from (Ok source) (Err kind) = None
+pair_from (Err kind) destination = None
+
+-- the pair of groups that two parts are
+abbrev pub pair_in : List Text → Option MeshPair
+pair_in (source ∷ destination ∷ []) = pair_from (short_in source) (short_in destination)
+pair_in parts = None
+
+-- the pair of groups that a text is, with a colon between them
+abbrev pub pair_of : Text → Option MeshPair
+pair_of text = pair_in (slice_split (λ b. nat_eq b 58) text)
+
+-- the pairs that texts are
+abbrev pub pairs_in : List Text → Option (List MeshPair)
+pairs_in [] = Some []
+pairs_in (text ∷ texts) = option_and_then (λ pair. option_map (λ pairs. pair ∷ pairs) (pairs_in texts)) (pair_of text)
+
+-- the meshes that the matches have: one to ten
+abbrev pub meshes_in : List Row → Option (List MeshPair)
+meshes_in rows =
+    option_and_then (λ texts. if nat_le 1 (length texts) && nat_le (length texts) 10 then pairs_in texts else None) (all_of (codes "mesh") rows)
+
+-- what the matches have for `explore`
+abbrev pub explored_in : List Row → Option Explored
+explored_in rows =
+    option_and_then (λ meshes. option_and_then (λ cancel. option_and_then (λ states.
+    option_map (λ witness. record { meshes = meshes; cancel = cancel; states = states; witness = witness })
+    (given_in (codes "witness") 0 1000000 rows)) (number_in (codes "states") 1 10000000 rows)) (given_in (codes "cancel") 0 1000 rows)) (meshes_in rows)
+
 -- the sizes that the matches have for `live`
 abbrev pub sizes_in : List Row → Option SessionSizes
 sizes_in rows =
@@ -152,7 +211,8 @@ asked_of name rows file =
     if bytes_eq name (codes "replay") then option_map (replay_of file) (printed_in rows)
     else (if bytes_eq name (codes "threads") then option_and_then (λ numbers. option_map (threads_of file numbers) (printed_in rows)) (numbers_in rows)
     else (if bytes_eq name (codes "draw") then option_map (draw_of file) (shown_in rows)
-    else (if bytes_eq name (codes "check") then Some (check_of file) else None)))
+    else (if bytes_eq name (codes "explore") then option_map (explore_of file) (explored_in rows)
+    else (if bytes_eq name (codes "check") then Some (check_of file) else None))))
 
 -- what a subcommand of this name with these matches asks for: a session needs no file
 abbrev pub asked_by : Text → List Row → Option Asked
@@ -184,6 +244,10 @@ numbers_of args = record { probe = args.probe; rounds = args.rounds; workers = a
 abbrev pub shown_of : DrawArgs → Shown
 shown_of args = record { from = args.from; to = args.to; columns = args.columns }
 
+-- what was read of what is to be explored
+abbrev pub explored_of : ExploreArgs → Explored
+explored_of args = record { meshes = pairs_of args.meshes; cancel = args.cancel; states = args.states; witness = args.witness }
+
 -- the sizes that were read
 abbrev pub sizes_of : LiveArgs → SessionSizes
 sizes_of args = record { pages = args.pages; history = args.history; workers = args.workers }
@@ -193,6 +257,7 @@ abbrev pub asking : Args → Asked
 asking (Replay path printed) = replay_of path.now printed
 asking (Threads path args printed) = threads_of path.now (numbers_of args) printed
 asking (Draw path args) = draw_of path.now (shown_of args)
+asking (Explore path args) = explore_of path.now (explored_of args)
 asking (Live args) = live_of (sizes_of args)
 asking (Check path) = check_of path.now
 
@@ -200,10 +265,10 @@ asking (Check path) = check_of path.now
 abbrev pub IsAsked : List Text → Args → Type 0
 IsAsked words args = asked words ≡ Some (asking args)
 
--- what `clap` may say of the words: want of memory, a fault of theirs or a call for help, or that they ask for nothing
+-- what may be said of the words: want of memory, a fault of theirs or a call for help, or, where they ask for nothing, that a value can't be read
 abbrev pub IsSaidOf : List Text → ErrorKind → Type 0
 IsSaidOf words kind =
-    (kind ≡ OutOfMemory) ⊎ (IsAmong kind (kinds_of words) ⊎ ((asked words ≡ None) × (kind ≡ MissingSubcommand)))
+    (kind ≡ OutOfMemory) ⊎ (IsAmong kind (kinds_of words) ⊎ ((asked words ≡ None) × (kind ≡ ValueValidation)))
 
 -- of words that are a command line of the program it says only want of memory, or that they ask for nothing
 abbrev pub IsAllowedOf : List Text → ErrorKind → Type 0

@@ -1,8 +1,11 @@
 pub mod Checks
 pub mod CommandLine
 pub mod DrawArgs
+pub mod ExploreArgs
+pub mod Explores
 pub mod LiveArgs
 pub mod LiveSizes
+pub mod Meshes
 pub mod Runs
 pub mod Status
 pub mod StatusLaws

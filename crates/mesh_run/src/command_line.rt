@@ -1,15 +1,20 @@
 //! The command line.
-ghost use Rattle.std.specs.Prelude.{◌≡◌, ◌≢◌, ◌⊎◌, ◌≤◌, None, true, IfErr, IfOk, IfSome, codes, map, option_and_then, option_map};
+ghost use Rattle.std.specs.Prelude.{◌≡◌, ◌≢◌, ◌⊎◌, ◌≤◌, ◌<◌, ◌^◌, None, Some, true, IfErr, IfOk, IfSome, codes, length, map, option_and_then, option_map};
 ghost use Rattle.std.specs.IoError.{error_kind};
 ghost use Rattle.std.specs.declared.io.ErrorKind.TheVariants.{OutOfMemory as IoOutOfMemory};
 ghost use Rattle.clap.specs.Words.{app_of, first_of, found_of, kind_of, rows_of, rule_of, subcommand_rows_of};
-ghost use Rattle.mesh_run.specs.CommandLine.{IsAllowedOf, IsAsked, IsNoText, IsOutOfMemory, IsSaidOf, IsStopAt, asked, asked_in, asked_of, asking, check_app, draw_app, file_rule, flag_rule, is_taken, live_app, meshrun_app, number_in, number_or, number_rule, numbers_in, numbers_of, printed_in, replay_app, required_number, shown_in, shown_of, sizes_in, sizes_of, status_of_kind, threads_app};
+ghost use Rattle.mesh_run.specs.Meshes.{pairs_of};
+ghost use Rattle.mesh_run.specs.CommandLine.{IsAllowedOf, IsAsked, IsNoText, IsOutOfMemory, IsSaidOf, IsStopAt, asked, asked_in, asked_of, asking, check_app, draw_app, explore_app, explored_in, explored_of, file_rule, flag_rule, given_in, is_taken, live_app, mesh_rule, meshes_in, meshrun_app, number_in, number_or, number_rule, numbers_in, numbers_of, pair_of, pairs_in, printed_in, replay_app, required_number, shown_in, shown_of, sizes_in, sizes_of, status_of_kind, threads_app};
 
+use crate::meshes::MOST_MESHES;
 use crate::status::{DONE, FAILED, FAULTY};
-use crate::{DrawArgs, LiveArgs, Printed, ThreadsArgs};
+use crate::{DrawArgs, ExploreArgs, LiveArgs, Meshes, Printed, ThreadsArgs};
 use clap::builder::ValueParser;
 use clap::error::ErrorKind;
 use clap::{Arg, ArgAction, ArgMatches, Command, Error};
+use mesh_explore::MeshPair;
+use mesh_fields::lines::cut;
+use mesh_fields::numbers::number32;
 use std::alloc::{AllocError, Global};
 use std::borrow::CowStr;
 use std::convert::AsStr;
@@ -20,6 +25,22 @@ const FILE: &str = "FILE";
 
 /// The flag that asks for a recorded history.
 const RECORDED: &str = "history";
+
+/// The option that asks for a mesh.
+const MESH: &str = "mesh";
+
+/// What help calls the two groups of a mesh.
+const GROUPS: &str = "SRC:DST";
+
+/// What is said of meshes that can't be read: `clap` has refused all else that asks for nothing.
+const UNREAD_MESHES: &str =
+    "--mesh wants SRC:DST, two group numbers from 0 to 65535, and is given 1 to 10 times\n";
+
+/// What stands between the two groups.
+const BETWEEN: u8 = b':';
+
+/// The greatest number of a group.
+const LAST_GROUP: u32 = 65535;
 
 /// An option with a number.
 #[derive(Clone, Copy)]
@@ -120,6 +141,30 @@ const SESSION_WORKERS: NumberOption = NumberOption {
     help: "How many workers there are, 1 to 64",
 };
 
+const CANCEL: NumberOption = NumberOption {
+    name: "cancel",
+    value: "AFTER",
+    least: 0,
+    most: 1000,
+    help: "Cancel each mesh after so many of its steps, 0 to 1000",
+};
+
+const STATES: NumberOption = NumberOption {
+    name: "states",
+    value: "N",
+    least: 1,
+    most: 10000000,
+    help: "How many states are kept at most, 1 to 10000000",
+};
+
+const WITNESS: NumberOption = NumberOption {
+    name: "witness",
+    value: "K",
+    least: 0,
+    most: 1000000,
+    help: "Print a job file that leads to outcome K, 0 to 1000000, in place of what is told of all",
+};
+
 /// The version that `--version` tells.
 const VERSION: &str = "0.1.0";
 
@@ -134,6 +179,8 @@ pub enum Args<'a> {
     Draw(&'a str, DrawArgs),
     /// `live ..`: answer the lines of standard input, on a heap of these sizes.
     Live(LiveArgs),
+    /// `explore FILE --mesh SRC:DST ..`: explore what is left of the scripts of the job file at this path, with these meshes and numbers.
+    Explore(&'a str, ExploreArgs),
     /// `check FILE`: judge the recorded history at this path, or at `-` that of standard input.
     Check(&'a str),
 }
@@ -149,8 +196,9 @@ pub struct Stop {
 
 /// What the words of a command line ask for, the program's name first.
 ///
-/// The words are read by `clap`, which words the texts of help, version and faults. The file is the word as it was given, and a
-/// number is what `clap` reads as a `u64`: decimal digits, perhaps after a plus.
+/// The words are read by `clap`, which words the texts of help, version and faults. The file is the word as it was given, a
+/// number is what `clap` reads as a `u64`: decimal digits, perhaps after a plus; and a mesh is two group numbers with a colon between them, each
+/// in its one spelling.
 pub fn arguments<'a, S: AsStr>(alloc: Global, words: &'a [S]) -> Result<Args<'a>, Stop>
     ensures asked { IfOk result (IsAsked (map S.text words.now)) }
     ensures stop { IfErr result (IsStopAt (map S.text words.now)) }
@@ -173,7 +221,7 @@ fn read_words<'a, S: AsStr>(alloc: Global, words: &'a [S]) -> Result<Args<'a>, E
     let matches = matches_of(&mut command, words)?;
     match asked_for(&matches) {
         Some(args) => Ok(args),
-        None => Err(command.error(ErrorKind::MissingSubcommand, "a command is missing\n")?),
+        None => Err(command.error(ErrorKind::ValueValidation, UNREAD_MESHES)?),
     }
 }
 
@@ -210,6 +258,7 @@ fn asked_of<'a>(name: &str, matches: &ArgMatches<'a>) -> Option<Args<'a>>
         "replay" => Some(Args::Replay(file, printed(matches)?)),
         "threads" => Some(Args::Threads(file, numbers(matches)?, printed(matches)?)),
         "draw" => Some(Args::Draw(file, shown(matches)?)),
+        "explore" => Some(Args::Explore(file, explored(matches)?)),
         "check" => Some(Args::Check(file)),
         _ => None,
     }
@@ -249,6 +298,59 @@ fn shown<'a>(matches: &ArgMatches<'a>) -> Option<DrawArgs>
     })
 }
 
+/// The meshes that are to be explored, and with what numbers.
+fn explored<'a>(matches: &ArgMatches<'a>) -> Option<ExploreArgs>
+    ensures { option_map explored_of result ≡ explored_in (rows_of (found_of matches.now)) }
+{
+    Some(ExploreArgs {
+        meshes: meshes(matches)?,
+        cancel: number_if_given(matches, CANCEL)?,
+        states: number(matches, STATES)? as u32,
+        witness: number_if_given(matches, WITNESS)?,
+    })
+}
+
+/// The meshes that are asked for: one to ten, each of which is a pair of groups.
+fn meshes<'a>(matches: &ArgMatches<'a>) -> Option<Meshes>
+    ensures value { option_map pairs_of result ≡ meshes_in (rows_of (found_of matches.now)) }
+    ensures some { IfSome result (λ meshes. 1 ≤ meshes.count) }
+{
+    let texts = matches.get_strs(MESH)?;
+    if texts.is_empty() || MOST_MESHES < texts.len() {
+        return None;
+    }
+    pairs(texts)
+}
+
+/// The pairs of groups that these texts are.
+fn pairs(texts: &[&str]) -> Option<Meshes>
+    requires { length texts.now ≤ 10 }
+    ensures pairs { option_map pairs_of result ≡ pairs_in (map (λ text. text.now) texts.now) }
+    ensures all { IfSome result (λ meshes. meshes.count ≡ length texts.now) }
+{
+    let mut meshes = Meshes::none();
+    let mut rest = texts;
+    while let [text, behind @ ..] = rest {
+        meshes.add(pair(text)?);
+        rest = behind;
+    }
+    Some(meshes)
+}
+
+/// The pair of groups that a text is: two numbers, each in its one spelling, with a colon between them.
+fn pair(text: &str) -> Option<MeshPair>
+    ensures { result ≡ pair_of text.now }
+{
+    let (source, behind) = cut(text.as_bytes(), BETWEEN)?;
+    if cut(behind, BETWEEN).is_some() {
+        return None;
+    }
+    Some(MeshPair {
+        source: number32(source, 0, LAST_GROUP).ok()?,
+        destination: number32(behind, 0, LAST_GROUP).ok()?,
+    })
+}
+
 /// The sizes of the session that is asked for.
 fn sizes<'a>(matches: &ArgMatches<'a>) -> Option<LiveArgs>
     ensures { option_map sizes_of result ≡ sizes_in (rows_of (found_of matches.now)) }
@@ -273,6 +375,18 @@ fn number<'a>(matches: &ArgMatches<'a>, option: NumberOption) -> Option<u64>
     }
 }
 
+/// The number that an option was given, where it was given one. None where that is no number that the option takes.
+fn number_if_given<'a>(matches: &ArgMatches<'a>, option: NumberOption) -> Option<Option<u32>>
+    requires { option.most < 2 ^ 32 }
+    ensures value { result ≡ given_in option.name.now option.least option.most (rows_of (found_of matches.now)) }
+    ensures range { IfSome result (λ given. IfSome given (λ number. (option.least ≤ number) × (number ≤ option.most))) }
+{
+    match matches.get_str(option.name) {
+        Some(_) => Some(Some(number(matches, option)? as u32)),
+        None => Some(None),
+    }
+}
+
 /// The program's command line: a command with its file, help and version.
 fn meshrun_command<'a>(alloc: Global) -> Result<Command<'a>, AllocError>
     ensures { IfOk result (λ command. app_of command ≡ meshrun_app) }
@@ -281,6 +395,7 @@ fn meshrun_command<'a>(alloc: Global) -> Result<Command<'a>, AllocError>
     let threads = threads_command(alloc)?;
     let draw = draw_command(alloc)?;
     let live = live_command(alloc)?;
+    let explore = explore_command(alloc)?;
     let check = check_command(alloc)?;
     Command::new(alloc, "meshrun")
         .about("A modelled heap that is compacted by meshing")
@@ -291,6 +406,7 @@ fn meshrun_command<'a>(alloc: Global) -> Result<Command<'a>, AllocError>
         .subcommand(threads)?
         .subcommand(draw)?
         .subcommand(live)?
+        .subcommand(explore)?
         .subcommand(check)
 }
 
@@ -352,6 +468,21 @@ fn live_command<'a>(alloc: Global) -> Result<Command<'a>, AllocError>
         .arg(number_or(alloc, SESSION_WORKERS, "64"))
 }
 
+/// `explore FILE --mesh SRC:DST [--mesh ..] [--cancel AFTER] [--states N] [--witness K]`.
+fn explore_command<'a>(alloc: Global) -> Result<Command<'a>, AllocError>
+    ensures { IfOk result (λ command. app_of command ≡ explore_app) }
+{
+    Command::new(alloc, "explore")
+        .about(
+            "Run what a job file's plan leaves of its scripts in every interleaving with meshes, and print all answers",
+        )
+        .arg(file(alloc, "The job file; its plan is the setting"))?
+        .arg(mesh(alloc))?
+        .arg(number_option(alloc, CANCEL))?
+        .arg(number_or(alloc, STATES, "100000"))?
+        .arg(number_option(alloc, WITNESS))
+}
+
 /// `check FILE`.
 fn check_command<'a>(alloc: Global) -> Result<Command<'a>, AllocError>
     ensures { IfOk result (λ command. app_of command ≡ check_app) }
@@ -376,6 +507,18 @@ fn flag<'a>(alloc: Global, name: &'static str, help: &'static str) -> Arg<'a>
         .long(name)
         .action(ArgAction::SetTrue)
         .help(help)
+}
+
+/// The option that asks for a mesh, and has to be given once or more.
+fn mesh<'a>(alloc: Global) -> Arg<'a>
+    ensures { rule_of result ≡ mesh_rule }
+{
+    Arg::new(alloc, MESH)
+        .long(MESH)
+        .value_name(GROUPS)
+        .action(ArgAction::Append)
+        .required(true)
+        .help("A mesh of group SRC into group DST, each 0 to 65535; 1 to 10 times")
 }
 
 /// An option with a number that has to be given.

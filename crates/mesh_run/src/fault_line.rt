@@ -10,7 +10,7 @@ use itoa::Buffer;
 use mesh_text::{ReplayError, TextFault};
 
 /// The bytes of a line, with room for the longest: `line 4294967295: LONG_LINE` and its end.
-type Line = ArrayVec<u8, 32>;
+pub(crate) type Line = ArrayVec<u8, 32>;
 
 /// The line of an error, with its end.
 pub(crate) fn line_of(error: ReplayError) -> Line
@@ -40,7 +40,7 @@ pub(crate) fn threads_line_of(error: ThreadsError) -> Line
 }
 
 /// A line of these bytes and its end.
-fn line_with(bytes: &[u8]) -> Line
+pub(crate) fn line_with(bytes: &[u8]) -> Line
     requires { length bytes.now ≤ 31 }
     ensures { result.items ≡ ended bytes.now }
 {

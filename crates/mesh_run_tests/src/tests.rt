@@ -8,6 +8,8 @@ use std::alloc::Global;
 mod arguments;
 mod checks;
 mod devices;
+mod explorations;
+mod explored;
 mod faults;
 mod files;
 mod histories;

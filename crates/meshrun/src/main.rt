@@ -2,16 +2,17 @@
 //!
 //! `meshrun replay FILE` runs the plan of a job file and prints one answer line for each of its lines. `meshrun threads FILE ..` runs its
 //! scripts, each on a thread of its own, while other threads search and mesh, and prints each worker's answers. With `--history` both print the
-//! journal, as a recorded history. `meshrun draw FILE ..` prints a picture of the plan. `meshrun live ..` answers the lines of standard input one
-//! by one. `meshrun check FILE` judges a recorded history.
+//! journal, as a recorded history. `meshrun draw FILE ..` prints a picture of the plan. `meshrun explore FILE ..` runs what the plan leaves of the
+//! scripts in every interleaving with meshes, and prints all answers. `meshrun live ..` answers the lines of standard input one by one.
+//! `meshrun check FILE` judges a recorded history.
 #![tactic(auto)]
 
 ghost use Rattle.std.specs.Prelude.{◌≡◌, false, IfOk};
 ghost use Rattle.mesh_text.specs.Devices.{input_has_failed};
 
 use mesh_run::{
-    Args, Input, Output, Printed, Sink, arguments, check_run, draw_run, history_run, live_run,
-    replay_run, stop_run, threads_run, unopened_run, unread_words,
+    Args, Input, Output, Printed, Sink, arguments, check_run, draw_run, explore_run, history_run,
+    live_run, replay_run, stop_run, threads_run, unopened_run, unread_words,
 };
 use std::fs::File;
 use std::process::ExitCode;
@@ -49,6 +50,10 @@ fn main(rt: HostRuntime) -> ExitCode {
                 Ok(mut input) => {
                     draw_run(alloc, path, &args, &mut input, &mut output, &mut errors)
                 }
+                Err(status) => status,
+            },
+            Ok(Args::Explore(path, args)) => match opened(&rt, path, &mut errors) {
+                Ok(mut input) => { explore_run(alloc, &args, &mut input, &mut output, &mut errors) }
                 Err(status) => status,
             },
             Ok(Args::Live(args)) => {

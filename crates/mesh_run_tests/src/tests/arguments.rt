@@ -3,7 +3,7 @@ use mesh_run::{Args, Output, Printed, arguments, stop_run, unopened_run};
 use std::test::Fail;
 
 /// For each command line that asks for no run its words, the exit status, and how the text that it prints begins.
-static STOPS: [(&[&str], u8, &str); 14] = [
+static STOPS: [(&[&str], u8, &str); 17] = [
     (&["meshrun", "--help"], 0, "A modelled heap"),
     (&["meshrun", "--version"], 0, "meshrun 0.1.0\n"),
     (&["meshrun", "replay", "--help"], 0, "Run a job file's plan"),
@@ -15,6 +15,11 @@ static STOPS: [(&[&str], u8, &str); 14] = [
     (&["meshrun", "draw", "--help"], 0, "Draw a job file's plan"),
     (&["meshrun", "live", "--help"], 0, "Answer the lines"),
     (
+        &["meshrun", "explore", "--help"],
+        0,
+        "Run what a job file's plan leaves",
+    ),
+    (
         &["meshrun", "check", "--help"],
         0,
         "Judge a recorded history",
@@ -23,6 +28,12 @@ static STOPS: [(&[&str], u8, &str); 14] = [
     (&["meshrun", "replay"], 2, "error: "),
     (&["meshrun", "draw"], 2, "error: "),
     (&["meshrun", "check"], 2, "error: "),
+    (&["meshrun", "explore", "a.job"], 2, "error: "),
+    (
+        &["meshrun", "explore", "a.job", "--mesh", "1"],
+        2,
+        "error: --mesh wants SRC:DST",
+    ),
     (&["meshrun", "replay", "a", "b"], 2, "error: "),
     (&["meshrun", "replay", "--version"], 2, "error: "),
     (&["meshrun", "report"], 2, "error: "),
@@ -146,8 +157,87 @@ static SIZES: [(&str, [u32; 3]); 4] = [
     ),
 ];
 
+/// Command lines, and what they ask for to be explored of `a.job`: the meshes, their steps before a cancel, the most states, and the outcome that is
+/// printed.
+static EXPLORED: [(&str, &[[u32; 2]], Option<u32>, u32, Option<u32>); 9] = [
+    (
+        "meshrun explore a.job --mesh 1:0",
+        &[[1, 0]],
+        None,
+        100000,
+        None,
+    ),
+    (
+        "meshrun explore --mesh=1:0 a.job --mesh=3:2",
+        &[[1, 0], [3, 2]],
+        None,
+        100000,
+        None,
+    ),
+    (
+        "meshrun explore a.job --mesh 3:2 --cancel 4 --mesh 1:0 --states 5 --witness 6",
+        &[[3, 2], [1, 0]],
+        Some(4),
+        5,
+        Some(6),
+    ),
+    (
+        "meshrun explore a.job --mesh 0:65535 --cancel 0 --states 1 --witness 0",
+        &[[0, 65535]],
+        Some(0),
+        1,
+        Some(0),
+    ),
+    (
+        "meshrun explore a.job --mesh 65535:0 --cancel 1000 --states 10000000 --witness 1000000",
+        &[[65535, 0]],
+        Some(1000),
+        10000000,
+        Some(1000000),
+    ),
+    (
+        "meshrun explore a.job --mesh 1:1 --mesh 1:1",
+        &[[1, 1], [1, 1]],
+        None,
+        100000,
+        None,
+    ),
+    (
+        "meshrun explore a.job --witness +3 --states 0012 --mesh 1:0",
+        &[[1, 0]],
+        None,
+        12,
+        Some(3),
+    ),
+    (
+        "meshrun explore a.job --mesh 1:0 --witness 3",
+        &[[1, 0]],
+        None,
+        100000,
+        Some(3),
+    ),
+    (
+        "meshrun explore a.job --mesh 9:0 --mesh 8:1 --mesh 7:2 --mesh 6:3 --mesh 5:4 --mesh 4:5 --mesh 3:6 --mesh 2:7 --mesh 1:8 --mesh 0:9",
+        &[
+            [9, 0],
+            [8, 1],
+            [7, 2],
+            [6, 3],
+            [5, 4],
+            [4, 5],
+            [3, 6],
+            [2, 7],
+            [1, 8],
+            [0, 9],
+        ],
+        None,
+        100000,
+        None,
+    ),
+];
+
 /// Command lines with a fault, each of a command that has numbers or a flag, or of `check`.
-static FAULTY: [&str; 51] = [
+static FAULTY: [&str; 82] = [
     "meshrun threads a.job --probe 65 --rounds 3 --workers 4 --seed 5 --meshers 6",
     "meshrun threads a.job --probe 2 --rounds 1001 --workers 4 --seed 5 --meshers 6",
     "meshrun threads a.job --probe 2 --rounds 3 --workers 0 --seed 5 --meshers 6",
@@ -190,6 +280,37 @@ static FAULTY: [&str; 51] = [
     "meshrun draw a.job b.job",
     "meshrun draw --from 1 --to 2",
     "meshrun draw a.job --version",
+    "meshrun explore a.job --mesh",
+    "meshrun explore --mesh 1:0",
+    "meshrun explore a.job --states 5",
+    "meshrun explore a.job --mesh 1",
+    "meshrun explore a.job --mesh :",
+    "meshrun explore a.job --mesh 1:",
+    "meshrun explore a.job --mesh :0",
+    "meshrun explore a.job --mesh 1:0:2",
+    "meshrun explore a.job --mesh 1:0:",
+    "meshrun explore a.job --mesh 01:0",
+    "meshrun explore a.job --mesh 1:00",
+    "meshrun explore a.job --mesh +1:0",
+    "meshrun explore a.job --mesh 65536:0",
+    "meshrun explore a.job --mesh 1:65536",
+    "meshrun explore a.job --mesh 0x1:0",
+    "meshrun explore a.job --mesh 1,0",
+    "meshrun explore a.job --mesh 1:0 --mesh 2",
+    "meshrun explore a.job --mesh 1 --mesh 2:0",
+    "meshrun explore a.job --mesh 1:0 2:0",
+    "meshrun explore a.job --mesh 1:0 --mesh 1:0 --mesh 1:0 --mesh 1:0 --mesh 1:0 --mesh 1:0 --mesh 1:0 --mesh 1:0 --mesh 1:0 --mesh 1:0 --mesh 1:0",
+    "meshrun explore a.job --mesh 1:0 --cancel 1001",
+    "meshrun explore a.job --mesh 1:0 --cancel -1",
+    "meshrun explore a.job --mesh 1:0 --cancel 1 --cancel 2",
+    "meshrun explore a.job --mesh 1:0 --states 0",
+    "meshrun explore a.job --mesh 1:0 --states 10000001",
+    "meshrun explore a.job --mesh 1:0 --witness 1000001",
+    "meshrun explore a.job --mesh 1:0 --witness 18446744073709551616",
+    "meshrun explore a.job --mesh 1:0 --witness",
+    "meshrun explore a.job b.job --mesh 1:0",
+    "meshrun explore a.job --mesh 1:0 --history",
+    "meshrun explore a.job --mesh 1:0 --version",
     "meshrun live a.job",
     "meshrun live --pages 0",
     "meshrun live --pages 4097",
@@ -276,6 +397,28 @@ fn reads_what_is_drawn(rt: HostRuntime) -> Result<(), Fail> {
         };
         assert_eq!(rt; file, "a.job", "{line}");
         assert!(rt; [args.from, args.to, args.columns] == *shown, "{line}");
+    }
+    Ok(())
+}
+
+#[test]
+fn reads_what_is_explored(rt: HostRuntime) -> Result<(), Fail> {
+    for (line, meshes, cancel, states, witness) in EXPLORED.iter() {
+        let words: Vec<&str> = line.split(' ').collect(rt.alloc())?;
+        let Ok(Args::Explore(file, args)) = arguments(rt.alloc(), words.as_slice()) else {
+            panic!(rt; "nothing explored: {line}");
+        };
+        assert_eq!(rt; file, "a.job", "{line}");
+        let read: Vec<[u32; 2]> = args
+            .meshes
+            .as_slice()
+            .iter()
+            .map(|pair| [pair.source, pair.destination])
+            .collect(rt.alloc())?;
+        assert!(rt; read.as_slice() == *meshes, "{line}");
+        assert!(rt; args.cancel == *cancel, "{line}");
+        assert_eq!(rt; args.states, *states, "{line}");
+        assert!(rt; args.witness == *witness, "{line}");
     }
     Ok(())
 }

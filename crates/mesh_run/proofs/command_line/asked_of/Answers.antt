@@ -1,7 +1,7 @@
 use Rattle.std.proofs.Common.{◌∙◌, Option, option_map, ap, sym}
 use Rattle.std.specs.Prelude.{option_and_then}
 use Rattle.clap.specs.Words.{found_of, rows_of}
-use Rattle.mesh_run.specs.CommandLine.{Numbers, asked_of, asking, draw_of, numbers_of, printed_in, replay_of, threads_of}
+use Rattle.mesh_run.specs.CommandLine.{Numbers, asked_of, asking, draw_of, explore_of, numbers_of, printed_in, replay_of, threads_of}
 use Rattle.mesh_run.proofs.CommandLines.{asked_of_file}
 use Rattle.mesh_run.proofs.command_line.asked_of.Goals as goal
 
@@ -29,6 +29,13 @@ returns-in_ok-shown-in-draw c =
     let found = found_of c.args.matches.now in
     ap (option_map (draw_of c.in_ok-file.file.now)) c.in_ok-shown-in-draw.ensures
     ∙ sym (ap (λ text. asked_of text (rows_of found) c.in_ok-file.file.now) c.in-draw.is)
+    ∙ asked_of_file c.args.name.now found _ c.in_ok-file.ensures
+
+pub returns-in_ok-explored-in-explore : goal.returns-in_ok-explored-in-explore
+returns-in_ok-explored-in-explore c =
+    let found = found_of c.args.matches.now in
+    ap (option_map (explore_of c.in_ok-file.file.now)) c.in_ok-explored-in-explore.ensures
+    ∙ sym (ap (λ text. asked_of text (rows_of found) c.in_ok-file.file.now) c.in-explore.is)
     ∙ asked_of_file c.args.name.now found _ c.in_ok-file.ensures
 
 pub returns-in-check : goal.returns-in-check

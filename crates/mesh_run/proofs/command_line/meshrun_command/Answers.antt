@@ -12,4 +12,5 @@ returns c =
     let with_threads = with_command _ _ _ _ _ c.in_ok-subcommand-2.ensures with_replay c.in_ok-threads.ensures refl in
     let with_draw = with_command _ _ _ _ _ c.in_ok-subcommand-3.ensures with_threads c.in_ok-draw.ensures refl in
     let with_live = with_command _ _ _ _ _ c.in_ok-subcommand-4.ensures with_draw c.in_ok-live.ensures refl in
-    IfOk-weaker c.subcommand-5.result _ _ (λ command adds. with_command _ _ _ _ _ adds with_live c.in_ok-check.ensures refl) c.subcommand-5.ensures
+    let with_explore = with_command _ _ _ _ _ c.in_ok-subcommand-5.ensures with_live c.in_ok-explore.ensures refl in
+    IfOk-weaker c.subcommand-6.result _ _ (λ command adds. with_command _ _ _ _ _ adds with_explore c.in_ok-check.ensures refl) c.subcommand-6.ensures

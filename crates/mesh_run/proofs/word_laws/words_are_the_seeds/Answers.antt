@@ -1,4 +1,4 @@
-use Rattle.std.proofs.Common.{◌≡◌, ℕ, ◌+◌, ◌*◌, List, [], ◌∷◌, refl, ◌∙◌, arith}
+use Rattle.std.proofs.Common.{◌≡◌, ◌+◌, ◌*◌, [], ◌∷◌, refl, ◌∙◌, arith}
 use Rattle.rand_core.specs.Steps.{first_words, stream_of, u32_at, word_bytes}
 use Rattle.rand_core.specs.Stream.{fill_bytes}
 use Rattle.rand_xoshiro.specs.Xoshiro256.{plus_plus}

@@ -1,0 +1,79 @@
+//! The program's exploration of what a plan leaves.
+ghost use Rattle.std.specs.Prelude.{◌≡◌, ◌<◌, ◌≤◌, false};
+ghost use Rattle.std.specs.Io.KnownBytes.{Keeps};
+ghost use Rattle.model_jobs.specs.Texts.{ended};
+ghost use Rattle.mesh_explore.specs.declared.errors.ExploreError.{ExploreError};
+ghost use Rattle.mesh_run.specs.Explores.{HasFailedExplore, explore_status, explore_text};
+ghost use Rattle.mesh_run.specs.Runs.{HasTold};
+
+use crate::ExploreArgs;
+use crate::fault_line::{Line, line_of, line_with};
+use crate::runs::tell;
+use crate::status::{DONE, FAILED, FAULTY};
+use mesh_explore::{ExploreError, ExploreOptions, explore};
+use mesh_text::{ReplayError, Sink, Source};
+use std::alloc::Global;
+
+/// Explores what the plan of the job that the input gives leaves of its scripts, writes what is told to the output or a fault to `errors`, and gives
+/// the exit status.
+///
+/// The status is 0 where everything was written. It is 1 with the line `read fault`, `write fault`, `out of memory` or `too many states`, and 2 with
+/// the line `line N: KIND` where the job's text has a fault or with `no such outcome` where the outcome that is asked for is none. Nothing is
+/// written to the output but where writing to it failed. Where that line can't be written the status stays.
+pub fn explore_run<I: Source, O: Sink, E: Sink>(
+    alloc: Global,
+    args: &ExploreArgs,
+    input: &mut I,
+    output: &mut O,
+    errors: &mut E,
+) -> u8
+    requires input { I.has_failed input.old ≡ false }
+    requires output { O.has_failed output.old ≡ false }
+    ensures sound { result ≡ 0 → (I.has_failed input.new ≡ false) × (O.has_failed output.new ≡ false) }
+    ensures untold { result ≡ 0 → Keeps (E.written errors.old) (E.written errors.new) }
+    ensures stopped { 0 < result → (error : ExploreError) × (result ≡ explore_status error)
+        × HasFailedExplore (I.has_failed input.new) (O.has_failed output.new) error
+        × HasTold (E.has_failed errors.new) (E.written errors.old) (E.written errors.new) (ended (explore_text error)) }
+    ensures small { result ≤ 2 }
+{
+    let options = ExploreOptions {
+        meshes: args.meshes.as_slice(),
+        cancel: args.cancel,
+        states: args.states,
+        witness: args.witness,
+    };
+    match explore(alloc, input, output, &options) {
+        Ok(()) => DONE,
+        Err(error) => {
+            tell(errors, explore_line_of(error).as_slice());
+            explore_status_of(error)
+        }
+    }
+}
+
+/// The line of an error, with its end.
+fn explore_line_of(error: ExploreError) -> Line
+    ensures { result.items ≡ ended (explore_text error) }
+{
+    match error {
+        ExploreError::Read => line_of(ReplayError::Read),
+        ExploreError::Write => line_of(ReplayError::Write),
+        ExploreError::Memory => line_of(ReplayError::Memory),
+        ExploreError::Text(fault) => line_of(ReplayError::Text(fault)),
+        ExploreError::TooManyStates => line_with(b"too many states"),
+        ExploreError::NoOutcome => line_with(b"no such outcome"),
+    }
+}
+
+/// The exit status of an exploration that stopped.
+fn explore_status_of(error: ExploreError) -> u8
+    ensures { result ≡ explore_status error }
+{
+    match error {
+        ExploreError::Text(_) | ExploreError::NoOutcome => FAULTY,
+        ExploreError::Read
+        | ExploreError::Write
+        | ExploreError::Memory
+        | ExploreError::TooManyStates => FAILED,
+    }
+}

@@ -1,0 +1,111 @@
+//! Explorations, over memory.
+ghost use Rattle.std.specs.Prelude.{◌≡◌, false};
+
+use crate::tests::Ran;
+use crate::tests::devices::SlowSource;
+use crate::tests::explored::EXPLORED;
+use mesh_run::{Args, Input, Output, Source, arguments, explore_run};
+use std::alloc::{AllocError, Global};
+
+/// The words of a small exploration, of 64 states and two outcomes.
+static STORE: [&str; 5] = ["meshrun", "explore", "a.job", "--mesh", "1:0"];
+
+/// Its file.
+const STORE_FILE: &str =
+    "mesh 1\npages 16\nhistory 64\nworkers 2\nworker 0\nnew 0 2048 0\nnew 1 2048 0\nnew 2 2048 0\nnew 3 2048 0\nfree 0\nfree 3\nput 2 0 aa\nget 2 0 1\nworker 1\nget 2 0 1\nplan\nrun 0\nrun 0\nrun 0\nrun 0\nrun 0\nrun 0\nend\n";
+
+/// What its second outcome is printed as.
+const SECOND: &str =
+    "mesh 1\npages 16\nhistory 64\nworkers 2\nworker 0\nnew 0 2048 0\nnew 1 2048 0\nnew 2 2048 0\nnew 3 2048 0\nfree 0\nfree 3\nput 2 0 aa\nget 2 0 1\nworker 1\nget 2 0 1\nplan\nrun 0\nrun 0\nrun 0\nrun 0\nrun 0\nrun 0\nrun 1\nrun 0\nrun 0\nbegin 1 0\nstep\nstep\nstep\nstep\nstep\nstep\nend\n";
+
+/// Words behind those, and the line and the status that such a run ends with.
+static STOPS: [(&[&str], &str, u8); 5] = [
+    (&["--states", "63"], "too many states\n", 1),
+    (
+        &["--states", "63", "--witness", "9"],
+        "too many states\n",
+        1,
+    ),
+    (&["--states", "1"], "too many states\n", 1),
+    (&["--witness", "2"], "no such outcome\n", 2),
+    (&["--witness", "1000000"], "no such outcome\n", 2),
+];
+
+/// Runs an exploration with these words, or none where they ask for something else.
+fn explored<I: Source>(alloc: Global, words: &[&str], input: &mut I) -> Option<Ran>
+    requires { I.has_failed input.old ≡ false }
+{
+    let Ok(Args::Explore(_, args)) = arguments(alloc, words) else {
+        return None;
+    };
+    let mut output = Output::new(Vec::new(alloc));
+    let mut errors = Output::new(Vec::new(alloc));
+    let status = explore_run(alloc, &args, input, &mut output, &mut errors);
+    Some(Ran {
+        status,
+        output: output.into_inner(),
+        errors: errors.into_inner(),
+    })
+}
+
+#[test]
+fn tells_the_worked_explorations(rt: HostRuntime) {
+    for (name, words, file, told) in EXPLORED.iter() {
+        let mut input = Input::new(file.as_bytes());
+        let Some(run) = explored(rt.alloc(), words, &mut input) else {
+            panic!(rt; "nothing explored: {name}");
+        };
+        assert_eq!(rt; run.output.as_slice(), told.as_bytes(), "of {name}");
+        assert!(rt; run.errors.is_empty(), "of {name}");
+        assert_eq!(rt; run.status, 0, "of {name}");
+    }
+}
+
+#[test]
+fn prints_an_outcome_as_a_job(rt: HostRuntime) -> Result<(), AllocError> {
+    let words = with(rt.alloc(), &["--witness", "1"])?;
+    let mut input = SlowSource::new(STORE_FILE.as_bytes(), STORE_FILE.len() + 1);
+    let Some(run) = explored(rt.alloc(), words.as_slice(), &mut input) else {
+        panic!(rt; "nothing explored");
+    };
+    assert_eq!(rt; run.output.as_slice(), SECOND.as_bytes());
+    assert!(rt; run.errors.is_empty());
+    assert_eq!(rt; run.status, 0);
+    Ok(())
+}
+
+#[test]
+fn tells_why_it_stops(rt: HostRuntime) -> Result<(), AllocError> {
+    for (more, line, status) in STOPS.iter() {
+        let words = with(rt.alloc(), more)?;
+        let mut input = Input::new(STORE_FILE.as_bytes());
+        let Some(run) = explored(rt.alloc(), words.as_slice(), &mut input) else {
+            panic!(rt; "nothing explored: {line}");
+        };
+        assert!(rt; run.output.is_empty(), "{line}");
+        assert_eq!(rt; run.errors.as_slice(), line.as_bytes());
+        assert_eq!(rt; run.status, *status, "{line}");
+    }
+    Ok(())
+}
+
+#[test]
+fn tells_a_read_that_fails(rt: HostRuntime) {
+    for calls in [0, 1, STORE_FILE.len()] {
+        let mut input = SlowSource::new(STORE_FILE.as_bytes(), calls);
+        let Some(run) = explored(rt.alloc(), STORE.as_slice(), &mut input) else {
+            panic!(rt; "nothing explored");
+        };
+        assert!(rt; run.output.is_empty());
+        assert_eq!(rt; run.errors.as_slice(), b"read fault\n".as_slice());
+        assert_eq!(rt; run.status, 1);
+    }
+}
+
+/// The words of the small exploration with these behind them.
+fn with(alloc: Global, more: &[&'static str]) -> Result<Vec<&'static str>, AllocError> {
+    let mut words = Vec::new(alloc);
+    words.extend_from_slice(STORE.as_slice())?;
+    words.extend_from_slice(more)?;
+    Ok(words)
+}
