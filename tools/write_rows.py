@@ -1,10 +1,10 @@
 #!/usr/bin/env python3
-"""Writes the crate mesh_rows, and the tables of mesh_run_tests, from the files under jobs/rows.
+"""Writes the crate mesh_rows, and the tables of mesh_run_tests and mesh_explore_tests, from the files under jobs/rows and jobs/explore.
 
 Each folder there is a subject, and each NAME.job in it a row: NAME.out has the lines that the job is answered, or NAME.err the fault of a file
 that is no job. In mesh_rows a subject becomes a spec file, a function whose clauses are its rows, and that function's proof; in mesh_run_tests
-the rows become tables, one a subject. The explorations under jobs/explore become a table too. Run it from the top of the repository after a row was added or changed; what it writes is
-committed.
+the rows become tables, one a subject. The explorations under jobs/explore become a table too, and the smaller ones of them one of mesh_explore_tests. Run it from the top of the
+repository after a row was added or changed; what it writes is committed.
 """
 import pathlib
 import re
@@ -23,6 +23,9 @@ UNTABLED = {"interleavings"}
 EXPLORATIONS = pathlib.Path("jobs/explore")
 # Explorations too large for the tests: the built program makes them (tools/check_program.sh).
 LARGE = {"more_than_counted", "six_and_six", "three_pages"}
+TREES = pathlib.Path("crates/mesh_explore_tests")
+# Explorations of at most so many interleavings are followed one by one as well.
+FEW_INTERLEAVINGS = 400
 
 # Rows whose file and answers the tests name by themselves.
 NAMED = {
@@ -156,6 +159,31 @@ def write_explorations():
     (TESTS / "src" / "tests" / "explored.rt").write_text("\n".join(lines + ["];", ""]))
 
 
+def is_few(job):
+    """Whether the exploration has few interleavings, by its first line."""
+    count = job.with_suffix(".out").read_text().split(" states ")[0].removeprefix("interleavings ")
+    return count.isdecimal() and int(count) <= FEW_INTERLEAVINGS
+
+
+def case(job):
+    """An exploration as a line of a table of Rust: name, meshes, after how many steps they are cancelled, and file."""
+    words = job.with_suffix(".args").read_text().split()
+    options = list(zip(words[::2], words[1::2]))
+    meshes = [value.split(":") for option, value in options if option == "--mesh"]
+    pairs = ", ".join(f"MeshPair {{ source: {source}, destination: {destination} }}" for source, destination in meshes)
+    cancel = "".join(f"Some({value})" for option, value in options if option == "--cancel") or "None"
+    return f'    ("{job.stem}", &[{pairs}], {cancel}, {literal(file_text(job))}),'
+
+
+def write_trees():
+    """The smaller explorations as a table of Rust."""
+    jobs = [job for job in sorted(EXPLORATIONS.glob("*.job")) if is_few(job)]
+    lines = ["//! Explorations of few interleavings. Written by `tools/write_rows.py`.", "", "use mesh_explore::MeshPair;", "",
+             "/// For each its name, its meshes, after how many steps they are cancelled, and its file.",
+             f"pub(crate) static CASES: [(&str, &[MeshPair], Option<u32>, &str); {len(jobs)}] = ["]
+    (TREES / "src" / "tests" / "cases.rt").write_text("\n".join(lines + list(map(case, jobs)) + ["];", ""]))
+
+
 def main():
     for part in ("src", "specs", "proofs"):
         shutil.rmtree(CRATE / part, ignore_errors=True)
@@ -173,7 +201,8 @@ def main():
     (CRATE / "specs" / "Lib.antt").write_text("\n".join(f"pub mod {name}" for name in sorted([camel(name) for name in subjects] + ["Rows"])) + "\n")
     write_tables()
     write_explorations()
-    for crate in (CRATE, TESTS):
+    write_trees()
+    for crate in (CRATE, TESTS, TREES):
         subprocess.run(["rt", "fmt"], cwd=crate, check=True)
 
 
