@@ -3,7 +3,7 @@
 
 Each folder there is a subject, and each NAME.job in it a row: NAME.out has the lines that the job is answered, or NAME.err the fault of a file
 that is no job. In mesh_rows a subject becomes a spec file, a function whose clauses are its rows, and that function's proof; in mesh_run_tests
-the rows become tables, one a subject. The explorations under jobs/explore become a table too, and the smaller ones of them one of mesh_explore_tests. Run it from the top of the
+the rows become tables, one a subject. The smaller explorations under jobs/explore become a table of mesh_explore_tests. Run it from the top of the
 repository after a row was added or changed; what it writes is committed.
 """
 import pathlib
@@ -21,8 +21,6 @@ MAX_BYTES = 100_000
 UNTABLED = {"interleavings"}
 
 EXPLORATIONS = pathlib.Path("jobs/explore")
-# Explorations too large for the tests: the built program makes them (tools/check_program.sh).
-LARGE = {"more_than_counted", "six_and_six", "three_pages"}
 TREES = pathlib.Path("crates/mesh_explore_tests")
 # Explorations of at most so many interleavings are followed one by one as well.
 FEW_INTERLEAVINGS = 400
@@ -147,18 +145,6 @@ def write_tables():
     (TESTS / "src" / "tests" / "files.rt").write_text("\n".join(lines))
 
 
-def write_explorations():
-    """The explorations as a table of Rust: name, words of the command line, file, and what is printed."""
-    jobs = [job for job in sorted(EXPLORATIONS.glob("*.job")) if job.stem not in LARGE]
-    lines = ["//! The worked explorations. Written by `tools/write_rows.py`.", "",
-             "/// For each its name, the words of its command line, its file and what is printed.",
-             f"pub(crate) static EXPLORED: [(&str, &[&str], &str, &str); {len(jobs)}] = ["]
-    for job in jobs:
-        words = ["meshrun", "explore", "a.job"] + job.with_suffix(".args").read_text().split()
-        lines.append(f'    ("{job.stem}", &[{", ".join(map(literal, words))}], {literal(file_text(job))}, {literal(job.with_suffix(".out").read_text())}),')
-    (TESTS / "src" / "tests" / "explored.rt").write_text("\n".join(lines + ["];", ""]))
-
-
 def is_few(job):
     """Whether the exploration has few interleavings, by its first line."""
     count = job.with_suffix(".out").read_text().split(" states ")[0].removeprefix("interleavings ")
@@ -200,7 +186,6 @@ def main():
     (CRATE / "specs" / "Rows.antt").write_text(ROW)
     (CRATE / "specs" / "Lib.antt").write_text("\n".join(f"pub mod {name}" for name in sorted([camel(name) for name in subjects] + ["Rows"])) + "\n")
     write_tables()
-    write_explorations()
     write_trees()
     for crate in (CRATE, TESTS, TREES):
         subprocess.run(["rt", "fmt"], cwd=crate, check=True)

@@ -9,7 +9,6 @@ mod arguments;
 mod checks;
 mod devices;
 mod explorations;
-mod explored;
 mod faults;
 mod files;
 mod histories;

@@ -3,7 +3,6 @@ ghost use Rattle.std.specs.Prelude.{◌≡◌, false};
 
 use crate::tests::Ran;
 use crate::tests::devices::SlowSource;
-use crate::tests::explored::EXPLORED;
 use mesh_run::{Args, Input, Output, Source, arguments, explore_run};
 use std::alloc::{AllocError, Global};
 
@@ -46,19 +45,6 @@ fn explored<I: Source>(alloc: Global, words: &[&str], input: &mut I) -> Option<R
         output: output.into_inner(),
         errors: errors.into_inner(),
     })
-}
-
-#[test]
-fn tells_the_worked_explorations(rt: HostRuntime) {
-    for (name, words, file, told) in EXPLORED.iter() {
-        let mut input = Input::new(file.as_bytes());
-        let Some(run) = explored(rt.alloc(), words, &mut input) else {
-            panic!(rt; "nothing explored: {name}");
-        };
-        assert_eq!(rt; run.output.as_slice(), told.as_bytes(), "of {name}");
-        assert!(rt; run.errors.is_empty(), "of {name}");
-        assert_eq!(rt; run.status, 0, "of {name}");
-    }
 }
 
 #[test]
