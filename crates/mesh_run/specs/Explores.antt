@@ -1,7 +1,7 @@
 -- What an exploration tells where it stops, and which device has failed.
 use Rattle.std.specs.Prelude.{◌≡◌, ℕ, Bool, true, List, codes}
-use Rattle.mesh_explore.specs.declared.errors.ExploreError.{ExploreError}
-use Rattle.mesh_explore.specs.declared.errors.ExploreError.TheVariants.{Read, Write, Text, Memory, TooManyStates, NoOutcome}
+use Rattle.mesh_outcomes.specs.declared.errors.ExploreError.{ExploreError}
+use Rattle.mesh_outcomes.specs.declared.errors.ExploreError.TheVariants.{Read, Write, Text, Memory, TooManyStates, NoOutcome}
 use Rattle.mesh_run.specs.Runs.{fault_text}
 
 -- an error's line, without its end

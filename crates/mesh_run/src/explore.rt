@@ -2,7 +2,7 @@
 ghost use Rattle.std.specs.Prelude.{◌≡◌, ◌<◌, ◌≤◌, false};
 ghost use Rattle.std.specs.Io.KnownBytes.{Keeps};
 ghost use Rattle.model_jobs.specs.Texts.{ended};
-ghost use Rattle.mesh_explore.specs.declared.errors.ExploreError.{ExploreError};
+ghost use Rattle.mesh_outcomes.specs.declared.errors.ExploreError.{ExploreError};
 ghost use Rattle.mesh_run.specs.Explores.{HasFailedExplore, explore_status, explore_text};
 ghost use Rattle.mesh_run.specs.Runs.{HasTold};
 
@@ -10,7 +10,7 @@ use crate::ExploreArgs;
 use crate::fault_line::{Line, line_of, line_with};
 use crate::runs::tell;
 use crate::status::{DONE, FAILED, FAULTY};
-use mesh_explore::{ExploreError, ExploreOptions, explore};
+use mesh_outcomes::{ExploreError, ExploreOptions, explore};
 use mesh_text::{ReplayError, Sink, Source};
 use std::alloc::Global;
 

@@ -1,0 +1,4 @@
+pub mod Errors
+pub mod Phases
+pub mod Ends
+pub mod Listings
