@@ -43,6 +43,14 @@ same_slots index s d a b sound is is' same =
 pub overlap_told : (a b : GroupEntry) (apart : Bool) → apart ≡ are_meshable (map is_some a.slots) (map is_some b.slots) → do_overlap a.slots b.slots ≡ not apart
 overlap_told a b apart is = overlap_by_sets a.slots b.slots ∙ ap not (sym is)
 
+-- two groups of one class that nothing keeps busy
+pub record IsIdlePair (busy : Busy) (g : PageHeap) (s d : ℕ) (a b : GroupEntry) : Type 0 where
+  pub source : group_at g.index.groups s ≡ Some a
+  pub destination : group_at g.index.groups d ≡ Some b
+  pub two : s ≢ d
+  pub one : a.class ≡ b.class
+  pub idle : busy_by busy (table_in g) a.class ≡ false
+
 -- there is no source
 pub refuses_source : (busy : Busy) (g : PageHeap) (s d : ℕ) → group_at g.index.groups s ≡ None → may_begin (busy_by busy) (table_in g) s d ≡ Err NoGroup
 refuses_source busy g s d none = no_source (busy_by busy) (table_in g) s d (none_in_table g.index s none)
@@ -60,9 +68,6 @@ module _ (busy : Busy) (g : PageHeap) (s d : ℕ) (a b : GroupEntry) (is : group
   into : group_of (table_in g) d ≡ Some (table_group g.index.spans d b)
   into = entry_in_table g.index d b is'
 
-  members : length (map (first_of g.index.spans) a.members) + length (map (first_of g.index.spans) b.members) ≡ length a.members + length b.members
-  members = let x = length-map a.members (first_of g.index.spans) in let y = length-map b.members (first_of g.index.spans) in omega (arith, x, y)
-
   pub refuses_same : s ≡ d → may_begin (busy_by busy) (table_in g) s d ≡ Err Same
   refuses_same = same_group (busy_by busy) (table_in g) s d (table_group g.index.spans s a) (table_group g.index.spans d b) from into
 
@@ -72,21 +77,27 @@ module _ (busy : Busy) (g : PageHeap) (s d : ℕ) (a b : GroupEntry) (is : group
   pub refuses_busy : s ≢ d → a.class ≡ b.class → busy_by busy (table_in g) a.class ≡ true → may_begin (busy_by busy) (table_in g) s d ≡ Err BusyClass
   refuses_busy = busy_class (busy_by busy) (table_in g) s d (table_group g.index.spans s a) (table_group g.index.spans d b) from into
 
-  -- the slots overlap where the sets of the occupied ones can't be meshed
-  pub refuses_overlap : s ≢ d → a.class ≡ b.class → busy_by busy (table_in g) a.class ≡ false → do_overlap a.slots b.slots ≡ true
-      → may_begin (busy_by busy) (table_in g) s d ≡ Err Overlap
-  refuses_overlap = overlapping (busy_by busy) (table_in g) s d (table_group g.index.spans s a) (table_group g.index.spans d b) from into
+module _ (busy : Busy) (g : PageHeap) (s d : ℕ) (a b : GroupEntry) (p : IsIdlePair busy g s d a b) where
+  from_idle : group_of (table_in g) s ≡ Some (table_group g.index.spans s a)
+  from_idle = entry_in_table g.index s a p.source
 
-  pub refuses_members : s ≢ d → a.class ≡ b.class → busy_by busy (table_in g) a.class ≡ false → do_overlap a.slots b.slots ≡ false
-      → 8 < length a.members + length b.members → may_begin (busy_by busy) (table_in g) s d ≡ Err Members
-  refuses_members two same idle no_ many = many_members (busy_by busy) (table_in g) s d (table_group g.index.spans s a) (table_group g.index.spans d b) from into
-      two same idle no_ (let m = members in omega (arith, m, many))
+  into_idle : group_of (table_in g) d ≡ Some (table_group g.index.spans d b)
+  into_idle = entry_in_table g.index d b p.destination
 
-  pub allows : s ≢ d → a.class ≡ b.class → busy_by busy (table_in g) a.class ≡ false → do_overlap a.slots b.slots ≡ false
-      → length a.members + length b.members ≤ 8 → IsPair busy g s d a.class
-  allows two same idle no_ few = record {
+  members : length (map (first_of g.index.spans) a.members) + length (map (first_of g.index.spans) b.members) ≡ length a.members + length b.members
+  members = let x = length-map a.members (first_of g.index.spans) in let y = length-map b.members (first_of g.index.spans) in omega (arith, x, y)
+
+  pub refuses_overlap : do_overlap a.slots b.slots ≡ true → may_begin (busy_by busy) (table_in g) s d ≡ Err Overlap
+  refuses_overlap = overlapping (busy_by busy) (table_in g) s d (table_group g.index.spans s a) (table_group g.index.spans d b) from_idle into_idle p.two p.one p.idle
+
+  pub refuses_members : do_overlap a.slots b.slots ≡ false → 8 < length a.members + length b.members → may_begin (busy_by busy) (table_in g) s d ≡ Err Members
+  refuses_members no_ many = many_members (busy_by busy) (table_in g) s d (table_group g.index.spans s a) (table_group g.index.spans d b) from_idle into_idle
+      p.two p.one p.idle no_ (let m = members in omega (arith, m, many))
+
+  pub allows : do_overlap a.slots b.slots ≡ false → length a.members + length b.members ≤ 8 → IsPair busy g s d a.class
+  allows no_ few = record {
     pair = record { source = table_group g.index.spans s a; destination = table_group g.index.spans d b };
-    may = may_go (busy_by busy) (table_in g) s d (table_group g.index.spans s a) (table_group g.index.spans d b) from into two same idle no_
+    may = may_go (busy_by busy) (table_in g) s d (table_group g.index.spans s a) (table_group g.index.spans d b) from_idle into_idle p.two p.one p.idle no_
         (let m = members in omega (arith, m, few));
     class_is = refl;
   }
