@@ -73,29 +73,42 @@ mesh_row mesh = record { class = mesh.class; source = mesh.source; destination =
 abbrev pub counts_row : Report → Counts
 counts_row report = record { mapped = report.mapped; taken = report.taken; saved = report.saved }
 
--- the members of a group, of which it has at most eight
-abbrev pub members_of_group : Heap → ℕ → List Member
-members_of_group h n = listing (class_in h n) (λ class. below 8 (λ place. listed (member_row h n class place)))
+-- the members of a group of a class, of which it has at most eight
+abbrev pub members_of_class : Heap → ℕ → ℕ → List Member
+members_of_class h n class = below 8 (λ place. listed (member_row h n class place))
 
 -- where the pages of a member lead, which begins at this virtual page
 abbrev pub leads_of_member : Heap → ℕ → ℕ → List Lead
 leads_of_member h class first = below (pages_of class) (λ i. listed (lead_row h (first + i)))
 
--- where the pages of a group's members lead
-abbrev pub leads_of_group : Heap → ℕ → List Lead
-leads_of_group h n = listing (class_in h n) (λ class. below 8 (λ place. listing (first_in h n place) (leads_of_member h class)))
+-- where the pages of the members of a group of a class lead
+abbrev pub leads_of_class : Heap → ℕ → ℕ → List Lead
+leads_of_class h n class = below 8 (λ place. listing (first_in h n place) (leads_of_member h class))
 
 -- the objects of the member of a group at a place, which begins at this virtual page
 abbrev pub objects_of_member : Heap → ℕ → ℕ → ℕ → ℕ → List Object
 objects_of_member h n class place first = below (slots_of class) (λ k. listed (object_row h n place first k))
 
--- the objects of a group's members
-abbrev pub objects_of_group : Heap → ℕ → List Object
-objects_of_group h n = listing (class_in h n) (λ class. below 8 (λ place. listing (first_in h n place) (objects_of_member h n class place)))
+-- the objects of the members of a group of a class
+abbrev pub objects_of_class : Heap → ℕ → ℕ → List Object
+objects_of_class h n class = below 8 (λ place. listing (first_in h n place) (objects_of_member h n class place))
 
--- the physical pages of a group
+-- the physical pages of a group of a class
+abbrev pub homes_of_class : Heap → ℕ → ℕ → List Home
+homes_of_class h n class = below (pages_of class) (λ i. listed (home_row h n i))
+
+-- what a group shows, by its class: its members, where their pages lead, their objects, and its physical pages
+abbrev pub members_of_group : Heap → ℕ → List Member
+members_of_group h n = listing (class_in h n) (members_of_class h n)
+
+abbrev pub leads_of_group : Heap → ℕ → List Lead
+leads_of_group h n = listing (class_in h n) (leads_of_class h n)
+
+abbrev pub objects_of_group : Heap → ℕ → List Object
+objects_of_group h n = listing (class_in h n) (objects_of_class h n)
+
 abbrev pub homes_of_group : Heap → ℕ → List Home
-homes_of_group h n = listing (class_in h n) (λ class. below (pages_of class) (λ i. listed (home_row h n i)))
+homes_of_group h n = listing (class_in h n) (homes_of_class h n)
 
 -- the running meshes, of which there is at most one of each of the ten classes
 abbrev pub meshes_of : Heap → List RunningMesh

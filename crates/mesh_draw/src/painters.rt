@@ -1,12 +1,11 @@
 //! The two painters of a picture: one that measures it, and one that draws it.
-ghost use Rattle.std.specs.Prelude.{◌≡◌, ◌+◌, ◌≤◌, OnOk};
+ghost use Rattle.std.specs.Prelude.{◌≡◌};
 ghost use Rattle.mesh_draw.specs.Painters.{next_drawn, next_measured};
-ghost use Rattle.mesh_draw.specs.Points.{IsPoint};
 
-use crate::points::Painter;
+use crate::points::{Painter, Point};
 use crate::run::DrawOptions;
 use mesh_job::Job;
-use mesh_picture::{Frame, Header, Line, Measure, Picture, Text};
+use mesh_picture::{Header, Measure, Picture, Text};
 use model_words::Version;
 use std::alloc::{AllocError, Global};
 
@@ -59,20 +58,9 @@ fn header_of(job: &Job) -> Header {
 impl Painter for Measuring {
     ghost next = { next_measured };
 
-    fn point(
-        &mut self,
-        _job: &Job,
-        line: &Line<'_>,
-        frame: &Frame,
-        _text: &mut Text,
-    ) -> Result<(), AllocError>
-        requires few { line.now.number ≤ 1048576 }
-        requires next { line.now.number ≡ next_measured self.old }
-        requires shown { IsPoint _job.now line.now.number line.now.answer.now frame.now }
-        ensures { OnOk result (next_measured self.new ≡ next_measured self.old + 1) }
-    {
-        self.measure.point(line, frame)?;
-        self.next = line.number as usize + 1;
+    fn point(&mut self, point: &Point<'_>, _text: &mut Text) -> Result<(), AllocError> {
+        self.measure.point(point.line, point.frame)?;
+        self.next = point.line.number as usize + 1;
         Ok(())
     }
 }
@@ -105,20 +93,9 @@ impl Drawing {
 impl Painter for Drawing {
     ghost next = { next_drawn };
 
-    fn point(
-        &mut self,
-        _job: &Job,
-        line: &Line<'_>,
-        frame: &Frame,
-        text: &mut Text,
-    ) -> Result<(), AllocError>
-        requires few { line.now.number ≤ 1048576 }
-        requires next { line.now.number ≡ next_drawn self.old }
-        requires shown { IsPoint _job.now line.now.number line.now.answer.now frame.now }
-        ensures { OnOk result (next_drawn self.new ≡ next_drawn self.old + 1) }
-    {
-        self.picture.point(line, frame, text)?;
-        self.next = line.number as usize + 1;
+    fn point(&mut self, point: &Point<'_>, text: &mut Text) -> Result<(), AllocError> {
+        self.picture.point(point.line, point.frame, text)?;
+        self.next = point.line.number as usize + 1;
         Ok(())
     }
 }

@@ -16,23 +16,24 @@ pub(crate) const MAX_LINES: usize = 1_048_576;
 /// How many bytes of a picture are gathered before they are written.
 const CHUNK_BYTES: usize = 8192;
 
+/// What there is to show behind a line of a job's plan: the line with its answer as a replay tells it, and what the heap shows then.
+#[derive(Clone, Copy)]
+pub(crate) struct Point<'a> {
+    pub job: &'a Job,
+    pub line: &'a Line<'a>,
+    pub frame: &'a Frame,
+}
+
 /// Whoever is shown the points of a plan.
 pub(crate) trait Painter {
     /// The number of the line that it is shown next.
     ghost next: { Self → ℕ };
 
-    /// Takes the point behind the next line: the line with its answer as a replay tells it, and what the heap shows then. What is drawn of
-    /// it is added to `text`. An error is an allocation failure.
-    fn point(
-        &mut self,
-        job: &Job,
-        line: &Line<'_>,
-        frame: &Frame,
-        text: &mut Text,
-    ) -> Result<(), AllocError>
-        requires few { line.now.number ≤ 1048576 }
-        requires next { line.now.number ≡ next self.old }
-        requires shown { IsPoint job.now line.now.number line.now.answer.now frame.now }
+    /// Takes the point behind the next line. What is drawn of it is added to `text`. An error is an allocation failure.
+    fn point(&mut self, point: &Point<'_>, text: &mut Text) -> Result<(), AllocError>
+        requires few { point.now.line.now.number ≤ 1048576 }
+        requires next { point.now.line.now.number ≡ next self.old }
+        requires shown { IsPoint point.now.job.now point.now.line.now.number point.now.line.now.answer.now point.now.frame.now }
         ensures { OnOk result (next self.new ≡ next self.old + 1) };
 }
 
@@ -109,7 +110,12 @@ fn show_point<P: Painter>(
         words: words.whole()?,
         answer: answer.as_slice(),
     };
-    painter.point(job, &line, &frame, text)
+    let point = Point {
+        job,
+        line: &line,
+        frame: &frame,
+    };
+    painter.point(&point, text)
 }
 
 /// The words of the line of a plan at a place, counted from 0: of a worker's, the command that it attempts.

@@ -3,7 +3,7 @@ ghost use Rattle.std.specs.Prelude.{◌≡◌, ◌<◌, ◌≤◌, ◌++◌, IfO
 ghost use Rattle.std.specs.Option.{option_map};
 ghost use Rattle.model_heap.specs.Table.{report_of};
 ghost use Rattle.mesh_steps.specs.Heap.{arena_of, table_of};
-ghost use Rattle.mesh_draw.specs.Frames.{AddsGroup, IsFrame, counts_row, first_in, home_row, homes_of_group, lead_row, leads_of_group, leads_of_member, listed, listing, member_row, members_of_group, mesh_row, meshes_of, object_row, objects_of_group, objects_of_member, progress_row};
+ghost use Rattle.mesh_draw.specs.Frames.{AddsGroup, IsFrame, counts_row, first_in, home_row, homes_of_class, lead_row, leads_of_class, leads_of_member, listed, listing, member_row, members_of_class, mesh_row, meshes_of, object_row, objects_of_class, objects_of_member, progress_row};
 
 use mesh_class::Class;
 use mesh_picture::{Counts, Frame, Home, Lead, Member, MeshProgress, Object, RunningMesh};
@@ -34,23 +34,28 @@ pub fn frame_of(alloc: Global, heap: &Heap) -> Result<Frame, AllocError>
     Ok(frame)
 }
 
-/// Adds what a group shows.
+/// Adds what a group shows, where there is one.
 fn add_group(frame: &mut Frame, heap: &Heap, group: u32) -> Result<(), AllocError>
     ensures { OnOk result (AddsGroup heap.now group frame.old frame.new) }
-{
-    add_members(&mut frame.members, heap, group)?;
-    add_leads(&mut frame.leads, heap, group)?;
-    add_objects(&mut frame.objects, heap, group)?;
-    add_homes(&mut frame.homes, heap, group)
-}
-
-/// Adds the members of a group.
-fn add_members(rows: &mut Vec<Member>, heap: &Heap, group: u32) -> Result<(), AllocError>
-    ensures { OnOk result (rows.new.items ≡ rows.old.items ++ members_of_group heap.now group) }
 {
     let Some(class) = heap.class_of(group) else {
         return Ok(());
     };
+    add_members(&mut frame.members, heap, group, class)?;
+    add_leads(&mut frame.leads, heap, group, class)?;
+    add_objects(&mut frame.objects, heap, group, class)?;
+    add_homes(&mut frame.homes, heap, group, class)
+}
+
+/// Adds the members of a group.
+fn add_members(
+    rows: &mut Vec<Member>,
+    heap: &Heap,
+    group: u32,
+    class: Class,
+) -> Result<(), AllocError>
+    ensures { OnOk result (rows.new.items ≡ rows.old.items ++ members_of_class heap.now group class) }
+{
     for place in 0..MAX_MEMBERS {
         add(rows, member_at(heap, group, class, place))?;
     }
@@ -70,12 +75,9 @@ fn member_at(heap: &Heap, group: u32, class: Class, place: usize) -> Option<Memb
 }
 
 /// Adds where the pages of a group's members lead.
-fn add_leads(rows: &mut Vec<Lead>, heap: &Heap, group: u32) -> Result<(), AllocError>
-    ensures { OnOk result (rows.new.items ≡ rows.old.items ++ leads_of_group heap.now group) }
+fn add_leads(rows: &mut Vec<Lead>, heap: &Heap, group: u32, class: Class) -> Result<(), AllocError>
+    ensures { OnOk result (rows.new.items ≡ rows.old.items ++ leads_of_class heap.now group class) }
 {
-    let Some(class) = heap.class_of(group) else {
-        return Ok(());
-    };
     for place in 0..MAX_MEMBERS {
         add_member_leads(rows, heap, class, heap.member(group, place))?;
     }
@@ -115,12 +117,14 @@ fn lead_at(heap: &Heap, page: u32) -> Option<Lead>
 }
 
 /// Adds the objects of a group's members.
-fn add_objects(rows: &mut Vec<Object>, heap: &Heap, group: u32) -> Result<(), AllocError>
-    ensures { OnOk result (rows.new.items ≡ rows.old.items ++ objects_of_group heap.now group) }
+fn add_objects(
+    rows: &mut Vec<Object>,
+    heap: &Heap,
+    group: u32,
+    class: Class,
+) -> Result<(), AllocError>
+    ensures { OnOk result (rows.new.items ≡ rows.old.items ++ objects_of_class heap.now group class) }
 {
-    let Some(class) = heap.class_of(group) else {
-        return Ok(());
-    };
     for place in 0..MAX_MEMBERS {
         add_member_objects(rows, heap, group, class, place)?;
     }
@@ -160,12 +164,9 @@ fn object_at(heap: &Heap, group: u32, place: usize, member: u32, slot: u32) -> O
 }
 
 /// Adds the physical pages of a group.
-fn add_homes(rows: &mut Vec<Home>, heap: &Heap, group: u32) -> Result<(), AllocError>
-    ensures { OnOk result (rows.new.items ≡ rows.old.items ++ homes_of_group heap.now group) }
+fn add_homes(rows: &mut Vec<Home>, heap: &Heap, group: u32, class: Class) -> Result<(), AllocError>
+    ensures { OnOk result (rows.new.items ≡ rows.old.items ++ homes_of_class heap.now group class) }
 {
-    let Some(class) = heap.class_of(group) else {
-        return Ok(());
-    };
     for place in 0..class.pages() {
         add(rows, home_at(heap, group, place))?;
     }
