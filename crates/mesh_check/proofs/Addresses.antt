@@ -4,20 +4,11 @@ use Rattle.std.proofs.Math.Nat.{pow-suc}
 use Rattle.std.proofs.lemmas.Bool.{le-leb}
 use Rattle.std.proofs.lemmas.Bool.Decides.{leb_tells}
 use Rattle.std.proofs.lemmas.Nat.{div_below}
+use Rattle.model_jobs.proofs.Fields.{fewer_digits}
 use Rattle.model_jobs.specs.Texts.{hex_digit, hex_from}
 use Rattle.mesh_check.specs.VerdictTexts.{reason_text, wide_text}
 use Rattle.mesh_check.specs.declared.reasons.Reason.{Reason}
 use Rattle.mesh_check.specs.declared.reasons.Reason.TheVariants.{Overlaps}
-
--- a number that fits fewer digits is spelt in as many
-fewer_digits : (more n : ℕ) → n < 16 ^ suc more → hex_from (suc more) n ≡ hex_from more n
-fewer_digits zero n small =
-    let same : n % 16 ≡ n = omega (arith, small) in rw (le-leb (suc n) 16 (omega (arith, small)), same) refl
-fewer_digits (suc more) n small = elim (leb_tells (suc n) 16) [
-  | inl low ↦ rw low.0 refl
-  | inr high ↦
-      rw (high.0, fewer_digits more (n / 16) (div_below n 16 (16 ^ suc more) (omega arith) (omega (arith, small, pow-suc 16 (suc more))))) refl
-]
 
 -- a number of one digit
 pub one_digit : (n : ℕ) → n < 16 → wide_text n ≡ hex_digit n ∷ []

@@ -12,13 +12,15 @@ use Rattle.model_memory.specs.Plain.{Entry}
 use Rattle.model_history.specs.Recorded.{Recorded, RecordedStep, any_allocator}
 use Rattle.model_jobs.specs.JobFiles.{fault_at}
 use Rattle.model_words.specs.declared.faults.FaultKind.TheVariants.{LongLine}
+use Rattle.mesh_fields.specs.KeptLines.{IsKept, IsUnended, rest_fault}
 use Rattle.mesh_fields.specs.Lines.{text_lines}
+use Rattle.mesh_fields.proofs.KeptLines.{Kept, Long, Whole, both_unended, kept_of, none_kept, rest_too_long}
 use Rattle.mesh_fields.proofs.Splits.{Parts, first_line, some_part, unended_more}
 use Rattle.mesh_history.specs.HistoryFiles.{entry_in}
 use Rattle.mesh_job.specs.declared.faults.ReadFault.{ReadFault}
 use Rattle.mesh_job.specs.declared.faults.ReadFault.TheVariants.{Text, Memory as OfMemory}
-use Rattle.mesh_check.specs.Outcomes.{Faulty, HasFault, IsJudged, IsStopLine, IsTakenLine, OfEntry, Outcome, Stops, Takes, Wrong, end_of, is_full, line_in, outcome_of, long_line as too_long_line, rest_fault, too_long}
-use Rattle.mesh_check.specs.Pieces.{Closes, ClosesIn, Ends, EndsIn, HasOutcome, IsKept, IsUnended, Leads}
+use Rattle.mesh_check.specs.Outcomes.{Faulty, HasFault, IsJudged, IsStopLine, IsTakenLine, OfEntry, Outcome, Stops, Takes, Wrong, end_of, is_full, line_in, outcome_of, long_line as too_long_line, too_long}
+use Rattle.mesh_check.specs.Pieces.{Closes, ClosesIn, Ends, EndsIn, HasOutcome, Leads}
 use Rattle.mesh_check.specs.Stands.{Stands}
 use Rattle.mesh_check.specs.declared.lines.Judge.{Judge}
 use Rattle.mesh_check.specs.declared.pieces.Judging.{Judging}
@@ -38,26 +40,10 @@ unended (b ∷ bs) more lines is = elim (eqb_tells b 10) [
       All-cons (λ b. nat_eq b 10 ≡ false) b bs other.0 (unended bs more lines (parts.is ∙ rw (first, later) refl))
 ]
 
--- nothing is kept of a line that hasn't begun
-pub none_kept : IsKept [] []
-none_kept = record { front = refl; unended = All-nil (λ b. nat_eq b 10 ≡ false) }
-
 -- a line of which nothing is kept hasn't begun
 none_begun : (begun : List ℕ) → [] ≡ take 1025 begun → begun ≡ []
 none_begun [] is = refl
 none_begun (b ∷ bs) is = let len = ap (λ (bytes : List ℕ). length bytes) is in absurd (omega (arith, len, length-take 1025 (b ∷ bs)))
-
--- what is kept of a line is the line, or both have too many bytes
-data Kept (kept line : List ℕ) : Type 0 where
-  Whole : kept ≡ line → Kept kept line
-  Long : 1024 < length kept → 1024 < length line → Kept kept line
-
-kept_of : (kept begun : List ℕ) → kept ≡ take 1025 begun → Kept kept begun
-kept_of kept begun front = elim (leb_tells (length begun) 1025) [
-  | inl short ↦ Whole (front ∙ take_all 1025 begun short.1)
-  | inr long ↦ let len : length kept ≡ length (take 1025 begun) = ap (λ (bytes : List ℕ). length bytes) front in
-      let over = long.1 in Long (omega (arith, len, over, length-take 1025 begun)) (omega (arith, over))
-]
 
 -- bytes that are too many for a line
 long_line : (lines : ℕ) (line : List ℕ) → 1024 < length line → line_in lines line ≡ Err LongLine
@@ -77,10 +63,7 @@ kept_rest : (lines : ℕ) (kept line : List ℕ) → Kept kept line → end_of l
 kept_rest lines kept line (Whole is) = ap (end_of lines) is
 kept_rest lines [] line (Long over over') = absurd (omega (arith, over))
 kept_rest lines (b ∷ bs) [] (Long over over') = absurd (omega (arith, over'))
-kept_rest lines (b ∷ bs) (c ∷ cs) (Long over over') = rw (too_long (b ∷ bs) over, too_long (c ∷ cs) over') refl
-  where
-    too_long : (bytes : List ℕ) → 1024 < length bytes → rest_fault bytes ≡ LongLine
-    too_long bytes over = rw (le-leb 1025 (length bytes) (omega (arith, over))) refl
+kept_rest lines (b ∷ bs) (c ∷ cs) (Long over over') = rw (rest_too_long (b ∷ bs) over, rest_too_long (c ∷ cs) over') refl
 
 -- more bytes of a line, of which some are kept
 keep_more : (begun bytes : List ℕ) → take 1025 (take 1025 begun ++ bytes) ≡ take 1025 (begun ++ bytes)
@@ -96,7 +79,7 @@ keep_more begun bytes = elim (leb_tells (length begun) 1025) [
 pub kept_more : (kept begun bytes more : List ℕ) → IsKept kept begun → IsUnended bytes → more ≡ take 1025 (kept ++ bytes) → IsKept more (begun ++ bytes)
 kept_more kept begun bytes more is unended all = record {
   front = all ∙ ap (λ (front : List ℕ). take 1025 (front ++ bytes)) is.front ∙ keep_more begun bytes;
-  unended = All-append (λ b. nat_eq b 10 ≡ false) begun bytes is.unended unended;
+  unended = both_unended begun bytes is.unended unended;
 }
 
 -- no byte leads nowhere
@@ -329,12 +312,9 @@ long_judged lines r long [] over = refl
 long_judged lines r [] (next ∷ later) over = absurd (omega (arith, over))
 long_judged lines r (b ∷ bs) (next ∷ later) over = inl (stop (is_full lines) refl)
   where
-    is_long : rest_fault (b ∷ bs) ≡ LongLine
-    is_long = rw (le-leb 1025 (length (b ∷ bs)) (omega (arith, over))) refl
-
     stop : (full : Bool) → is_full lines ≡ full → IsStopLine lines r (b ∷ bs) (end_of lines (b ∷ bs))
     stop true is = inr (inr (is, rw is refl))
-    stop false is = inl (is, (LongLine, long_line lines (b ∷ bs) over, rw (is, is_long) refl))
+    stop false is = inl (is, (LongLine, long_line lines (b ∷ bs) over, rw (is, rest_too_long (b ∷ bs) over) refl))
 
 -- bytes of a line that are too many end a text there
 pub long_ends : (j : Judging) → 1024 < length j.begun.items → Ends j [] (end_of j.judge.lines j.begun.items)

@@ -7,6 +7,7 @@ use Rattle.model_words.specs.Words.{◌>>=◌}
 use Rattle.model_words.specs.declared.faults.FaultKind.{FaultKind}
 use Rattle.model_words.specs.declared.faults.FaultKind.TheVariants.{Cut, LongLine, TooLong}
 use Rattle.model_words.specs.declared.faults.TextFault.{TextFault}
+use Rattle.mesh_fields.specs.KeptLines.{rest_fault}
 use Rattle.mesh_fields.specs.Lines.{text_lines}
 use Rattle.mesh_history.specs.HistoryFiles.{entry_in, head_in}
 use Rattle.mesh_job.specs.declared.faults.ReadFault.{ReadFault}
@@ -68,10 +69,6 @@ IsStopLine lines r line o = IsFaultyLine lines r line o ⊎ (IsWrongLine lines r
 -- the fault of a line behind so many that is too long
 abbrev pub long_line : ℕ → TextFault
 long_line lines = if is_full lines then too_long else fault_at (lines + 1) LongLine
-
--- the fault of what follows the last line end: the line is cut off, unless it is too long already
-abbrev pub rest_fault : List ℕ → FaultKind
-rest_fault rest = if nat_lt 1024 (length rest) then LongLine else Cut
 
 -- what is found where a text ends with these bytes behind its last line end: a fault, where there are some, or where there is no line
 abbrev pub end_of : ℕ → List ℕ → Outcome

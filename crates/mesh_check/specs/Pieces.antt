@@ -2,6 +2,7 @@
 use Rattle.std.specs.Prelude.{◌≡◌, ℕ, ◌≤◌, false, nat_eq, List, ◌++◌, Result, Ok, Err, length, take}
 use Rattle.std.specs.List.{All}
 use Rattle.model_history.specs.Recorded.{Recorded}
+use Rattle.mesh_fields.specs.KeptLines.{IsKept}
 use Rattle.mesh_fields.specs.Lines.{text_lines}
 use Rattle.mesh_job.specs.declared.faults.ReadFault.{ReadFault}
 use Rattle.mesh_job.specs.declared.faults.ReadFault.TheVariants.{Text, Memory as OfMemory}
@@ -9,15 +10,6 @@ use Rattle.mesh_check.specs.Outcomes.{Outcome, Faulty, IsJudged, outcome_of}
 use Rattle.mesh_check.specs.Stands.{Stands}
 use Rattle.mesh_check.specs.declared.pieces.Judging.{Judging}
 use Rattle.mesh_check.specs.declared.verdicts.Verdict.{Verdict}
-
--- none of the bytes is a line end
-abbrev pub IsUnended : List ℕ → Type 0
-IsUnended bytes = All (λ b. nat_eq b 10 ≡ false) bytes
-
--- of the beginning of a line these bytes are kept: as many as tell that it is too long
-pub record IsKept (kept begun : List ℕ) : Type 0 where
-  pub front : kept ≡ take 1025 begun
-  pub unended : IsUnended begun
 
 -- the whole lines so far have left this, and the beginning of a line follows
 pub record IsAt (judging : Judging) (r : Recorded) (begun : List ℕ) : Type 0 where

@@ -1,18 +1,16 @@
 //! A text of a history, judged piece by piece as it comes.
 ghost use Rattle.std.specs.Prelude.{◌≡◌, ◌≤◌, ◌++◌, [], ◌∷◌, IfErr, IfOk, IfSome, IsNone, OnOk, length, take};
 ghost use Rattle.model_history.specs.Recorded.{any_allocator, nothing_recorded};
+ghost use Rattle.mesh_fields.specs.KeptLines.{IsUnended};
 ghost use Rattle.mesh_check.specs.Outcomes.{end_of, long_line, outcome_of};
-ghost use Rattle.mesh_check.specs.Pieces.{Closes, ClosesIn, Ends, EndsIn, IsAt, IsSound, IsUnended, Leads, HasOutcome};
+ghost use Rattle.mesh_check.specs.Pieces.{Closes, ClosesIn, Ends, EndsIn, IsAt, IsSound, Leads, HasOutcome};
 
 use crate::lines::{Judge, fault_at, too_long};
 use crate::verdicts::Verdict;
-use mesh_fields::lines::cut;
+use mesh_fields::lines::{MAX_LINE_BYTES, cut, rest_fault};
 use mesh_job::ReadFault;
 use model_words::FaultKind;
 use std::alloc::{AllocError, Global};
-
-/// The most bytes of a line, without its end.
-const MAX_LINE_BYTES: usize = 1024;
 
 /// A history of which a beginning was judged.
 #[derive(Drop)]
@@ -144,10 +142,5 @@ fn end_of(lines: u32, rest: &[u8]) -> Result<Verdict, ReadFault>
     if lines == u32::MAX {
         return Err(too_long());
     }
-    let kind = if rest.len() > MAX_LINE_BYTES {
-        FaultKind::LongLine
-    } else {
-        FaultKind::Cut
-    };
-    Err(fault_at(lines + 1, kind))
+    Err(fault_at(lines + 1, rest_fault(rest)))
 }

@@ -7,7 +7,7 @@ use Rattle.std.proofs.lemmas.Bool.{le-leb, lt-leb, and_parts, leb-true, true≢f
 use Rattle.std.proofs.lemmas.Nat.{div_below}
 use Rattle.std.proofs.lemmas.List.Folds.{list_all-append}
 use Rattle.std.proofs.Math.Nat.{pow-suc}
-use Rattle.model_jobs.proofs.Fields.{value_of_digit}
+use Rattle.model_jobs.proofs.Fields.{fewer_digits, value_of_digit}
 use Rattle.model_jobs.proofs.FieldReadings.{digit_told, same_by_test}
 use Rattle.model_jobs.specs.JobFiles.{are_same, hex_value, with_hex, hex_number, byte_from, bytes_from, bytes_in}
 use Rattle.model_jobs.specs.Texts.{hex_digit, hex_from}
@@ -45,16 +45,6 @@ all_digits zero n = rw (digit_is (n % 16) (omega arith)) refl
 all_digits (suc more) n = elim (leb_tells (suc n) 16) [
   | inl low ↦ rw (low.0, digit_is n low.1) refl
   | inr high ↦ rw (high.0, list_all-append is_hex_digit (hex_from more (n / 16)) (hex_digit (n % 16) ∷ []), all_digits more (n / 16), digit_is (n % 16) (omega arith)) refl
-]
-
--- a number that fits fewer digits is spelt in as many
-fewer_digits : (more n : ℕ) → n < 16 ^ suc more → hex_from (suc more) n ≡ hex_from more n
-fewer_digits zero n small =
-    let same : n % 16 ≡ n = omega (arith, small) in rw (le-leb (suc n) 16 (omega (arith, small)), same) refl
-fewer_digits (suc more) n small = elim (leb_tells (suc n) 16) [
-  | inl low ↦ rw low.0 refl
-  | inr high ↦
-      rw (high.0, fewer_digits more (n / 16) (div_below n 16 (16 ^ suc more) (omega arith) (omega (arith, small, pow-suc 16 (suc more))))) refl
 ]
 
 -- a digit is spelt as it is

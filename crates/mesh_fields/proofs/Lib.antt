@@ -2,6 +2,7 @@ pub mod Decimals
 mod Digits
 pub mod FewFields
 pub mod HexFields
+pub mod KeptLines
 pub mod LineSteps
 pub mod Sames
 pub mod Splits

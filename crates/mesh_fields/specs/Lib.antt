@@ -1,4 +1,5 @@
 pub mod Fields
+pub mod KeptLines
 pub mod Lines
 pub use Rattle.model_jobs.specs.JobFiles
 pub use Rattle.model_jobs.specs.Texts

@@ -2,6 +2,7 @@
 ghost use Rattle.std.specs.Prelude.{◌≡◌, ◌-◌, ◌<◌, ◌≤◌, ◌⊎◌, ◌∷◌, [], Ok, Err, true, false, ◌++◌, length, take, drop, nat_eq, IfSome, IfOk, IfErr, IsNone, OnOk, OnErr};
 ghost use Rattle.std.specs.List.{list_all, list_any, slice_split};
 ghost use Rattle.model_jobs.specs.JobFiles.{are_same, five_fields, header_in, is_empty, is_printable, no_field, one_field, three_fields, two_fields};
+ghost use Rattle.mesh_fields.specs.KeptLines.{rest_fault};
 ghost use Rattle.mesh_fields.specs.Lines.{IsFaultyLine, IsPartOfLine, IsSplit, bytes_fit, is_field_byte, line_fields, text_lines, texts};
 
 use crate::numbers::number32;
@@ -9,7 +10,7 @@ use arrayvec::ArrayVec;
 use model_words::FaultKind;
 
 /// The most bytes of a line, without its end.
-const MAX_LINE_BYTES: usize = 1024;
+pub const MAX_LINE_BYTES: usize = 1024;
 
 /// The most fields of a line.
 const MAX_FIELDS: usize = 35;
@@ -52,6 +53,17 @@ pub fn check_bytes(line: &[u8]) -> Result<(), FaultKind>
         return Err(FaultKind::Byte);
     }
     Ok(())
+}
+
+/// The fault of the bytes behind the last line end of a text: LONG_LINE where they are more than a line may have, and else CUT.
+pub fn rest_fault(rest: &[u8]) -> FaultKind
+    ensures { result ≡ rest_fault rest.now }
+{
+    if rest.len() > MAX_LINE_BYTES {
+        FaultKind::LongLine
+    } else {
+        FaultKind::Cut
+    }
 }
 
 /// The next line without its end, and the bytes behind it. None where the text holds no line end and no more than a line may have.

@@ -1,17 +1,13 @@
 -- The page heap's invariant as a mesh begins, and why none begins.
-use Rattle.std.proofs.Common.{◌≡◌, ℕ, ◌+◌, ◌<◌, ◌≤◌, Bool, true, false, ◌||◌, if◌then◌else◌, nat_eq, nat_lt, List, [], ◌∷◌, ◌++◌, length, slice_index_or, Option, Some, None, Result, Ok, Err, IsSome, ap, subst, refl, sym, ◌∙◌, arith, inl, inr}
+use Rattle.std.proofs.Common.{◌≡◌, ℕ, ◌+◌, ◌<◌, Bool, true, false, ◌||◌, nat_eq, List, [], ◌∷◌, ◌++◌, length, slice_index_or, Option, Some, None, Result, Ok, IsSome, ap, subst, refl, sym, ◌∙◌, arith, inl, inr}
 use Rattle.std.specs.Option.{option_map}
 use Rattle.std.proofs.lemmas.Bool.Decides.{nat_tests, eqb_tells, leb_tells}
 use Rattle.std.proofs.lemmas.List.{get_or-set_other, get_or-set_same, get_or_past}
 use Rattle.mesh_arena.specs.Pages.{Pages}
-use Rattle.model_words.specs.Classes.{row_of}
-use Rattle.model_heap.specs.Mesh.{Pair, begin, do_overlap, may_begin, mesh_whole, step_count}
-use Rattle.model_heap.specs.Sound.{AreSoundMeshes, IsSound, IsSoundMesh, meshes_of}
-use Rattle.model_heap.specs.Table.{Counted, Group, Made, Mesh, Slot, Table, group_of, has_number}
+use Rattle.model_heap.specs.Mesh.{Pair, begin, may_begin, step_count}
+use Rattle.model_heap.specs.Table.{Counted, Made, Mesh, Slot, Table}
 use Rattle.model_heap.specs.TableLaws.{IsBusyTest}
 use Rattle.model_words.specs.declared.refusals.Refusal.{Refusal}
-use Rattle.model_words.specs.declared.refusals.Refusal.TheVariants.{Busy, Class, Members, NoGroup, Overlap, Same}
-use Rattle.model_heap.proofs.GroupPages.{found_sound}
 use Rattle.model_heap.proofs.TableChanges.{begin_sound}
 use Rattle.mesh_pagemap.specs.Entries.{Entries}
 use Rattle.mesh_spans.specs.Changes.{with_flag, with_mesh}
@@ -67,95 +63,12 @@ same_twice a b c one two = record {
   spans = two.spans ∙ one.spans;
 }
 
--- why no mesh of two groups begins
-module _ (busy : Table → ℕ → Bool) (t : Table) (s d : ℕ) where
-  pub no_source : group_of t s ≡ None → may_begin busy t s d ≡ Err NoGroup
-  no_source none = rw none refl
-
-  pub no_destination : (a : Group) → group_of t s ≡ Some a → group_of t d ≡ None → may_begin busy t s d ≡ Err NoGroup
-  no_destination a is none = rw (is, none) refl
-
-  pub same_group : (a b : Group) → group_of t s ≡ Some a → group_of t d ≡ Some b → nat_eq s d ≡ true → may_begin busy t s d ≡ Err Same
-  same_group a b is is' same = rw (is, is', same) refl
-
-  pub other_class : (a b : Group) → group_of t s ≡ Some a → group_of t d ≡ Some b → nat_eq s d ≡ false → nat_eq a.class b.class ≡ false
-      → may_begin busy t s d ≡ Err Class
-  other_class a b is is' two other = rw (is, is', two, other) refl
-
-  pub busy_class : (a b : Group) → group_of t s ≡ Some a → group_of t d ≡ Some b → nat_eq s d ≡ false → nat_eq a.class b.class ≡ true
-      → busy t a.class ≡ true → may_begin busy t s d ≡ Err Busy
-  busy_class a b is is' two same taken = rw (is, is', two, same, taken) refl
-
-  pub overlapping : (a b : Group) → group_of t s ≡ Some a → group_of t d ≡ Some b → nat_eq s d ≡ false → nat_eq a.class b.class ≡ true
-      → busy t a.class ≡ false → do_overlap a.slots b.slots ≡ true → may_begin busy t s d ≡ Err Overlap
-  overlapping a b is is' two same idle both = rw (is, is', two, same, idle, both) refl
-
-  pub many_members : (a b : Group) → group_of t s ≡ Some a → group_of t d ≡ Some b → nat_eq s d ≡ false → nat_eq a.class b.class ≡ true
-      → busy t a.class ≡ false → do_overlap a.slots b.slots ≡ false → nat_lt 8 (length a.members + length b.members) ≡ true
-      → may_begin busy t s d ≡ Err Members
-  many_members a b is is' two same idle apart many = rw (is, is', two, same, idle, apart, many) refl
-
-  pub may_go : (a b : Group) → group_of t s ≡ Some a → group_of t d ≡ Some b → nat_eq s d ≡ false → nat_eq a.class b.class ≡ true
-      → busy t a.class ≡ false → do_overlap a.slots b.slots ≡ false → nat_lt 8 (length a.members + length b.members) ≡ false
-      → may_begin busy t s d ≡ Ok (record { source = a; destination = b })
-  may_go a b is is' two same idle apart few = rw (is, is', two, same, idle, apart, few) refl
-
-  pub begin_refused : (r : Refusal) → may_begin busy t s d ≡ Err r → begin busy t s d ≡ Err r
-  begin_refused r refused = rw refused refl
-
-  pub whole_refused : (r : Refusal) → may_begin busy t s d ≡ Err r → mesh_whole busy t s d ≡ Err r
-  whole_refused r refused = rw refused refl
-
-  pub begin_gives : (pair : Pair) → may_begin busy t s d ≡ Ok pair → begin busy t s d ≡ Ok (record {
-    count = step_count pair.source;
-    table = record t { meshes = t.meshes ++ record { class = pair.source.class; source = s; destination = d; progress = Made 0 } ∷ [] };
-  })
-  begin_gives pair may = rw may refl
-
--- how many meshes are of each of the ten classes
-of_all : List Mesh → ℕ
-of_all ms =
-    meshes_of 16 ms + meshes_of 32 ms + meshes_of 64 ms + meshes_of 128 ms + meshes_of 256 ms + meshes_of 384 ms + meshes_of 512 ms + meshes_of 1024 ms
-    + meshes_of 1536 ms + meshes_of 2048 ms
-
--- one if the class is the one
-is_one : ℕ → ℕ → ℕ
-is_one c k = if nat_eq c k then 1 else 0
-
--- a class of the table is one of the ten
-one_of_ten : (c : ℕ) → IsSome (row_of c) → is_one c 16 + is_one c 32 + is_one c 64 + is_one c 128 + is_one c 256 + is_one c 384 + is_one c 512 + is_one c 1024
-    + is_one c 1536 + is_one c 2048 ≡ 1
-unfolding is_one
-one_of_ten c h = grind (arith, nat_tests)
-
--- a running mesh is of a class of the table
-mesh_class : (t : Table) (x : Mesh) → IsSound t → IsSoundMesh t x → IsSome (row_of x.class)
-mesh_class t x sound is = subst (λ (c : ℕ). IsSome (row_of c)) is.source_class (found_sound t (has_number x.source) is.source sound is.source_is).class
-
--- each mesh is counted in its class
-all_counted : (t : Table) (ms : List Mesh) → IsSound t → AreSoundMeshes t ms → length ms ≡ of_all ms
-unfolding of_all is_one
-all_counted t [] sound each = refl
-all_counted t (x ∷ xs) sound each =
-    let rest = all_counted t xs sound each.1 in
-    let one = one_of_ten x.class (mesh_class t x sound each.0) in
-    omega (arith, rest, one)
-
--- where no mesh of a class runs, fewer than ten run
-pub few_meshes : (t : Table) (class : ℕ) → IsSound t → IsSome (row_of class) → meshes_of class t.meshes ≡ 0 → length t.meshes < 10
-unfolding of_all is_one
-few_meshes t class sound row none =
-    let all = all_counted t t.meshes sound sound.meshes in
-    let one = one_of_ten class row in
-    let a = at 16 in let b = at 32 in let c = at 64 in let d = at 128 in let e = at 256 in
-    let f = at 384 in let g = at 512 in let h = at 1024 in let i = at 1536 in let j = at 2048 in
-    omega (arith, all, one, a, b, c, d, e, f, g, h, i, j)
-  where
-    at : (k : ℕ) → (if nat_eq class k then 1 else 0) + meshes_of k t.meshes ≤ 1
-    at k = elim (eqb_tells class k) [
-      | inl same ↦ rw same.0 (let no : meshes_of k t.meshes ≡ 0 = ap (λ (c : ℕ). meshes_of c t.meshes) (sym same.1) ∙ none in omega (arith, no))
-      | inr other ↦ rw other.0 (let most = sound.one_a_class k in omega (arith, most))
-    ]
+-- what a mesh that may begin makes of a table
+begin_gives : (busy : Table → ℕ → Bool) (t : Table) (s d : ℕ) (pair : Pair) → may_begin busy t s d ≡ Ok pair → begin busy t s d ≡ Ok (record {
+  count = step_count pair.source;
+  table = record t { meshes = t.meshes ++ record { class = pair.source.class; source = s; destination = d; progress = Made 0 } ∷ [] };
+})
+begin_gives busy t s d pair may = rw may refl
 
 -- the index with the two groups of a mesh closed
 pub record Closes (old new : Index) (s d : ℕ) : Type 0 where

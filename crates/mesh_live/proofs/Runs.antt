@@ -16,39 +16,27 @@ use Rattle.model_jobs.specs.Texts.{ended}
 use Rattle.model_words.specs.declared.faults.FaultKind.{FaultKind}
 use Rattle.model_words.specs.declared.faults.FaultKind.TheVariants.{LongLine}
 use Rattle.mesh_job.specs.LiveLines.{live_line}
+use Rattle.mesh_fields.specs.KeptLines.{IsKept, IsUnended}
+use Rattle.mesh_fields.proofs.KeptLines.{Kept, Long, Whole, both_unended, kept_of, none_kept, rest_too_long}
+use Rattle.mesh_fields.proofs.Splits.{Parts, some_part}
 use Rattle.mesh_job.specs.Lines.{text_lines}
 use Rattle.mesh_live.specs.Answers.{Told, fault_text, told, told_read}
-use Rattle.mesh_live.specs.Runs.{HasFed, HasLived, HasTaken, IsKept, ends_on, live_output, have_end, is_end, rest_fault, told_lines, told_on, told_rest}
+use Rattle.mesh_live.specs.Runs.{HasFed, HasLived, HasTaken, ends_on, live_output, have_end, is_end, told_lines, told_on, told_rest}
 use Rattle.mesh_live.specs.Sessions.{IsSession, job_of, sizes_of, state_of}
 use Rattle.mesh_live.specs.declared.session.Session.{Session}
 use Rattle.mesh_live.specs.declared.sizes.Sizes.{Sizes}
-
--- a text has a line at least, the one behind its last line end
-record Lines (lines : List (List ℕ)) : Type 0 where
-  pub first : List ℕ
-  pub later : List (List ℕ)
-  pub is : lines ≡ first ∷ later
-
-one_line : (b : ℕ) (passes : Bool) (lines : List (List ℕ)) → Lines (cond passes ([] ∷ lines) (onto_first b lines))
-one_line b true lines = record { first = []; later = lines; is = refl }
-one_line b false [] = record { first = b ∷ []; later = []; is = refl }
-one_line b false (line ∷ lines) = record { first = b ∷ line; later = lines; is = refl }
-
-some_line : (text : List ℕ) → Lines (text_lines text)
-some_line [] = record { first = []; later = []; is = refl }
-some_line (b ∷ bs) = one_line b (nat_eq b 10) (text_lines bs)
 
 -- what is told of a line and of those after it
 abbrev told_first : Bool → Sizes → List (List ℕ) → Told → List ℕ
 told_first over sizes lines first = if over then [] else ended first.text ++ told_lines sizes first.state lines
 
 -- a line of a text and those after it
-told_step : (sizes : Sizes) (state : State) (line : List ℕ) (lines : List (List ℕ)) → Lines lines
+told_step : (sizes : Sizes) (state : State) (line : List ℕ) (lines : List (List ℕ)) → Parts lines
     → told_lines sizes state (line ∷ lines) ≡ told_first (is_end line) sizes lines (told sizes state line)
 told_step sizes state line [] some = absurd (cc some.is)
 told_step sizes state line (next ∷ lines) some = refl
 
-end_step : (line : List ℕ) (lines : List (List ℕ)) → Lines lines → have_end (line ∷ lines) ≡ (is_end line || have_end lines)
+end_step : (line : List ℕ) (lines : List (List ℕ)) → Parts lines → have_end (line ∷ lines) ≡ (is_end line || have_end lines)
 end_step line [] some = absurd (cc some.is)
 end_step line (next ∷ lines) some = refl
 
@@ -59,10 +47,10 @@ line_of_text line more unended = slice_split_at (λ b. nat_eq b 10) line 10 more
 told_of_text : (sizes : Sizes) (state : State) (line more : List ℕ) → All (λ b. nat_eq b 10 ≡ false) line
     → told_lines sizes state (text_lines (line ++ 10 ∷ more)) ≡ told_first (is_end line) sizes (text_lines more) (told sizes state line)
 told_of_text sizes state line more unended =
-    ap (λ lines. told_lines sizes state lines) (line_of_text line more unended) ∙ told_step sizes state line (text_lines more) (some_line more)
+    ap (λ lines. told_lines sizes state lines) (line_of_text line more unended) ∙ told_step sizes state line (text_lines more) (some_part 10 more)
 
 end_of_text : (line more : List ℕ) → All (λ b. nat_eq b 10 ≡ false) line → have_end (text_lines (line ++ 10 ∷ more)) ≡ (is_end line || have_end (text_lines more))
-end_of_text line more unended = ap have_end (line_of_text line more unended) ∙ end_step line (text_lines more) (some_line more)
+end_of_text line more unended = ap have_end (line_of_text line more unended) ∙ end_step line (text_lines more) (some_part 10 more)
 
 -- bytes that are too many for a line
 long_line : (workers : ℕ) (line : List ℕ) → 1024 < length line → live_line workers line ≡ Err LongLine
@@ -83,18 +71,6 @@ same_test [] (y ∷ ys) = refl
 same_test (x ∷ xs) [] = refl
 same_test (x ∷ xs) (y ∷ ys) = rw (same_test xs ys) refl
 
--- what is kept of a line is the line, or both have too many bytes
-data Kept (kept line : List ℕ) : Type 0 where
-  Whole : kept ≡ line → Kept kept line
-  Long : 1024 < length kept → 1024 < length line → Kept kept line
-
-kept_of : (kept begun : List ℕ) → kept ≡ take 1025 begun → Kept kept begun
-kept_of kept begun front = elim (leb_tells (length begun) 1025) [
-  | inl short ↦ Whole (front ∙ take_all 1025 begun short.1)
-  | inr long ↦ let len : length kept ≡ length (take 1025 begun) = ap (λ (bytes : List ℕ). length bytes) front in
-      let over = long.1 in Long (omega (arith, len, over, length-take 1025 begun)) (omega (arith, over))
-]
-
 -- so what is kept of a line is told what the line is told, and ends a session where the line does
 kept_told : (sizes : Sizes) (state : State) (kept line : List ℕ) → Kept kept line → told sizes state kept ≡ told sizes state line
 kept_told sizes state kept line (Whole is) = ap (told sizes state) is
@@ -107,7 +83,7 @@ kept_ends kept line (Long over over') = not_end kept over ∙ sym (not_end line 
 
 -- one more byte of a line, which is kept unless there are too many
 more_unended : (begun : List ℕ) (b : ℕ) → All (λ b. nat_eq b 10 ≡ false) begun → nat_eq b 10 ≡ false → All (λ b. nat_eq b 10 ≡ false) (begun ++ b ∷ [])
-more_unended begun b unended other = All-append (λ b. nat_eq b 10 ≡ false) begun (b ∷ []) unended (All-cons (λ b. nat_eq b 10 ≡ false) b [] other (All-nil (λ b. nat_eq b 10 ≡ false)))
+more_unended begun b unended other = both_unended begun (b ∷ []) unended (All-cons (λ b. nat_eq b 10 ≡ false) b [] other (All-nil (λ b. nat_eq b 10 ≡ false)))
 
 pub keep_one : (kept begun : List ℕ) (b : ℕ) → IsKept kept begun → nat_eq b 10 ≡ false → length kept ≤ 1024 → IsKept (kept ++ b ∷ []) (begun ++ b ∷ [])
 keep_one kept begun b is other few = record {
@@ -130,10 +106,6 @@ keep_none kept begun b is other many = record {
     go : Kept kept begun → 1025 ≤ length begun
     go (Whole same) = let len : length kept ≡ length begun = ap (λ (bytes : List ℕ). length bytes) same in omega (arith, many, len)
     go (Long over over') = omega (arith, over')
-
--- nothing is kept of a line that hasn't begun
-pub none_kept : IsKept [] []
-none_kept = record { front = refl; unended = All-nil (λ b. nat_eq b 10 ≡ false) }
 
 -- a byte of a line was taken, which isn't its end
 pub byte_taken : (session : Session) (begun kept : List ℕ) (b : ℕ) (written written' : Option (List ℕ)) → IsSession session → IsKept kept (begun ++ b ∷ [])
@@ -254,10 +226,7 @@ kept_rest kept begun (Whole is) = ap told_rest is
 kept_rest [] begun (Long over over') = absurd (omega (arith, over))
 kept_rest (b ∷ bs) [] (Long over over') = absurd (omega (arith, over'))
 kept_rest (b ∷ bs) (c ∷ cs) (Long over over') =
-    ap (λ (kind : FaultKind). ended (fault_text kind)) (too_long (b ∷ bs) over ∙ sym (too_long (c ∷ cs) over'))
-  where
-    too_long : (bytes : List ℕ) → 1024 < length bytes → rest_fault bytes ≡ LongLine
-    too_long bytes over = rw (le-leb 1025 (length bytes) (omega (arith, over))) refl
+    ap (λ (kind : FaultKind). ended (fault_text kind)) (rest_too_long (b ∷ bs) over ∙ sym (rest_too_long (c ∷ cs) over'))
 
 rest_told : (over : Bool) (new : Session) (begun kept : List ℕ) → IsKept kept begun → told_on over new begun [] ≡ rest_on over kept
 rest_told true new begun kept is = refl

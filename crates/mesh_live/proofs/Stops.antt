@@ -9,7 +9,8 @@ use Rattle.model_jobs.specs.Texts.{ended}
 use Rattle.mesh_job.specs.Lines.{text_lines}
 use Rattle.mesh_text.specs.Transfer.{AppendsBeginning}
 use Rattle.mesh_live.specs.Answers.{told}
-use Rattle.mesh_live.specs.Runs.{HasFed, HasStopped, HasTaken, IsFedPart, IsKept, IsStopped, is_end, live_output, told_lines, told_on, told_rest}
+use Rattle.mesh_fields.specs.KeptLines.{IsKept}
+use Rattle.mesh_live.specs.Runs.{HasFed, HasStopped, HasTaken, IsFedPart, IsStopped, is_end, live_output, told_lines, told_on, told_rest}
 use Rattle.mesh_live.specs.Sessions.{job_of, sizes_of, state_of}
 use Rattle.mesh_live.specs.declared.session.Session.{Session}
 use Rattle.mesh_live.specs.declared.sizes.Sizes.{Sizes}

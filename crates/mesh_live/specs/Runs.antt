@@ -7,16 +7,13 @@ use Rattle.model_jobs.specs.Jobs.{State, opening}
 use Rattle.model_jobs.specs.Texts.{ended}
 use Rattle.model_words.specs.declared.faults.FaultKind.{FaultKind}
 use Rattle.model_words.specs.declared.faults.FaultKind.TheVariants.{Cut, LongLine}
+use Rattle.mesh_fields.specs.KeptLines.{IsKept, rest_fault}
 use Rattle.mesh_job.specs.Lines.{text_lines}
 use Rattle.mesh_text.specs.Transfer.{AppendsBeginning}
 use Rattle.mesh_live.specs.Answers.{fault_text, told}
 use Rattle.mesh_live.specs.Sessions.{IsSession, job_of, sizes_of, state_of}
 use Rattle.mesh_live.specs.declared.session.Session.{Session}
 use Rattle.mesh_live.specs.declared.sizes.Sizes.{Sizes}
-
--- the fault of what follows the last line end: the line is cut off, unless it is too long already
-abbrev pub rest_fault : List ℕ → FaultKind
-rest_fault rest = if nat_lt 1024 (length rest) then LongLine else Cut
 
 -- what is told of the bytes that follow the last line end: nothing, where there are none
 abbrev pub told_rest : List ℕ → List ℕ
@@ -58,11 +55,6 @@ pub record HasStopped (sizes : Sizes) (left written written' : Option (List ℕ)
   pub rest : Option (List ℕ)
   pub taken : Consumes left rest text
   pub wrote : AppendsBeginning written written' (live_output sizes text)
-
--- of the beginning of a line these bytes are kept: as many as tell that it is too long. None of it is a line end
-pub record IsKept (kept begun : List ℕ) : Type 0 where
-  pub front : kept ≡ take 1025 begun
-  pub unended : All (λ b. nat_eq b 10 ≡ false) begun
 
 -- what a session tells of a text, the beginning of whose first line was taken, and whether the line `end` is in it; nothing more once it was
 abbrev pub told_on : Bool → Session → List ℕ → List ℕ → List ℕ

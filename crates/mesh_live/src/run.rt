@@ -3,22 +3,20 @@ ghost use Rattle.std.specs.Prelude.{◌≡◌, ◌≤◌, ◌⊎◌, ℕ, List, 
 ghost use Rattle.std.specs.Io.KnownBytes.{Appends};
 ghost use Rattle.model_jobs.specs.Jobs.{opening};
 ghost use Rattle.model_jobs.specs.Texts.{ended};
+ghost use Rattle.mesh_fields.specs.KeptLines.{IsKept};
 ghost use Rattle.mesh_text.specs.Transfer.{AppendsBeginning};
 ghost use Rattle.mesh_live.specs.Answers.{told};
-ghost use Rattle.mesh_live.specs.Runs.{HasFed, HasLived, HasStopped, HasTaken, IsFedPart, IsKept, IsStopped, is_end, rest_fault, told_rest};
+ghost use Rattle.mesh_live.specs.Runs.{HasFed, HasLived, HasStopped, HasTaken, IsFedPart, IsStopped, is_end, told_rest};
 ghost use Rattle.mesh_live.specs.Sessions.{HasFairSizes, IsSession, job_of, sizes_of, state_of};
 
 use crate::answers::add_fault;
 use crate::{Session, Sizes};
-use mesh_text::{ReplayError, Sink, Source, read_some, write_all};
-use model_words::FaultKind;
+use mesh_fields::lines::{MAX_LINE_BYTES, rest_fault};
+use mesh_text::{ReplayError, Sink, Source, read_some, write_lines};
 use std::alloc::{AllocError, Global};
 
 /// The most bytes of one read.
 const READ_BYTES: usize = 16_384;
-
-/// The most bytes of a line, without its end.
-const MAX_LINE_BYTES: usize = 1024;
 
 /// Answers the lines that the input gives, one by one: each answer is a line, and is written before the next line is taken.
 ///
@@ -208,18 +206,7 @@ fn write_line<O: Sink>(text: &mut Vec<u8>, output: &mut O) -> Result<(), ReplayE
     ensures write { result ≡ Err ReplayError.Write → O.has_failed output.new ≡ true }
 {
     text.extend_from_slice(b"\n")?;
-    write_out(output, text.as_slice())
-}
-
-/// Writes bytes.
-fn write_out<O: Sink>(output: &mut O, bytes: &[u8]) -> Result<(), ReplayError>
-    requires { O.has_failed output.old ≡ false }
-    ensures ok { OnOk result (Appends (O.written output.old) (O.written output.new) bytes.now) }
-    ensures err { OnErr result (AppendsBeginning (O.written output.old) (O.written output.new) bytes.now) }
-    ensures fault { IfErr result (λ error. error ≡ ReplayError.Write) }
-    ensures fails { O.has_failed output.new ≡ is_err result }
-{
-    write_all(output, bytes).map_err(|_| ReplayError::Write)
+    write_lines(output, text.as_slice())
 }
 
 /// Writes what is told of the bytes behind the last line end.
@@ -237,15 +224,4 @@ fn write_rest<O: Sink>(alloc: Global, rest: &[u8], output: &mut O) -> Result<(),
     let mut text = Vec::new(alloc);
     add_fault(&mut text, rest_fault(rest))?;
     write_line(&mut text, output)
-}
-
-/// The fault of bytes behind the last line end.
-fn rest_fault(rest: &[u8]) -> FaultKind
-    ensures { result ≡ rest_fault rest.now }
-{
-    if rest.len() > MAX_LINE_BYTES {
-        FaultKind::LongLine
-    } else {
-        FaultKind::Cut
-    }
 }

@@ -8,12 +8,8 @@ use Rattle.mesh_bits.specs.Bits.{member_count}
 use Rattle.model_heap.specs.Sound.{times_in}
 use Rattle.model_words.proofs.Tests.{tells}
 use Rattle.model_search.specs.Search.{Candidate, Pairing, meshes, pairs_group, pairs_of_round, rotated, turned, unpaired}
-use Rattle.model_search.proofs.Searches.{length-rotated}
+use Rattle.model_search.proofs.Searches.{length-rotated, times, times-append, times-filter, times-split}
 use Rattle.mesh_search.specs.Views.{AreOnce, round_answers}
-
--- how many of the candidates have the number
-abbrev pub times : ℕ → List Candidate → ℕ
-times n cs = times_in n (map (λ (c : Candidate). c.number) cs)
 
 -- the candidate is in one of the pairs
 abbrev pub is_paired : List Pairing → Candidate → Bool
@@ -121,22 +117,6 @@ tried_paired (x ∷ ls) (y ∷ rs) e once =
                 ∙ ap (λ (bs : List Bool). false ∷ bs) rest.1 ∙ sym told,
           )
     ]
-
-pub times-append : (n : ℕ) (xs ys : List Candidate) → times n (xs ++ ys) ≡ times n xs + times n ys
-times-append n [] ys = sym (zero-add (times n ys))
-times-append n (x ∷ xs) ys = let rest = times-append n xs ys in omega (arith, rest)
-
-pub times-split : (n k : ℕ) (xs : List Candidate) → times n (take k xs) + times n (drop k xs) ≡ times n xs
-times-split n zero xs = zero-add (times n xs)
-times-split n (suc k) [] = omega arith
-times-split n (suc k) (x ∷ xs) = let rest = times-split n k xs in omega (arith, rest)
-
-times-filter : (n : ℕ) (test : Candidate → Bool) (xs : List Candidate) → times n (filter test xs) ≤ times n xs
-times-filter n test [] = omega arith
-times-filter n test (x ∷ xs) = elim (test x) as (λ b. times n (cond b (x ∷ filter test xs) (filter test xs)) ≤ times n (x ∷ xs)) [
-  | true ↦ let rest = times-filter n test xs in omega (arith, rest)
-  | false ↦ let rest = times-filter n test xs in omega (arith, rest)
-]
 
 -- what stays of two lists is there once where the lists are
 pub unpaired_once : (ps : List Pairing) (ls rs : List Candidate) → AreOnce (ls ++ rs) → AreOnce (unpaired ps ls ++ unpaired ps rs)

@@ -1,5 +1,5 @@
 -- What a run of scripts in threads leaves.
-use Rattle.std.specs.Prelude.{◌≡◌, ℕ, ◌<◌, List, [], Option, None, length, map, slice_index_or, take}
+use Rattle.std.specs.Prelude.{◌≡◌, ℕ, ◌<◌, ◌≤◌, List, [], Option, None, length, map, slice_index_or, take}
 use Rattle.std.specs.List.{All}
 use Rattle.model_memory.specs.Memory.{Memory}
 use Rattle.model_memory.specs.Plain.{Entry, IsLegal}
@@ -7,7 +7,16 @@ use Rattle.model_memory.specs.Reads.{Kept, kept_by}
 use Rattle.model_memory.specs.Seats.{calls_of}
 use Rattle.model_words.specs.declared.commands.Command.{Command}
 use Rattle.mesh_seats.specs.Seat.{Seat, calls_of_seats}
+use Rattle.mesh_shared.specs.declared.plan.MeshPlan.{MeshPlan}
 use Rattle.mesh_shared.specs.declared.stops.Stop.{Stop}
+
+-- a plan has 1 to 16 searchers and 1 to 10 meshers
+abbrev pub IsFairPlan : MeshPlan → Type 0
+IsFairPlan plan = (1 ≤ plan.workers) × (plan.workers ≤ 16) × (1 ≤ plan.meshers) × (plan.meshers ≤ 10)
+
+-- a run can begin: its journal is empty, there are 1 to 64 scripts, and its plan is fair
+abbrev pub IsReady : List Entry → ℕ → MeshPlan → Type 0
+IsReady entries scripts plan = (entries ≡ []) × (1 ≤ scripts) × (scripts ≤ 64) × IsFairPlan plan
 
 -- the commands of a worker's entries, in their order
 abbrev pub commands_by : ℕ → List Entry → List Command

@@ -5,7 +5,7 @@ ghost use Rattle.model_words.specs.Commands.{IsInRange};
 ghost use Rattle.mesh_mutator.specs.Book.{memory_in};
 ghost use Rattle.mesh_shared.specs.Joined.{AreAtWork, AreMeshing, HaveMeshed, HaveServed};
 ghost use Rattle.mesh_shared.specs.MesherRuns.{AreMeshed, HasMeshed};
-ghost use Rattle.mesh_shared.specs.Runs.{AreServed, HasBegun, HasRun, HasWorked};
+ghost use Rattle.mesh_shared.specs.Runs.{AreServed, HasBegun, HasRun, HasWorked, IsFairPlan, IsReady};
 ghost use Rattle.mesh_shared.specs.Stops.{first_stop};
 
 use crate::mesher::{Meshed, Mesher, Meshes};
@@ -38,12 +38,8 @@ pub fn run_threads<R: Threads + Wait + Sync, G: Gate + Sync>(
     plan: &MeshPlan,
     gate: &G,
 ) -> Result<Ended, RunError>
-    requires empty { book.entries ≡ [] }
-    requires some { 1 ≤ length scripts.now }
-    requires few { length scripts.now ≤ 64 }
+    requires ready { IsReady book.entries (length scripts.now) plan.now }
     requires range { All (λ script. All IsInRange script.now) scripts.now }
-    requires searchers { (1 ≤ plan.now.workers) × (plan.now.workers ≤ 16) }
-    requires meshers { (1 ≤ plan.now.meshers) × (plan.now.meshers ≤ 10) }
     ensures { IfOk result (λ ended. HasRun (map (λ script. script.now) scripts.now) ended.history.items (memory_in ended.heap ended.roots)) }
 {
     let patience = Patience {
@@ -69,12 +65,8 @@ pub fn run_abandoned<R: Threads + Wait + Sync, G: Gate + Sync>(
     tries: u32,
     gate: &G,
 ) -> Result<Ended, RunError>
-    requires empty { book.entries ≡ [] }
-    requires some { 1 ≤ length scripts.now }
-    requires few { length scripts.now ≤ 64 }
+    requires ready { IsReady book.entries (length scripts.now) plan.now }
     requires range { All (λ script. All IsInRange script.now) scripts.now }
-    requires searchers { (1 ≤ plan.now.workers) × (plan.now.workers ≤ 16) }
-    requires meshers { (1 ≤ plan.now.meshers) × (plan.now.meshers ≤ 10) }
     requires tries { 1 ≤ tries }
     ensures { IfOk result (λ ended. HasBegun (map (λ script. script.now) scripts.now) ended.history.items (memory_in ended.heap ended.roots)) }
 {
@@ -103,12 +95,8 @@ fn run<R: Threads + Wait + Sync, G: Gate + Sync>(
     patience: Patience,
     gate: &G,
 ) -> Result<Ran, RunError>
-    requires empty { book.entries ≡ [] }
-    requires some { 1 ≤ length scripts.now }
-    requires few { length scripts.now ≤ 64 }
+    requires ready { IsReady book.entries (length scripts.now) plan.now }
     requires range { All (λ script. All IsInRange script.now) scripts.now }
-    requires searchers { (1 ≤ plan.now.workers) × (plan.now.workers ≤ 16) }
-    requires meshers { (1 ≤ plan.now.meshers) × (plan.now.meshers ≤ 10) }
     ensures begun { IfOk result (λ ran. HasBegun (map (λ script. script.now) scripts.now) ran.ended.history.items (memory_in ran.ended.heap ran.ended.roots)) }
     ensures whole { patience.tries ≡ None
         → IfOk result (λ ran. HasRun (map (λ script. script.now) scripts.now) ran.ended.history.items (memory_in ran.ended.heap ran.ended.roots)) }
@@ -156,8 +144,7 @@ fn serve_all<R: Threads + Wait + Sync, G: Gate + Sync>(
     requires many { vec_len seats ≡ length scripts.now }
     requires empty { All (λ seat. seat.calls ≡ []) seats.items }
     requires range { All (λ script. All IsInRange script.now) scripts.now }
-    requires searchers { (1 ≤ plan.now.workers) × (plan.now.workers ≤ 16) }
-    requires meshers { (1 ≤ plan.now.meshers) × (plan.now.meshers ≤ 10) }
+    requires plan { IsFairPlan plan.now }
     ensures served { IfOk result (λ service. AreServed patience.tries (map (λ script. script.now) scripts.now) service.seats.items) }
     ensures meshed { IfOk result (λ service. AreMeshed plan.now patience.calls service.meshers.items) }
 {
@@ -168,8 +155,7 @@ fn serve_all<R: Threads + Wait + Sync, G: Gate + Sync>(
             requires many { vec_len seats ≡ length scripts.now }
             requires empty { All (λ seat. seat.calls ≡ []) seats.items }
             requires range { All (λ script. All IsInRange script.now) scripts.now }
-            requires searchers { (1 ≤ plan.now.workers) × (plan.now.workers ≤ 16) }
-            requires meshers { (1 ≤ plan.now.meshers) × (plan.now.meshers ≤ 10) }
+            requires plan { IsFairPlan plan.now }
             ensures served { IfOk result (λ service. AreServed patience.tries (map (λ script. script.now) scripts.entry.now) service.seats.items) }
             ensures meshed { IfOk result (λ service. AreMeshed plan.entry.now patience.calls service.meshers.items) }
         {
@@ -245,8 +231,7 @@ fn start_meshers<'s, E, R: Threads + Wait + Sync, G: Gate + Sync>(
     most: Option<u32>,
     meshers: &mut Vec<PromisedHandle<Meshed, Meshes>>,
 ) -> Option<Stop>
-    requires searchers { (1 ≤ plan.now.workers) × (plan.now.workers ≤ 16) }
-    requires meshers { (1 ≤ plan.now.meshers) × (plan.now.meshers ≤ 10) }
+    requires plan { IsFairPlan plan.now }
     requires room { plan.now.meshers ≤ vec_capacity meshers.old }
     requires none { meshers.old.items ≡ [] }
     ensures { result ≡ None → AreMeshing plan.now most meshers.new.items }

@@ -330,6 +330,17 @@ leads_to spans groups owners n place k o addr group sound at within below small 
       led = record { found_is = refl; below = member.below; group_is = member.same_group; class_is = member.same_class };
     }
 
+-- the same where a span was told to own the page: it is the member
+pub leads_from : (spans : List SpanEntry) (groups : List (Option GroupEntry)) (owners : List (Option ℕ)) (n place k o addr : ℕ) (group : GroupEntry) (told : Option ℕ) (span : ℕ)
+    → told ≡ slice_index_or owners (addr / 4096) None → told ≡ Some span
+    → IsIndex spans groups × IsOwned spans groups owners → group_at groups n ≡ Some group → place < length group.members → k < slots_of group.class
+    → o < group.class → slot_address (span_at spans (slice_index group.members place)).first group.class k + o ≡ addr
+    → LeadsTo spans groups owners addr n (slice_index group.members place) group × (span ≡ slice_index group.members place)
+leads_from spans groups owners n place k o addr group told span is_told was sound at within below small is =
+    let leads = leads_to spans groups owners n place k o addr group sound at within below small is in
+    let owner : Some span ≡ Some (slice_index group.members place) = sym was ∙ is_told ∙ leads.owner in
+    (leads, cc owner)
+
 -- index and owners stay so as an entry that fits is put
 pub put_keeps : (spans : List SpanEntry) (groups : List (Option GroupEntry)) (owners : List (Option ℕ)) (n k : ℕ) (entry : Option Slot) → Fits groups n k entry
     → IsIndex spans groups × IsOwned spans groups owners → IsIndex spans (with_entry groups n k entry) × IsOwned spans (with_entry groups n k entry) owners

@@ -34,40 +34,46 @@ absorbed_is groups s d a b two at =
     ap (λ (o : Option GroupEntry). slice_set (slice_set groups s None) d (option_map (merged_entry a) o))
     (get_or-set_other groups s d None None (λ e. two (sym e)) ∙ at)
 
-module _ (spans spans' : List SpanEntry) (groups after : List (Option GroupEntry)) (s d : ℕ) (a : GroupEntry)
-    (pair : IsMergeable (record { spans = spans; groups = groups }) d s) (at : group_at groups s ≡ Some a) (is : after ≡ absorbed groups s d a)
-    (moved : Regroups spans spans' a.members (length a.members) d) where
-  pub source_is : a ≡ pair.a
-  source_is = let both : Some a ≡ Some pair.a = sym at ∙ pair.source in cc both
+-- the groups of a mergeable pair after the source was taken out, the destination took its members and slots, and its spans were led there
+pub record HasMerged (spans spans' : List SpanEntry) (groups after : List (Option GroupEntry)) (s d : ℕ) (a : GroupEntry) : Type 0 where
+  pub pair : IsMergeable (record { spans = spans; groups = groups }) d s
+  pub at : group_at groups s ≡ Some a
+  pub is : after ≡ absorbed groups s d a
+  pub moved : Regroups spans spans' a.members (length a.members) d
 
-  after_is : after ≡ merged_groups groups s d a pair.b
-  after_is = is ∙ absorbed_is groups s d a pair.b pair.two pair.destination
+module _ (spans spans' : List SpanEntry) (groups after : List (Option GroupEntry)) (s d : ℕ) (a : GroupEntry)
+    (met : HasMerged spans spans' groups after s d a) where
+  pub source_is : a ≡ met.pair.a
+  source_is = let both : Some a ≡ Some met.pair.a = sym met.at ∙ met.pair.source in cc both
+
+  after_is : after ≡ merged_groups groups s d a met.pair.b
+  after_is = met.is ∙ absorbed_is groups s d a met.pair.b met.pair.two met.pair.destination
 
   pub merge_keeps : (owners : List (Option ℕ)) → IsIndex spans groups × IsOwned spans groups owners → IsIndex spans' after × IsOwned spans' after owners
   merge_keeps owners sound =
-      let class : a.class ≡ pair.b.class = ap (λ (g : GroupEntry). g.class) source_is ∙ pair.same_class in
-      let few : length a.members + length pair.b.members ≤ 8 = (let f = pair.few in let e = ap (λ (g : GroupEntry). length g.members) source_is in omega (arith, f, e)) in
+      let class : a.class ≡ met.pair.b.class = ap (λ (g : GroupEntry). g.class) source_is ∙ met.pair.same_class in
+      let few : length a.members + length met.pair.b.members ≤ 8 = (let f = met.pair.few in let e = ap (λ (g : GroupEntry). length g.members) source_is in omega (arith, f, e)) in
       rw after_is (
-        IsIndex_merged spans spans' groups s d a pair.b sound.0 pair.two at pair.destination class few moved,
-        IsOwned_merged spans spans' groups s d a pair.b sound.0 pair.two at pair.destination class few moved owners sound.1,
+        IsIndex_merged spans spans' groups s d a met.pair.b sound.0 met.pair.two met.at met.pair.destination class few met.moved,
+        IsOwned_merged spans spans' groups s d a met.pair.b sound.0 met.pair.two met.at met.pair.destination class few met.moved owners sound.1,
       )
 
   pub merge_table : (g : Group) → find (has_number s) (groups_from spans 0 groups) ≡ Some g → groups_from spans' 0 after ≡ merged (groups_from spans 0 groups) g d
   merge_table g found =
-      let one : Some (table_group spans s a) ≡ Some g = sym (group_found spans 0 s s groups a at (omega arith)) ∙ found in
+      let one : Some (table_group spans s a) ≡ Some g = sym (group_found spans 0 s s groups a met.at (omega arith)) ∙ found in
       let same : table_group spans s a ≡ g = cc one in
-      rw (after_is, ← same) (groups_merged spans spans' groups s d a pair.b at pair.destination pair.two (group_below groups s a at) moved.firsts)
+      rw (after_is, ← same) (groups_merged spans spans' groups s d a met.pair.b met.at met.pair.destination met.pair.two (group_below groups s a met.at) met.moved.firsts)
 
   -- which groups are in a mesh
   pub merge_closed : (m : ℕ) → is_in_mesh (group_at after m) ≡ (not (nat_eq m s) && is_in_mesh (group_at groups m))
   merge_closed m = ap (λ (gs : List (Option GroupEntry)). is_in_mesh (group_at gs m)) after_is ∙ elim (eqb_tells m s) [
-    | inl same ↦ rw (same.0, same.1) (ap is_in_mesh (get_or-set_other (slice_set groups s None) d s (Some (merged_entry a pair.b)) None pair.two
-        ∙ get_or-set_same groups s None None (group_below groups s a at)))
+    | inl same ↦ rw (same.0, same.1) (ap is_in_mesh (get_or-set_other (slice_set groups s None) d s (Some (merged_entry a met.pair.b)) None met.pair.two
+        ∙ get_or-set_same groups s None None (group_below groups s a met.at)))
     | inr not_s ↦ rw not_s.0 (elim (eqb_tells m d) [
-      | inl same ↦ rw same.1 (ap is_in_mesh (get_or-set_same (slice_set groups s None) d (Some (merged_entry a pair.b)) None
-          (let below = group_below groups d pair.b pair.destination in omega (arith, below, length-set {A = Option GroupEntry} groups s None)))
-          ∙ ap is_in_mesh (sym pair.destination))
-      | inr not_d ↦ ap is_in_mesh (get_or-set_other (slice_set groups s None) d m (Some (merged_entry a pair.b)) None not_d.1
+      | inl same ↦ rw same.1 (ap is_in_mesh (get_or-set_same (slice_set groups s None) d (Some (merged_entry a met.pair.b)) None
+          (let below = group_below groups d met.pair.b met.pair.destination in omega (arith, below, length-set {A = Option GroupEntry} groups s None)))
+          ∙ ap is_in_mesh (sym met.pair.destination))
+      | inr not_d ↦ ap is_in_mesh (get_or-set_other (slice_set groups s None) d m (Some (merged_entry a met.pair.b)) None not_d.1
           ∙ get_or-set_other groups s m None None not_s.1)
     ])
   ]
@@ -81,12 +87,12 @@ module _ (spans spans' : List SpanEntry) (groups after : List (Option GroupEntry
       go : (x b : GroupEntry) → group_at groups s ≡ Some x → group_at groups d ≡ Some b
           → Merges (record { spans = spans; groups = groups }) (record { spans = spans'; groups = after }) s d x b
       go x b there here =
-          let same : a ≡ x = (let both : Some a ≡ Some x = sym at ∙ there in cc both) in
+          let same : a ≡ x = (let both : Some a ≡ Some x = sym met.at ∙ there in cc both) in
           subst (λ (g : GroupEntry). Merges (record { spans = spans; groups = groups }) (record { spans = spans'; groups = after }) s d g b) same (record {
-            source = at;
+            source = met.at;
             destination = here;
-            groups = is ∙ absorbed_is groups s d a b pair.two here;
-            spans = moved;
+            groups = met.is ∙ absorbed_is groups s d a b met.pair.two here;
+            spans = met.moved;
           })
 
 module _ (spans : List SpanEntry) (groups middle : List (Option GroupEntry)) (s d : ℕ) (a : GroupEntry)

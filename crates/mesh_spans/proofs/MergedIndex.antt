@@ -1,34 +1,17 @@
 -- An index whose two groups were merged is one.
-use Rattle.std.proofs.Common.{◌≡◌, ◌≢◌, ℕ, zero, suc, ◌+◌, ◌-◌, ◌<◌, ◌≤◌, Bool, true, map, List, [], ◌∷◌, ◌++◌, Option, Some, None, length, slice_index, slice_index_or, slice_set, ap, subst, refl, sym, ◌∙◌, arith, ◌⊎◌, inl, inr}
+use Rattle.std.proofs.Common.{◌≡◌, ◌≢◌, ℕ, ◌+◌, ◌-◌, ◌<◌, ◌≤◌, Bool, true, map, List, [], ◌∷◌, ◌++◌, Option, Some, None, length, slice_index, slice_index_or, slice_set, ap, subst, refl, sym, ◌∙◌, arith, ◌⊎◌, inl, inr}
 use Rattle.std.proofs.Math.ListN.{length-append, length-set}
 use Rattle.std.proofs.lemmas.Bool.Decides.{eqb_tells, leb_tells}
 use Rattle.std.proofs.lemmas.List.{get_or_append_left, get_or-append-add, get_or_past, get_or-set_other, get_or-set_same}
 use Rattle.std.proofs.Common.{is_some, take, drop}
-use Rattle.std.proofs.lemmas.List.{ext_get_or}
 use Rattle.std.proofs.Math.Seq.{take-append_seam}
 use Rattle.mesh_bits.specs.Bits.{union_of}
 use Rattle.mesh_class.specs.Classes.{IsClass, pages_of, slots_of}
+use Rattle.model_heap.proofs.UnitedSlots.{united_long, united_slot}
 use Rattle.model_heap.specs.Mesh.{either_slot, united}
 use Rattle.model_heap.specs.Table.{Slot}
 use Rattle.mesh_spans.specs.Index.{GroupEntry, IsGroup, IsIndex, IsMember, IsObject, IsOwned, SpanEntry, group_at, span_at}
 use Rattle.mesh_spans.specs.Changes.{merged_entry, merged_groups, Regroups}
-
-none_right : (x : Option Slot) → x ≡ either_slot x None
-none_right None = refl
-none_right (Some y) = refl
-
--- the slot of both groups
-pub united_slot : (xs ys : List (Option Slot)) (k : ℕ) → slice_index_or (united xs ys) k None ≡ either_slot (slice_index_or xs k None) (slice_index_or ys k None)
-united_slot [] ys k = refl
-united_slot (x ∷ xs) [] zero = none_right x
-united_slot (x ∷ xs) [] (suc k) = none_right (slice_index_or xs k None)
-united_slot (x ∷ xs) (y ∷ ys) zero = refl
-united_slot (x ∷ xs) (y ∷ ys) (suc k) = united_slot xs ys k
-
-pub united_long : (xs ys : List (Option Slot)) → length xs ≡ length ys → length (united xs ys) ≡ length xs
-united_long [] ys same = sym same
-united_long (x ∷ xs) [] same = refl
-united_long (x ∷ xs) (y ∷ ys) same = let rest = united_long xs ys (omega (arith, same)) in omega (arith, rest)
 
 either_object : (class : ℕ) (x y : Option Slot) → IsObject class x → IsObject class y → IsObject class (either_slot x y)
 either_object class None y is is' = is'
@@ -55,13 +38,6 @@ IsGroup_merged a b x y same_class few =
           (either_object b.class (slice_index_or b.slots k None) (slice_index_or a.slots k None) (y.objects k)
           (subst (λ (c : ℕ). IsObject c (slice_index_or a.slots k None)) same_class (x.objects k)));
     }
-
--- the slots joined one by one
-pub united_by_slots : (old new others : List (Option Slot)) → length new ≡ length old → length old ≡ length others
-    → ((k : ℕ) → k < length old → slice_index_or new k None ≡ either_slot (slice_index_or old k None) (slice_index_or others k None)) → new ≡ united old others
-united_by_slots old new others long same each =
-    ext_get_or None new (united old others) (long ∙ sym (united_long old others same))
-    (λ k below. each k (omega (arith, below, long)) ∙ sym (united_slot old others k))
 
 -- the occupied slots of both groups
 pub occupied_united : (xs ys : List (Option Slot)) → map is_some (united xs ys) ≡ union_of (map is_some xs) (map is_some ys)

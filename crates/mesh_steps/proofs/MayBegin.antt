@@ -1,14 +1,15 @@
 -- Whether a mesh of two groups may begin, told by the index.
-use Rattle.std.proofs.Common.{◌≡◌, ◌≢◌, ℕ, ◌+◌, ◌<◌, ◌≤◌, Bool, true, false, not, nat_eq, map, is_some, length, IsSome, Option, Some, None, Ok, Err, ap, subst, refl, sym, ◌∙◌, arith, inl, inr}
-use Rattle.std.proofs.lemmas.Bool.Decides.{eqb_tells, leb_tells}
+use Rattle.std.proofs.Common.{◌≡◌, ◌≢◌, ℕ, ◌+◌, ◌<◌, ◌≤◌, Bool, true, false, not, map, is_some, length, IsSome, Option, Some, None, Ok, Err, ap, subst, refl, sym, ◌∙◌, arith}
 use Rattle.std.proofs.lemmas.List.{length-map}
 use Rattle.mesh_class.specs.Classes.{pages_of, slots_of}
 use Rattle.mesh_bits.specs.Bits.{are_meshable}
-use Rattle.mesh_layout.proofs.Beginnings.{Begins, Closes, busy_class, few_meshes, many_members, may_go, no_destination, no_source, other_class, overlapping, page_heap_begins, same_group}
+use Rattle.mesh_layout.proofs.Beginnings.{Begins, Closes, page_heap_begins}
 use Rattle.mesh_layout.proofs.Groups.{IsEntry, entry_in_table, none_in_table, table_entry}
 use Rattle.mesh_layout.proofs.MadeSteps.{pages_counted}
 use Rattle.mesh_layout.specs.Indexes.{class_in, layout_of}
 use Rattle.mesh_layout.specs.PageHeap.{IsPageHeap}
+use Rattle.model_heap.proofs.BeginRefusals.{busy_class, many_members, may_go, no_destination, no_source, other_class, overlapping, same_group}
+use Rattle.model_heap.proofs.FewMeshes.{few_meshes}
 use Rattle.model_heap.proofs.MayBegin.{may_begin_gives}
 use Rattle.model_heap.proofs.GroupPages.{found_sound}
 use Rattle.model_heap.proofs.MeshLists.{any_tells, class_tells}
@@ -42,6 +43,14 @@ same_slots index s d a b sound is is' same =
 pub overlap_told : (a b : GroupEntry) (apart : Bool) → apart ≡ are_meshable (map is_some a.slots) (map is_some b.slots) → do_overlap a.slots b.slots ≡ not apart
 overlap_told a b apart is = overlap_by_sets a.slots b.slots ∙ ap not (sym is)
 
+-- two groups of one class that nothing keeps busy
+pub record IsIdlePair (busy : Busy) (g : PageHeap) (s d : ℕ) (a b : GroupEntry) : Type 0 where
+  pub source : group_at g.index.groups s ≡ Some a
+  pub destination : group_at g.index.groups d ≡ Some b
+  pub two : s ≢ d
+  pub one : a.class ≡ b.class
+  pub idle : busy_by busy (table_in g) a.class ≡ false
+
 -- there is no source
 pub refuses_source : (busy : Busy) (g : PageHeap) (s d : ℕ) → group_at g.index.groups s ≡ None → may_begin (busy_by busy) (table_in g) s d ≡ Err NoGroup
 refuses_source busy g s d none = no_source (busy_by busy) (table_in g) s d (none_in_table g.index s none)
@@ -59,51 +68,37 @@ module _ (busy : Busy) (g : PageHeap) (s d : ℕ) (a b : GroupEntry) (is : group
   into : group_of (table_in g) d ≡ Some (table_group g.index.spans d b)
   into = entry_in_table g.index d b is'
 
-  apart : s ≢ d → nat_eq s d ≡ false
-  apart two = elim (eqb_tells s d) [ inl same ↦ absurd (two same.1) | inr other ↦ other.0 ]
+  pub refuses_same : s ≡ d → may_begin (busy_by busy) (table_in g) s d ≡ Err Same
+  refuses_same = same_group (busy_by busy) (table_in g) s d (table_group g.index.spans s a) (table_group g.index.spans d b) from into
 
-  alike : a.class ≡ b.class → nat_eq a.class b.class ≡ true
-  alike same = elim (eqb_tells a.class b.class) [ inl yes_ ↦ yes_.0 | inr other ↦ absurd (other.1 same) ]
+  pub refuses_class : s ≢ d → a.class ≢ b.class → may_begin (busy_by busy) (table_in g) s d ≡ Err Class
+  refuses_class = other_class (busy_by busy) (table_in g) s d (table_group g.index.spans s a) (table_group g.index.spans d b) from into
+
+  pub refuses_busy : s ≢ d → a.class ≡ b.class → busy_by busy (table_in g) a.class ≡ true → may_begin (busy_by busy) (table_in g) s d ≡ Err BusyClass
+  refuses_busy = busy_class (busy_by busy) (table_in g) s d (table_group g.index.spans s a) (table_group g.index.spans d b) from into
+
+module _ (busy : Busy) (g : PageHeap) (s d : ℕ) (a b : GroupEntry) (p : IsIdlePair busy g s d a b) where
+  from_idle : group_of (table_in g) s ≡ Some (table_group g.index.spans s a)
+  from_idle = entry_in_table g.index s a p.source
+
+  into_idle : group_of (table_in g) d ≡ Some (table_group g.index.spans d b)
+  into_idle = entry_in_table g.index d b p.destination
 
   members : length (map (first_of g.index.spans) a.members) + length (map (first_of g.index.spans) b.members) ≡ length a.members + length b.members
   members = let x = length-map a.members (first_of g.index.spans) in let y = length-map b.members (first_of g.index.spans) in omega (arith, x, y)
 
-  pub refuses_same : s ≡ d → may_begin (busy_by busy) (table_in g) s d ≡ Err Same
-  refuses_same same = same_group (busy_by busy) (table_in g) s d (table_group g.index.spans s a) (table_group g.index.spans d b) from into
-      (elim (eqb_tells s d) [ inl yes_ ↦ yes_.0 | inr other ↦ absurd (other.1 same) ])
+  pub refuses_overlap : do_overlap a.slots b.slots ≡ true → may_begin (busy_by busy) (table_in g) s d ≡ Err Overlap
+  refuses_overlap = overlapping (busy_by busy) (table_in g) s d (table_group g.index.spans s a) (table_group g.index.spans d b) from_idle into_idle p.two p.one p.idle
 
-  pub refuses_class : s ≢ d → a.class ≢ b.class → may_begin (busy_by busy) (table_in g) s d ≡ Err Class
-  refuses_class two other = other_class (busy_by busy) (table_in g) s d (table_group g.index.spans s a) (table_group g.index.spans d b) from into (apart two)
-      (elim (eqb_tells a.class b.class) [ inl same ↦ absurd (other same.1) | inr no_ ↦ no_.0 ])
+  pub refuses_members : do_overlap a.slots b.slots ≡ false → 8 < length a.members + length b.members → may_begin (busy_by busy) (table_in g) s d ≡ Err Members
+  refuses_members no_ many = many_members (busy_by busy) (table_in g) s d (table_group g.index.spans s a) (table_group g.index.spans d b) from_idle into_idle
+      p.two p.one p.idle no_ (let m = members in omega (arith, m, many))
 
-  pub refuses_busy : s ≢ d → a.class ≡ b.class → busy_by busy (table_in g) a.class ≡ true → may_begin (busy_by busy) (table_in g) s d ≡ Err BusyClass
-  refuses_busy two same taken = busy_class (busy_by busy) (table_in g) s d (table_group g.index.spans s a) (table_group g.index.spans d b) from into (apart two)
-      (alike same) taken
-
-  -- the slots overlap where the sets of the occupied ones can't be meshed
-  pub refuses_overlap : s ≢ d → a.class ≡ b.class → busy_by busy (table_in g) a.class ≡ false → do_overlap a.slots b.slots ≡ true
-      → may_begin (busy_by busy) (table_in g) s d ≡ Err Overlap
-  refuses_overlap two same idle both = overlapping (busy_by busy) (table_in g) s d (table_group g.index.spans s a) (table_group g.index.spans d b) from into
-      (apart two) (alike same) idle both
-
-  pub refuses_members : s ≢ d → a.class ≡ b.class → busy_by busy (table_in g) a.class ≡ false → do_overlap a.slots b.slots ≡ false
-      → 8 < length a.members + length b.members → may_begin (busy_by busy) (table_in g) s d ≡ Err Members
-  refuses_members two same idle no_ many = many_members (busy_by busy) (table_in g) s d (table_group g.index.spans s a) (table_group g.index.spans d b) from into
-      (apart two) (alike same) idle no_
-      (elim (leb_tells 9 (length (map (first_of g.index.spans) a.members) + length (map (first_of g.index.spans) b.members))) [
-        | inl yes_ ↦ yes_.0
-        | inr few ↦ absurd (let f = few.1 in let m = members in omega (arith, f, m, many))
-      ])
-
-  pub allows : s ≢ d → a.class ≡ b.class → busy_by busy (table_in g) a.class ≡ false → do_overlap a.slots b.slots ≡ false
-      → length a.members + length b.members ≤ 8 → IsPair busy g s d a.class
-  allows two same idle no_ few = record {
+  pub allows : do_overlap a.slots b.slots ≡ false → length a.members + length b.members ≤ 8 → IsPair busy g s d a.class
+  allows no_ few = record {
     pair = record { source = table_group g.index.spans s a; destination = table_group g.index.spans d b };
-    may = may_go (busy_by busy) (table_in g) s d (table_group g.index.spans s a) (table_group g.index.spans d b) from into (apart two) (alike same) idle no_
-        (elim (leb_tells 9 (length (map (first_of g.index.spans) a.members) + length (map (first_of g.index.spans) b.members))) [
-          | inl many ↦ absurd (let h = many.1 in let m = members in omega (arith, h, m, few))
-          | inr no_more ↦ no_more.0
-        ]);
+    may = may_go (busy_by busy) (table_in g) s d (table_group g.index.spans s a) (table_group g.index.spans d b) from_idle into_idle p.two p.one p.idle no_
+        (let m = members in omega (arith, m, few));
     class_is = refl;
   }
 

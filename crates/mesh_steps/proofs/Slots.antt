@@ -89,34 +89,43 @@ pub put_saved : (g : PageHeap) (arena : Pages) (index : Index) (span k serial le
     → free_count arena ≡ free_count g.arena → table_with arena index g.next_page g.meshes ≡ table_with_object g span k serial len
 put_saved g arena index span k serial len is same = rw same (put_table g index span k serial len is)
 
+-- an object of zeros was put into a free slot
+pub record IsPut (g : PageHeap) (arena : Pages) (index : Index) (class span k serial len addr : ℕ) : Type 0 where
+  pub before : IsIndex g.index.spans g.index.groups
+  pub after : IsIndex index.spans index.groups
+  pub paged : IsPageHeap g.arena g.map g.index g.next_page g.meshes
+  pub free : IsFreeSlot g.index class span k
+  pub at : addr ≡ address_in (span_at g.index.spans span) k
+  pub fits : len ≤ class
+  pub occupied : IsOccupied g.index index span k serial len
+  pub table : IsSound (table_with_object g span k serial len)
+  pub saves : Saves g.arena arena g.map addr (replicate len 0)
+
 -- an object of zeros put into a free slot leaves a page heap
-pub put_paged : (g : PageHeap) (arena : Pages) (index : Index) (class span k serial len addr : ℕ) → IsIndex g.index.spans g.index.groups
-    → IsIndex index.spans index.groups → IsPageHeap g.arena g.map g.index g.next_page g.meshes → IsFreeSlot g.index class span k
-    → addr ≡ address_in (span_at g.index.spans span) k → len ≤ class → IsOccupied g.index index span k serial len
-    → IsSound (table_with_object g span k serial len) → Saves g.arena arena g.map addr (replicate len 0)
+pub put_paged : (g : PageHeap) (arena : Pages) (index : Index) (class span k serial len addr : ℕ) → IsPut g arena index class span k serial len addr
     → IsPageHeap arena g.map index g.next_page g.meshes
-put_paged g arena index class span k serial len addr sound sound' paged f at fits is table saves =
+put_paged g arena index class span k serial len addr p =
     let n : ℕ = group_number g.index span in
-    let alike = index_alike g.index index (entry_groups g.index index n k (Some (put_object g.index span serial len)) is.spans is.groups) in
-    let vacant = f.vacant in
+    let alike = index_alike g.index index (entry_groups g.index index n k (Some (put_object g.index span serial len)) p.occupied.spans p.occupied.groups) in
+    let vacant = p.free.vacant in
     let same : (layout_of index).class n ≡ class = alike.class n ∙ ap class_in vacant.there ∙ vacant.same_class in
     let zeros : length {A = ℕ} (replicate len 0) ≡ len = length-replicate len 0 in
     let start : slot_address (first_page g.index span) ((layout_of index).class n) k ≡ addr
-    = ap (λ (c : ℕ). slot_address (first_page g.index span) c k) (same ∙ sym vacant.of_class) ∙ sym at in
-    let covered = free_covered g.index class span k addr len sound f at fits in
-    let first : (layout_of index).first n 0 ≡ first_page g.index span = alike.first n 0 ∙ sym f.first in
-    page_heap_make g.arena arena g.map g.index index g.next_page g.meshes n k 0 (put_object g.index span serial len) (replicate len 0) sound sound' paged
-    is.spans is.groups is.closed f.calm (subst (λ (t : Table). IsSound t) (sym (put_table g index span k serial len is)) table)
-    (put_there g.index index class span k serial len f is) (omega (arith, zeros))
+    = ap (λ (c : ℕ). slot_address (first_page g.index span) c k) (same ∙ sym vacant.of_class) ∙ sym p.at in
+    let covered = free_covered g.index class span k addr len p.before p.free p.at p.fits in
+    let first : (layout_of index).first n 0 ≡ first_page g.index span = alike.first n 0 ∙ sym p.free.first in
+    page_heap_make g.arena arena g.map g.index index g.next_page g.meshes n k 0 (put_object g.index span serial len) (replicate len 0) p.before p.after p.paged
+    p.occupied.spans p.occupied.groups p.occupied.closed p.free.calm (subst (λ (t : Table). IsSound t) (sym (put_table g index span k serial len p.occupied)) p.table)
+    (put_there g.index index class span k serial len p.free p.occupied) (omega (arith, zeros))
     (record {
       member = subst (λ (m : ℕ). 0 < m) (sym (alike.members n)) covered.member;
       in_range = subst (λ (c : ℕ). k < slots_of c) (sym (alike.class n)) covered.in_range;
       low = let from : slot_address ((layout_of index).first n 0) ((layout_of index).class n) k ≡ slot_address (first_page g.index span) ((layout_of index).class n) k
           = ap (λ (m : ℕ). slot_address m ((layout_of index).class n) k) first in omega (arith, from);
       high = let from : slot_address ((layout_of index).first n 0) ((layout_of index).class n) k ≡ slot_address (first_page g.index span) ((layout_of index).class n) k
-          = ap (λ (m : ℕ). slot_address m ((layout_of index).class n) k) first in omega (arith, from, zeros, fits, same);
+          = ap (λ (m : ℕ). slot_address m ((layout_of index).class n) k) first in omega (arith, from, zeros, p.fits, same);
     })
-    (subst (λ (a : ℕ). Saves g.arena arena g.map a (replicate len 0)) (sym start) saves)
+    (subst (λ (a : ℕ). Saves g.arena arena g.map a (replicate len 0)) (sym start) p.saves)
 
 -- what stood in a slot stands there once an object was put into a free one
 put_others : (old new : Index) (class span k serial len : ℕ) → IsFreeSlot old class span k → IsOccupied old new span k serial len → (m j : ℕ) (slot : Slot)
@@ -150,28 +159,25 @@ put_others old new class span k serial len f is m j slot filled =
         ]
 
 -- each byte of an object that is outside of the zeros put into a free slot is as it was
-pub put_keeps : (g : PageHeap) (arena : Pages) (index : Index) (class span k serial len addr : ℕ) → IsIndex g.index.spans g.index.groups
-    → IsIndex index.spans index.groups → IsPageHeap g.arena g.map g.index g.next_page g.meshes → IsFreeSlot g.index class span k
-    → addr ≡ address_in (span_at g.index.spans span) k → len ≤ class → IsOccupied g.index index span k serial len
-    → IsSound (table_with_object g span k serial len) → Saves g.arena arena g.map addr (replicate len 0)
+pub put_keeps : (g : PageHeap) (arena : Pages) (index : Index) (class span k serial len addr : ℕ) → IsPut g arena index class span k serial len addr
     → KeepsOutside g (record { arena = arena; map = g.map; index = index; next_page = g.next_page; meshes = g.meshes }) addr len
-put_keeps g arena index class span k serial len addr sound sound' paged f at fits is table saves m j o x slot live outside =
+put_keeps g arena index class span k serial len addr p m j o x slot live outside =
     let n : ℕ = group_number g.index span in
-    let alike = index_alike g.index index (entry_groups g.index index n k (Some (put_object g.index span serial len)) is.spans is.groups) in
-    let vacant = f.vacant in
+    let alike = index_alike g.index index (entry_groups g.index index n k (Some (put_object g.index span serial len)) p.occupied.spans p.occupied.groups) in
+    let vacant = p.free.vacant in
     let same : (layout_of index).class n ≡ class = alike.class n ∙ ap class_in vacant.there ∙ vacant.same_class in
     let zeros : length {A = ℕ} (replicate len 0) ≡ len = length-replicate len 0 in
     let start : slot_address (first_page g.index span) ((layout_of index).class n) k + 0 ≡ addr
     = (let zeroth : slot_address (first_page g.index span) ((layout_of index).class n) k + 0 ≡ slot_address (first_page g.index span) ((layout_of index).class n) k = omega arith in
-    zeroth ∙ ap (λ (c : ℕ). slot_address (first_page g.index span) c k) (same ∙ sym vacant.of_class) ∙ sym at) in
-    let mid = page_heap_put g.arena g.map g.index index g.next_page g.meshes n k (Some (put_object g.index span serial len)) sound paged is.spans is.groups
-    is.closed f.calm (subst (λ (t : Table). IsSound t) (sym (put_table g index span k serial len is)) table) in
+    zeroth ∙ ap (λ (c : ℕ). slot_address (first_page g.index span) c k) (same ∙ sym vacant.of_class) ∙ sym p.at) in
+    let mid = page_heap_put g.arena g.map g.index index g.next_page g.meshes n k (Some (put_object g.index span serial len)) p.before p.paged p.occupied.spans p.occupied.groups
+    p.occupied.closed p.free.calm (subst (λ (t : Table). IsSound t) (sym (put_table g index span k serial len p.occupied)) p.table) in
     let open_ : IsOpen g.map addr (length {A = ℕ} (replicate len 0))
-    = subst (λ (l : ℕ). IsOpen g.map addr l) (sym zeros) (free_open g class span k addr len sound paged f at fits) in
+    = subst (λ (l : ℕ). IsOpen g.map addr l) (sym zeros) (free_open g class span k addr len p.before p.paged p.free p.at p.fits) in
     store_others (layout_of index) (stage_of (layout_of index) g.meshes) g.map g.arena arena n k 0 addr (put_object g.index span serial len) (replicate len 0)
-    (page_heap_orderly g.arena g.map index g.next_page g.meshes sound' mid) mid.laid_out (put_there g.index index class span k serial len f is)
-    (omega (arith, zeros)) start open_ saves m j o x slot (record {
-      filled = put_others g.index index class span k serial len f is m j slot live.filled;
+    (page_heap_orderly g.arena g.map index g.next_page g.meshes p.after mid) mid.laid_out (put_there g.index index class span k serial len p.free p.occupied)
+    (omega (arith, zeros)) start open_ p.saves m j o x slot (record {
+      filled = put_others g.index index class span k serial len p.free p.occupied m j slot live.filled;
       within = live.within;
       at = ap (λ (c : ℕ). slot_address slot.member c j + o) (alike.class m) ∙ live.at;
     }) (subst (λ (l : ℕ). (x < addr) ⊎ (addr + l ≤ x)) (sym zeros) outside)

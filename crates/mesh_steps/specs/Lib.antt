@@ -6,14 +6,13 @@ pub use Rattle.mesh_pagemap.specs.Entries
 pub use Rattle.mesh_spans.specs.Groups
 pub use Rattle.mesh_spans.specs.Index
 pub use Rattle.mesh_store.specs.Places
+pub use Rattle.mesh_running.specs.Phases
 pub mod Always
 pub mod Heap
 pub mod HeapMeshes
 pub mod Meshes
 pub mod PageHeap
-pub mod Phases
 pub mod StepOrders
-pub mod Running
 pub mod Steps
 pub mod Shown
 pub mod Sweeps

@@ -11,12 +11,10 @@ mod busy;
 mod growth;
 mod heap;
 mod page_heap;
-mod phase;
 mod running;
 mod step_order;
 mod steps;
 
 pub use answers::{Lead, NewFault, Ref, Report, StepDone, Stored};
 pub use heap::Heap;
-pub use phase::Phase;
-pub use running::Running;
+pub use mesh_running::{Phase, Running};

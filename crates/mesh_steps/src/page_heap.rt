@@ -20,9 +20,10 @@ mod sweep;
 
 use crate::answers::{NewFault, Occupied, Report};
 use crate::growth::{give_pages, map_pages, take_pages};
-use crate::running::{MAX_MESHES, Running};
+use crate::running::MAX_MESHES;
 use arrayvec::ArrayVec;
 use mesh_class::Class;
+use mesh_running::Running;
 use mesh_search::{ClassView, class_view};
 use mesh_spans::{Slot, Span, Spans};
 use mesh_store::Store;

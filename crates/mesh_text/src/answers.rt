@@ -98,7 +98,7 @@ pub fn add_bytes(text: &mut Vec<u8>, bytes: &[u8]) -> Result<(), AllocError>
 }
 
 /// The hexadecimal digit of a value below 16, in lower case.
-fn digit(value: u8) -> u8
+pub fn digit(value: u8) -> u8
     requires { value < 16 }
     ensures { result ≡ hex_digit value }
 {

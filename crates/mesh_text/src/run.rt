@@ -25,6 +25,7 @@ const CHUNK_BYTES: usize = 8192;
 ///
 /// Read comes where the input failed, and Text where what was read is no job file; nothing was written then. Memory comes where
 /// memory was refused, and Write where the output failed.
+#[tactic(auto, using(crate::proofs::PlayEnds::never_ok, crate::proofs::PlayEnds::not_write, crate::proofs::PlayEnds::is_memory))]
 pub fn replay<I: Source, O: Sink>(
     alloc: Global,
     input: &mut I,
@@ -39,28 +40,14 @@ pub fn replay<I: Source, O: Sink>(
     ensures write { result ≡ Err ReplayError.Write → O.has_failed output.new ≡ true }
 {
     let job = read_job(alloc, input)?;
-    play(alloc, &job, output)
-}
-
-/// Runs the plan of a job on a fresh heap, and writes its answer lines.
-#[tactic(auto, using(crate::proofs::PlayEnds::never_ok, crate::proofs::PlayEnds::not_write, crate::proofs::PlayEnds::is_memory))]
-fn play<O: Sink>(alloc: Global, job: &Job, output: &mut O) -> Result<(), ReplayError>
-    requires { O.has_failed output.old ≡ false }
-    ensures ok { OnOk result (O.has_failed output.new ≡ false) }
-    ensures whole { OnOk result (Appends (O.written output.old) (O.written output.new) (output_of job.now)) }
-    ensures fails { result ≡ Err ReplayError.Write → O.has_failed output.new ≡ true }
-    ensures beginning { result ≡ Err ReplayError.Write → AppendsBeginning (O.written output.old) (O.written output.new) (output_of job.now) }
-    ensures lines { result ≡ Err ReplayError.Memory → AppendsLines job.now (O.written output.old) (O.written output.new) }
-    ensures kinds { IfErr result (λ error. (error ≡ ReplayError.Write) ⊎ (error ≡ ReplayError.Memory)) }
-{
-    let mut turns = Turns::open(alloc, job)?;
+    let mut turns = Turns::open(alloc, &job)?;
     let mut text = Vec::new(alloc);
-    play_lines(alloc, job, &mut turns, &mut text, output)
+    play(alloc, &job, &mut turns, &mut text, output)
 }
 
 /// Runs the plan of a job whose workers are at their beginnings, and writes its answer lines, which are gathered in a text.
 #[tactic(auto, using(crate::proofs::PlayEnds::never_ok, crate::proofs::PlayEnds::not_write, crate::proofs::PlayEnds::is_memory))]
-fn play_lines<O: Sink>(
+fn play<O: Sink>(
     alloc: Global,
     job: &Job,
     turns: &mut Turns,

@@ -1,12 +1,14 @@
 mod AddressPlaces
 mod Apart
+pub mod BeginRefusals
 mod ClassMeshes
 mod CopiedBytes
 pub mod CountedPages
+pub mod FewMeshes
 pub mod FreedObjects
 pub mod GroupLists
 pub mod GroupPages
-mod HeldPages
+pub mod HeldPages
 pub mod Holders
 mod KeptRecords
 pub mod ListPlaces
@@ -35,4 +37,5 @@ pub mod TableChanges
 pub mod TiedMemories
 pub mod TiedNewObjects
 pub mod TiedTables
+pub mod UnitedSlots
 pub mod WholeMeshes

@@ -103,6 +103,16 @@ pub address_back : (address : ℕ) → address ≤ 268435455 → address_in (add
 address_back address most =
     rw (value_of_hex 7 address (omega (arith, most)), same_bytes (address_text address), le-leb address 268435455 most) refl
 
+-- a number that fits fewer digits is spelt in as many
+pub fewer_digits : (more n : ℕ) → n < 16 ^ suc more → hex_from (suc more) n ≡ hex_from more n
+fewer_digits zero n small =
+    let same : n % 16 ≡ n = omega (arith, small) in rw (le-leb (suc n) 16 (omega (arith, small)), same) refl
+fewer_digits (suc more) n small = elim (leb_tells (suc n) 16) [
+  | inl low ↦ rw low.0 refl
+  | inr high ↦
+      rw (high.0, fewer_digits more (n / 16) (div_below n 16 (16 ^ suc more) (omega arith) (omega (arith, small, pow-suc 16 (suc more))))) refl
+]
+
 -- the digits of an address are printable, and at most so many and one
 pub hex_within : (more n : ℕ) → AreWithin 33 126 (hex_from more n) × (1 ≤ length (hex_from more n)) × (length (hex_from more n) ≤ more + 1)
 hex_within zero n =

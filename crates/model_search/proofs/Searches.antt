@@ -122,19 +122,19 @@ abbrev weight : ℕ → Candidate → ℕ
 weight n group = cond (nat_eq group.number n) 1 0
 
 -- how many of the candidates have the number
-abbrev times : ℕ → List Candidate → ℕ
+abbrev pub times : ℕ → List Candidate → ℕ
 times n gs = times_in n (map (λ g. g.number) gs)
 
-times-append : (n : ℕ) (gs hs : List Candidate) → times n (gs ++ hs) ≡ times n gs + times n hs
+pub times-append : (n : ℕ) (gs hs : List Candidate) → times n (gs ++ hs) ≡ times n gs + times n hs
 times-append n [] hs = sym (zero-add (times n hs))
 times-append n (g ∷ gs) hs = let rest = times-append n gs hs in omega (arith, rest)
 
-times-split : (n k : ℕ) (gs : List Candidate) → times n (take k gs) + times n (drop k gs) ≡ times n gs
+pub times-split : (n k : ℕ) (gs : List Candidate) → times n (take k gs) + times n (drop k gs) ≡ times n gs
 times-split n zero gs = zero-add (times n gs)
 times-split n (suc k) [] = omega arith
 times-split n (suc k) (g ∷ gs) = let rest = times-split n k gs in omega (arith, rest)
 
-times-filter : (n : ℕ) (test : Candidate → Bool) (gs : List Candidate) → times n (filter test gs) ≤ times n gs
+pub times-filter : (n : ℕ) (test : Candidate → Bool) (gs : List Candidate) → times n (filter test gs) ≤ times n gs
 times-filter n test [] = omega arith
 times-filter n test (g ∷ gs) = elim (test g) as (λ b. times n (cond b (g ∷ filter test gs) (filter test gs)) ≤ times n (g ∷ gs)) [
   | true ↦ let rest = times-filter n test gs in omega (arith, rest)

@@ -7,7 +7,8 @@ use Rattle.std.proofs.Math.Nat.{mod-lt}
 use Rattle.model_search.specs.Search.{Candidate, first_word, picked, shuffle}
 use Rattle.model_heap.specs.Sound.{times_in}
 
-length-remove : {A : Type 0} (xs : List A) (n i : ℕ) → length xs ≡ suc n → i < length xs → length (remove xs i) ≡ n
+-- a list has one element less without one of them
+pub length-remove : {A : Type 0} (xs : List A) (n i : ℕ) → length xs ≡ suc n → i < length xs → length (remove xs i) ≡ n
 length-remove xs n i e h =
     let a = length-append (take i xs) (drop (suc i) xs) in
     let b = length-take i xs in

@@ -18,15 +18,44 @@ use std::rt::Clock;
 use std::sync::Wait;
 use std::thread::Threads;
 
-/// The script of these calls, one part after another.
-fn script_of(rt: &(impl Abort + AllocGlobal), parts: &[&[Call]]) -> Commands {
+/// A part of a script.
+#[derive(Clone, Copy)]
+enum Part {
+    Calls(&'static [Call]),
+    // Of each cell from the first up to the second, which has none, an object of this length.
+    Made(u8, u8, u32),
+    // The objects of these cells.
+    Freed(&'static [u8]),
+}
+
+/// The script of these parts, one after another.
+fn script_of(rt: &(impl Abort + AllocGlobal), parts: &[Part]) -> Commands {
     let mut script = Commands::new(rt.alloc());
     for part in parts {
-        for call in *part {
-            script.push(command_of(rt, *call)).expect(rt, "memory");
-        }
+        add_part(rt, &mut script, *part);
     }
     script
+}
+
+/// Adds the commands of a part.
+fn add_part(rt: &impl Abort, script: &mut Commands, part: Part) {
+    match part {
+        Part::Calls(calls) => {
+            for call in calls {
+                script.push(command_of(rt, *call)).expect(rt, "memory");
+            }
+        }
+        Part::Made(first, end, len) => {
+            for cell in first..end {
+                script.push(Command::New(cell, len, 0)).expect(rt, "memory");
+            }
+        }
+        Part::Freed(cells) => {
+            for cell in cells {
+                script.push(Command::Free(*cell)).expect(rt, "memory");
+            }
+        }
+    }
 }
 
 /// One script, as a run takes it.
@@ -60,13 +89,19 @@ fn plan_of(rt: &impl AllocGlobal, rounds: u32, workers: u32, meshers: u32) -> Me
 /// A run of one script or two, and how it goes.
 struct Course {
     // Each script in its parts.
-    first: &'static [&'static [Call]],
-    second: Option<&'static [&'static [Call]]>,
+    first: &'static [Part],
+    second: Option<&'static [Part]>,
     // What all has to be.
     events: &'static [Event],
     holds: &'static [Hold],
     // The first of two events wants the second to have been.
     orders: &'static [(Event, Event)],
+    scale: Scale,
+}
+
+/// How much a run has of what.
+#[derive(Clone, Copy)]
+struct Scale {
     // How many entries the journal has room for.
     room: u32,
     // The plan: rounds, searchers, 1 to 16, and meshers, 1 to 10.
@@ -74,6 +109,14 @@ struct Course {
     searchers: u32,
     meshers: u32,
 }
+
+/// Two rounds of one mesher, which searches alone.
+const USUAL: Scale = Scale {
+    room: 64,
+    rounds: 2,
+    searchers: 1,
+    meshers: 1,
+};
 
 /// How often a worker tries where meshers are abandoned.
 const TRIES: u32 = 10;
@@ -89,18 +132,23 @@ fn ran<R: Abort + AllocGlobal + Clock + Threads + Wait + Sync>(
     requires few { length scripts.now ≤ 64 }
     requires range { All (λ script. All IsInRange script.now) scripts.now }
 {
-    let (searchers, meshers) = (course.searchers, course.meshers);
+    let Scale {
+        room,
+        rounds,
+        searchers,
+        meshers,
+    } = course.scale;
     assert!(rt; 1 <= searchers && searchers <= 16, "{searchers} searchers");
     assert!(rt; 1 <= meshers && meshers <= 10, "{meshers} meshers");
-    assert!(rt; course.room <= 65_536, "room for {}", course.room);
+    assert!(rt; room <= 65_536, "room for {room}");
     let alloc = rt.alloc();
     let mut marks = Vec::new(alloc);
     for event in course.events {
         marks.push(Mark::of(*event)).expect(rt, "memory");
     }
     let gate = Holding::new(rt, marks.as_slice(), course.holds, course.orders);
-    let book = Book::open(alloc, 16, course.room).expect(rt, "memory");
-    let plan = plan_of(rt, course.rounds, searchers, meshers);
+    let book = Book::open(alloc, 16, room).expect(rt, "memory");
+    let plan = plan_of(rt, rounds, searchers, meshers);
     let ended = match calls {
         None => run_threads(rt, alloc, book, scripts, &plan, &gate),
         Some(calls) => run_abandoned(rt, alloc, book, scripts, &plan, calls, TRIES, &gate),
@@ -182,8 +230,8 @@ const WRITER: &[Call] = &[Call::Get(9, 0, 1), Call::Put(2, 0, &[0xcd])];
 
 /// A reader, who makes the groups before, reads while the second object is copied, and a writer stores only once that is remapped.
 static READ_IN_A_COPY: Course = Course {
-    first: &[GROUPS, READS],
-    second: Some(&[WRITER]),
+    first: &[Part::Calls(GROUPS), Part::Calls(READS)],
+    second: Some(&[Part::Calls(WRITER)]),
     events: &[
         Event::Called(0, 5),
         Event::Called(0, 6),
@@ -211,10 +259,7 @@ static READ_IN_A_COPY: Course = Course {
         ),
     ],
     orders: &[(Event::Called(1, 1), Event::Stepped(0, StepKind::Remap))],
-    room: 64,
-    rounds: 2,
-    searchers: 1,
-    meshers: 1,
+    scale: USUAL,
 };
 
 #[test]
@@ -235,7 +280,7 @@ const FOUR_CALLS: &[Call] = &[
 
 /// Two searchers are at work between the first call and the third.
 static SEARCH_BESIDE: Course = Course {
-    first: &[FOUR_CALLS],
+    first: &[Part::Calls(FOUR_CALLS)],
     second: None,
     events: &[Event::Searching, Event::Called(0, 2)],
     holds: &[
@@ -243,10 +288,12 @@ static SEARCH_BESIDE: Course = Course {
         Hold(Event::Searching, &[Event::Called(0, 2)], 0),
     ],
     orders: &[],
-    room: 8,
-    rounds: 1,
-    searchers: 2,
-    meshers: 1,
+    scale: Scale {
+        room: 8,
+        rounds: 1,
+        searchers: 2,
+        meshers: 1,
+    },
 };
 
 #[test]
@@ -255,12 +302,9 @@ fn a_search_runs_beside_a_script(rt: HostRuntime) {
     assert_eq!(rt; ended.history.len(), 4);
 }
 
-/// Three objects of half a page.
-static HALF_PAGES: [Call; 3] = [Call::New(0, 2048), Call::New(1, 2048), Call::New(2, 2048)];
-
 #[test]
 fn a_book_of_one_page_has_no_second(rt: HostRuntime) -> Result<(), AllocError> {
-    let script = script_of(&rt, &[&HALF_PAGES]);
+    let script = script_of(&rt, &[Part::Made(0, 3, 2048)]);
     let alloc = rt.alloc();
     let book = Book::open(alloc, 1, 3)?;
     let plan = plan_of(&rt, 1, 1, 1);
@@ -279,18 +323,20 @@ const ONE_READ: &[Call] = &[Call::Get(9, 0, 1)];
 
 /// Each of two reads waits for the other one.
 static TWO_READS: Course = Course {
-    first: &[ONE_READ],
-    second: Some(&[ONE_READ]),
+    first: &[Part::Calls(ONE_READ)],
+    second: Some(&[Part::Calls(ONE_READ)]),
     events: &[Event::Reading(0, 0), Event::Reading(1, 0)],
     holds: &[
         Hold(Event::Reading(0, 0), &[Event::Reading(1, 0)], 0),
         Hold(Event::Reading(1, 0), &[Event::Reading(0, 0)], 0),
     ],
     orders: &[],
-    room: 8,
-    rounds: 0,
-    searchers: 1,
-    meshers: 1,
+    scale: Scale {
+        room: 8,
+        rounds: 0,
+        searchers: 1,
+        meshers: 1,
+    },
 };
 
 #[test]
@@ -299,43 +345,16 @@ fn two_scripts_read_at_once(rt: HostRuntime) {
     assert_eq!(rt; ended.history.len(), 2);
 }
 
-/// Two groups of class 512 that can be meshed, each with one object.
-const SMALL_GROUPS: &[Call] = &[
-    Call::New(4, 512),
-    Call::New(5, 512),
-    Call::New(6, 512),
-    Call::New(7, 512),
-    Call::New(8, 512),
-    Call::New(9, 512),
-    Call::New(10, 512),
-    Call::New(11, 512),
-    Call::New(12, 512),
-    Call::New(13, 512),
-    Call::New(14, 512),
-    Call::New(15, 512),
-    Call::New(16, 512),
-    Call::New(17, 512),
-    Call::New(18, 512),
-    Call::New(19, 512),
-    Call::Free(4),
-    Call::Free(5),
-    Call::Free(6),
-    Call::Free(7),
-    Call::Free(8),
-    Call::Free(9),
-    Call::Free(10),
-    Call::Free(13),
-    Call::Free(14),
-    Call::Free(15),
-    Call::Free(16),
-    Call::Free(17),
-    Call::Free(18),
-    Call::Free(19),
-];
+/// Of sixteen objects of class 512 from cell 4 on all but two: those are the objects of two groups that can be meshed.
+const OF_SMALL_GROUPS: &[u8] = &[4, 5, 6, 7, 8, 9, 10, 13, 14, 15, 16, 17, 18, 19];
 
 /// Each of two copies waits for the other one.
 static TWO_COPIES: Course = Course {
-    first: &[GROUPS, SMALL_GROUPS],
+    first: &[
+        Part::Calls(GROUPS),
+        Part::Made(4, 20, 512),
+        Part::Freed(OF_SMALL_GROUPS),
+    ],
     second: None,
     events: &[
         Event::Called(0, 35),
@@ -356,10 +375,12 @@ static TWO_COPIES: Course = Course {
         ),
     ],
     orders: &[],
-    room: 64,
-    rounds: 2,
-    searchers: 1,
-    meshers: 2,
+    scale: Scale {
+        room: 64,
+        rounds: 2,
+        searchers: 1,
+        meshers: 2,
+    },
 };
 
 #[test]
@@ -374,38 +395,16 @@ fn two_meshers_copy_at_once(rt: HostRuntime) {
 }
 
 /// Six groups with one object each, three of them in each of the two slots.
-const SIX_GROUPS: &[Call] = &[
-    Call::New(0, 2048),
-    Call::New(1, 2048),
-    Call::New(2, 2048),
-    Call::New(3, 2048),
-    Call::New(4, 2048),
-    Call::New(5, 2048),
-    Call::New(6, 2048),
-    Call::New(7, 2048),
-    Call::New(8, 2048),
-    Call::New(9, 2048),
-    Call::New(10, 2048),
-    Call::New(11, 2048),
-    Call::Free(1),
-    Call::Free(3),
-    Call::Free(5),
-    Call::Free(6),
-    Call::Free(8),
-    Call::Free(10),
-];
+const SIX_GROUPS: &[Part] = &[Part::Made(0, 12, 2048), Part::Freed(&[1, 3, 5, 6, 8, 10])];
 
 /// The search waits for the last command.
 static SEARCH_BEHIND: Course = Course {
-    first: &[SIX_GROUPS],
+    first: SIX_GROUPS,
     second: None,
     events: &[Event::Called(0, 17)],
     holds: &[Hold(Event::Searching, &[Event::Called(0, 17)], 0)],
     orders: &[],
-    room: 64,
-    rounds: 2,
-    searchers: 1,
-    meshers: 1,
+    scale: USUAL,
 };
 
 #[test]
@@ -423,7 +422,7 @@ fn every_pair_is_meshed(rt: HostRuntime) {
 
 /// The search waits for the stores, and the reads wait for the mesh.
 static MESH_AMID: Course = Course {
-    first: &[GROUPS, STORES, READS],
+    first: &[Part::Calls(GROUPS), Part::Calls(STORES), Part::Calls(READS)],
     second: None,
     events: &[Event::Called(0, 7), Event::Begun(0)],
     holds: &[
@@ -431,23 +430,17 @@ static MESH_AMID: Course = Course {
         Hold(Event::Called(0, 7), &[Event::Begun(0)], 0),
     ],
     orders: &[],
-    room: 64,
-    rounds: 2,
-    searchers: 1,
-    meshers: 1,
+    scale: USUAL,
 };
 
 /// The same of a mesher that makes no call, and so begins no mesh that one could wait for.
 static NO_MESH: Course = Course {
-    first: &[GROUPS, STORES, READS],
+    first: &[Part::Calls(GROUPS), Part::Calls(STORES), Part::Calls(READS)],
     second: None,
     events: &[Event::Called(0, 7)],
     holds: &[Hold(Event::Searching, &[Event::Called(0, 7)], 0)],
     orders: &[],
-    room: 64,
-    rounds: 2,
-    searchers: 1,
-    meshers: 1,
+    scale: USUAL,
 };
 
 #[test]
@@ -477,8 +470,8 @@ fn a_mesher_is_abandoned_after_each_call(rt: HostRuntime) {
 
 /// A writer stores only once the page is read-only.
 static STORE_HELD_BACK: Course = Course {
-    first: &[GROUPS, READS],
-    second: Some(&[WRITER]),
+    first: &[Part::Calls(GROUPS), Part::Calls(READS)],
+    second: Some(&[Part::Calls(WRITER)]),
     events: &[
         Event::Called(0, 5),
         Event::Begun(0),
@@ -494,10 +487,7 @@ static STORE_HELD_BACK: Course = Course {
         ),
     ],
     orders: &[],
-    room: 64,
-    rounds: 2,
-    searchers: 1,
-    meshers: 1,
+    scale: USUAL,
 };
 
 #[test]

@@ -10,10 +10,10 @@ ghost use Rattle.mesh_steps.specs.Shown.{home_at, lead_at, member_at, object_at,
 
 use super::PageHeap;
 use crate::Lead;
-use crate::phase::Phase;
-use crate::running::{Running, mesh_of};
+use crate::running::mesh_of;
 use crate::step_order::StepOrder;
 use mesh_pagemap::Prot;
+use mesh_running::{Phase, Running};
 use mesh_spans::{Slot, Span, Spans};
 
 impl PageHeap {

@@ -1,6 +1,7 @@
 use Rattle.std.proofs.Common.{rules, ◌≡◌, ◌≤◌, ℕ, List, length, take, subst, arith}
 use Rattle.std.proofs.lemmas.List.{length-take-le}
-use Rattle.mesh_live.specs.Runs.{HasTaken, IsKept}
+use Rattle.mesh_fields.specs.KeptLines.{IsKept}
+use Rattle.mesh_live.specs.Runs.{HasTaken}
 use Rattle.mesh_live.proofs.Runs.{read_end, read_more}
 use Rattle.mesh_live.proofs.Stops.{fed_stopped, on_error, read_stopped}
 use Rattle.mesh_live.proofs.run.feed.Goals as goal

@@ -3,7 +3,8 @@ use Rattle.std.proofs.lemmas.Bool.{ne_eqb}
 use Rattle.std.specs.Io.KnownBytes.{Appends}
 use Rattle.model_jobs.specs.Texts.{ended}
 use Rattle.mesh_live.specs.Answers.{told}
-use Rattle.mesh_live.specs.Runs.{HasTaken, IsKept, is_end}
+use Rattle.mesh_fields.specs.KeptLines.{IsKept}
+use Rattle.mesh_live.specs.Runs.{HasTaken, is_end}
 use Rattle.mesh_live.specs.Sessions.{sizes_of, state_of}
 use Rattle.mesh_live.proofs.Runs.{byte_taken, end_taken, keep_none, keep_one, line_taken, nothing_written}
 use Rattle.mesh_text.specs.Transfer.{AppendsBeginning}

@@ -1,6 +1,7 @@
 use Rattle.std.proofs.Common.{◌∙◌, ap, append_assoc, ◌≡◌, ◌+◌, ℕ, List, [], ◌∷◌, ◌++◌, true, false, drop, slice_index, take, take-append-drop, subst, sym}
 use Rattle.std.proofs.lemmas.List.{take_all, take_more}
-use Rattle.mesh_live.specs.Runs.{HasTaken, IsKept}
+use Rattle.mesh_fields.specs.KeptLines.{IsKept}
+use Rattle.mesh_live.specs.Runs.{HasTaken}
 use Rattle.mesh_live.proofs.Runs.{nothing_taken, nothing_written, taken_more, taken_over}
 use Rattle.mesh_live.proofs.Stops.{bytes_stopped, on_error}
 use Rattle.mesh_live.proofs.run.take_bytes.Goals as goal

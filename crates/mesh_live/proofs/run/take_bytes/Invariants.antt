@@ -1,5 +1,6 @@
 use Rattle.std.proofs.Common.{◌≡◌, ℕ, false, List, take}
-use Rattle.mesh_live.specs.Runs.{HasTaken, IsKept}
+use Rattle.mesh_fields.specs.KeptLines.{IsKept}
+use Rattle.mesh_live.specs.Runs.{HasTaken}
 use Rattle.mesh_live.specs.Sessions.{IsSession}
 use Rattle.mesh_live.proofs.run.take_bytes.Given as goal
 

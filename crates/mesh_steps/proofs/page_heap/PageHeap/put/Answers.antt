@@ -4,8 +4,9 @@ use Rattle.model_heap.specs.Sound.{IsSound}
 use Rattle.mesh_spans.specs.Index.{span_at}
 use Rattle.mesh_steps.specs.PageHeap.{IsFreeSlot, PageHeap, group_number, table_with_object}
 use Rattle.mesh_steps.proofs.Insides.{seen_of}
-use Rattle.mesh_steps.proofs.Slots.{free_covered, free_open, put_keeps, put_paged, put_saved}
+use Rattle.mesh_steps.proofs.Slots.{IsPut, free_covered, free_open, put_keeps, put_paged, put_saved}
 use Rattle.mesh_steps.proofs.page_heap.PageHeap.put.Goals as goal
+use Rattle.mesh_steps.proofs.page_heap.PageHeap.put.Goals.{After-sound-2}
 
 -- a slot that is free in what is seen of a page heap is free inside
 free_inside : (seen inside : PageHeap) (span k : ℕ) → inside ≡ seen → IsFreeSlot seen.index (span_at seen.index.spans span).class span k
@@ -31,28 +32,28 @@ clear-requires-clause-writable c =
     (free_inside _ _ c.args.span c.args.slot c.self.view_is c.requires.free) c.address-addr.ensures.value
     (fits_inside _ _ c.args.span c.args.len c.self.view_is c.requires.fits)
 
+-- what was put
+stands : (c : After-sound-2) → IsPut (seen_of c.self.inside) c.clear.new.store.arena c.occupy.new.self (span_at c.self.inside.spans.spans c.args.span).class c.args.span
+    c.args.slot c.args.serial c.args.len c.address-addr.result
+stands c = record {
+  before = c.sound.ensures;
+  after = c.sound-2.ensures;
+  paged = c.self.invariant;
+  free = free_inside _ _ c.args.span c.args.slot c.self.view_is c.requires.free;
+  at = c.address-addr.ensures.value;
+  fits = fits_inside _ _ c.args.span c.args.len c.self.view_is c.requires.fits;
+  occupied = record { spans = c.occupy.ensures.spans; groups = c.occupy.ensures.groups; table = c.occupy.ensures.table; closed = c.occupy.ensures.closed };
+  table = subst (λ (g : PageHeap). IsSound (table_with_object g c.args.span c.args.slot c.args.serial c.args.len)) (sym c.self.view_is) c.requires.sound;
+  saves = c.clear.ensures.saves;
+}
+
 pub invariant_of-self : goal.invariant_of-self
-invariant_of-self c =
-    rw c.clear.ensures.map (put_paged (seen_of c.self.inside) c.clear.new.store.arena c.occupy.new.self (span_at c.self.inside.spans.spans c.args.span).class c.args.span c.args.slot c.args.serial c.args.len
-    c.address-addr.result c.sound.ensures c.sound-2.ensures c.self.invariant
-    (free_inside _ _ c.args.span c.args.slot c.self.view_is c.requires.free) c.address-addr.ensures.value
-    (fits_inside _ _ c.args.span c.args.len c.self.view_is c.requires.fits)
-    (record { spans = c.occupy.ensures.spans; groups = c.occupy.ensures.groups; table = c.occupy.ensures.table; closed = c.occupy.ensures.closed })
-    (subst (λ (g : PageHeap). IsSound (table_with_object g c.args.span c.args.slot c.args.serial c.args.len)) (sym c.self.view_is) c.requires.sound)
-    c.clear.ensures.saves)
+invariant_of-self c = rw c.clear.ensures.map (put_paged _ _ _ _ _ _ _ _ _ (stands (goal.at.invariant_of-self c).After-sound-2))
 
 pub returns-clause-table : goal.returns-clause-table
 returns-clause-table c =
     rw (← c.self.view_is) (put_saved (seen_of c.self.inside) c.clear.new.store.arena c.occupy.new.self c.args.span c.args.slot c.args.serial c.args.len
-    (record { spans = c.occupy.ensures.spans; groups = c.occupy.ensures.groups; table = c.occupy.ensures.table; closed = c.occupy.ensures.closed })
-    c.clear.ensures.saves.same_free)
+    (stands (goal.at.returns-clause-table c).After-sound-2).occupied c.clear.ensures.saves.same_free)
 
 pub returns-clause-others : goal.returns-clause-others
-returns-clause-others c =
-    rw (← c.self.view_is, c.clear.ensures.map) (put_keeps (seen_of c.self.inside) c.clear.new.store.arena c.occupy.new.self (span_at c.self.inside.spans.spans c.args.span).class c.args.span c.args.slot c.args.serial c.args.len
-    c.address-addr.result c.sound.ensures c.sound-2.ensures c.self.invariant
-    (free_inside _ _ c.args.span c.args.slot c.self.view_is c.requires.free) c.address-addr.ensures.value
-    (fits_inside _ _ c.args.span c.args.len c.self.view_is c.requires.fits)
-    (record { spans = c.occupy.ensures.spans; groups = c.occupy.ensures.groups; table = c.occupy.ensures.table; closed = c.occupy.ensures.closed })
-    (subst (λ (g : PageHeap). IsSound (table_with_object g c.args.span c.args.slot c.args.serial c.args.len)) (sym c.self.view_is) c.requires.sound)
-    c.clear.ensures.saves)
+returns-clause-others c = rw (← c.self.view_is, c.clear.ensures.map) (put_keeps _ _ _ _ _ _ _ _ _ (stands (goal.at.returns-clause-others c).After-sound-2))

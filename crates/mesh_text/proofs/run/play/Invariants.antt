@@ -1,6 +1,6 @@
 use Rattle.std.proofs.Common.{◌≡◌, false, length, vec_len}
 use Rattle.mesh_text.specs.Turns.{HasGathered, IsAt, state_up_to}
-use Rattle.mesh_text.proofs.run.play_lines.Given as goal
+use Rattle.mesh_text.proofs.run.play.Given as goal
 
 abbrev pub invariant-loop-line : goal.invariant-loop-line
 invariant-loop-line g l = record {

@@ -11,8 +11,8 @@ use Rattle.mesh_text.specs.Turns.{state_up_to}
 use Rattle.mesh_text.proofs.AnswerLines.{all_written, line_gathered, output_written, part_written}
 use Rattle.mesh_text.proofs.PlanLines.{all_lines, line_fits}
 use Rattle.mesh_text.proofs.PlayEnds.{gathered_none, is_write, last_fails, last_kind, last_not_memory, last_ok, not_memory}
-use Rattle.mesh_text.proofs.run.play_lines.Goals as goal
-use Rattle.mesh_text.proofs.run.play_lines.Goals.{then-len-ge-CHUNK_BYTES+in_ok-write_lines, else-len-ge-CHUNK_BYTES}
+use Rattle.mesh_text.proofs.run.play.Goals as goal
+use Rattle.mesh_text.proofs.run.play.Goals.{then-len-ge-CHUNK_BYTES+in_ok-write_lines, else-len-ge-CHUNK_BYTES}
 
 pub answer-requires-clause-fits : goal.answer-requires-clause-fits
 answer-requires-clause-fits g c =

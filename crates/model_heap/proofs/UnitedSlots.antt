@@ -1,4 +1,4 @@
--- Slots of two groups joined one by one.
+-- Slots of two groups joined.
 use Rattle.std.proofs.Common.{◌≡◌, ℕ, zero, suc, ◌<◌, ◌≤◌, List, [], ◌∷◌, Option, Some, None, length, slice_index_or, refl, sym, ◌∙◌, arith}
 use Rattle.std.proofs.lemmas.List.{ext_get_or}
 use Rattle.model_heap.specs.Mesh.{either_slot, united}
@@ -15,7 +15,7 @@ none_right None = refl
 none_right (Some y) = refl
 
 -- the slot of both groups
-united_slot : (xs ys : List (Option Slot)) (k : ℕ) → slice_index_or (united xs ys) k None ≡ either_slot (slice_index_or xs k None) (slice_index_or ys k None)
+pub united_slot : (xs ys : List (Option Slot)) (k : ℕ) → slice_index_or (united xs ys) k None ≡ either_slot (slice_index_or xs k None) (slice_index_or ys k None)
 united_slot [] ys k = refl
 united_slot (x ∷ xs) [] zero = none_right x
 united_slot (x ∷ xs) [] (suc k) = none_right (slice_index_or xs k None)

@@ -1,0 +1,49 @@
+use Rattle.std.proofs.Common.{◌≡◌, ◌≤◌, ◌-◌, ◌∙◌, ap, arith, drop, false, get_or, length, refl, subst, sym, take, ℕ, List, [], ◌∷◌, Bor, Ok, Result}
+use Rattle.std.proofs.lemmas.List.{take_all}
+use Rattle.std.specs.List.{list_any}
+use Rattle.std.specs.Prelude.{IfErr, OnOk}
+use Rattle.model_jobs.specs.JobFiles.{Draft as PlainDraft, is_empty, take_fields, take_in}
+use Rattle.model_words.specs.declared.faults.FaultKind.{FaultKind}
+use Rattle.mesh_fields.specs.Lines.{texts}
+use Rattle.mesh_job.specs.Draft.{draft_of, section_of}
+use Rattle.mesh_job.specs.Reading.{IsFaultOfStep}
+use Rattle.mesh_job.specs.declared.draft.Draft.{Draft}
+use Rattle.mesh_job.specs.declared.draft.Section.{Section}
+use Rattle.mesh_job.proofs.draft.Draft.take.Goals as goal
+
+-- filled fields are taken in the draft's section, the first as the line's word
+taken : (d : Draft) (all : List (Bor (List ℕ))) (other : Bor (List ℕ)) (section : Section) → 1 ≤ length all → list_any is_empty (texts all) ≡ false
+    → d.section ≡ section
+    → take_fields (draft_of d) (texts all) ≡ take_in (section_of section) (draft_of d) (get_or all 0 other).now (texts (take (length all - 1) (drop 1 all)))
+taken d [] other section some filled is = absurd (omega (arith, some))
+taken d (word ∷ rest) other section some filled is =
+    let count : length (word ∷ rest) - 1 ≡ length rest = omega arith in
+    let later : take (length (word ∷ rest) - 1) rest ≡ rest = take_all (length (word ∷ rest) - 1) rest (omega (arith, count)) in
+    rw (later, filled) (ap (λ (s : Section). take_in (section_of s) (draft_of d) word.now (texts rest)) is)
+
+pub returns-in-Worker-clause-ok : goal.returns-in-Worker-clause-ok
+returns-in-Worker-clause-ok c =
+    let is = taken c.args.self.now c.args.fields.now _ _ c.in-len1-up.len_at_least c.requires.filled c.in-Worker.is in
+    subst (λ (read : Result PlainDraft FaultKind). OnOk c.take_in_script.result (read ≡ Ok (draft_of c.take_in_script.new.self))) (sym is) c.take_in_script.ensures.ok
+
+pub returns-in-Worker-clause-err : goal.returns-in-Worker-clause-err
+returns-in-Worker-clause-err c =
+    let is = taken c.args.self.now c.args.fields.now _ _ c.in-len1-up.len_at_least c.requires.filled c.in-Worker.is in
+    subst (λ (read : Result PlainDraft FaultKind). IfErr c.take_in_script.result (IsFaultOfStep read)) (sym is) c.take_in_script.ensures.err
+
+pub returns-in-Plan-clause-ok : goal.returns-in-Plan-clause-ok
+returns-in-Plan-clause-ok c =
+    let is = taken c.args.self.now c.args.fields.now _ _ c.in-len1-up.len_at_least c.requires.filled c.in-Plan.is in
+    subst (λ (read : Result PlainDraft FaultKind). OnOk c.take_in_plan.result (read ≡ Ok (draft_of c.take_in_plan.new.self))) (sym is) c.take_in_plan.ensures.ok
+
+pub returns-in-Plan-clause-err : goal.returns-in-Plan-clause-err
+returns-in-Plan-clause-err c =
+    let is = taken c.args.self.now c.args.fields.now _ _ c.in-len1-up.len_at_least c.requires.filled c.in-Plan.is in
+    subst (λ (read : Result PlainDraft FaultKind). IfErr c.take_in_plan.result (IsFaultOfStep read)) (sym is) c.take_in_plan.ensures.err
+
+pub returns-in_ok-take_header-in_default-section : goal.returns-in_ok-take_header-in_default-section
+returns-in_ok-take_header-in_default-section c = record {
+  draft = c.in_ok-take_header-in_default-section.ensures.draft;
+  ok = taken c.args.self.now c.args.fields.now _ _ c.in-len1-up.len_at_least c.requires.filled refl ∙ c.in_ok-take_header-in_default-section.ensures.ok;
+  err = tt;
+}

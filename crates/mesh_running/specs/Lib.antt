@@ -1,0 +1,4 @@
+pub use Rattle.model_heap.specs.Mesh
+pub use Rattle.model_heap.specs.Table
+pub mod Phases
+pub mod Running

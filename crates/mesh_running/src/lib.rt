@@ -1,0 +1,10 @@
+//! A running mesh: its two groups, and how far it has come.
+//!
+//! The heap keeps a list of them, and so does the table as a program. A contract sees a running mesh as that of the definitions.
+#![tactic(auto)]
+
+mod phase;
+mod running;
+
+pub use phase::Phase;
+pub use running::Running;
