@@ -71,6 +71,11 @@ pub asked_of_file : (name : Text) (found : Found) (file : Option Text) → file 
     → option_and_then (asked_of name (rows_of found)) file ≡ option_and_then (asked_of name (rows_of found)) (first_of (codes "FILE") (rows_of found))
 asked_of_file name found file is = ap (option_and_then (asked_of name (rows_of found))) (is ∙ first_value-rows found (codes "FILE"))
 
+-- where the command's name is a known one
+pub asked_of_known : (name known : Text) (found : Found) (file : Text) → name ≡ known → Some file ≡ first_value found (codes "FILE")
+    → asked_of known (rows_of found) file ≡ option_and_then (asked_of name (rows_of found)) (first_of (codes "FILE") (rows_of found))
+asked_of_known name known found file is has = sym (ap (λ text. asked_of text (rows_of found) file) is) ∙ asked_of_file name found (Some file) has
+
 -- `meshrun replay hello.job` is a command line of the program, and asks a replay of `hello.job` that prints the answers
 abbrev hello : List Text
 hello = codes "meshrun" ∷ codes "replay" ∷ codes "hello.job" ∷ []

@@ -2,7 +2,8 @@
 use Rattle.std.specs.Prelude.{◌≡◌, ℕ, Bool, true, List, codes}
 use Rattle.mesh_outcomes.specs.declared.errors.ExploreError.{ExploreError}
 use Rattle.mesh_outcomes.specs.declared.errors.ExploreError.TheVariants.{Read, Write, Text, Memory, TooManyStates, NoOutcome}
-use Rattle.mesh_run.specs.Runs.{fault_text}
+use Rattle.mesh_run.specs.Runs.{EndsBy, Unsaid, fault_text}
+use Rattle.mesh_run.specs.Seen.{Seen}
 
 -- an error's line, without its end
 abbrev pub explore_text : ExploreError → List ℕ
@@ -30,3 +31,8 @@ HasFailedExplore input output Memory = Unit {0}
 HasFailedExplore input output TooManyStates = Unit {0}
 HasFailedExplore input output NoOutcome = Unit {0}
 HasFailedExplore input output (Text fault) = Unit {0}
+
+-- an exploration ends, of which nothing is said that was read and written
+abbrev pub EndsExplore : Seen → Seen → ℕ → Type 0
+EndsExplore before after status =
+    EndsBy explore_status explore_text HasFailedExplore Unsaid (λ left left' written written' error. Unit {0}) before after status

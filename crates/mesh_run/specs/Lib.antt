@@ -6,7 +6,9 @@ pub mod Explores
 pub mod LiveArgs
 pub mod LiveSizes
 pub mod Meshes
+pub mod Printed
 pub mod Runs
+pub mod Seen
 pub mod Status
 pub mod StatusLaws
 pub mod Threads

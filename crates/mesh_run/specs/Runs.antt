@@ -1,9 +1,10 @@
--- What a run tells a person, and which device has failed where a replay stops.
-use Rattle.std.specs.Prelude.{◌≡◌, ℕ, Bool, true, false, List, ◌++◌, Option, codes}
-use Rattle.std.specs.Io.KnownBytes.{Appends}
+-- What a run tells a person, and how it ends.
+use Rattle.std.specs.Prelude.{◌≡◌, ◌<◌, ◌≤◌, ℕ, Bool, true, false, List, ◌++◌, Option, codes}
+use Rattle.std.specs.Io.KnownBytes.{Appends, Keeps}
 use Rattle.model_words.specs.Faults.{kind_name_of}
 use Rattle.model_jobs.specs.Texts.{ended, number_field}
 use Rattle.model_words.specs.declared.faults.TextFault.{TextFault}
+use Rattle.mesh_run.specs.Seen.{Seen}
 use Rattle.mesh_run.specs.Status.{status_of_error}
 use Rattle.mesh_text.specs.Transfer.{AppendsBeginning}
 use Rattle.mesh_text.specs.declared.faults.ReplayError.{ReplayError}
@@ -32,8 +33,43 @@ HasFailed input output Write = output ≡ true
 HasFailed input output Memory = Unit {0}
 HasFailed input output (Text fault) = Unit {0}
 
--- a run stopped with this status: it is that of an error, of which this is known, whose device has failed, and whose line was told
-abbrev pub IsStopped : (ReplayError → Type 0) → Bool → Bool → Bool → Option (List ℕ) → Option (List ℕ) → ℕ → Type 0
-IsStopped known input output errors told told' status =
-    (error : ReplayError) × (status ≡ status_of_error error) × known error × HasFailed input output error
-    × HasTold errors told told' (ended (error_text error))
+-- neither the input nor the output has failed
+pub record IsSound (seen : Seen) : Type 0 where
+  pub input : seen.input_failed ≡ false
+  pub output : seen.output_failed ≡ false
+
+-- what was read and written, by what the input had left before and has left now, and what the output had taken before and has taken now
+abbrev pub Moves : Type 1
+Moves = Option (List ℕ) → Option (List ℕ) → Option (List ℕ) → Option (List ℕ) → Type 0
+
+-- the same by the error that a run stopped for
+abbrev pub MovesBy : Type 0 → Type 1
+MovesBy Error = Option (List ℕ) → Option (List ℕ) → Option (List ℕ) → Option (List ℕ) → Error → Type 0
+
+-- a run that did what it was to do: this was read and written, no device failed, and nothing was told
+pub record IsDone (Does : Moves) (before after : Seen) : Type 0 where
+  pub done : Does before.left after.left before.written after.written
+  pub sound : IsSound after
+  pub untold : Keeps before.told after.told
+
+-- a run that stopped for an error: this is known of what was read and written, the device that the error tells of has failed, and its line was told
+pub record IsStoppedFor {Error : Type 0} (text_of : Error → List ℕ) (Fails : Bool → Bool → Error → Type 0) (Stops : MovesBy Error) (before after : Seen)
+    (error : Error) : Type 0 where
+  pub known : Stops before.left after.left before.written after.written error
+  pub failed : Fails after.input_failed after.output_failed error
+  pub told : HasTold after.errors_failed before.told after.told (ended (text_of error))
+
+-- a run ends: with status 0 it did what it was to do, and with another one it stopped for an error of that status
+pub record EndsBy {Error : Type 0} (status_of : Error → ℕ) (text_of : Error → List ℕ) (Fails : Bool → Bool → Error → Type 0) (Does : Moves)
+    (Stops : MovesBy Error) (before after : Seen) (status : ℕ) : Type 0 where
+  pub done : status ≡ 0 → IsDone Does before after
+  pub stopped : 0 < status → (error : Error) × (status ≡ status_of error) × IsStoppedFor text_of Fails Stops before after error
+  pub small : status ≤ 2
+
+-- so ends a run that stops for what stops a replay
+abbrev pub Ends : Moves → MovesBy ReplayError → Seen → Seen → ℕ → Type 0
+Ends Does Stops before after status = EndsBy status_of_error error_text HasFailed Does Stops before after status
+
+-- nothing is said of what was read and written
+abbrev pub Unsaid : Moves
+Unsaid left left' written written' = Unit {0}

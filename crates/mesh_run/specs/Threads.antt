@@ -8,7 +8,8 @@ use Rattle.model_memory.specs.Plain.{Entry}
 use Rattle.model_heap.specs.Table.{empty_table}
 use Rattle.model_words.specs.declared.commands.Command.{Command}
 use Rattle.mesh_mutator.specs.Book.{Book, memory_of_book, table_of_book}
-use Rattle.mesh_run.specs.Runs.{HasFailed, error_text}
+use Rattle.mesh_run.specs.Runs.{EndsBy, HasFailed, error_text}
+use Rattle.mesh_run.specs.Seen.{Seen}
 use Rattle.mesh_run.specs.Status.{status_of_error}
 use Rattle.mesh_run.specs.declared.printed.Printed.{Printed}
 use Rattle.mesh_run.specs.declared.printed.Printed.TheVariants.{Answers, History as Recorded}
@@ -129,6 +130,11 @@ threads_status (Replay error) = status_of_error error
 threads_status TooShort = 2
 threads_status Thread = 1
 threads_status Run = 1
+
+-- a run of scripts in threads ends
+abbrev pub EndsThreads : Printed → Seen → Seen → ℕ → Type 0
+EndsThreads printed before after status =
+    EndsBy threads_status threads_text HasFailedRun (HasWrittenRun printed) (HasStoppedRun printed) before after status
 
 -- what stops threads stops the run: want of memory as such, a thread that failed as such, and what else leaves no history as a run that failed
 abbrev pub stop_of : RunError → ThreadsError

@@ -1,9 +1,9 @@
 //! The program's judgement of a recorded history.
-ghost use Rattle.std.specs.Prelude.{◌≡◌, ◌<◌, ◌≤◌, ◌⊎◌, false, IfErr, IfOk, OnOk};
-ghost use Rattle.std.specs.Io.KnownBytes.{Keeps};
-ghost use Rattle.mesh_run.specs.Checks.{HasStoppedCheck, HasToldVerdict, verdict_status};
-ghost use Rattle.mesh_run.specs.Runs.{HasFailed, IsStopped};
+ghost use Rattle.std.specs.Prelude.{◌≡◌, ◌≤◌, false, IfErr, IfOk, OnOk};
+ghost use Rattle.mesh_run.specs.Checks.{EndsCheck, HasStoppedCheck, HasToldVerdict, verdict_status};
+ghost use Rattle.mesh_run.specs.Runs.{HasFailed, IsSound};
 
+use crate::Devices;
 use crate::runs::{status_of, tell_error};
 use crate::status::{DONE, FAILED};
 use mesh_check::{Verdict, check, verdict_line};
@@ -16,27 +16,14 @@ use std::alloc::Global;
 /// The status is 0 with the line `legal N entries`, and 1 with the line `line L: REASON` where an entry isn't one that a plain memory takes. It is 1
 /// with the line `read fault`, `write fault` or `out of memory` in `errors`, and 2 with the line `line L: KIND` where the text has a fault before
 /// such an entry. Where that line can't be written the status stays.
-pub fn check_run<I: Source, O: Sink, E: Sink>(
-    alloc: Global,
-    input: &mut I,
-    output: &mut O,
-    errors: &mut E,
-) -> u8
-    requires input { I.has_failed input.old ≡ false }
-    requires output { O.has_failed output.old ≡ false }
-    ensures done { result ≡ 0 → HasToldVerdict (I.remaining input.old) (I.remaining input.new) (O.written output.old) (O.written output.new) result }
-    ensures sound { result ≡ 0 → (I.has_failed input.new ≡ false) × (O.has_failed output.new ≡ false) }
-    ensures untold { result ≡ 0 → Keeps (E.written errors.old) (E.written errors.new) }
-    ensures found { 0 < result
-        → (HasToldVerdict (I.remaining input.old) (I.remaining input.new) (O.written output.old) (O.written output.new) result × Keeps (E.written errors.old) (E.written errors.new))
-        ⊎ IsStopped (HasStoppedCheck (I.remaining input.old) (I.remaining input.new) (O.written output.old) (O.written output.new))
-        (I.has_failed input.new) (O.has_failed output.new) (E.has_failed errors.new) (E.written errors.old) (E.written errors.new) result }
-    ensures small { result ≤ 2 }
+pub fn check_run<I: Source, O: Sink, E: Sink>(alloc: Global, devices: &mut Devices<I, O, E>) -> u8
+    requires { IsSound devices.old }
+    ensures { EndsCheck devices.old devices.new result }
 {
-    match write_verdict(alloc, input, output) {
+    match write_verdict(alloc, &mut devices.input, &mut devices.output) {
         Ok(status) => status,
         Err(error) => {
-            tell_error(errors, error);
+            tell_error(&mut devices.errors, error);
             status_of(error)
         }
     }

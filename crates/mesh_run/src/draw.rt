@@ -1,11 +1,9 @@
 //! The program's picture of a plan.
-ghost use Rattle.std.specs.Prelude.{◌≡◌, ◌<◌, ◌≤◌, false};
-ghost use Rattle.std.specs.Io.KnownBytes.{Keeps};
 ghost use Rattle.mesh_draw.specs.Draws.{HasNotDrawn};
-ghost use Rattle.mesh_run.specs.Runs.{IsStopped};
+ghost use Rattle.mesh_run.specs.Runs.{Ends, IsSound, Unsaid};
 
-use crate::DrawArgs;
 use crate::runs::finished;
+use crate::{Devices, DrawArgs};
 use mesh_draw::{DrawOptions, draw};
 use mesh_text::{Sink, Source};
 use std::alloc::Global;
@@ -17,17 +15,10 @@ pub fn draw_run<I: Source, O: Sink, E: Sink>(
     alloc: Global,
     title: &str,
     args: &DrawArgs,
-    input: &mut I,
-    output: &mut O,
-    errors: &mut E,
+    devices: &mut Devices<I, O, E>,
 ) -> u8
-    requires input { I.has_failed input.old ≡ false }
-    requires output { O.has_failed output.old ≡ false }
-    ensures sound { result ≡ 0 → (I.has_failed input.new ≡ false) × (O.has_failed output.new ≡ false) }
-    ensures untold { result ≡ 0 → Keeps (E.written errors.old) (E.written errors.new) }
-    ensures stopped { 0 < result → IsStopped (HasNotDrawn (I.remaining input.old) (I.remaining input.new) (O.written output.old) (O.written output.new))
-        (I.has_failed input.new) (O.has_failed output.new) (E.has_failed errors.new) (E.written errors.old) (E.written errors.new) result }
-    ensures small { result ≤ 2 }
+    requires { IsSound devices.old }
+    ensures { Ends Unsaid HasNotDrawn devices.old devices.new result }
 {
     let options = DrawOptions {
         title,
@@ -35,6 +26,6 @@ pub fn draw_run<I: Source, O: Sink, E: Sink>(
         to: args.to,
         columns: args.columns,
     };
-    let outcome = draw(alloc, input, output, &options);
-    finished(errors, outcome)
+    let outcome = draw(alloc, &mut devices.input, &mut devices.output, &options);
+    finished(&mut devices.errors, outcome)
 }

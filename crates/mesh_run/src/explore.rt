@@ -1,15 +1,14 @@
 //! The program's exploration of what a plan leaves.
-ghost use Rattle.std.specs.Prelude.{◌≡◌, ◌<◌, ◌≤◌, false};
-ghost use Rattle.std.specs.Io.KnownBytes.{Keeps};
+ghost use Rattle.std.specs.Prelude.{◌≡◌};
 ghost use Rattle.model_jobs.specs.Texts.{ended};
 ghost use Rattle.mesh_outcomes.specs.declared.errors.ExploreError.{ExploreError};
-ghost use Rattle.mesh_run.specs.Explores.{HasFailedExplore, explore_status, explore_text};
-ghost use Rattle.mesh_run.specs.Runs.{HasTold};
+ghost use Rattle.mesh_run.specs.Explores.{EndsExplore, explore_status, explore_text};
+ghost use Rattle.mesh_run.specs.Runs.{IsSound};
 
-use crate::ExploreArgs;
 use crate::fault_line::{Line, line_of, line_with};
 use crate::runs::tell;
 use crate::status::{DONE, FAILED, FAULTY};
+use crate::{Devices, ExploreArgs};
 use mesh_outcomes::{ExploreError, ExploreOptions, explore};
 use mesh_text::{ReplayError, Sink, Source};
 use std::alloc::Global;
@@ -23,18 +22,10 @@ use std::alloc::Global;
 pub fn explore_run<I: Source, O: Sink, E: Sink>(
     alloc: Global,
     args: &ExploreArgs,
-    input: &mut I,
-    output: &mut O,
-    errors: &mut E,
+    devices: &mut Devices<I, O, E>,
 ) -> u8
-    requires input { I.has_failed input.old ≡ false }
-    requires output { O.has_failed output.old ≡ false }
-    ensures sound { result ≡ 0 → (I.has_failed input.new ≡ false) × (O.has_failed output.new ≡ false) }
-    ensures untold { result ≡ 0 → Keeps (E.written errors.old) (E.written errors.new) }
-    ensures stopped { 0 < result → (error : ExploreError) × (result ≡ explore_status error)
-        × HasFailedExplore (I.has_failed input.new) (O.has_failed output.new) error
-        × HasTold (E.has_failed errors.new) (E.written errors.old) (E.written errors.new) (ended (explore_text error)) }
-    ensures small { result ≤ 2 }
+    requires { IsSound devices.old }
+    ensures { EndsExplore devices.old devices.new result }
 {
     let options = ExploreOptions {
         meshes: args.meshes.as_slice(),
@@ -42,10 +33,10 @@ pub fn explore_run<I: Source, O: Sink, E: Sink>(
         states: args.states,
         witness: args.witness,
     };
-    match explore(alloc, input, output, &options) {
+    match explore(alloc, &mut devices.input, &mut devices.output, &options) {
         Ok(()) => DONE,
         Err(error) => {
-            tell(errors, explore_line_of(error).as_slice());
+            tell(&mut devices.errors, explore_line_of(error).as_slice());
             explore_status_of(error)
         }
     }

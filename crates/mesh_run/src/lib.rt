@@ -6,12 +6,12 @@
 
 mod check;
 mod command_line;
+mod devices;
 mod draw;
 mod draw_args;
 mod explore;
 mod explore_args;
 mod fault_line;
-mod history;
 mod live;
 mod live_args;
 mod meshes;
@@ -27,11 +27,11 @@ pub mod word_laws;
 
 pub use check::check_run;
 pub use command_line::{Args, Stop, arguments, unread_words};
+pub use devices::Devices;
 pub use draw::draw_run;
 pub use draw_args::DrawArgs;
 pub use explore::explore_run;
 pub use explore_args::ExploreArgs;
-pub use history::history_run;
 pub use live::live_run;
 pub use live_args::LiveArgs;
 pub use mesh_explore::MeshPair;

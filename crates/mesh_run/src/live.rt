@@ -1,12 +1,10 @@
 //! The program's live session.
-ghost use Rattle.std.specs.Prelude.{◌≡◌, ◌<◌, ◌≤◌, false};
-ghost use Rattle.std.specs.Io.KnownBytes.{Keeps};
 ghost use Rattle.mesh_live.specs.Runs.{HasLived, HasStopped};
 ghost use Rattle.mesh_run.specs.LiveSizes.{session_sizes};
-ghost use Rattle.mesh_run.specs.Runs.{IsStopped};
+ghost use Rattle.mesh_run.specs.Runs.{Ends, IsSound};
 
-use crate::LiveArgs;
 use crate::runs::finished;
+use crate::{Devices, LiveArgs};
 use mesh_live::{Sizes, live};
 use mesh_text::{Sink, Source};
 use std::alloc::Global;
@@ -19,24 +17,16 @@ use std::alloc::Global;
 pub fn live_run<I: Source, O: Sink, E: Sink>(
     alloc: Global,
     args: &LiveArgs,
-    input: &mut I,
-    output: &mut O,
-    errors: &mut E,
+    devices: &mut Devices<I, O, E>,
 ) -> u8
-    requires input { I.has_failed input.old ≡ false }
-    requires output { O.has_failed output.old ≡ false }
-    ensures done { result ≡ 0 → HasLived (session_sizes args.now) (I.remaining input.old) (I.remaining input.new) (O.written output.old) (O.written output.new) }
-    ensures sound { result ≡ 0 → (I.has_failed input.new ≡ false) × (O.has_failed output.new ≡ false) }
-    ensures untold { result ≡ 0 → Keeps (E.written errors.old) (E.written errors.new) }
-    ensures stopped { 0 < result → IsStopped (λ _. HasStopped (session_sizes args.now) (I.remaining input.old) (O.written output.old) (O.written output.new))
-        (I.has_failed input.new) (O.has_failed output.new) (E.has_failed errors.new) (E.written errors.old) (E.written errors.new) result }
-    ensures small { result ≤ 2 }
+    requires { IsSound devices.old }
+    ensures { Ends (HasLived (session_sizes args.now)) (λ left _ written written' _. HasStopped (session_sizes args.now) left written written') devices.old devices.new result }
 {
     let sizes = Sizes {
         pages: args.pages,
         history: args.history,
         workers: args.workers,
     };
-    let outcome = live(alloc, &sizes, input, output);
-    finished(errors, outcome)
+    let outcome = live(alloc, &sizes, &mut devices.input, &mut devices.output);
+    finished(&mut devices.errors, outcome)
 }

@@ -1,12 +1,11 @@
 //! The program's run of scripts in threads.
 ghost use Rattle.std.specs.Prelude.{◌≡◌, ◌↔◌, ◌<◌, ◌≤◌, false, IsTrue, is_err, length, map, IfErr, IfOk, OnErr, OnOk};
-ghost use Rattle.std.specs.Io.KnownBytes.{Appends, Keeps};
+ghost use Rattle.std.specs.Io.KnownBytes.{Appends};
 ghost use Rattle.std.specs.List.{All};
 ghost use Rattle.model_words.specs.Commands.{IsInRange};
-ghost use Rattle.model_jobs.specs.Texts.{ended};
 ghost use Rattle.mesh_mutator.specs.Book.{memory_in};
-ghost use Rattle.mesh_run.specs.Runs.{HasTold};
-ghost use Rattle.mesh_run.specs.Threads.{HasFailedRun, HasRoom, HasStoppedRun, HasWrittenRun, IsBookOf, IsNoRun, IsPlanOf, IsTextOfRun, command_count, text_of_run, threads_status, threads_text};
+ghost use Rattle.mesh_run.specs.Runs.{IsSound};
+ghost use Rattle.mesh_run.specs.Threads.{EndsThreads, HasFailedRun, HasRoom, HasStoppedRun, HasWrittenRun, IsBookOf, IsNoRun, IsPlanOf, IsTextOfRun, command_count, text_of_run, threads_status};
 ghost use Rattle.mesh_run.specs.declared.threads_error.ThreadsError.{ThreadsError};
 ghost use Rattle.mesh_shared.specs.Runs.{HasRun};
 ghost use Rattle.mesh_text.specs.Transfer.{AppendsBeginning};
@@ -16,7 +15,7 @@ use crate::fault_line::threads_line_of;
 use crate::runs::{status_of, tell};
 use crate::shuffle_words::words;
 use crate::status::{DONE, FAILED, FAULTY};
-use crate::{Printed, ThreadsArgs, ThreadsError};
+use crate::{Devices, Printed, ThreadsArgs, ThreadsError};
 use mesh_mutator::{Book, Entry};
 use mesh_shared::{Ended, MeshPlan, NoGate, run_threads};
 use mesh_text::{
@@ -40,27 +39,25 @@ use std::thread::Threads;
 pub fn threads_run<R: Threads + Wait + Sync, I: Source, O: Sink, E: Sink>(
     rt: &R,
     alloc: Global,
-    input: &mut I,
-    output: &mut O,
-    errors: &mut E,
+    devices: &mut Devices<I, O, E>,
     args: &ThreadsArgs,
     printed: Printed,
 ) -> u8
-    requires input { I.has_failed input.old ≡ false }
-    requires output { O.has_failed output.old ≡ false }
-    ensures done { result ≡ 0 → HasWrittenRun printed (I.remaining input.old) (I.remaining input.new) (O.written output.old) (O.written output.new) }
-    ensures sound { result ≡ 0 → (I.has_failed input.new ≡ false) × (O.has_failed output.new ≡ false) }
-    ensures untold { result ≡ 0 → Keeps (E.written errors.old) (E.written errors.new) }
-    ensures stopped { 0 < result → (error : ThreadsError) × (result ≡ threads_status error)
-        × HasStoppedRun printed (I.remaining input.old) (I.remaining input.new) (O.written output.old) (O.written output.new) error
-        × HasFailedRun (I.has_failed input.new) (O.has_failed output.new) error
-        × HasTold (E.has_failed errors.new) (E.written errors.old) (E.written errors.new) (ended (threads_text error)) }
-    ensures small { result ≤ 2 }
+    requires { IsSound devices.old }
+    ensures { EndsThreads printed devices.old devices.new result }
 {
-    match run_file(rt, alloc, input, output, args, printed) {
+    let outcome = run_file(
+        rt,
+        alloc,
+        &mut devices.input,
+        &mut devices.output,
+        args,
+        printed,
+    );
+    match outcome {
         Ok(()) => DONE,
         Err(error) => {
-            tell(errors, threads_line_of(error).as_slice());
+            tell(&mut devices.errors, threads_line_of(error).as_slice());
             threads_status_of(error)
         }
     }

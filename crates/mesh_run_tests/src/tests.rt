@@ -2,8 +2,13 @@
 //!
 //! Each expected text was worked out by hand from the rules, and none was copied from a run.
 
-use mesh_run::{Input, Output, replay_run};
+ghost use Rattle.std.specs.Prelude.{◌≡◌, false};
+ghost use Rattle.mesh_run.specs.Runs.{IsSound};
+
+use mesh_run::{Devices, Input, Output, Printed, Source, replay_run};
 use std::alloc::Global;
+use std::fmt::Display;
+use std::process::Abort;
 
 mod arguments;
 mod checks;
@@ -17,6 +22,9 @@ mod rows;
 mod threads;
 mod words;
 
+/// The devices of a run from a source to memory.
+type InMemory<I> = Devices<I, Output<Vec<u8>>, Output<Vec<u8>>>;
+
 /// What one run of the program wrote, and its exit status.
 #[derive(Drop)]
 struct Ran {
@@ -25,15 +33,51 @@ struct Ran {
     errors: Vec<u8>,
 }
 
-/// Replays a file from memory to memory.
-fn replayed(alloc: Global, file: &[u8]) -> Ran {
-    let mut input = Input::new(file);
-    let mut output = Output::new(Vec::new(alloc));
-    let mut errors = Output::new(Vec::new(alloc));
-    let status = replay_run(alloc, &mut input, &mut output, &mut errors);
-    Ran {
-        status,
-        output: output.into_inner(),
-        errors: errors.into_inner(),
+impl Ran {
+    /// What a run of this status wrote to memory.
+    fn of<I: Source + Drop>(status: u8, devices: InMemory<I>) -> Ran {
+        let (_, output, errors) = devices.into_parts();
+        Ran {
+            status,
+            output: output.into_inner(),
+            errors: errors.into_inner(),
+        }
     }
+
+    /// Asserts what the run of this case wrote, and its status.
+    fn check<N: Display + Drop>(
+        &self,
+        rt: &(impl Abort + AllocGlobal),
+        output: &[u8],
+        errors: &str,
+        status: u8,
+        case: N,
+    ) {
+        assert_eq!(rt; self.output.as_slice(), output, "{case}");
+        assert_eq!(rt; self.errors.as_slice(), errors.as_bytes(), "{case}");
+        assert_eq!(rt; self.status, status, "{case}");
+    }
+}
+
+/// Devices that read from this source, and write to memory.
+fn in_memory<I: Source>(alloc: Global, input: I) -> InMemory<I>
+    requires { I.has_failed input ≡ false }
+    ensures { IsSound result }
+{
+    let output = Output::new(Vec::new(alloc));
+    Devices::new(input, output, Output::new(Vec::new(alloc)))
+}
+
+/// Replays what a source gives to memory, and prints this.
+fn replayed_from<I: Source + Drop>(alloc: Global, input: I, printed: Printed) -> Ran
+    requires { I.has_failed input ≡ false }
+{
+    let mut devices = in_memory(alloc, input);
+    let status = replay_run(alloc, &mut devices, printed);
+    Ran::of(status, devices)
+}
+
+/// Replays a file from memory to memory, and prints its answers.
+fn replayed(alloc: Global, file: &[u8]) -> Ran {
+    replayed_from(alloc, Input::new(file), Printed::Answers)
 }

@@ -11,8 +11,8 @@ ghost use Rattle.std.specs.Prelude.{◌≡◌, false, IfOk};
 ghost use Rattle.mesh_text.specs.Devices.{input_has_failed};
 
 use mesh_run::{
-    Args, Input, Output, Printed, Sink, arguments, check_run, draw_run, explore_run, history_run,
-    live_run, replay_run, stop_run, threads_run, unopened_run, unread_words,
+    Args, Devices, Input, Output, Sink, arguments, check_run, draw_run, explore_run, live_run,
+    replay_run, stop_run, threads_run, unopened_run, unread_words,
 };
 use std::fs::File;
 use std::process::ExitCode;
@@ -28,39 +28,38 @@ fn main(rt: HostRuntime) -> ExitCode {
     let status = match words(&rt) {
         Ok(words) => match arguments(alloc, words.as_slice()) {
             Ok(Args::Replay(path, printed)) => match opened(&rt, path, &mut errors) {
-                Ok(mut input) => match printed {
-                    Printed::Answers => replay_run(alloc, &mut input, &mut output, &mut errors),
-                    Printed::History => history_run(alloc, &mut input, &mut output, &mut errors),
-                },
+                Ok(input) => {
+                    let mut devices = Devices::new(input, output, errors);
+                    replay_run(alloc, &mut devices, printed)
+                }
                 Err(status) => status,
             },
             Ok(Args::Threads(path, args, printed)) => match opened(&rt, path, &mut errors) {
-                Ok(mut input) => threads_run(
-                    &rt,
-                    alloc,
-                    &mut input,
-                    &mut output,
-                    &mut errors,
-                    &args,
-                    printed,
-                ),
+                Ok(input) => {
+                    let mut devices = Devices::new(input, output, errors);
+                    threads_run(&rt, alloc, &mut devices, &args, printed)
+                }
                 Err(status) => status,
             },
             Ok(Args::Draw(path, args)) => match opened(&rt, path, &mut errors) {
-                Ok(mut input) => {
-                    draw_run(alloc, path, &args, &mut input, &mut output, &mut errors)
+                Ok(input) => {
+                    let mut devices = Devices::new(input, output, errors);
+                    draw_run(alloc, path, &args, &mut devices)
                 }
                 Err(status) => status,
             },
             Ok(Args::Explore(path, args)) => match opened(&rt, path, &mut errors) {
-                Ok(mut input) => { explore_run(alloc, &args, &mut input, &mut output, &mut errors) }
+                Ok(input) => {
+                    let mut devices = Devices::new(input, output, errors);
+                    explore_run(alloc, &args, &mut devices)
+                }
                 Err(status) => status,
             },
             Ok(Args::Live(args)) => {
-                let mut input = Input::new(rt.stdin());
-                live_run(alloc, &args, &mut input, &mut output, &mut errors)
+                let input = Input::new(rt.stdin());
+                live_run(alloc, &args, &mut Devices::new(input, output, errors))
             }
-            Ok(Args::Check(path)) => check_at(&rt, path, &mut output, &mut errors),
+            Ok(Args::Check(path)) => check_at(&rt, path, output, errors),
             Err(stop) => stop_run(&stop, &mut output, &mut errors),
         },
         Err(error) => stop_run(&unread_words(&error), &mut output, &mut errors),
@@ -69,16 +68,21 @@ fn main(rt: HostRuntime) -> ExitCode {
 }
 
 /// Judges the history of the file at this path, or of standard input where it is `-`, and gives the exit status.
-fn check_at<O: Sink, E: Sink>(rt: &HostRuntime, path: &str, output: &mut O, errors: &mut E) -> u8
-    requires { O.has_failed output.old ≡ false }
+fn check_at<O: Sink + Drop, E: Sink + Drop>(
+    rt: &HostRuntime,
+    path: &str,
+    output: O,
+    mut errors: E,
+) -> u8
+    requires { O.has_failed output ≡ false }
 {
     let alloc = rt.alloc();
     if path == STANDARD_INPUT {
-        let mut input = Input::new(rt.stdin());
-        return check_run(alloc, &mut input, output, errors);
+        let input = Input::new(rt.stdin());
+        return check_run(alloc, &mut Devices::new(input, output, errors));
     }
-    match opened(rt, path, errors) {
-        Ok(mut input) => check_run(alloc, &mut input, output, errors),
+    match opened(rt, path, &mut errors) {
+        Ok(input) => check_run(alloc, &mut Devices::new(input, output, errors)),
         Err(status) => status,
     }
 }

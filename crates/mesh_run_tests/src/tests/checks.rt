@@ -1,7 +1,10 @@
 //! Recorded histories, and what is found of them.
+ghost use Rattle.std.specs.Prelude.{◌≡◌, false};
+
 use crate::tests::devices::SlowSource;
-use mesh_run::{Input, Output, check_run};
-use std::process::Abort;
+use crate::tests::{Ran, in_memory};
+use mesh_run::{Input, Source, check_run};
+use std::alloc::Global;
 
 /// Histories by their names, and the line and the status of each one's verdict.
 static VERDICTS: [(&str, &str, &str, u8); 33] = [
@@ -242,54 +245,35 @@ static FAULTS: [(&str, &str, &str); 10] = [
     ),
 ];
 
+/// Judges the history that a source gives.
+fn judged<I: Source + Drop>(alloc: Global, input: I) -> Ran
+    requires { I.has_failed input ≡ false }
+{
+    let mut devices = in_memory(alloc, input);
+    let status = check_run(alloc, &mut devices);
+    Ran::of(status, devices)
+}
+
 #[test]
 fn finds_what_the_plain_memory_takes(rt: HostRuntime) {
     for (name, text, verdict, status) in VERDICTS.iter() {
-        let mut input = Input::new(text.as_bytes());
-        let mut output = Output::new(Vec::new(rt.alloc()));
-        let mut errors = Output::new(Vec::new(rt.alloc()));
-        let found = check_run(rt.alloc(), &mut input, &mut output, &mut errors);
-        let (output, errors) = (output.into_inner(), errors.into_inner());
-        are_told(&rt, output.as_slice(), errors.as_slice(), verdict, "", name);
-        assert_eq!(rt; found, *status, "of {name}");
+        let run = judged(rt.alloc(), Input::new(text.as_bytes()));
+        run.check(&rt, verdict.as_bytes(), "", *status, *name);
     }
 }
 
 #[test]
 fn finds_the_same_byte_by_byte(rt: HostRuntime) {
     for (name, text, verdict, status) in VERDICTS.iter() {
-        let mut input = SlowSource::new(text.as_bytes(), text.len() + 1);
-        let mut output = Output::new(Vec::new(rt.alloc()));
-        let mut errors = Output::new(Vec::new(rt.alloc()));
-        let found = check_run(rt.alloc(), &mut input, &mut output, &mut errors);
-        let (output, errors) = (output.into_inner(), errors.into_inner());
-        are_told(&rt, output.as_slice(), errors.as_slice(), verdict, "", name);
-        assert_eq!(rt; found, *status, "of {name}");
+        let input = SlowSource::new(text.as_bytes(), text.len() + 1);
+        judged(rt.alloc(), input).check(&rt, verdict.as_bytes(), "", *status, *name);
     }
 }
 
 #[test]
 fn tells_the_faults_of_a_history(rt: HostRuntime) {
     for (name, text, fault) in FAULTS.iter() {
-        let mut input = Input::new(text.as_bytes());
-        let mut output = Output::new(Vec::new(rt.alloc()));
-        let mut errors = Output::new(Vec::new(rt.alloc()));
-        let found = check_run(rt.alloc(), &mut input, &mut output, &mut errors);
-        let (output, errors) = (output.into_inner(), errors.into_inner());
-        are_told(&rt, output.as_slice(), errors.as_slice(), "", fault, name);
-        assert_eq!(rt; found, 2, "of {name}");
+        let run = judged(rt.alloc(), Input::new(text.as_bytes()));
+        run.check(&rt, b"", fault, 2, *name);
     }
-}
-
-/// Asserts what a run wrote.
-fn are_told(
-    rt: &(impl Abort + AllocGlobal),
-    output: &[u8],
-    errors: &[u8],
-    told: &str,
-    fault: &str,
-    name: &str,
-) {
-    assert_eq!(rt; output, told.as_bytes(), "of {name}");
-    assert_eq!(rt; errors, fault.as_bytes(), "of {name}");
 }

@@ -2,7 +2,8 @@
 ghost use Rattle.std.specs.Prelude.{◌≡◌, ◌≤◌, None, false, length};
 
 use crate::tests::files::{MESH_ANSWERS, MESH_FILE};
-use mesh_run::{DeviceFault, Input, Output, Sink, Source, replay_run};
+use crate::tests::{Ran, replayed_from};
+use mesh_run::{DeviceFault, Devices, Input, Output, Printed, Sink, Source, replay_run};
 use std::alloc::Global;
 use std::io;
 
@@ -129,34 +130,32 @@ impl Sink for SlowSink {
 }
 
 /// Replays a file from a slow source.
-fn read_slowly(alloc: Global, file: &str, calls: usize) -> (u8, Vec<u8>, Vec<u8>) {
-    let mut input = SlowSource::new(file.as_bytes(), calls);
-    let mut output = Output::new(Vec::new(alloc));
-    let mut errors = Output::new(Vec::new(alloc));
-    let status = replay_run(alloc, &mut input, &mut output, &mut errors);
-    (status, output.into_inner(), errors.into_inner())
+fn read_slowly(alloc: Global, file: &str, calls: usize) -> Ran {
+    let input = SlowSource::new(file.as_bytes(), calls);
+    replayed_from(alloc, input, Printed::Answers)
 }
 
 /// Replays the file to a slow sink.
-fn write_slowly(alloc: Global, most: usize, calls: usize, end: End) -> (u8, Vec<u8>, Vec<u8>) {
-    let mut input = Input::new(MESH_FILE.as_bytes());
-    let mut output = SlowSink::new(alloc, most, calls, end);
-    let mut errors = Output::new(Vec::new(alloc));
-    let status = replay_run(alloc, &mut input, &mut output, &mut errors);
+fn write_slowly(alloc: Global, most: usize, calls: usize, end: End) -> Ran {
+    let input = Input::new(MESH_FILE.as_bytes());
+    let output = SlowSink::new(alloc, most, calls, end);
+    let mut devices = Devices::new(input, output, Output::new(Vec::new(alloc)));
+    let status = replay_run(alloc, &mut devices, Printed::Answers);
+    let (_, output, errors) = devices.into_parts();
     let SlowSink { taken, .. } = output;
-    (status, taken, errors.into_inner())
+    Ran {
+        status,
+        output: taken,
+        errors: errors.into_inner(),
+    }
 }
 
 #[test]
 fn works_byte_by_byte(rt: HostRuntime) {
-    let (status, output, errors) = read_slowly(rt.alloc(), MESH_FILE, ENOUGH);
-    assert_eq!(rt; output.as_slice(), MESH_ANSWERS.as_bytes());
-    assert_eq!(rt; errors.as_slice(), b"".as_slice());
-    assert_eq!(rt; status, 0);
-    let (status, output, errors) = write_slowly(rt.alloc(), 1, ENOUGH, End::Fails);
-    assert_eq!(rt; output.as_slice(), MESH_ANSWERS.as_bytes());
-    assert_eq!(rt; errors.as_slice(), b"".as_slice());
-    assert_eq!(rt; status, 0);
+    let run = read_slowly(rt.alloc(), MESH_FILE, ENOUGH);
+    run.check(&rt, MESH_ANSWERS.as_bytes(), "", 0, "a byte a read");
+    let run = write_slowly(rt.alloc(), 1, ENOUGH, End::Fails);
+    run.check(&rt, MESH_ANSWERS.as_bytes(), "", 0, "a byte a write");
 }
 
 /// A file whose second line has a fault, which a source that fails comes before.
@@ -166,14 +165,7 @@ const FAULTY_FILE: &str = "mesh 1\npages 0\nhistory 1\n";
 fn fails_at_each_read(rt: HostRuntime) {
     for file in [MESH_FILE, FAULTY_FILE] {
         for calls in 0..file.len() + 1 {
-            let (status, output, errors) = read_slowly(rt.alloc(), file, calls);
-            assert_eq!(rt; output.as_slice(), b"".as_slice(), "after {calls}");
-            assert_eq!(rt;
-                errors.as_slice(),
-                b"read fault\n".as_slice(),
-                "after {calls}"
-            );
-            assert_eq!(rt; status, 1, "after {calls}");
+            read_slowly(rt.alloc(), file, calls).check(&rt, b"", "read fault\n", 1, calls);
         }
     }
 }
@@ -185,18 +177,9 @@ const PIECE: usize = 16;
 fn fails_at_each_write(rt: HostRuntime) {
     for calls in 0..MESH_ANSWERS.len().div_ceil(PIECE) {
         for end in [End::Fails, End::TakesNothing] {
-            let (status, output, errors) = write_slowly(rt.alloc(), PIECE, calls, end);
-            assert_eq!(rt;
-                output.as_slice(),
-                &MESH_ANSWERS.as_bytes()[..calls * PIECE],
-                "after {calls}"
-            );
-            assert_eq!(rt;
-                errors.as_slice(),
-                b"write fault\n".as_slice(),
-                "after {calls}"
-            );
-            assert_eq!(rt; status, 1, "after {calls}");
+            let run = write_slowly(rt.alloc(), PIECE, calls, end);
+            let written = &MESH_ANSWERS.as_bytes()[..calls * PIECE];
+            run.check(&rt, written, "write fault\n", 1, calls);
         }
     }
 }
@@ -254,12 +237,7 @@ fn a_failed_call_is_not_tried_again(rt: HostRuntime) {
 
 #[test]
 fn one_byte_a_call_is_no_failure(rt: HostRuntime) {
-    let alloc = rt.alloc();
-    let mut input = Input::new(FailsFirst::new(MESH_FILE.as_bytes(), false));
-    let mut output = Output::new(Vec::new(alloc));
-    let mut errors = Output::new(Vec::new(alloc));
-    let status = replay_run(alloc, &mut input, &mut output, &mut errors);
-    let written = output.into_inner();
-    assert_eq!(rt; written.as_slice(), MESH_ANSWERS.as_bytes());
-    assert_eq!(rt; status, 0);
+    let input = Input::new(FailsFirst::new(MESH_FILE.as_bytes(), false));
+    let run = replayed_from(rt.alloc(), input, Printed::Answers);
+    run.check(&rt, MESH_ANSWERS.as_bytes(), "", 0, "a byte a read");
 }

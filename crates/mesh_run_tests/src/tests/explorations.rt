@@ -1,9 +1,9 @@
 //! Explorations, over memory.
 ghost use Rattle.std.specs.Prelude.{◌≡◌, false};
 
-use crate::tests::Ran;
 use crate::tests::devices::SlowSource;
-use mesh_run::{Args, Input, Output, Source, arguments, explore_run};
+use crate::tests::{Ran, in_memory};
+use mesh_run::{Args, Input, Source, arguments, explore_run};
 use std::alloc::{AllocError, Global};
 
 /// The words of a small exploration, of 64 states and two outcomes.
@@ -31,32 +31,25 @@ static STOPS: [(&[&str], &str, u8); 5] = [
 ];
 
 /// Runs an exploration with these words, or none where they ask for something else.
-fn explored<I: Source>(alloc: Global, words: &[&str], input: &mut I) -> Option<Ran>
-    requires { I.has_failed input.old ≡ false }
+fn explored<I: Source + Drop>(alloc: Global, words: &[&str], input: I) -> Option<Ran>
+    requires { I.has_failed input ≡ false }
 {
     let Ok(Args::Explore(_, args)) = arguments(alloc, words) else {
         return None;
     };
-    let mut output = Output::new(Vec::new(alloc));
-    let mut errors = Output::new(Vec::new(alloc));
-    let status = explore_run(alloc, &args, input, &mut output, &mut errors);
-    Some(Ran {
-        status,
-        output: output.into_inner(),
-        errors: errors.into_inner(),
-    })
+    let mut devices = in_memory(alloc, input);
+    let status = explore_run(alloc, &args, &mut devices);
+    Some(Ran::of(status, devices))
 }
 
 #[test]
 fn prints_an_outcome_as_a_job(rt: HostRuntime) -> Result<(), AllocError> {
     let words = with(rt.alloc(), &["--witness", "1"])?;
-    let mut input = SlowSource::new(STORE_FILE.as_bytes(), STORE_FILE.len() + 1);
-    let Some(run) = explored(rt.alloc(), words.as_slice(), &mut input) else {
+    let input = SlowSource::new(STORE_FILE.as_bytes(), STORE_FILE.len() + 1);
+    let Some(run) = explored(rt.alloc(), words.as_slice(), input) else {
         panic!(rt; "nothing explored");
     };
-    assert_eq!(rt; run.output.as_slice(), SECOND.as_bytes());
-    assert!(rt; run.errors.is_empty());
-    assert_eq!(rt; run.status, 0);
+    run.check(&rt, SECOND.as_bytes(), "", 0, "the second outcome");
     Ok(())
 }
 
@@ -64,13 +57,11 @@ fn prints_an_outcome_as_a_job(rt: HostRuntime) -> Result<(), AllocError> {
 fn tells_why_it_stops(rt: HostRuntime) -> Result<(), AllocError> {
     for (more, line, status) in STOPS.iter() {
         let words = with(rt.alloc(), more)?;
-        let mut input = Input::new(STORE_FILE.as_bytes());
-        let Some(run) = explored(rt.alloc(), words.as_slice(), &mut input) else {
+        let input = Input::new(STORE_FILE.as_bytes());
+        let Some(run) = explored(rt.alloc(), words.as_slice(), input) else {
             panic!(rt; "nothing explored: {line}");
         };
-        assert!(rt; run.output.is_empty(), "{line}");
-        assert_eq!(rt; run.errors.as_slice(), line.as_bytes());
-        assert_eq!(rt; run.status, *status, "{line}");
+        run.check(&rt, b"", line, *status, *line);
     }
     Ok(())
 }
@@ -78,13 +69,11 @@ fn tells_why_it_stops(rt: HostRuntime) -> Result<(), AllocError> {
 #[test]
 fn tells_a_read_that_fails(rt: HostRuntime) {
     for calls in [0, 1, STORE_FILE.len()] {
-        let mut input = SlowSource::new(STORE_FILE.as_bytes(), calls);
-        let Some(run) = explored(rt.alloc(), STORE.as_slice(), &mut input) else {
+        let input = SlowSource::new(STORE_FILE.as_bytes(), calls);
+        let Some(run) = explored(rt.alloc(), STORE.as_slice(), input) else {
             panic!(rt; "nothing explored");
         };
-        assert!(rt; run.output.is_empty());
-        assert_eq!(rt; run.errors.as_slice(), b"read fault\n".as_slice());
-        assert_eq!(rt; run.status, 1);
+        run.check(&rt, b"", "read fault\n", 1, calls);
     }
 }
 

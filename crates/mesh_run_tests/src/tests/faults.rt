@@ -1,18 +1,12 @@
 //! Files that are no job.
 use crate::tests::files::{FAULTS, FIRST_FILE};
 use crate::tests::replayed;
-use std::process::Abort;
 use std::test::Fail;
 
 #[test]
 fn tells_each_fault(rt: HostRuntime) {
-    check_faults(&rt, &FAULTS);
-}
-
-/// Asserts of each file, by its name, that it has this fault.
-fn check_faults(rt: &(impl Abort + AllocGlobal), faults: &[(&str, &str, &str)]) {
-    for (name, file, fault) in faults {
-        check_fault(rt, file.as_bytes(), fault, name);
+    for (name, file, fault) in FAULTS.iter() {
+        replayed(rt.alloc(), file.as_bytes()).check(&rt, b"", fault, 2, *name);
     }
 }
 
@@ -32,7 +26,7 @@ fn tells_faults_of_lengths(rt: HostRuntime) -> Result<(), Fail> {
         if *has_end {
             file.push(b'\n')?;
         }
-        check_fault(&rt, file.as_slice(), fault, "many bytes");
+        replayed(rt.alloc(), file.as_slice()).check(&rt, b"", fault, 2, *count);
     }
     Ok(())
 }
@@ -44,12 +38,4 @@ fn takes_no_beginning_of_a_file(rt: HostRuntime) {
         assert_eq!(rt; run.output.as_slice(), b"".as_slice(), "of {count} bytes");
         assert_eq!(rt; run.status, 2, "of {count} bytes");
     }
-}
-
-/// Asserts that the file of this name has this fault.
-fn check_fault(rt: &(impl Abort + AllocGlobal), file: &[u8], fault: &str, name: &str) {
-    let run = replayed(rt.alloc(), file);
-    assert_eq!(rt; run.output.as_slice(), b"".as_slice(), "of {name}");
-    assert_eq!(rt; run.errors.as_slice(), fault.as_bytes(), "of {name}");
-    assert_eq!(rt; run.status, 2, "of {name}");
 }

@@ -1,7 +1,8 @@
 //! The text of a history: its answers, and as it is recorded.
 use crate::tests::files::FAULTS;
+use crate::tests::replayed_from;
 use mesh_mutator::{Command, Entry, Refusal, Reply};
-use mesh_run::{Input, Output, history_run};
+use mesh_run::{Input, Printed};
 use mesh_text::{history_lines, recorded_history};
 use std::alloc::AllocError;
 
@@ -57,26 +58,16 @@ const JOURNAL: &str =
 
 #[test]
 fn a_replay_prints_its_journal(rt: HostRuntime) {
-    let mut input = Input::new(JOURNAL_FILE.as_bytes());
-    let mut output = Output::new(Vec::new(rt.alloc()));
-    let mut errors = Output::new(Vec::new(rt.alloc()));
-    let status = history_run(rt.alloc(), &mut input, &mut output, &mut errors);
-    let (output, errors) = (output.into_inner(), errors.into_inner());
-    assert_eq!(rt; output.as_slice(), JOURNAL.as_bytes());
-    assert_eq!(rt; errors.as_slice(), b"".as_slice());
-    assert_eq!(rt; status, 0);
+    let input = Input::new(JOURNAL_FILE.as_bytes());
+    let run = replayed_from(rt.alloc(), input, Printed::History);
+    run.check(&rt, JOURNAL.as_bytes(), "", 0, "two workers");
 }
 
 #[test]
 fn a_faulty_file_has_no_journal(rt: HostRuntime) {
     for (name, file, fault) in FAULTS.iter() {
-        let mut input = Input::new(file.as_bytes());
-        let mut output = Output::new(Vec::new(rt.alloc()));
-        let mut errors = Output::new(Vec::new(rt.alloc()));
-        let status = history_run(rt.alloc(), &mut input, &mut output, &mut errors);
-        let (output, errors) = (output.into_inner(), errors.into_inner());
-        assert_eq!(rt; output.as_slice(), b"".as_slice(), "of {name}");
-        assert_eq!(rt; errors.as_slice(), fault.as_bytes(), "of {name}");
-        assert_eq!(rt; status, 2, "of {name}");
+        let input = Input::new(file.as_bytes());
+        let run = replayed_from(rt.alloc(), input, Printed::History);
+        run.check(&rt, b"", fault, 2, *name);
     }
 }

@@ -1,10 +1,10 @@
 //! Runs of scripts in threads: a worked example, and what stops a run before a thread is started.
 ghost use Rattle.std.specs.Prelude.{◌≡◌, ◌≤◌, false};
 
-use crate::tests::Ran;
 use crate::tests::devices::SlowSource;
 use crate::tests::files::FAULTS;
-use mesh_run::{Input, Output, Printed, Source, ThreadsArgs, threads_run};
+use crate::tests::{Ran, in_memory};
+use mesh_run::{Input, Printed, Source, ThreadsArgs, threads_run};
 use std::sync::Wait;
 use std::test::Fail;
 use std::thread::Threads;
@@ -22,60 +22,34 @@ const FEWEST: ThreadsArgs = ThreadsArgs {
     meshers: 1,
 };
 
-/// Runs the scripts of what a source gives, and prints the answers.
-fn ran<R: Threads + Wait + Sync + AllocGlobal, I: Source>(
-    rt: &R,
-    input: &mut I,
-    args: &ThreadsArgs,
-) -> Ran
-    requires { I.has_failed input.old ≡ false }
-{
-    ran_and_printed(rt, input, args, Printed::Answers)
-}
-
 /// Runs the scripts of what a source gives, and prints this.
-fn ran_and_printed<R: Threads + Wait + Sync + AllocGlobal, I: Source>(
+fn ran<R: Threads + Wait + Sync + AllocGlobal, I: Source + Drop>(
     rt: &R,
-    input: &mut I,
+    input: I,
     args: &ThreadsArgs,
     printed: Printed,
 ) -> Ran
-    requires { I.has_failed input.old ≡ false }
+    requires { I.has_failed input ≡ false }
 {
-    let mut output = Output::new(Vec::new(rt.alloc()));
-    let mut errors = Output::new(Vec::new(rt.alloc()));
-    let status = threads_run(
-        rt,
-        rt.alloc(),
-        input,
-        &mut output,
-        &mut errors,
-        args,
-        printed,
-    );
-    Ran {
-        status,
-        output: output.into_inner(),
-        errors: errors.into_inner(),
-    }
+    let mut devices = in_memory(rt.alloc(), input);
+    let status = threads_run(rt, rt.alloc(), &mut devices, args, printed);
+    Ran::of(status, devices)
 }
 
 #[test]
 fn tells_each_fault_of_a_file(rt: HostRuntime) {
     for (name, file, fault) in FAULTS.iter() {
-        let run = ran(&rt, &mut Input::new(file.as_bytes()), &FEWEST);
-        assert_eq!(rt; run.output.as_slice(), b"".as_slice(), "of {name}");
-        assert_eq!(rt; run.errors.as_slice(), fault.as_bytes(), "of {name}");
-        assert_eq!(rt; run.status, 2, "of {name}");
+        let input = Input::new(file.as_bytes());
+        let run = ran(&rt, input, &FEWEST, Printed::Answers);
+        run.check(&rt, b"", fault, 2, *name);
     }
 }
 
 #[test]
 fn tells_a_history_that_is_too_short(rt: HostRuntime) {
-    let run = ran(&rt, &mut Input::new(SHORT_FILE.as_bytes()), &FEWEST);
-    assert_eq!(rt; run.output.as_slice(), b"".as_slice());
-    assert_eq!(rt; run.errors.as_slice(), b"history too short\n".as_slice());
-    assert_eq!(rt; run.status, 2);
+    let input = Input::new(SHORT_FILE.as_bytes());
+    let run = ran(&rt, input, &FEWEST, Printed::Answers);
+    run.check(&rt, b"", "history too short\n", 2, "four commands");
 }
 
 /// A worker that makes three objects of half a page on a heap of one page, and what it is answered.
@@ -89,36 +63,24 @@ const ONE_PAGE_HISTORY: &str =
 
 #[test]
 fn has_no_more_pages_than_its_file_says(rt: HostRuntime) {
-    let run = ran(&rt, &mut Input::new(ONE_PAGE_FILE.as_bytes()), &FEWEST);
-    assert_eq!(rt; run.output.as_slice(), ONE_PAGE_LINES.as_bytes());
-    assert_eq!(rt; run.errors.as_slice(), b"".as_slice());
-    assert_eq!(rt; run.status, 0);
+    let input = Input::new(ONE_PAGE_FILE.as_bytes());
+    let run = ran(&rt, input, &FEWEST, Printed::Answers);
+    run.check(&rt, ONE_PAGE_LINES.as_bytes(), "", 0, "answers");
 }
 
 #[test]
 fn prints_the_history(rt: HostRuntime) {
-    let mut input = Input::new(ONE_PAGE_FILE.as_bytes());
-    let run = ran_and_printed(&rt, &mut input, &FEWEST, Printed::History);
-    assert_eq!(rt; run.output.as_slice(), ONE_PAGE_HISTORY.as_bytes());
-    assert_eq!(rt; run.errors.as_slice(), b"".as_slice());
-    assert_eq!(rt; run.status, 0);
+    let input = Input::new(ONE_PAGE_FILE.as_bytes());
+    let run = ran(&rt, input, &FEWEST, Printed::History);
+    run.check(&rt, ONE_PAGE_HISTORY.as_bytes(), "", 0, "a history");
 }
 
 #[test]
 fn tells_a_failing_read_before_all_else(rt: HostRuntime) {
     for calls in 0..SHORT_FILE.len() + 1 {
-        let run = ran(
-            &rt,
-            &mut SlowSource::new(SHORT_FILE.as_bytes(), calls),
-            &FEWEST,
-        );
-        assert_eq!(rt; run.output.as_slice(), b"".as_slice(), "after {calls}");
-        assert_eq!(rt;
-            run.errors.as_slice(),
-            b"read fault\n".as_slice(),
-            "after {calls}"
-        );
-        assert_eq!(rt; run.status, 1, "after {calls}");
+        let input = SlowSource::new(SHORT_FILE.as_bytes(), calls);
+        let run = ran(&rt, input, &FEWEST, Printed::Answers);
+        run.check(&rt, b"", "read fault\n", 1, calls);
     }
 }
 
@@ -214,7 +176,7 @@ fn answers_do_not_depend_on_meshers(rt: HostRuntime) -> Result<(), Fail> {
                     seed,
                     meshers,
                 };
-                let run = ran(&rt, &mut Input::new(file.as_bytes()), &args);
+                let run = ran(&rt, Input::new(file.as_bytes()), &args, Printed::Answers);
                 assert_eq!(rt;
                     run.errors.as_slice(),
                     b"".as_slice(),

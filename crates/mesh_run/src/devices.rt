@@ -1,0 +1,53 @@
+//! The devices of a run.
+ghost use Rattle.std.specs.Prelude.{◌≡◌};
+
+use mesh_text::{Sink, Source};
+use std::marker::Model;
+
+/// What a run reads its file from, and what it writes to: standard output, and standard error for a person. Contracts see what each has left or
+/// took, and whether it has failed.
+#[derive(Drop)]
+pub struct Devices<I: Source, O: Sink, E: Sink> {
+    pub(crate) input: I,
+    pub(crate) output: O,
+    pub(crate) errors: E,
+}
+
+impl<I: Source, O: Sink, E: Sink> Model for Devices<I, O, E> {
+    ghost use Rattle.mesh_run.specs.Seen.{Seen};
+
+    ghost Value = { Seen };
+
+    ghost view = { λ devices. record {
+      left = I.remaining devices.input;
+      written = O.written devices.output;
+      told = E.written devices.errors;
+      input_failed = I.has_failed devices.input;
+      output_failed = O.has_failed devices.output;
+      errors_failed = E.has_failed devices.errors;
+    } };
+}
+
+impl<I: Source, O: Sink, E: Sink> Devices<I, O, E> {
+    /// A run's devices.
+    pub fn new(input: I, output: O, errors: E) -> Devices<I, O, E>
+        ensures input { (result.left ≡ I.remaining input) × (result.input_failed ≡ I.has_failed input) }
+        ensures output { (result.written ≡ O.written output) × (result.output_failed ≡ O.has_failed output) }
+        ensures errors { (result.told ≡ E.written errors) × (result.errors_failed ≡ E.has_failed errors) }
+    {
+        Devices {
+            input,
+            output,
+            errors,
+        }
+    }
+
+    /// The input, the output and what was written to for a person.
+    pub fn into_parts(self) -> (I, O, E)
+        ensures input { (I.remaining result.0 ≡ self.left) × (I.has_failed result.0 ≡ self.input_failed) }
+        ensures output { (O.written result.1 ≡ self.written) × (O.has_failed result.1 ≡ self.output_failed) }
+        ensures errors { (E.written result.2 ≡ self.told) × (E.has_failed result.2 ≡ self.errors_failed) }
+    {
+        (self.input, self.output, self.errors)
+    }
+}
