@@ -12,6 +12,7 @@ pub mod RecordLaws
 pub mod RefusalLaws
 pub mod Sound
 pub mod StepEffects
+pub mod Stored
 pub mod Table
 pub mod TableLaws
 pub mod TiedLaws

@@ -1,11 +1,13 @@
 //! The heap without its bytes: the table of groups, slots and running meshes, the steps of a mesh, the places of addresses, and what a heap means; and
-//! what is proved of these definitions alone, a file a thought. It has no other code.
+//! what is proved of these definitions alone, a file a thought. Its only other code is `Occupant`, an object in a slot as every keeper of a table
+//! stores it.
 #![tactic(auto)]
 
 pub mod effect_laws;
 pub mod meaning_laws;
 pub mod mesh_laws;
 pub mod new_laws;
+mod occupant;
 pub mod page_laws;
 pub mod place_laws;
 pub mod protection_laws;
@@ -13,3 +15,5 @@ pub mod record_laws;
 pub mod refusal_laws;
 pub mod table_laws;
 pub mod tied_laws;
+
+pub use occupant::Occupant;

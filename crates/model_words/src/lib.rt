@@ -2,11 +2,13 @@
 //! of steps is refused.
 #![tactic(auto)]
 
+mod answers;
 mod commands;
 mod faults;
 mod refusals;
 mod versions;
 
+pub use answers::{NewFault, StepDone};
 pub use commands::{Command, MAX_BYTES, Reply, StepKind};
 pub use faults::{FaultKind, TextFault};
 pub use refusals::Refusal;

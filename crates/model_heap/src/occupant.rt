@@ -1,0 +1,23 @@
+//! `Occupant`, the object that stands in a slot.
+use std::marker::Model;
+
+/// An object in a slot: the member that it is an address of, by the member's first virtual page, its serial and its length.
+#[derive(Clone, Copy, Debug, PartialEq, Eq)]
+pub struct Occupant {
+    /// The first virtual page of the member.
+    pub member: u32,
+    /// The object's serial.
+    pub serial: u32,
+    /// The object's length in bytes.
+    pub len: u32,
+}
+
+impl Model for Occupant {
+    ghost use Rattle.model_heap.specs.Table.{Slot};
+
+    ghost Value = { Slot };
+
+    ghost view = { λ o. record { member = o.member; serial = o.serial; len = o.len } };
+
+    ghost inverse = { λ s. record { member = s.member; serial = s.serial; len = s.len } };
+}

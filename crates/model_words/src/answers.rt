@@ -1,0 +1,34 @@
+//! What a call that makes an object is answered where it makes none, and what a step of a mesh is answered: by the heap and by its table alike.
+use crate::{Refusal, StepKind};
+use thiserror::Error;
+
+/// Why no object was made. Nothing has changed.
+#[derive(Clone, Copy, Debug, PartialEq, Eq, Error)]
+pub enum NewFault {
+    /// The call was refused.
+    #[error("{0}")]
+    Refused(Refusal),
+    /// The memory for a new span was refused.
+    #[error("out of memory")]
+    Memory,
+}
+
+impl From<Refusal> for NewFault {
+    ghost use Rattle.std.specs.Prelude.{◌≡◌};
+    ghost use Rattle.model_words.specs.declared.answers.NewFault.TheVariants.{Refused};
+
+    ghost from_gives = { λ refusal fault. fault ≡ Refused refusal };
+
+    fn from(refusal: Refusal) -> NewFault {
+        NewFault::Refused(refusal)
+    }
+}
+
+/// A step of a mesh that was made.
+#[derive(Clone, Copy, Debug, PartialEq, Eq)]
+pub struct StepDone {
+    /// Its kind.
+    pub kind: StepKind,
+    /// How many steps are to come; 0 once the mesh is over.
+    pub left: u32,
+}
