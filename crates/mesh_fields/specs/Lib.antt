@@ -1,3 +1,4 @@
+pub mod Commands
 pub mod Fields
 pub mod KeptLines
 pub mod Lines

@@ -9,7 +9,7 @@ use arrayvec::ArrayVec;
 use model_words::{FaultKind, MAX_BYTES};
 
 /// The greatest address of a job, the last byte of the last virtual page.
-const MAX_ADDRESS: u32 = 0xfff_ffff;
+const MAX_ADDRESS: u64 = 0xfff_ffff;
 
 /// The greatest address of 48 bits.
 const MAX_WIDE_ADDRESS: u64 = 0xffff_ffff_ffff;
@@ -84,11 +84,11 @@ pub fn bytes(field: &[u8]) -> Result<ArrayVec<u8, MAX_BYTES>, FaultKind>
 }
 
 /// An address from 0 to fffffff, without a leading zero. NUMBER where it is anything else.
-pub fn address(field: &[u8]) -> Result<u32, FaultKind>
-    ensures { result ≡ address_in field.now }
+pub fn address(field: &[u8]) -> Result<u64, FaultKind>
+    ensures value { result ≡ address_in field.now }
+    ensures most { IfOk result (λ a. a ≤ 268435455) }
 {
-    let address = hex_within(field, u64::from(MAX_ADDRESS))?;
-    Ok(address as u32)
+    hex_within(field, MAX_ADDRESS)
 }
 
 /// An address of 48 bits, from 0 to ffffffffffff, without a leading zero. NUMBER where it is anything else.

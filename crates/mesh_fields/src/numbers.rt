@@ -1,7 +1,7 @@
 //! Decimal fields.
 ghost use Rattle.std.specs.Prelude.{◌≡◌, ◌≢◌, ◌+◌, ◌<◌, ◌≤◌, ◌^◌, ◌⊎◌, ℕ, true, false, decimal, IfSome, IfOk, IsNone};
 ghost use Rattle.std.specs.List.{list_all};
-ghost use Rattle.model_jobs.specs.JobFiles.{cell_in, decimal_value, number_in};
+ghost use Rattle.model_jobs.specs.JobFiles.{decimal_value, number_in};
 ghost use Rattle.mesh_fields.specs.Fields.{is_decimal_digit};
 
 use crate::hex::has_leading_zero;
@@ -71,12 +71,4 @@ pub fn number32(field: &[u8], least: u32, most: u32) -> Result<u32, FaultKind>
 {
     let number = number(field, u64::from(least), u64::from(most))?;
     Ok(number as u32)
-}
-
-/// The number of a root cell, at most 255. NUMBER where it is anything else.
-pub fn cell(field: &[u8]) -> Result<u8, FaultKind>
-    ensures { result ≡ cell_in field.now }
-{
-    let number = number(field, 0, u64::from(u8::MAX))?;
-    Ok(number as u8)
 }

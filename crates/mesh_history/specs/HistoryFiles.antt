@@ -1,87 +1,23 @@
 -- Reading the lines of a recorded history. The format is this project's own choice.
 use Rattle.std.specs.Prelude.{ℕ, ◌+◌, not, if◌then◌else◌, nat_eq, nat_lt, Bool, List, [], ◌∷◌, Option, Some, None, Result, Ok, Err, codes, drop, length, take}
 use Rattle.std.specs.List.{list_any, position}
-use Rattle.model_jobs.specs.JobFiles.{are_same, byte_in, bytes_in, five_fields, header_in, is_empty, no_field, number_in, one_field, three_fields, two_fields, word_in}
+use Rattle.model_jobs.specs.JobFiles.{are_same, byte_in, bytes_in, header_in, is_empty, no_field, number_in, one_field, ruled_command_in, three_fields, two_fields}
 use Rattle.model_memory.specs.Plain.{Entry}
 use Rattle.model_words.specs.Refusals.{name_of}
 use Rattle.model_words.specs.Words.{◌>>=◌, or_refuse, refuse_if}
 use Rattle.model_words.specs.declared.commands.Command.{Command}
-use Rattle.model_words.specs.declared.commands.Command.TheVariants.{New, Put, Get, Free, Alias, Addr, Peek, Poke, Copy as CopyBytes}
 use Rattle.model_words.specs.declared.commands.Reply.{Reply}
 use Rattle.model_words.specs.declared.commands.Reply.TheVariants.{Object as Made, Done, Bytes, At, Byte, Refused}
 use Rattle.model_words.specs.declared.faults.FaultKind.{FaultKind}
 use Rattle.model_words.specs.declared.faults.FaultKind.TheVariants.{Word}
 use Rattle.model_words.specs.declared.refusals.Refusal.{Refusal}
 use Rattle.model_words.specs.declared.refusals.Refusal.TheVariants.{Zero, TooLarge, NoPages, NoAddresses, Empty, Freed, Outside, Stray, NoGroup, Same, Class, Busy, Overlap, Members, NoMesh, TooLate, NotEmpty}
-use Rattle.mesh_fields.specs.Fields.{hex_in}
+use Rattle.mesh_fields.specs.Commands.{history_rules, place_in, wide_in}
 use Rattle.mesh_fields.specs.Lines.{bytes_fit, line_fields}
-
--- a cell, a length, an offset or a serial: any number of 32 bits
-abbrev pub wide_in : List ℕ → Result ℕ FaultKind
-wide_in field = number_in 0 4294967295 field
-
--- an address: any number of 48 bits
-abbrev pub place_in : List ℕ → Result ℕ FaultKind
-place_in field = hex_in 11 281474976710655 field
-
--- how many bytes are loaded or copied
-abbrev pub count_in : List ℕ → Result ℕ FaultKind
-count_in field = number_in 1 32 field
-
--- `new CELL LEN WORD`
-abbrev pub new_in : List (List ℕ) → Result Command FaultKind
-new_in fields =
-    three_fields fields >>= λ f. wide_in f.0 >>= λ cell. wide_in f.1 >>= λ len. word_in f.2 >>= λ word. Ok (New cell len word)
-
--- `put CELL OFF HEX`
-abbrev pub put_in : List (List ℕ) → Result Command FaultKind
-put_in fields =
-    three_fields fields >>= λ f. wide_in f.0 >>= λ cell. wide_in f.1 >>= λ off. bytes_in f.2 >>= λ bytes.
-    Ok (Put cell off (record { items = bytes }))
-
--- `get CELL OFF LEN`
-abbrev pub get_in : List (List ℕ) → Result Command FaultKind
-get_in fields =
-    three_fields fields >>= λ f. wide_in f.0 >>= λ cell. wide_in f.1 >>= λ off. count_in f.2 >>= λ len. Ok (Get cell off len)
-
--- `free CELL`
-abbrev pub free_in : List (List ℕ) → Result Command FaultKind
-free_in fields = one_field fields >>= λ f. wide_in f >>= λ cell. Ok (Free cell)
-
--- `alias CELL FROM`
-abbrev pub alias_in : List (List ℕ) → Result Command FaultKind
-alias_in fields = two_fields fields >>= λ f. wide_in f.0 >>= λ to. wide_in f.1 >>= λ from. Ok (Alias to from)
-
--- `addr CELL`
-abbrev pub addr_in : List (List ℕ) → Result Command FaultKind
-addr_in fields = one_field fields >>= λ f. wide_in f >>= λ cell. Ok (Addr cell)
-
--- `peek ADDR`
-abbrev pub peek_in : List (List ℕ) → Result Command FaultKind
-peek_in fields = one_field fields >>= λ f. place_in f >>= λ address. Ok (Peek address)
-
--- `poke ADDR BYTE`
-abbrev pub poke_in : List (List ℕ) → Result Command FaultKind
-poke_in fields = two_fields fields >>= λ f. place_in f.0 >>= λ address. byte_in f.1 >>= λ byte. Ok (Poke address byte)
-
--- `copy TO OFF FROM OFF LEN`
-abbrev pub copy_in : List (List ℕ) → Result Command FaultKind
-copy_in fields =
-    five_fields fields >>= λ f. wide_in f.0 >>= λ to. wide_in f.1 >>= λ to_off. wide_in f.2 >>= λ from. wide_in f.3 >>= λ from_off.
-    count_in f.4 >>= λ len. Ok (CopyBytes to to_off from from_off len)
 
 -- a command by its word
 abbrev pub command_in : List ℕ → List (List ℕ) → Result Command FaultKind
-command_in word fields =
-    if are_same word (codes "new") then new_in fields
-    else (if are_same word (codes "put") then put_in fields
-    else (if are_same word (codes "get") then get_in fields
-    else (if are_same word (codes "free") then free_in fields
-    else (if are_same word (codes "alias") then alias_in fields
-    else (if are_same word (codes "addr") then addr_in fields
-    else (if are_same word (codes "peek") then peek_in fields
-    else (if are_same word (codes "poke") then poke_in fields
-    else (if are_same word (codes "copy") then copy_in fields else Err Word))))))))
+command_in word fields = ruled_command_in history_rules word fields
 
 -- the refusal of a number from 1 to 17
 abbrev pub refusal_of : ℕ → Refusal

@@ -1,13 +1,14 @@
 //! The lines of a recorded history: the first one, and the entries.
 ghost use Rattle.std.specs.Prelude.{◌≡◌, IfOk, IfErr, IfSome, IsNone, Ok, Err, Some, None};
 ghost use Rattle.model_words.specs.Commands.{IsInRange};
+ghost use Rattle.mesh_fields.specs.Commands.{plain_command};
 ghost use Rattle.mesh_fields.specs.Lines.{texts};
 ghost use Rattle.mesh_history.specs.HistoryFiles.{answer_in, arrow_split, asked_in, entry_in, entry_of, head_in};
-ghost use Rattle.mesh_history.specs.RecordedWords.{IsNarrow, plain_command, plain_entry, plain_reply};
+ghost use Rattle.mesh_history.specs.RecordedWords.{IsNarrow, plain_entry, plain_reply};
 
-use crate::commands::command_of;
 use crate::replies::reply_of;
-use crate::{RecordedCommand, RecordedEntry, RecordedReply};
+use crate::{RecordedEntry, RecordedReply};
+use mesh_fields::commands::{Dialect, SpeltCommand, command_of};
 use mesh_fields::lines::{check_bytes, fields_of, header, is_word};
 use mesh_fields::numbers::number32;
 use model_words::FaultKind;
@@ -78,7 +79,7 @@ fn entry_of(before: &[&[u8]], behind: &[&[u8]]) -> Result<RecordedEntry, FaultKi
 }
 
 /// `W COMMAND`: a worker and what it asked.
-fn asked_of(fields: &[&[u8]]) -> Result<(u32, RecordedCommand), FaultKind>
+fn asked_of(fields: &[&[u8]]) -> Result<(u32, SpeltCommand), FaultKind>
     ensures ok { IfOk result (λ asked. asked_in (texts fields.now) ≡ Ok (asked.0, plain_command asked.1)) }
     ensures err { IfErr result (λ kind. asked_in (texts fields.now) ≡ Err kind) }
     ensures in_range { IfOk result (λ asked. IsInRange (plain_command asked.1)) }
@@ -87,7 +88,7 @@ fn asked_of(fields: &[&[u8]]) -> Result<(u32, RecordedCommand), FaultKind>
         return Err(FaultKind::Word);
     };
     let worker = number32(*worker, 0, MAX_WORKER)?;
-    let command = command_of(*word, fields)?;
+    let command = command_of(Dialect::History, *word, fields)?;
     Ok((worker, command))
 }
 

@@ -3,11 +3,11 @@
 //! Cells, lengths and addresses have wider ranges than in a job file. A contract sees what was read as commands and replies of the plain memory.
 #![tactic(auto)]
 
-mod commands;
 mod entries;
 mod refusals;
 mod replies;
 mod words;
 
 pub use entries::{read_entry, read_head};
-pub use words::{RecordedCommand, RecordedEntry, RecordedReply};
+pub use mesh_fields::commands::SpeltCommand;
+pub use words::{RecordedEntry, RecordedReply};

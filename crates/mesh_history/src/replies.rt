@@ -1,21 +1,18 @@
 //! The answers of a recorded history: the fields of each, from left to right.
-ghost use Rattle.std.specs.Prelude.{◌≡◌, IfOk, IfErr, Ok, Err};
 ghost use Rattle.mesh_fields.specs.Lines.{texts};
 ghost use Rattle.mesh_history.specs.HistoryFiles.{at_in, done_in, loaded_in, object_in, peeked_in, refused_in, reply_in};
-ghost use Rattle.mesh_history.specs.RecordedWords.{IsNarrow, plain_reply};
+ghost use Rattle.mesh_history.specs.RecordedWords.{IsReplyRead};
 
 use crate::RecordedReply;
-use crate::commands::wide;
 use crate::refusals::refusal_named;
+use mesh_fields::commands::wide;
 use mesh_fields::hex::{byte, bytes, wide_address};
 use mesh_fields::lines::{is_word, no_field, one_field, three_fields, two_fields};
 use model_words::FaultKind;
 
 /// The answer of an entry with this word and these fields. WORD where there is no such answer, or it has another number of fields.
 pub(crate) fn reply_of(word: &[u8], fields: &[&[u8]]) -> Result<RecordedReply, FaultKind>
-    ensures ok { IfOk result (λ reply. reply_in word.now (texts fields.now) ≡ Ok (plain_reply reply)) }
-    ensures err { IfErr result (λ kind. reply_in word.now (texts fields.now) ≡ Err kind) }
-    ensures narrow { IfOk result IsNarrow }
+    ensures { IsReplyRead (reply_in word.now (texts fields.now)) result }
 {
     if is_word(word, b"object") {
         object_of(fields)
@@ -36,9 +33,7 @@ pub(crate) fn reply_of(word: &[u8], fields: &[&[u8]]) -> Result<RecordedReply, F
 
 /// `object SERIAL at ADDR`. WORD where another field stands between the two numbers.
 fn object_of(fields: &[&[u8]]) -> Result<RecordedReply, FaultKind>
-    ensures ok { IfOk result (λ reply. object_in (texts fields.now) ≡ Ok (plain_reply reply)) }
-    ensures err { IfErr result (λ kind. object_in (texts fields.now) ≡ Err kind) }
-    ensures narrow { IfOk result IsNarrow }
+    ensures { IsReplyRead (object_in (texts fields.now)) result }
 {
     let (serial, at, address) = three_fields(fields)?;
     let serial = wide(serial)?;
@@ -50,9 +45,7 @@ fn object_of(fields: &[&[u8]]) -> Result<RecordedReply, FaultKind>
 
 /// `done`
 fn done_of(fields: &[&[u8]]) -> Result<RecordedReply, FaultKind>
-    ensures ok { IfOk result (λ reply. done_in (texts fields.now) ≡ Ok (plain_reply reply)) }
-    ensures err { IfErr result (λ kind. done_in (texts fields.now) ≡ Err kind) }
-    ensures narrow { IfOk result IsNarrow }
+    ensures { IsReplyRead (done_in (texts fields.now)) result }
 {
     no_field(fields)?;
     Ok(RecordedReply::Done)
@@ -60,36 +53,28 @@ fn done_of(fields: &[&[u8]]) -> Result<RecordedReply, FaultKind>
 
 /// `bytes HEX`
 fn loaded_of(fields: &[&[u8]]) -> Result<RecordedReply, FaultKind>
-    ensures ok { IfOk result (λ reply. loaded_in (texts fields.now) ≡ Ok (plain_reply reply)) }
-    ensures err { IfErr result (λ kind. loaded_in (texts fields.now) ≡ Err kind) }
-    ensures narrow { IfOk result IsNarrow }
+    ensures { IsReplyRead (loaded_in (texts fields.now)) result }
 {
     Ok(RecordedReply::Bytes(bytes(one_field(fields)?)?))
 }
 
 /// `at ADDR`
 fn at_of(fields: &[&[u8]]) -> Result<RecordedReply, FaultKind>
-    ensures ok { IfOk result (λ reply. at_in (texts fields.now) ≡ Ok (plain_reply reply)) }
-    ensures err { IfErr result (λ kind. at_in (texts fields.now) ≡ Err kind) }
-    ensures narrow { IfOk result IsNarrow }
+    ensures { IsReplyRead (at_in (texts fields.now)) result }
 {
     Ok(RecordedReply::At(wide_address(one_field(fields)?)?))
 }
 
 /// `byte HH`
 fn peeked_of(fields: &[&[u8]]) -> Result<RecordedReply, FaultKind>
-    ensures ok { IfOk result (λ reply. peeked_in (texts fields.now) ≡ Ok (plain_reply reply)) }
-    ensures err { IfErr result (λ kind. peeked_in (texts fields.now) ≡ Err kind) }
-    ensures narrow { IfOk result IsNarrow }
+    ensures { IsReplyRead (peeked_in (texts fields.now)) result }
 {
     Ok(RecordedReply::Byte(byte(one_field(fields)?)?))
 }
 
 /// `refused NUMBER NAME`
 fn refused_of(fields: &[&[u8]]) -> Result<RecordedReply, FaultKind>
-    ensures ok { IfOk result (λ reply. refused_in (texts fields.now) ≡ Ok (plain_reply reply)) }
-    ensures err { IfErr result (λ kind. refused_in (texts fields.now) ≡ Err kind) }
-    ensures narrow { IfOk result IsNarrow }
+    ensures { IsReplyRead (refused_in (texts fields.now)) result }
 {
     let (number, name) = two_fields(fields)?;
     Ok(RecordedReply::Refused(refusal_named(number, name)?))

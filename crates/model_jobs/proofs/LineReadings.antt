@@ -7,7 +7,7 @@ use Rattle.std.proofs.lemmas.Bool.Decides.{leb_tells}
 use Rattle.std.proofs.lemmas.Bool.{and_parts, leb-true, true≢false}
 use Rattle.std.proofs.lemmas.List.{length-map}
 use Rattle.std.proofs.lemmas.List.Splits.{join_with_byte-slice_split}
-use Rattle.model_jobs.specs.JobFiles.{are_same, number_in, address_in, bytes_in, byte_in, cell_in, short_in, word_in, class_in, words_in, one_field, two_fields, three_fields, five_fields, no_field, new_in, put_in, get_in, free_in, alias_in, addr_in, peek_in, poke_in, copy_in, is_second, command_in, run_in, pair_in, begin_in, whole_in, sweep_in, bare_in, of_class_in, of_mesh_in, line_in, Section, Draft, AtVersion, AtPages, AtHistory, AtWorkers, AtFirstWorker, InScript, InPlan, AtEnd, script_closed, version_of, header_in, take_in, is_printable, is_empty, take_fields, take_line, IsValidLine, IsValidCommand}
+use Rattle.model_jobs.specs.JobFiles.{are_same, number_in, address_in, bytes_in, byte_in, cell_in, short_in, word_in, class_in, words_in, one_field, two_fields, three_fields, five_fields, no_field, new_in, put_in, get_in, free_in, alias_in, addr_in, peek_in, poke_in, copy_in, is_second, job_rules, command_in, run_in, pair_in, begin_in, whole_in, sweep_in, bare_in, of_class_in, of_mesh_in, line_in, Section, Draft, AtVersion, AtPages, AtHistory, AtWorkers, AtFirstWorker, InScript, InPlan, AtEnd, script_closed, version_of, header_in, take_in, is_printable, is_empty, take_fields, take_line, IsValidLine, IsValidCommand}
 use Rattle.model_jobs.specs.Jobs.{Line, RunWorker, PairClass, BeginMesh, StepMesh, CancelMesh, StepClass, CancelClass, WholeMesh, SweepGroup, MakeReport}
 use Rattle.model_jobs.specs.ReaderLaws.{IsHeader, IsNextWorker, IsPlanHead, IsCommandLine, IsEnd, IsPlanLine}
 use Rattle.model_jobs.specs.Texts.{field, number_field, command_text, line_text}
@@ -68,7 +68,7 @@ abbrev IsCommand : Version → List ℕ → List (List ℕ) → Command → Type
 IsCommand version word fields command = (word ≡ word_of command) × (fields ≡ fields_of command) × IsValidCommand version command
 
 -- what each of the commands says of its fields
-new_told : (version : Version) (fields : List (List ℕ)) (command : Command) → new_in fields ≡ Ok command → IsCommand version (codes "new") fields command
+new_told : (version : Version) (fields : List (List ℕ)) (command : Command) → new_in (job_rules version) fields ≡ Ok command → IsCommand version (codes "new") fields command
 new_told version fields command h =
     let f = went_on (three_fields fields) _ command h in let cell = went_on (cell_in f.value.0) _ command f.then in
     let len = went_on (short_in f.value.1) _ command cell.then in let word = went_on (word_in f.value.2) _ command len.then in
@@ -77,7 +77,7 @@ new_told version fields command h =
     let is : New cell.value len.value word.value ≡ command = cc word.then in
     subst (λ (x : Command). IsCommand version (codes "new") fields x) is (refl, cc (three_told fields f.value f.is, a.0, b.0, c.0), (a.2, b.2, c.2))
 
-put_told : (version : Version) (fields : List (List ℕ)) (command : Command) → put_in fields ≡ Ok command → IsCommand version (codes "put") fields command
+put_told : (version : Version) (fields : List (List ℕ)) (command : Command) → put_in (job_rules version) fields ≡ Ok command → IsCommand version (codes "put") fields command
 put_told version fields command h =
     let f = went_on (three_fields fields) _ command h in let cell = went_on (cell_in f.value.0) _ command f.then in
     let off = went_on (short_in f.value.1) _ command cell.then in let bytes = went_on (bytes_in f.value.2) _ command off.then in
@@ -87,7 +87,7 @@ put_told version fields command h =
     subst (λ (x : Command). IsCommand version (codes "put") fields x) is
     (refl, cc (three_told fields f.value f.is, a.0, b.0, c.0), (a.2, b.2, c.1, c.2, c.3))
 
-get_told : (version : Version) (fields : List (List ℕ)) (command : Command) → get_in fields ≡ Ok command → IsCommand version (codes "get") fields command
+get_told : (version : Version) (fields : List (List ℕ)) (command : Command) → get_in (job_rules version) fields ≡ Ok command → IsCommand version (codes "get") fields command
 get_told version fields command h =
     let f = went_on (three_fields fields) _ command h in let cell = went_on (cell_in f.value.0) _ command f.then in
     let off = went_on (short_in f.value.1) _ command cell.then in let len = went_on (number_in 1 32 f.value.2) _ command off.then in
@@ -96,13 +96,13 @@ get_told version fields command h =
     let is : Get cell.value off.value len.value ≡ command = cc len.then in
     subst (λ (x : Command). IsCommand version (codes "get") fields x) is (refl, cc (three_told fields f.value f.is, a.0, b.0, c.0), (a.2, b.2, c.1, c.2))
 
-free_told : (version : Version) (fields : List (List ℕ)) (command : Command) → free_in fields ≡ Ok command → IsCommand version (codes "free") fields command
+free_told : (version : Version) (fields : List (List ℕ)) (command : Command) → free_in (job_rules version) fields ≡ Ok command → IsCommand version (codes "free") fields command
 free_told version fields command h =
     let f = went_on (one_field fields) _ command h in let cell = went_on (cell_in f.value) _ command f.then in
     let a = number_told 0 255 f.value cell.value cell.is in let is : Free cell.value ≡ command = cc cell.then in
     subst (λ (x : Command). IsCommand version (codes "free") fields x) is (refl, cc (one_told fields f.value f.is, a.0), a.2)
 
-alias_told : (version : Version) (fields : List (List ℕ)) (command : Command) → alias_in fields ≡ Ok command → IsCommand version (codes "alias") fields command
+alias_told : (version : Version) (fields : List (List ℕ)) (command : Command) → alias_in (job_rules version) fields ≡ Ok command → IsCommand version (codes "alias") fields command
 alias_told version fields command h =
     let f = went_on (two_fields fields) _ command h in let to = went_on (cell_in f.value.0) _ command f.then in
     let from = went_on (cell_in f.value.1) _ command to.then in
@@ -110,19 +110,19 @@ alias_told version fields command h =
     let is : Alias to.value from.value ≡ command = cc from.then in
     subst (λ (x : Command). IsCommand version (codes "alias") fields x) is (refl, cc (two_told fields f.value f.is, a.0, b.0), (a.2, b.2))
 
-addr_told : (version : Version) (fields : List (List ℕ)) (command : Command) → addr_in fields ≡ Ok command → IsCommand version (codes "addr") fields command
+addr_told : (version : Version) (fields : List (List ℕ)) (command : Command) → addr_in (job_rules version) fields ≡ Ok command → IsCommand version (codes "addr") fields command
 addr_told version fields command h =
     let f = went_on (one_field fields) _ command h in let cell = went_on (cell_in f.value) _ command f.then in
     let a = number_told 0 255 f.value cell.value cell.is in let is : Addr cell.value ≡ command = cc cell.then in
     subst (λ (x : Command). IsCommand version (codes "addr") fields x) is (refl, cc (one_told fields f.value f.is, a.0), a.2)
 
-peek_told : (version : Version) (fields : List (List ℕ)) (command : Command) → peek_in fields ≡ Ok command → IsCommand version (codes "peek") fields command
+peek_told : (version : Version) (fields : List (List ℕ)) (command : Command) → peek_in (job_rules version) fields ≡ Ok command → IsCommand version (codes "peek") fields command
 peek_told version fields command h =
     let f = went_on (one_field fields) _ command h in let address = went_on (address_in f.value) _ command f.then in
     let a = address_told f.value address.value address.is in let is : Peek address.value ≡ command = cc address.then in
     subst (λ (x : Command). IsCommand version (codes "peek") fields x) is (refl, cc (one_told fields f.value f.is, a.0), a.1)
 
-poke_told : (version : Version) (fields : List (List ℕ)) (command : Command) → poke_in fields ≡ Ok command → IsCommand version (codes "poke") fields command
+poke_told : (version : Version) (fields : List (List ℕ)) (command : Command) → poke_in (job_rules version) fields ≡ Ok command → IsCommand version (codes "poke") fields command
 poke_told version fields command h =
     let f = went_on (two_fields fields) _ command h in let address = went_on (address_in f.value.0) _ command f.then in
     let byte = went_on (byte_in f.value.1) _ command address.then in
@@ -134,7 +134,7 @@ five_spelt : (f : List ℕ × List ℕ × List ℕ × List ℕ × List ℕ) (a b
     → f.0 ∷ f.1 ∷ f.2 ∷ f.3 ∷ f.4 ∷ [] ≡ a ∷ b ∷ c ∷ d ∷ e ∷ []
 five_spelt f a b c d e is_a is_b is_c is_d is_e = rw (is_a, is_b, is_c, is_d, is_e) refl
 
-copy_told : (version : Version) (fields : List (List ℕ)) (command : Command) → version ≡ Two → copy_in fields ≡ Ok command
+copy_told : (version : Version) (fields : List (List ℕ)) (command : Command) → version ≡ Two → copy_in (job_rules version) fields ≡ Ok command
     → IsCommand version (codes "copy") fields command
 copy_told version fields command second h =
     let f = went_on (five_fields fields) _ command h in let to = went_on (cell_in f.value.0) _ command f.then in
@@ -154,9 +154,9 @@ second_told Two h = refl
 
 -- the last choice of a command: a copy, in version 2
 copy_chosen : (version : Version) (word : List ℕ) (fields : List (List ℕ)) (command : Command)
-    → (if are_same word (codes "copy") && is_second version then copy_in fields else Err Word) ≡ Ok command → IsCommand version word fields command
+    → (if are_same word (codes "copy") && is_second version then copy_in (job_rules version) fields else Err Word) ≡ Ok command → IsCommand version word fields command
 copy_chosen version word fields command h =
-    elim (if_tells (are_same word (codes "copy") && is_second version) (copy_in fields) (Err Word) (Ok command) h) [
+    elim (if_tells (are_same word (codes "copy") && is_second version) (copy_in (job_rules version) fields) (Err Word) (Ok command) h) [
       | inl both ↦ let parts = and_parts (are_same word (codes "copy")) (is_second version) both.0 in
           subst (λ (w : List ℕ). IsCommand version w fields command) (sym (same_by_test word (codes "copy") parts.0))
           (copy_told version fields command (second_told version parts.1) both.1)
@@ -176,14 +176,14 @@ command_told : (version : Version) (word : List ℕ) (fields : List (List ℕ)) 
     → IsCommand version word fields command
 command_told version word fields command =
     let P : List ℕ → Type 0 = λ w. IsCommand version w fields command in
-    chosen P word (codes "new") (new_in fields) _ command (new_told version fields command)
-    (chosen P word (codes "put") (put_in fields) _ command (put_told version fields command)
-    (chosen P word (codes "get") (get_in fields) _ command (get_told version fields command)
-    (chosen P word (codes "free") (free_in fields) _ command (free_told version fields command)
-    (chosen P word (codes "alias") (alias_in fields) _ command (alias_told version fields command)
-    (chosen P word (codes "addr") (addr_in fields) _ command (addr_told version fields command)
-    (chosen P word (codes "peek") (peek_in fields) _ command (peek_told version fields command)
-    (chosen P word (codes "poke") (poke_in fields) _ command (poke_told version fields command) (copy_chosen version word fields command))))))))
+    chosen P word (codes "new") (new_in (job_rules version) fields) _ command (new_told version fields command)
+    (chosen P word (codes "put") (put_in (job_rules version) fields) _ command (put_told version fields command)
+    (chosen P word (codes "get") (get_in (job_rules version) fields) _ command (get_told version fields command)
+    (chosen P word (codes "free") (free_in (job_rules version) fields) _ command (free_told version fields command)
+    (chosen P word (codes "alias") (alias_in (job_rules version) fields) _ command (alias_told version fields command)
+    (chosen P word (codes "addr") (addr_in (job_rules version) fields) _ command (addr_told version fields command)
+    (chosen P word (codes "peek") (peek_in (job_rules version) fields) _ command (peek_told version fields command)
+    (chosen P word (codes "poke") (poke_in (job_rules version) fields) _ command (poke_told version fields command) (copy_chosen version word fields command))))))))
 
 -- a word and fields are those of a line of the plan in its ranges
 abbrev IsStep : Version → ℕ → List ℕ → List (List ℕ) → Line → Type 0
@@ -336,59 +336,27 @@ header_told wanted least most word fields n h =
     let one : fields ≡ decimal n ∷ [] = cc (one_told fields f.value f.is, told.0) in
     (rw (is, one, append-nil (decimal n)) refl, told.1, told.2)
 
--- the line of a header that was taken
-header_line_told : (wanted : List ℕ) (least most : ℕ) (after : ℕ → Draft) (word : List ℕ) (fields : List (List ℕ)) (line : List ℕ) (draft' : Draft)
-    → line ≡ word ++ flat_map field fields → (header_in wanted least most word fields >>= λ n. Ok (after n)) ≡ Ok draft'
-    → IsHeader wanted least most after line draft'
-header_line_told wanted least most after word fields line draft' is h =
-    let n = went_on (header_in wanted least most word fields) _ draft' h in
-    let told = header_told wanted least most word fields n.value n.is in
-    (n.value, is ∙ told.0, told.1, told.2, cc n.then)
-
 -- a line that was taken in a section
 in_section : (draft : Draft) (line : List ℕ) (draft' : Draft) (taken : Taken draft line draft') (section : Section) → draft.section ≡ section
     → take_in section draft taken.word taken.fields ≡ Ok draft'
 in_section draft line draft' taken section here = subst (λ (s : Section). take_in s draft taken.word taken.fields ≡ Ok draft') here taken.read
 
--- the version that was taken
-pub version_told : (draft draft' : Draft) (line : List ℕ) → draft.section ≡ AtVersion → take_line draft line ≡ Ok draft'
-    → IsHeader (codes "mesh") 1 2 (λ n. record draft { section = AtPages; version = version_of n }) line draft'
-version_told draft draft' line here h =
+-- the line of a header that was taken, where the section reads a word and a number
+pub heading_told : (section : Section) (wanted : List ℕ) (least most : ℕ) (after : ℕ → Draft) (draft draft' : Draft) (line : List ℕ)
+    → ((word : List ℕ) (fields : List (List ℕ)) → take_in section draft word fields ≡ (header_in wanted least most word fields >>= λ n. Ok (after n)))
+    → draft.section ≡ section → take_line draft line ≡ Ok draft' → IsHeader wanted least most after line draft'
+heading_told section wanted least most after draft draft' line reads here h =
     let taken = taken_told draft line draft' h in
-    header_line_told (codes "mesh") 1 2 (λ n. record draft { section = AtPages; version = version_of n }) taken.word taken.fields line draft' taken.is
-    (in_section draft line draft' taken AtVersion here)
-
--- the count of pages that was taken
-pub pages_told : (draft draft' : Draft) (line : List ℕ) → draft.section ≡ AtPages → take_line draft line ≡ Ok draft'
-    → IsHeader (codes "pages") 1 4096 (λ n. record draft { section = AtHistory; pages = n }) line draft'
-pages_told draft draft' line here h =
-    let taken = taken_told draft line draft' h in
-    header_line_told (codes "pages") 1 4096 (λ n. record draft { section = AtHistory; pages = n }) taken.word taken.fields line draft' taken.is
-    (in_section draft line draft' taken AtPages here)
-
--- the journal's room that was taken
-pub history_told : (draft draft' : Draft) (line : List ℕ) → draft.section ≡ AtHistory → take_line draft line ≡ Ok draft'
-    → IsHeader (codes "history") 0 65536 (λ n. record draft { section = AtWorkers; history = n }) line draft'
-history_told draft draft' line here h =
-    let taken = taken_told draft line draft' h in
-    header_line_told (codes "history") 0 65536 (λ n. record draft { section = AtWorkers; history = n }) taken.word taken.fields line draft' taken.is
-    (in_section draft line draft' taken AtHistory here)
-
--- the count of workers that was taken
-pub workers_told : (draft draft' : Draft) (line : List ℕ) → draft.section ≡ AtWorkers → take_line draft line ≡ Ok draft'
-    → IsHeader (codes "workers") 1 64 (λ n. record draft { section = AtFirstWorker; workers = n }) line draft'
-workers_told draft draft' line here h =
-    let taken = taken_told draft line draft' h in
-    header_line_told (codes "workers") 1 64 (λ n. record draft { section = AtFirstWorker; workers = n }) taken.word taken.fields line draft' taken.is
-    (in_section draft line draft' taken AtWorkers here)
+    let n = went_on (header_in wanted least most taken.word taken.fields) _ draft'
+    (sym (reads taken.word taken.fields) ∙ in_section draft line draft' taken section here) in
+    let told = header_told wanted least most taken.word taken.fields n.value n.is in
+    (n.value, taken.is ∙ told.0, told.1, told.2, cc n.then)
 
 -- the first worker's head that was taken
 pub first_worker_told : (draft draft' : Draft) (line : List ℕ) → draft.section ≡ AtFirstWorker → take_line draft line ≡ Ok draft'
     → (line ≡ codes "worker" ++ number_field 0) × (draft' ≡ record draft { section = InScript 0 })
 first_worker_told draft draft' line here h =
-    let taken = taken_told draft line draft' h in
-    let header = header_line_told (codes "worker") 0 0 (λ n. record draft { section = InScript 0 }) taken.word taken.fields line draft' taken.is
-    (in_section draft line draft' taken AtFirstWorker here) in
+    let header = heading_told AtFirstWorker (codes "worker") 0 0 (λ n. record draft { section = InScript 0 }) draft draft' line (λ _ _. refl) here h in
     let none : header.0 ≡ 0 = omega (arith, header.3) in
     (header.1 ∙ rw none refl, header.4)
 

@@ -5,7 +5,7 @@ use Rattle.std.specs.List.{All, flat_map, slice_split, join_with_byte}
 use Rattle.std.proofs.lemmas.Bool.Decides.{eqb_tells, leb_tells}
 use Rattle.std.proofs.lemmas.List.Elements.{All-cons, All-nil}
 use Rattle.std.proofs.lemmas.List.Splits.{join_with_byte-slice_split}
-use Rattle.model_jobs.specs.JobFiles.{Section, Draft, AtPages, AtHistory, AtWorkers, AtFirstWorker, InScript, InPlan, AtEnd, blank_draft, script_closed, take_line, version_of, fault_at, has_ended, job_of, or_fault, lines_in, read_text, IsValidLine, IsValidCommand, IsValidJob}
+use Rattle.model_jobs.specs.JobFiles.{Section, Draft, AtPages, AtVersion, AtHistory, AtWorkers, AtFirstWorker, InScript, InPlan, AtEnd, blank_draft, script_closed, take_line, version_of, fault_at, has_ended, job_of, or_fault, lines_in, read_text, IsValidLine, IsValidCommand, IsValidJob}
 use Rattle.model_jobs.specs.Jobs.{Line, Job}
 use Rattle.model_jobs.specs.Texts.{number_field, command_text, line_text, ended, sections_from, version_number, job_lines, text}
 use Rattle.model_words.specs.declared.commands.Command.{Command}
@@ -14,7 +14,7 @@ use Rattle.model_words.specs.declared.faults.FaultKind.TheVariants.{TooLong}
 use Rattle.model_words.specs.declared.versions.Version.{Version}
 use Rattle.model_jobs.proofs.Readings.{job_back}
 use Rattle.model_words.proofs.Chains.{went_on, refuse_if_went}
-use Rattle.model_jobs.proofs.LineReadings.{few_by_test, version_told, pages_told, history_told, workers_told, first_worker_told, script_line_told, plan_line_told}
+use Rattle.model_jobs.proofs.LineReadings.{few_by_test, first_worker_told, heading_told, script_line_told, plan_line_told}
 
 -- a step that gave no fault was not refused
 or_fault_told : {A : Type 0} (number : ℕ) (r : Result A FaultKind) (x : A) → or_fault number r ≡ Ok x → r ≡ Ok x
@@ -285,7 +285,8 @@ from_workers_told : (version : Version) (number pages history : ℕ) (lines : Li
     → IsValidJob job × (job.version ≡ version) × (lines ≡ workers_lines job) × (job.pages ≡ pages) × (job.history ≡ history)
 from_workers_told version number pages history lines job some_page most_pages most_history h =
     let first = some_taken number (headed version AtWorkers pages history 0) lines job refl h in
-    let head = workers_told (headed version AtWorkers pages history 0) first.draft' first.line refl first.taken in
+    let head = heading_told AtWorkers (codes "workers") 1 64 (headed version AtFirstWorker pages history) (headed version AtWorkers pages history 0)
+    first.draft' first.line (λ _ _. refl) refl first.taken in
     let body = body_told version (number + 1) pages history head.0 first.rest job some_page most_pages most_history head.3
     (read_on first (headed version AtFirstWorker pages history head.0) head.4) in
     (body.0, body.1, front first.is (head.1 ∙ ap (λ (n : ℕ). codes "workers" ++ number_field n) (sym body.5)) body.2, body.3, body.4)
@@ -296,7 +297,8 @@ from_history_told : (version : Version) (number pages : ℕ) (lines : List (List
     → IsValidJob job × (job.version ≡ version) × (lines ≡ history_lines job) × (job.pages ≡ pages)
 from_history_told version number pages lines job some_page most_pages h =
     let first = some_taken number (headed version AtHistory pages 0 0) lines job refl h in
-    let head = history_told (headed version AtHistory pages 0 0) first.draft' first.line refl first.taken in
+    let head = heading_told AtHistory (codes "history") 0 65536 (λ n. headed version AtWorkers pages n 0) (headed version AtHistory pages 0 0)
+    first.draft' first.line (λ _ _. refl) refl first.taken in
     let later = from_workers_told version (number + 1) pages head.0 first.rest job some_page most_pages head.3
     (read_on first (headed version AtWorkers pages head.0 0) head.4) in
     (later.0, later.1, front first.is (head.1 ∙ ap (λ (n : ℕ). codes "history" ++ number_field n) (sym later.4)) later.2, later.3)
@@ -306,7 +308,8 @@ from_pages_told : (version : Version) (number : ℕ) (lines : List (List ℕ)) (
     → IsValidJob job × (job.version ≡ version) × (lines ≡ pages_lines job)
 from_pages_told version number lines job h =
     let first = some_taken number (headed version AtPages 0 0 0) lines job refl h in
-    let head = pages_told (headed version AtPages 0 0 0) first.draft' first.line refl first.taken in
+    let head = heading_told AtPages (codes "pages") 1 4096 (λ n. headed version AtHistory n 0 0) (headed version AtPages 0 0 0)
+    first.draft' first.line (λ _ _. refl) refl first.taken in
     let later = from_history_told version (number + 1) head.0 first.rest job head.2 head.3
     (read_on first (headed version AtHistory head.0 0 0) head.4) in
     (later.0, later.1, front first.is (head.1 ∙ ap (λ (n : ℕ). codes "pages" ++ number_field n) (sym later.3)) later.2)
@@ -326,7 +329,8 @@ lines_told : (number : ℕ) (lines : List (List ℕ)) (job : Job) → lines_in n
     → IsValidJob job × (lines ≡ job_lines job ++ [] ∷ [])
 lines_told number lines job h =
     let first = some_taken number blank_draft lines job refl h in
-    let head = version_told blank_draft first.draft' first.line refl first.taken in
+    let head = heading_told AtVersion (codes "mesh") 1 2 (λ n. headed (version_of n) AtPages 0 0 0) blank_draft
+    first.draft' first.line (λ _ _. refl) refl first.taken in
     let later = from_pages_told (version_of head.0) (number + 1) first.rest job
     (read_on first (headed (version_of head.0) AtPages 0 0 0) head.4) in
     let same : head.0 ≡ version_number job.version =

@@ -125,65 +125,84 @@ abbrev pub two_and_more : List (List ℕ) → Result (List ℕ × List ℕ × Li
 two_and_more (a ∷ b ∷ more) = refuse_if Word (nat_lt 32 (length more)) >>= λ _. Ok (a, b, more)
 two_and_more fields = Err Word
 
+-- what the commands of a text may be: how it spells a cell, a length or an offset, and an address; and whether it has the command `copy`
+pub record CommandRules : Type 0 where
+  pub cell : List ℕ → Result ℕ FaultKind
+  pub size : List ℕ → Result ℕ FaultKind
+  pub place : List ℕ → Result ℕ FaultKind
+  pub has_copy : Bool
+
+-- how many bytes are loaded or copied
+abbrev pub count_in : List ℕ → Result ℕ FaultKind
+count_in field = number_in 1 32 field
+
 -- `new CELL LEN WORD`
-abbrev pub new_in : List (List ℕ) → Result Command FaultKind
-new_in fields =
-    three_fields fields >>= λ f. cell_in f.0 >>= λ cell. short_in f.1 >>= λ len. word_in f.2 >>= λ word. Ok (New cell len word)
+abbrev pub new_in : CommandRules → List (List ℕ) → Result Command FaultKind
+new_in rules fields =
+    three_fields fields >>= λ f. rules.cell f.0 >>= λ cell. rules.size f.1 >>= λ len. word_in f.2 >>= λ word. Ok (New cell len word)
 
 -- `put CELL OFF HEX`
-abbrev pub put_in : List (List ℕ) → Result Command FaultKind
-put_in fields =
-    three_fields fields >>= λ f. cell_in f.0 >>= λ cell. short_in f.1 >>= λ off. bytes_in f.2 >>= λ bytes.
+abbrev pub put_in : CommandRules → List (List ℕ) → Result Command FaultKind
+put_in rules fields =
+    three_fields fields >>= λ f. rules.cell f.0 >>= λ cell. rules.size f.1 >>= λ off. bytes_in f.2 >>= λ bytes.
     Ok (Put cell off (record { items = bytes }))
 
 -- `get CELL OFF LEN`
-abbrev pub get_in : List (List ℕ) → Result Command FaultKind
-get_in fields =
-    three_fields fields >>= λ f. cell_in f.0 >>= λ cell. short_in f.1 >>= λ off. number_in 1 32 f.2 >>= λ len. Ok (Get cell off len)
+abbrev pub get_in : CommandRules → List (List ℕ) → Result Command FaultKind
+get_in rules fields =
+    three_fields fields >>= λ f. rules.cell f.0 >>= λ cell. rules.size f.1 >>= λ off. count_in f.2 >>= λ len. Ok (Get cell off len)
 
 -- `free CELL`
-abbrev pub free_in : List (List ℕ) → Result Command FaultKind
-free_in fields = one_field fields >>= λ f. cell_in f >>= λ cell. Ok (Free cell)
+abbrev pub free_in : CommandRules → List (List ℕ) → Result Command FaultKind
+free_in rules fields = one_field fields >>= λ f. rules.cell f >>= λ cell. Ok (Free cell)
 
 -- `alias CELL FROM`
-abbrev pub alias_in : List (List ℕ) → Result Command FaultKind
-alias_in fields = two_fields fields >>= λ f. cell_in f.0 >>= λ to. cell_in f.1 >>= λ from. Ok (Alias to from)
+abbrev pub alias_in : CommandRules → List (List ℕ) → Result Command FaultKind
+alias_in rules fields = two_fields fields >>= λ f. rules.cell f.0 >>= λ to. rules.cell f.1 >>= λ from. Ok (Alias to from)
 
 -- `addr CELL`
-abbrev pub addr_in : List (List ℕ) → Result Command FaultKind
-addr_in fields = one_field fields >>= λ f. cell_in f >>= λ cell. Ok (Addr cell)
+abbrev pub addr_in : CommandRules → List (List ℕ) → Result Command FaultKind
+addr_in rules fields = one_field fields >>= λ f. rules.cell f >>= λ cell. Ok (Addr cell)
 
 -- `peek ADDR`
-abbrev pub peek_in : List (List ℕ) → Result Command FaultKind
-peek_in fields = one_field fields >>= λ f. address_in f >>= λ address. Ok (Peek address)
+abbrev pub peek_in : CommandRules → List (List ℕ) → Result Command FaultKind
+peek_in rules fields = one_field fields >>= λ f. rules.place f >>= λ address. Ok (Peek address)
 
 -- `poke ADDR BYTE`
-abbrev pub poke_in : List (List ℕ) → Result Command FaultKind
-poke_in fields = two_fields fields >>= λ f. address_in f.0 >>= λ address. byte_in f.1 >>= λ byte. Ok (Poke address byte)
+abbrev pub poke_in : CommandRules → List (List ℕ) → Result Command FaultKind
+poke_in rules fields = two_fields fields >>= λ f. rules.place f.0 >>= λ address. byte_in f.1 >>= λ byte. Ok (Poke address byte)
 
 -- `copy TO OFF FROM OFF LEN`
-abbrev pub copy_in : List (List ℕ) → Result Command FaultKind
-copy_in fields =
-    five_fields fields >>= λ f. cell_in f.0 >>= λ to. short_in f.1 >>= λ to_off. cell_in f.2 >>= λ from. short_in f.3 >>= λ from_off.
-    number_in 1 32 f.4 >>= λ len. Ok (CopyBytes to to_off from from_off len)
+abbrev pub copy_in : CommandRules → List (List ℕ) → Result Command FaultKind
+copy_in rules fields =
+    five_fields fields >>= λ f. rules.cell f.0 >>= λ to. rules.size f.1 >>= λ to_off. rules.cell f.2 >>= λ from.
+    rules.size f.3 >>= λ from_off. count_in f.4 >>= λ len. Ok (CopyBytes to to_off from from_off len)
+
+-- a command by its word
+abbrev pub ruled_command_in : CommandRules → List ℕ → List (List ℕ) → Result Command FaultKind
+ruled_command_in rules word fields =
+    if are_same word (codes "new") then new_in rules fields
+    else (if are_same word (codes "put") then put_in rules fields
+    else (if are_same word (codes "get") then get_in rules fields
+    else (if are_same word (codes "free") then free_in rules fields
+    else (if are_same word (codes "alias") then alias_in rules fields
+    else (if are_same word (codes "addr") then addr_in rules fields
+    else (if are_same word (codes "peek") then peek_in rules fields
+    else (if are_same word (codes "poke") then poke_in rules fields
+    else (if are_same word (codes "copy") && rules.has_copy then copy_in rules fields else Err Word))))))))
 
 -- the file is of version 2
 abbrev pub is_second : Version → Bool
 is_second One = false
 is_second Two = true
 
--- a command by its word
+-- the rules of a job file
+abbrev pub job_rules : Version → CommandRules
+job_rules version = record { cell = cell_in; size = short_in; place = address_in; has_copy = is_second version }
+
+-- a command of a job file
 abbrev pub command_in : Version → List ℕ → List (List ℕ) → Result Command FaultKind
-command_in version word fields =
-    if are_same word (codes "new") then new_in fields
-    else (if are_same word (codes "put") then put_in fields
-    else (if are_same word (codes "get") then get_in fields
-    else (if are_same word (codes "free") then free_in fields
-    else (if are_same word (codes "alias") then alias_in fields
-    else (if are_same word (codes "addr") then addr_in fields
-    else (if are_same word (codes "peek") then peek_in fields
-    else (if are_same word (codes "poke") then poke_in fields
-    else (if are_same word (codes "copy") && is_second version then copy_in fields else Err Word))))))))
+command_in version word fields = ruled_command_in (job_rules version) word fields
 
 -- `run W`
 abbrev pub run_in : ℕ → List (List ℕ) → Result Line FaultKind

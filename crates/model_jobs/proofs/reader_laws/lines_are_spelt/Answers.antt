@@ -1,17 +1,20 @@
-use Rattle.model_jobs.proofs.LineReadings.{line_in_range, version_told, pages_told, history_told, workers_told, first_worker_told, script_line_told, plan_line_told}
+use Rattle.std.proofs.Common.{refl}
+use Rattle.std.specs.Prelude.{codes}
+use Rattle.model_jobs.specs.JobFiles.{AtVersion, AtPages, AtHistory, AtWorkers}
+use Rattle.model_jobs.proofs.LineReadings.{first_worker_told, heading_told, line_in_range, script_line_told, plan_line_told}
 use Rattle.model_jobs.proofs.reader_laws.lines_are_spelt.Goals as goal
 
 pub returns-clause-version : goal.returns-clause-version
-returns-clause-version c draft draft' line here h = version_told draft draft' line here h
+returns-clause-version c draft draft' line here h = heading_told AtVersion (codes "mesh") 1 2 _ draft draft' line (λ _ _. refl) here h
 
 pub returns-clause-pages : goal.returns-clause-pages
-returns-clause-pages c draft draft' line here h = pages_told draft draft' line here h
+returns-clause-pages c draft draft' line here h = heading_told AtPages (codes "pages") 1 4096 _ draft draft' line (λ _ _. refl) here h
 
 pub returns-clause-history : goal.returns-clause-history
-returns-clause-history c draft draft' line here h = history_told draft draft' line here h
+returns-clause-history c draft draft' line here h = heading_told AtHistory (codes "history") 0 65536 _ draft draft' line (λ _ _. refl) here h
 
 pub returns-clause-workers : goal.returns-clause-workers
-returns-clause-workers c draft draft' line here h = workers_told draft draft' line here h
+returns-clause-workers c draft draft' line here h = heading_told AtWorkers (codes "workers") 1 64 _ draft draft' line (λ _ _. refl) here h
 
 pub returns-clause-first_worker : goal.returns-clause-first_worker
 returns-clause-first_worker c draft draft' line here h = first_worker_told draft draft' line here h

@@ -1,0 +1,74 @@
+-- The commands of lines, whichever text has them.
+use Rattle.std.specs.Prelude.{ℕ, ◌≡◌, ◌≤◌, true, List, Result, Ok, Err}
+use Rattle.model_jobs.specs.JobFiles.{CommandRules, job_rules, number_in}
+use Rattle.model_words.specs.Commands.{IsInRange}
+use Rattle.model_words.specs.declared.commands.Command.{Command}
+use Rattle.model_words.specs.declared.commands.Command.TheVariants.{New, Put, Get, Free, Alias, Addr, Peek, Poke, Copy as CopyBytes}
+use Rattle.model_words.specs.declared.faults.FaultKind.{FaultKind}
+use Rattle.mesh_fields.specs.Fields.{hex_in}
+use Rattle.mesh_fields.specs.declared.commands.Dialect.{Dialect}
+use Rattle.mesh_fields.specs.declared.commands.Dialect.TheVariants.{Job, History}
+use Rattle.mesh_fields.specs.declared.commands.SpeltCommand.{SpeltCommand}
+use Rattle.mesh_fields.specs.declared.commands.SpeltCommand.TheVariants.{New as SpeltNew, Put as SpeltPut, Get as SpeltGet, Free as SpeltFree, Alias as SpeltAlias, Addr as SpeltAddr, Peek as SpeltPeek, Poke as SpeltPoke, Copy as SpeltCopy}
+
+-- of a recorded history a cell, a length, an offset or a serial: any number of 32 bits
+abbrev pub wide_in : List ℕ → Result ℕ FaultKind
+wide_in field = number_in 0 4294967295 field
+
+-- of a recorded history an address: any number of 48 bits
+abbrev pub place_in : List ℕ → Result ℕ FaultKind
+place_in field = hex_in 11 281474976710655 field
+
+-- the rules of a recorded history
+abbrev pub history_rules : CommandRules
+history_rules = record { cell = wide_in; size = wide_in; place = place_in; has_copy = true }
+
+-- the rules of a text
+abbrev pub rules_of : Dialect → CommandRules
+rules_of (Job version) = job_rules version
+rules_of History = history_rules
+
+-- the greatest cell that a text names
+abbrev pub most_cell : Dialect → ℕ
+most_cell (Job version) = 255
+most_cell History = 4294967295
+
+-- the greatest address that a text names
+abbrev pub most_place : Dialect → ℕ
+most_place (Job version) = 268435455
+most_place History = 281474976710655
+
+-- what a line asks, as a command of the plain memory
+abbrev pub plain_command : SpeltCommand → Command
+plain_command (SpeltNew cell len word) = New cell len word
+plain_command (SpeltPut cell off bytes) = Put cell off bytes
+plain_command (SpeltGet cell off len) = Get cell off len
+plain_command (SpeltFree cell) = Free cell
+plain_command (SpeltAlias to from) = Alias to from
+plain_command (SpeltAddr cell) = Addr cell
+plain_command (SpeltPeek address) = Peek address
+plain_command (SpeltPoke address byte) = Poke address byte
+plain_command (SpeltCopy to to_off from from_off len) = CopyBytes to to_off from from_off len
+
+-- the cells and the address of a command are at most these
+abbrev pub IsWithin : ℕ → ℕ → SpeltCommand → Type 0
+IsWithin cells places (SpeltNew cell len word) = cell ≤ cells
+IsWithin cells places (SpeltPut cell off bytes) = cell ≤ cells
+IsWithin cells places (SpeltGet cell off len) = cell ≤ cells
+IsWithin cells places (SpeltFree cell) = cell ≤ cells
+IsWithin cells places (SpeltAlias to from) = (to ≤ cells) × (from ≤ cells)
+IsWithin cells places (SpeltAddr cell) = cell ≤ cells
+IsWithin cells places (SpeltPeek address) = address ≤ places
+IsWithin cells places (SpeltPoke address byte) = address ≤ places
+IsWithin cells places (SpeltCopy to to_off from from_off len) = (to ≤ cells) × (from ≤ cells)
+
+-- a line of a text reads as this command
+pub record IsCommandOf (dialect : Dialect) (read : Result Command FaultKind) (command : SpeltCommand) : Type 0 where
+  pub is : read ≡ Ok (plain_command command)
+  pub in_range : IsInRange (plain_command command)
+  pub within : IsWithin (most_cell dialect) (most_place dialect) command
+
+-- what was read of a line of a text is its command, or its fault
+abbrev pub IsReadAs : Dialect → Result Command FaultKind → Result SpeltCommand FaultKind → Type 0
+IsReadAs dialect read (Ok command) = IsCommandOf dialect read command
+IsReadAs dialect read (Err kind) = read ≡ Err kind

@@ -1,0 +1,224 @@
+//! The commands of lines, those of a job file and those of a recorded history: the fields of each, from left to right.
+ghost use Rattle.std.specs.Prelude.{◌≡◌, ◌≤◌, IfOk};
+ghost use Rattle.model_jobs.specs.JobFiles.{addr_in, alias_in, copy_in, count_in, free_in, get_in, new_in, peek_in, poke_in, put_in, ruled_command_in};
+ghost use Rattle.mesh_fields.specs.Commands.{IsReadAs, most_cell, most_place, rules_of, wide_in};
+ghost use Rattle.mesh_fields.specs.Lines.{texts};
+
+use crate::hex::{address, byte, bytes, wide_address};
+use crate::lines::{five_fields, is_word, one_field, three_fields, two_fields};
+use crate::numbers::{number, number32};
+use arrayvec::ArrayVec;
+use model_words::{FaultKind, MAX_BYTES, Version};
+
+/// The greatest cell of a job.
+const MAX_CELL: u32 = 255;
+
+/// The greatest length that a `new` of a job may ask for, and the greatest offset of its other commands.
+const MAX_LENGTH: u32 = 65_535;
+
+/// The most bytes that one command loads or copies.
+const MAX_COUNT: u32 = 32;
+
+/// In which text a command's line stands: it tells the ranges of the line's numbers.
+#[derive(Clone, Copy, Debug, PartialEq, Eq)]
+pub enum Dialect {
+    /// A job file of this version: cells up to 255, lengths and offsets up to 65,535, addresses up to fffffff, and `copy` from version 2 on.
+    Job(Version),
+    /// A recorded history: cells, lengths and offsets of 32 bits, addresses of 48.
+    History,
+}
+
+/// What a command's line asks, as wide as any text spells it.
+///
+/// An offset counts bytes from the object's start. Of `Put`, `Get` and `Copy` 1 to 32 bytes are stored, loaded or copied. An address has 48
+/// bits at most.
+#[derive(Clone, Debug, Drop, PartialEq, Eq)]
+pub enum SpeltCommand {
+    /// `New(cell, len, word)`: make an object of `len` zero bytes, and store its reference in `cell`.
+    New(u32, u32, u64),
+    /// `Put(cell, off, bytes)`: store the bytes at offset `off` of the object that `cell` names.
+    Put(u32, u32, ArrayVec<u8, MAX_BYTES>),
+    /// `Get(cell, off, len)`: load `len` bytes from offset `off` of the object that `cell` names.
+    Get(u32, u32, u32),
+    /// `Free(cell)`: free the object that `cell` names. The cell keeps its reference, which is stale from then on.
+    Free(u32),
+    /// `Alias(to, from)`: store in `to` the reference that `from` holds.
+    Alias(u32, u32),
+    /// `Addr(cell)`: the address of the object that `cell` names.
+    Addr(u32),
+    /// `Peek(addr)`: load the byte at an address.
+    Peek(u64),
+    /// `Poke(addr, byte)`: store a byte at an address.
+    Poke(u64, u8),
+    /// `Copy(to, to_off, from, from_off, len)`: copy `len` bytes from offset `from_off` of the object that `from` names to offset `to_off` of
+    /// the one that `to` names. Where the two ranges overlap, each byte is the one that was there before.
+    Copy(u32, u32, u32, u32, u32),
+}
+
+/// The command of a line with this word and these fields. WORD where the text has no such command, or it has another number of fields; else
+/// the leftmost fault: NUMBER where a number or an address is spelt wrongly or out of its range, HEX where bytes are spelt wrongly or of a
+/// wrong length.
+pub fn command_of(
+    dialect: Dialect,
+    word: &[u8],
+    fields: &[&[u8]],
+) -> Result<SpeltCommand, FaultKind>
+    ensures { IsReadAs dialect (ruled_command_in (rules_of dialect) word.now (texts fields.now)) result }
+{
+    if is_word(word, b"new") {
+        dialect.new_of(fields)
+    } else if is_word(word, b"put") {
+        dialect.put_of(fields)
+    } else if is_word(word, b"get") {
+        dialect.get_of(fields)
+    } else if is_word(word, b"free") {
+        dialect.free_of(fields)
+    } else if is_word(word, b"alias") {
+        dialect.alias_of(fields)
+    } else if is_word(word, b"addr") {
+        dialect.addr_of(fields)
+    } else if is_word(word, b"peek") {
+        dialect.peek_of(fields)
+    } else if is_word(word, b"poke") {
+        dialect.poke_of(fields)
+    } else if is_word(word, b"copy") && dialect.has_copy() {
+        dialect.copy_of(fields)
+    } else {
+        Err(FaultKind::Word)
+    }
+}
+
+/// A number of a recorded history: a cell, a length, an offset or a serial, of 32 bits. NUMBER where it is anything else.
+pub fn wide(field: &[u8]) -> Result<u32, FaultKind>
+    ensures { result ≡ wide_in field.now }
+{
+    number32(field, 0, u32::MAX)
+}
+
+/// How many bytes are loaded or copied: 1 to 32. NUMBER where it is anything else.
+fn count(field: &[u8]) -> Result<u32, FaultKind>
+    ensures value { result ≡ count_in field.now }
+    ensures some { IfOk result (λ count. 1 ≤ count) }
+    ensures most { IfOk result (λ count. count ≤ 32) }
+{
+    number32(field, 1, MAX_COUNT)
+}
+
+impl Dialect {
+    /// Whether `copy` is a command of the text.
+    fn has_copy(self) -> bool
+        ensures { result ≡ (rules_of self).has_copy }
+    {
+        match self {
+            Dialect::Job(Version::One) => false,
+            Dialect::Job(Version::Two) | Dialect::History => true,
+        }
+    }
+
+    /// A root cell. NUMBER where it is anything else.
+    fn cell(self, field: &[u8]) -> Result<u32, FaultKind>
+        ensures value { result ≡ (rules_of self).cell field.now }
+        ensures most { IfOk result (λ cell. cell ≤ most_cell self) }
+    {
+        match self {
+            Dialect::Job(_) => number32(field, 0, MAX_CELL),
+            Dialect::History => wide(field),
+        }
+    }
+
+    /// A length or an offset. NUMBER where it is anything else.
+    fn size(self, field: &[u8]) -> Result<u32, FaultKind>
+        ensures { result ≡ (rules_of self).size field.now }
+    {
+        match self {
+            Dialect::Job(_) => number32(field, 0, MAX_LENGTH),
+            Dialect::History => wide(field),
+        }
+    }
+
+    /// An address. NUMBER where it is anything else.
+    fn place(self, field: &[u8]) -> Result<u64, FaultKind>
+        ensures value { result ≡ (rules_of self).place field.now }
+        ensures most { IfOk result (λ place. place ≤ most_place self) }
+    {
+        match self {
+            Dialect::Job(_) => address(field),
+            Dialect::History => wide_address(field),
+        }
+    }
+
+    /// `new CELL LEN WORD`
+    fn new_of(self, fields: &[&[u8]]) -> Result<SpeltCommand, FaultKind>
+        ensures { IsReadAs self (new_in (rules_of self) (texts fields.now)) result }
+    {
+        let (to, len, word) = three_fields(fields)?;
+        Ok(SpeltCommand::New(self.cell(to)?, self.size(len)?, number(word, 0, u64::MAX)?))
+    }
+
+    /// `put CELL OFF HEX`
+    fn put_of(self, fields: &[&[u8]]) -> Result<SpeltCommand, FaultKind>
+        ensures { IsReadAs self (put_in (rules_of self) (texts fields.now)) result }
+    {
+        let (of, off, stored) = three_fields(fields)?;
+        Ok(SpeltCommand::Put(self.cell(of)?, self.size(off)?, bytes(stored)?))
+    }
+
+    /// `get CELL OFF LEN`
+    fn get_of(self, fields: &[&[u8]]) -> Result<SpeltCommand, FaultKind>
+        ensures { IsReadAs self (get_in (rules_of self) (texts fields.now)) result }
+    {
+        let (of, off, len) = three_fields(fields)?;
+        Ok(SpeltCommand::Get(self.cell(of)?, self.size(off)?, count(len)?))
+    }
+
+    /// `free CELL`
+    fn free_of(self, fields: &[&[u8]]) -> Result<SpeltCommand, FaultKind>
+        ensures { IsReadAs self (free_in (rules_of self) (texts fields.now)) result }
+    {
+        Ok(SpeltCommand::Free(self.cell(one_field(fields)?)?))
+    }
+
+    /// `alias CELL FROM`
+    fn alias_of(self, fields: &[&[u8]]) -> Result<SpeltCommand, FaultKind>
+        ensures { IsReadAs self (alias_in (rules_of self) (texts fields.now)) result }
+    {
+        let (to, from) = two_fields(fields)?;
+        Ok(SpeltCommand::Alias(self.cell(to)?, self.cell(from)?))
+    }
+
+    /// `addr CELL`
+    fn addr_of(self, fields: &[&[u8]]) -> Result<SpeltCommand, FaultKind>
+        ensures { IsReadAs self (addr_in (rules_of self) (texts fields.now)) result }
+    {
+        Ok(SpeltCommand::Addr(self.cell(one_field(fields)?)?))
+    }
+
+    /// `peek ADDR`
+    fn peek_of(self, fields: &[&[u8]]) -> Result<SpeltCommand, FaultKind>
+        ensures { IsReadAs self (peek_in (rules_of self) (texts fields.now)) result }
+    {
+        Ok(SpeltCommand::Peek(self.place(one_field(fields)?)?))
+    }
+
+    /// `poke ADDR BYTE`
+    fn poke_of(self, fields: &[&[u8]]) -> Result<SpeltCommand, FaultKind>
+        ensures { IsReadAs self (poke_in (rules_of self) (texts fields.now)) result }
+    {
+        let (at, stored) = two_fields(fields)?;
+        Ok(SpeltCommand::Poke(self.place(at)?, byte(stored)?))
+    }
+
+    /// `copy TO OFF FROM OFF LEN`
+    fn copy_of(self, fields: &[&[u8]]) -> Result<SpeltCommand, FaultKind>
+        ensures { IsReadAs self (copy_in (rules_of self) (texts fields.now)) result }
+    {
+        let (to, to_off, from, from_off, len) = five_fields(fields)?;
+        Ok(SpeltCommand::Copy(
+            self.cell(to)?,
+            self.size(to_off)?,
+            self.cell(from)?,
+            self.size(from_off)?,
+            count(len)?,
+        ))
+    }
+}
