@@ -4,7 +4,8 @@ ghost use Rattle.model_words.specs.Commands.{IsInRange};
 ghost use Rattle.model_words.specs.declared.commands.Command.{Command};
 ghost use Rattle.model_words.specs.declared.commands.Reply.{Reply};
 ghost use Rattle.model_history.specs.Recorded.{IsOwnRefusal, any_allocator};
-ghost use Rattle.mesh_history.specs.RecordedWords.{IsNarrow, plain_command, plain_reply};
+ghost use Rattle.mesh_fields.specs.Commands.{plain_command};
+ghost use Rattle.mesh_history.specs.RecordedWords.{IsNarrow, plain_reply};
 ghost use Rattle.mesh_check.specs.Judged.{IsAnswered, IsTaken, IsTold, IsWrong, is_new};
 ghost use Rattle.mesh_check.specs.Reasons.{Tells, no_object};
 
@@ -12,7 +13,7 @@ use crate::faults::Fault;
 use crate::memory::Tracked;
 use crate::reasons::{Reason, difference};
 use arrayvec::ArrayVec;
-use mesh_history::{RecordedCommand, RecordedEntry, RecordedReply};
+use mesh_history::{RecordedEntry, RecordedReply, SpeltCommand};
 use model_words::{MAX_BYTES, Refusal};
 use std::alloc::AllocError;
 
@@ -28,7 +29,7 @@ impl Tracked {
         ensures made { self.new.made ≤ self.old.made + 1 }
     {
         match &entry.command {
-            RecordedCommand::New(cell, len, _) => self.judge_new(*cell, *len, &entry.reply),
+            SpeltCommand::New(cell, len, _) => self.judge_new(*cell, *len, &entry.reply),
             command => self.judge_answer(command, &entry.reply),
         }
     }
@@ -36,7 +37,7 @@ impl Tracked {
     /// Takes a command that is no `new` with its answer, or gives why the answer is wrong.
     fn judge_answer(
         &mut self,
-        command: &RecordedCommand,
+        command: &SpeltCommand,
         reply: &RecordedReply,
     ) -> Result<Option<Reason>, AllocError>
         requires range { IsInRange (plain_command command.now) }
@@ -51,22 +52,31 @@ impl Tracked {
     }
 
     /// Does a command that is no `new`, and gives what the plain memory answers.
-    fn answer(&mut self, command: &RecordedCommand) -> Result<RecordedReply, AllocError>
+    fn answer(&mut self, command: &SpeltCommand) -> Result<RecordedReply, AllocError>
         requires range { IsInRange (plain_command command.now) }
         requires other { is_new (plain_command command.now) ≡ false }
         ensures answered { IfOk result (λ reply. IsAnswered self.old self.new (plain_command command.now) (plain_reply reply)) }
         ensures made { self.new.made ≡ self.old.made }
     {
         match command {
-            RecordedCommand::New(_, _, _) => Ok(RecordedReply::Done),
-            RecordedCommand::Put(cell, off, bytes) => done(self.put(*cell, *off, bytes)),
-            RecordedCommand::Get(cell, off, len) => Ok(bytes_told(self.get(*cell, *off, *len))),
-            RecordedCommand::Free(cell) => done(self.free(*cell)),
-            RecordedCommand::Alias(to, from) => done(self.alias(*to, *from)),
-            RecordedCommand::Addr(cell) => Ok(address_told(self.addr(*cell))),
-            RecordedCommand::Peek(address) => Ok(byte_told(self.peek(*address))),
-            RecordedCommand::Poke(address, byte) => done(self.poke(*address, *byte)),
-            RecordedCommand::Copy(to, to_off, from, from_off, len) => {
+            SpeltCommand::New(_, _, _) => Ok(RecordedReply::Done),
+            SpeltCommand::Put(cell, off, bytes) => done(self.put(*cell, *off, bytes)),
+            SpeltCommand::Get(cell, off, len) => Ok(
+                self.get(*cell, *off, *len)
+                    .map_or_else(RecordedReply::Refused, RecordedReply::Bytes),
+            ),
+            SpeltCommand::Free(cell) => done(self.free(*cell)),
+            SpeltCommand::Alias(to, from) => done(self.alias(*to, *from)),
+            SpeltCommand::Addr(cell) => Ok(
+                self.addr(*cell)
+                    .map_or_else(RecordedReply::Refused, RecordedReply::At),
+            ),
+            SpeltCommand::Peek(address) => Ok(
+                self.peek(*address)
+                    .map_or_else(RecordedReply::Refused, RecordedReply::Byte),
+            ),
+            SpeltCommand::Poke(address, byte) => done(self.poke(*address, *byte)),
+            SpeltCommand::Copy(to, to_off, from, from_off, len) => {
                 done(self.copy(*to, *to_off, *from, *from_off, *len))
             }
         }
@@ -152,38 +162,5 @@ fn done(outcome: Result<(), Fault>) -> Result<RecordedReply, AllocError>
         Ok(()) => Ok(RecordedReply::Done),
         Err(Fault::Refused(refusal)) => Ok(RecordedReply::Refused(refusal)),
         Err(Fault::Memory) => Err(AllocError),
-    }
-}
-
-/// The answer to a `get`.
-fn bytes_told(found: Result<ArrayVec<u8, MAX_BYTES>, Refusal>) -> RecordedReply
-    ensures ok { IfOk found (λ bytes. plain_reply result ≡ Reply.Bytes bytes) }
-    ensures err { IfErr found (λ refusal. plain_reply result ≡ Reply.Refused refusal) }
-{
-    match found {
-        Ok(bytes) => RecordedReply::Bytes(bytes),
-        Err(refusal) => RecordedReply::Refused(refusal),
-    }
-}
-
-/// The answer to an `addr`.
-fn address_told(found: Result<u64, Refusal>) -> RecordedReply
-    ensures ok { IfOk found (λ address. plain_reply result ≡ Reply.At address) }
-    ensures err { IfErr found (λ refusal. plain_reply result ≡ Reply.Refused refusal) }
-{
-    match found {
-        Ok(address) => RecordedReply::At(address),
-        Err(refusal) => RecordedReply::Refused(refusal),
-    }
-}
-
-/// The answer to a `peek`.
-fn byte_told(found: Result<u8, Refusal>) -> RecordedReply
-    ensures ok { IfOk found (λ byte. plain_reply result ≡ Reply.Byte byte) }
-    ensures err { IfErr found (λ refusal. plain_reply result ≡ Reply.Refused refusal) }
-{
-    match found {
-        Ok(byte) => RecordedReply::Byte(byte),
-        Err(refusal) => RecordedReply::Refused(refusal),
     }
 }

@@ -44,10 +44,8 @@ pub fn add(
 ) -> Result<(), AllocError>
     ensures { OnOk result (IsSetAt (get nat_cmp objects.old) (get nat_cmp objects.new) number (Some object)) }
 {
-    match objects.insert(number, object) {
-        Ok(_) => Ok(()),
-        Err(_) => Err(AllocError),
-    }
+    objects.insert(number, object)?;
+    Ok(())
 }
 
 /// Lets an object's address lead to its number. An error is an allocation failure.
@@ -58,28 +56,22 @@ pub fn set_start(
 ) -> Result<(), AllocError>
     ensures { OnOk result (IsSetAt (get nat_cmp starts.old) (get nat_cmp starts.new) address (Some number)) }
 {
-    match starts.insert(address, number) {
-        Ok(_) => Ok(()),
-        Err(_) => Err(AllocError),
-    }
+    starts.insert(address, number)?;
+    Ok(())
 }
 
 /// Lets a cell hold a number. An error is an allocation failure.
 pub fn point(roots: &mut BTreeMap<u32, u32>, cell: u32, number: u32) -> Result<(), AllocError>
     ensures { OnOk result (IsSetAt (get nat_cmp roots.old) (get nat_cmp roots.new) cell (Some number)) }
 {
-    match roots.insert(cell, number) {
-        Ok(_) => Ok(()),
-        Err(_) => Err(AllocError),
-    }
+    roots.insert(cell, number)?;
+    Ok(())
 }
 
 /// Adds a serial to those that were given. An error is an allocation failure.
 pub fn give(serials: &mut BTreeSet<u32>, serial: u32) -> Result<(), AllocError>
     ensures { OnOk result ((q : ℕ) → contains nat_cmp serials.new q ≡ (contains nat_cmp serials.old q || nat_eq serial q)) }
 {
-    match serials.insert(serial) {
-        Ok(_) => Ok(()),
-        Err(_) => Err(AllocError),
-    }
+    serials.insert(serial)?;
+    Ok(())
 }

@@ -1,4 +1,5 @@
-use Rattle.mesh_history.specs.RecordedWords.{plain_command, plain_reply}
+use Rattle.mesh_fields.specs.Commands.{plain_command}
+use Rattle.mesh_history.specs.RecordedWords.{plain_reply}
 use Rattle.mesh_check.proofs.Judged.{if_some, told_difference, wrong_answer}
 use Rattle.mesh_check.proofs.memory.Tracked.judge_answer.Goals as goal
 
