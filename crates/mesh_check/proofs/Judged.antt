@@ -19,27 +19,13 @@ use Rattle.mesh_check.specs.declared.reasons.Reason.TheVariants.{Differs, NoObje
 step_follows : (r : Recorded) (command : Command) (reply : Reply) (n : Recorded) → is_new command ≡ false → RecordedStep any_allocator r command reply n
     → Follows (plain r.memory 0 command) r.memory reply n.memory
 step_follows r (New cell len word) reply n other step = absurd (cc other)
-step_follows r (Put cell off bytes) reply n other step = step.0
-step_follows r (Get cell off len) reply n other step = step.0
-step_follows r (Free cell) reply n other step = step.0
-step_follows r (Alias to from) reply n other step = step.0
-step_follows r (Addr cell) reply n other step = step.0
-step_follows r (Peek address) reply n other step = step.0
-step_follows r (Poke address byte) reply n other step = step.0
-step_follows r (CopyBytes to to_off from from_off len) reply n other step = step.0
+step_follows r command reply n other step = step.0
 
 -- what the plain memory does at a command that is no `new` is a recorded step
 follows_step : (r : Recorded) (command : Command) (reply : Reply) (m : Memory) → is_new command ≡ false → Follows (plain r.memory 0 command) r.memory reply m
     → RecordedStep any_allocator r command reply (with_memory r m)
 follows_step r (New cell len word) reply m other follows = absurd (cc other)
-follows_step r (Put cell off bytes) reply m other follows = (follows, refl)
-follows_step r (Get cell off len) reply m other follows = (follows, refl)
-follows_step r (Free cell) reply m other follows = (follows, refl)
-follows_step r (Alias to from) reply m other follows = (follows, refl)
-follows_step r (Addr cell) reply m other follows = (follows, refl)
-follows_step r (Peek address) reply m other follows = (follows, refl)
-follows_step r (Poke address byte) reply m other follows = (follows, refl)
-follows_step r (CopyBytes to to_off from from_off len) reply m other follows = (follows, refl)
+follows_step r command reply m other follows = (follows, refl)
 
 -- one reply follows a result
 one_reply : (x : Result (Reply × Memory) Refusal) (m : Memory) (reply other : Reply) (n k : Memory) → Follows x m reply n → Follows x m other k → reply ≡ other
@@ -70,8 +56,7 @@ told_answer old new command reply wanted (Differs told) other answered is = λ r
 told_answer old new command reply wanted LiveRefused other answered is = λ r st.
     (is.0, (wanted, is.1, only_answer old new command wanted other answered r st))
 told_answer old new command reply wanted NoObject other answered is = absurd is
-told_answer old new command reply wanted SerialAgain other answered is = absurd is
-told_answer old new command reply wanted (Overlaps serial) other answered is = absurd is
+told_answer old new command reply wanted reason other answered is = absurd is
 
 pub told_difference : (old new : Tracked) (command : Command) (reply wanted : Reply) (reason : Option Reason) → is_new command ≡ false
     → IsAnswered old new command wanted → IfSome reason (IsDifference reply wanted) → IfSome reason (Tells old command reply)

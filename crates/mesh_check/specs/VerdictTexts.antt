@@ -1,8 +1,8 @@
 -- The text of a verdict. This project's own choice.
 use Rattle.std.specs.Prelude.{ℕ, List, ◌++◌, codes}
-use Rattle.model_jobs.specs.Texts.{byte_text, bytes_text, ended, field, hex_from, number_field, refusal_text}
+use Rattle.model_jobs.specs.Texts.{ended, hex_from, number_field, told_with}
+use Rattle.mesh_history.specs.RecordedWords.{plain_reply}
 use Rattle.mesh_history.specs.declared.words.RecordedReply.{RecordedReply}
-use Rattle.mesh_history.specs.declared.words.RecordedReply.TheVariants.{Object, Done, Bytes, At, Byte, Refused}
 use Rattle.mesh_check.specs.declared.reasons.Reason.{Reason}
 use Rattle.mesh_check.specs.declared.reasons.Reason.TheVariants.{Differs, NoObject, LiveRefused, SerialAgain, Overlaps}
 use Rattle.mesh_check.specs.declared.verdicts.Verdict.{Verdict}
@@ -14,12 +14,7 @@ wide_text address = hex_from 15 address
 
 -- an answer, as a recorded history has it
 abbrev pub recorded_text : RecordedReply → List ℕ
-recorded_text (Object serial address) = codes "object" ++ number_field serial ++ codes " at" ++ field (wide_text address)
-recorded_text Done = codes "done"
-recorded_text (Bytes bytes) = codes "bytes" ++ field (bytes_text bytes.items)
-recorded_text (At address) = codes "at" ++ field (wide_text address)
-recorded_text (Byte byte) = codes "byte" ++ field (byte_text byte)
-recorded_text (Refused refusal) = refusal_text refusal
+recorded_text reply = told_with wide_text (plain_reply reply)
 
 -- why an entry is not taken
 abbrev pub reason_text : Reason → List ℕ

@@ -33,13 +33,8 @@ record Six (fields : List (List ℕ)) : Type 0 where
   pub is : fields ≡ a ∷ b ∷ c ∷ d ∷ e ∷ f ∷ more
 
 six : (fields : List (List ℕ)) → 6 ≤ length fields → Six fields
-six [] h = absurd (omega (arith, h))
-six (a ∷ []) h = absurd (omega (arith, h))
-six (a ∷ b ∷ []) h = absurd (omega (arith, h))
-six (a ∷ b ∷ c ∷ []) h = absurd (omega (arith, h))
-six (a ∷ b ∷ c ∷ d ∷ []) h = absurd (omega (arith, h))
-six (a ∷ b ∷ c ∷ d ∷ e ∷ []) h = absurd (omega (arith, h))
 six (a ∷ b ∷ c ∷ d ∷ e ∷ f ∷ more) h = record { a = a; b = b; c = c; d = d; e = e; f = f; more = more; is = refl }
+six fields h = absurd (omega (arith, h))
 
 -- no command has six fields or more
 no_command : (version : Version) (word a b c d e f : List ℕ) (more : List (List ℕ)) → command_in version word (a ∷ b ∷ c ∷ d ∷ e ∷ f ∷ more) ≡ Err Word

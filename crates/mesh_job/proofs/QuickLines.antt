@@ -9,15 +9,10 @@ use Rattle.model_jobs.specs.JobFiles.{IsValidCommand}
 
 -- a command whose numbers are in their ranges may be handed to a heap
 pub valid_in_range : (version : Version) (command : Command) → IsValidCommand version command → IsInRange command
-valid_in_range version (New cell len word) valid = tt
 valid_in_range version (Put cell off bytes) valid = valid.2
 valid_in_range version (Get cell off len) valid = (valid.2, valid.3)
-valid_in_range version (Free cell) valid = tt
-valid_in_range version (Alias to from) valid = tt
-valid_in_range version (Addr cell) valid = tt
-valid_in_range version (Peek address) valid = tt
-valid_in_range version (Poke address byte) valid = tt
 valid_in_range version (CopyBytes to to_off from from_off len) valid = (valid.5, valid.6)
+valid_in_range version command valid = tt
 
 -- what is known of a value, if there is one, of which more is known
 pub some_weaker : {A : Type 0} (o : Option A) (P Q : A → Type 0) → ((x : A) → P x → Q x) → IfSome o P → IfSome o Q

@@ -1,7 +1,7 @@
 //! The lines of a plan: the fields of each, from left to right.
 ghost use Rattle.std.specs.Prelude.{◌≡◌, ◌≤◌, ◌↔◌, ℕ, false, codes, Ok, Err, IfOk, IfErr, IsTrue, IsSome};
 ghost use Rattle.model_words.specs.Classes.{row_of};
-ghost use Rattle.model_jobs.specs.JobFiles.{are_same, begin_in, class_in, line_in, of_class_in, of_mesh_in, pair_in, run_in, sweep_in, whole_in, words_in};
+ghost use Rattle.model_jobs.specs.JobFiles.{are_same, class_in, groups_in, line_in, of_class_in, of_groups_in, of_mesh_in, pair_in, run_in, sweep_in, words_in};
 ghost use Rattle.model_jobs.specs.Jobs.{Line, CancelMesh, CancelClass, StepMesh, StepClass};
 ghost use Rattle.mesh_fields.specs.Lines.{texts};
 ghost use Rattle.mesh_job.specs.Plan.{line_of, read_line};
@@ -85,13 +85,21 @@ fn run_of(workers: u32, fields: &[&[u8]]) -> Result<PlanLine, FaultKind>
     Ok(PlanLine::Run(worker))
 }
 
-/// `begin SRC DST`
-fn begin_of(fields: &[&[u8]]) -> Result<PlanLine, FaultKind>
-    ensures { read_line result ≡ begin_in (texts fields.now) }
+/// `SRC DST`, the two groups of a mesh
+fn groups_of(fields: &[&[u8]]) -> Result<(u32, u32), FaultKind>
+    ensures { result ≡ groups_in (texts fields.now) }
 {
     let (source, destination) = two_fields(fields)?;
     let source = number32(source, 0, MAX_GROUP)?;
     let destination = number32(destination, 0, MAX_GROUP)?;
+    Ok((source, destination))
+}
+
+/// `begin SRC DST`
+fn begin_of(fields: &[&[u8]]) -> Result<PlanLine, FaultKind>
+    ensures { read_line result ≡ of_groups_in BeginMesh (texts fields.now) }
+{
+    let (source, destination) = groups_of(fields)?;
     Ok(PlanLine::Begin {
         source,
         destination,
@@ -100,11 +108,9 @@ fn begin_of(fields: &[&[u8]]) -> Result<PlanLine, FaultKind>
 
 /// `whole SRC DST`
 fn whole_of(fields: &[&[u8]]) -> Result<PlanLine, FaultKind>
-    ensures { read_line result ≡ whole_in (texts fields.now) }
+    ensures { read_line result ≡ of_groups_in WholeMesh (texts fields.now) }
 {
-    let (source, destination) = two_fields(fields)?;
-    let source = number32(source, 0, MAX_GROUP)?;
-    let destination = number32(destination, 0, MAX_GROUP)?;
+    let (source, destination) = groups_of(fields)?;
     Ok(PlanLine::Whole {
         source,
         destination,

@@ -47,44 +47,22 @@ IsReplyWithin count reply = Unit {0}
 
 -- a packed command stays while more bytes are kept
 pub command_stays : (kept kept' : List ℕ) (command : PackedCommand) → KeepsAll kept kept' → IsCommandWithin (length kept) command → command_in kept' command ≡ command_in kept command
-command_stays kept kept' (New cell len word) keeps within = refl
 command_stays kept kept' (Put cell off run) keeps within = rw (keeps.runs run within) refl
-command_stays kept kept' (Get cell off len) keeps within = refl
-command_stays kept kept' (Free cell) keeps within = refl
-command_stays kept kept' (Alias to from) keeps within = refl
-command_stays kept kept' (Addr cell) keeps within = refl
-command_stays kept kept' (Peek addr) keeps within = refl
-command_stays kept kept' (Poke addr byte) keeps within = refl
-command_stays kept kept' (Copy to from to_off from_off len) keeps within = refl
+command_stays kept kept' command keeps within = refl
 
 -- as does a packed reply
 pub reply_stays : (kept kept' : List ℕ) (reply : PackedReply) → KeepsAll kept kept' → IsReplyWithin (length kept) reply → reply_in kept' reply ≡ reply_in kept reply
-reply_stays kept kept' (Object serial addr) keeps within = refl
-reply_stays kept kept' Done keeps within = refl
 reply_stays kept kept' (Bytes run) keeps within = rw (keeps.runs run within) refl
-reply_stays kept kept' (At addr) keeps within = refl
-reply_stays kept kept' (Byte byte) keeps within = refl
-reply_stays kept kept' (Refused refusal) keeps within = refl
+reply_stays kept kept' reply keeps within = refl
 
 -- what is among some bytes is among more
 pub command_within : (count count' : ℕ) (command : PackedCommand) → count ≤ count' → IsCommandWithin count command → IsCommandWithin count' command
-command_within count count' (New cell len word) most within = tt
 command_within count count' (Put cell off run) most within = record { ends = omega (arith, most, within.ends); few = within.few }
-command_within count count' (Get cell off len) most within = tt
-command_within count count' (Free cell) most within = tt
-command_within count count' (Alias to from) most within = tt
-command_within count count' (Addr cell) most within = tt
-command_within count count' (Peek addr) most within = tt
-command_within count count' (Poke addr byte) most within = tt
-command_within count count' (Copy to from to_off from_off len) most within = tt
+command_within count count' command most within = tt
 
 pub reply_within : (count count' : ℕ) (reply : PackedReply) → count ≤ count' → IsReplyWithin count reply → IsReplyWithin count' reply
-reply_within count count' (Object serial addr) most within = tt
-reply_within count count' Done most within = tt
 reply_within count count' (Bytes run) most within = record { ends = omega (arith, most, within.ends); few = within.few }
-reply_within count count' (At addr) most within = tt
-reply_within count count' (Byte byte) most within = tt
-reply_within count count' (Refused refusal) most within = tt
+reply_within count count' reply most within = tt
 
 -- packed commands that stand in a list stay
 commands_stay : (kept kept' : List ℕ) (commands : List PackedCommand) → KeepsAll kept kept' → All (IsCommandWithin (length kept)) commands → map (command_in kept') commands ≡ map (command_in kept) commands

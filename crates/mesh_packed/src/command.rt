@@ -6,26 +6,18 @@ ghost use Rattle.mesh_packed.specs.Runs.{KeepsAll};
 use crate::run::{Run, bytes_of, keep};
 use model_words::Command;
 
-/// A command without its bytes, in 16 bytes.
+/// A command without its bytes, in 16 bytes: what each says is what the command of its name says. The fields lie in memory in their order, so
+/// the two cells of `Copy` stand together, and of `Put` it is told where its bytes are kept.
 #[derive(Debug, Drop)]
 pub enum PackedCommand {
-    /// `New(cell, len, word)`
     New(u8, u32, u64),
-    /// `Put(cell, off, bytes)`, with where its bytes are kept.
     Put(u8, u32, Run),
-    /// `Get(cell, off, len)`
     Get(u8, u32, u32),
-    /// `Free(cell)`
     Free(u8),
-    /// `Alias(to, from)`
     Alias(u8, u8),
-    /// `Addr(cell)`
     Addr(u8),
-    /// `Peek(addr)`
     Peek(u32),
-    /// `Poke(addr, byte)`
     Poke(u32, u8),
-    /// `Copy(to, from, to_off, from_off, len)`. Fields lie in memory in their order, so the cells stand together.
     Copy(u8, u8, u32, u32, u32),
 }
 

@@ -28,23 +28,13 @@ given_by_new : (a : Allocator) (r : Recorded) (cell len : ℕ) (reply : Reply) (
 given_by_new a r cell len (Made other address) n serial step h =
     subst (λ (x : Recorded). was_given x.serials serial ≡ true) (sym step.4) (given_before r.serials (other ∷ []) serial h)
 given_by_new a r cell len (Refused refusal) n serial step h = subst (λ (x : Recorded). was_given x.serials serial ≡ true) (sym step.1) h
-given_by_new a r cell len Done n serial step h = absurd step
-given_by_new a r cell len (Bytes bytes) n serial step h = absurd step
-given_by_new a r cell len (At address) n serial step h = absurd step
-given_by_new a r cell len (Byte byte) n serial step h = absurd step
+given_by_new a r cell len reply n serial step h = absurd step
 
 -- over a step
 given_on : (a : Allocator) (r : Recorded) (command : Command) (reply : Reply) (n : Recorded) (serial : ℕ) → RecordedStep a r command reply n
     → was_given r.serials serial ≡ true → was_given n.serials serial ≡ true
 given_on a r (New cell len word) reply n serial step h = given_by_new a r cell len reply n serial step h
-given_on a r (Put cell off bytes) reply n serial step h = rw step.1 h
-given_on a r (Get cell off len) reply n serial step h = rw step.1 h
-given_on a r (Free cell) reply n serial step h = rw step.1 h
-given_on a r (Alias to from) reply n serial step h = rw step.1 h
-given_on a r (Addr cell) reply n serial step h = rw step.1 h
-given_on a r (Peek place) reply n serial step h = rw step.1 h
-given_on a r (Poke place byte) reply n serial step h = rw step.1 h
-given_on a r (CopyBytes to to_off from from_off len) reply n serial step h = rw step.1 h
+given_on a r command reply n serial step h = rw step.1 h
 
 -- over a run
 given_over : (a : Allocator) (r : Recorded) (entries : List Entry) (n : Recorded) (serial : ℕ) → RecordedRuns a r entries n → was_given r.serials serial ≡ true

@@ -29,10 +29,7 @@ new_determined : (a : Allocator) (r : Recorded) (cell len : ℕ) (reply : Reply)
     → n ≡ n'
 new_determined a r cell len (Made serial address) n n' step step' = step.4 ∙ sym step'.4
 new_determined a r cell len (Refused refusal) n n' step step' = step.1 ∙ sym step'.1
-new_determined a r cell len Done n n' step step' = absurd step
-new_determined a r cell len (Bytes bytes) n n' step step' = absurd step
-new_determined a r cell len (At address) n n' step step' = absurd step
-new_determined a r cell len (Byte byte) n n' step step' = absurd step
+new_determined a r cell len reply n n' step step' = absurd step
 
 -- two plain steps of one command leave the same, with the serials as they were
 both_kept : (r : Recorded) (command : Command) (reply : Reply) (n n' : Recorded) → PlainStep r.memory command reply n.memory × (n.serials ≡ r.serials)

@@ -129,10 +129,7 @@ wide_step more m (CopyBytes to to_off from from_off len) reply n below step =
 new_cells : (m : Memory) (cell len : ℕ) (reply : Reply) (n : Memory) → MakesObject m cell len reply n → length n.roots ≡ length m.roots
 new_cells m cell len (Made serial address) n step = ap (λ (x : Memory). length x.roots) step.4 ∙ simp length-set refl
 new_cells m cell len (Refused refusal) n step = ap (λ (x : Memory). length x.roots) step.1
-new_cells m cell len Done n step = absurd step
-new_cells m cell len (Bytes bytes) n step = absurd step
-new_cells m cell len (At address) n step = absurd step
-new_cells m cell len (Byte byte) n step = absurd step
+new_cells m cell len reply n step = absurd step
 
 -- so does any command
 as_many_cells : (m : Memory) (command : Command) (reply : Reply) (n : Memory) → PlainStep m command reply n → length n.roots ≡ length m.roots

@@ -62,15 +62,10 @@ bytes_field bytes some most all =
 
 -- a command's text is its word and its fields
 pub command_spelt : (command : Command) → command_text command ≡ word_of command ++ flat_map field (fields_of command)
-command_spelt (New cell len word) = simp (append_assoc, append-nil) refl
-command_spelt (Put cell off bytes) = simp (append_assoc, append-nil) refl
-command_spelt (Get cell off len) = simp (append_assoc, append-nil) refl
 command_spelt (Free cell) = rw append-nil refl
-command_spelt (Alias to from) = simp (append_assoc, append-nil) refl
 command_spelt (Addr cell) = rw append-nil refl
 command_spelt (Peek address) = rw append-nil refl
-command_spelt (Poke address byte) = simp (append_assoc, append-nil) refl
-command_spelt (CopyBytes to to_off from from_off len) = simp (append_assoc, append-nil) refl
+command_spelt command = simp (append_assoc, append-nil) refl
 
 -- a command's word and fields are read as the command
 command_back : (version : Version) (command : Command) → IsValidCommand version command
@@ -215,13 +210,11 @@ line_spelt (RunWorker worker) = rw append-nil refl
 line_spelt (PairClass class t words) = rw (words_spelt words)
     (ap (λ (x : List ℕ). codes "pair" ++ 32 ∷ x) (append_assoc (decimal class) (number_field t) (flat_map field (map decimal words))))
 line_spelt (BeginMesh source destination) = simp (append_assoc, append-nil) refl
-line_spelt StepMesh = refl
-line_spelt CancelMesh = refl
 line_spelt (StepClass class) = rw append-nil refl
 line_spelt (CancelClass class) = rw append-nil refl
 line_spelt (WholeMesh source destination) = simp (append_assoc, append-nil) refl
 line_spelt (SweepGroup group) = rw append-nil refl
-line_spelt MakeReport = refl
+line_spelt line = refl
 
 -- a size above all of the table's is none of them
 above_size : (size class : ℕ) → size ≤ 2048 → 2048 < class → nat_eq size class ≡ false

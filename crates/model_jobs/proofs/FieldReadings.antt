@@ -72,10 +72,8 @@ digits_told high low byte h =
 
 -- a byte that was read is spelt by its field
 pub byte_told : (field : List ℕ) (byte : ℕ) → byte_in field ≡ Ok byte → (field ≡ byte_text byte) × (byte ≤ 255)
-byte_told [] byte h = absurd (cc h)
-byte_told (high ∷ []) byte h = absurd (cc h)
 byte_told (high ∷ low ∷ []) byte h = let told = digits_told high low byte h in (cc (told.0, told.1), told.2)
-byte_told (high ∷ low ∷ other ∷ more) byte h = absurd (cc h)
+byte_told field byte h = absurd (cc h)
 
 -- bytes that were read are spelt by their digits
 pub digits_of_bytes_told : (digits bytes : List ℕ) → bytes_from digits ≡ Ok bytes → (digits ≡ bytes_text bytes) × All (λ b. b ≤ 255) bytes

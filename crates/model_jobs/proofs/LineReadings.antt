@@ -7,7 +7,7 @@ use Rattle.std.proofs.lemmas.Bool.Decides.{leb_tells}
 use Rattle.std.proofs.lemmas.Bool.{and_parts, leb-true, true≢false}
 use Rattle.std.proofs.lemmas.List.{length-map}
 use Rattle.std.proofs.lemmas.List.Splits.{join_with_byte-slice_split}
-use Rattle.model_jobs.specs.JobFiles.{are_same, number_in, address_in, bytes_in, byte_in, cell_in, short_in, word_in, class_in, words_in, one_field, two_fields, three_fields, five_fields, no_field, new_in, put_in, get_in, free_in, alias_in, addr_in, peek_in, poke_in, copy_in, is_second, job_rules, command_in, run_in, pair_in, begin_in, whole_in, sweep_in, bare_in, of_class_in, of_mesh_in, line_in, Section, Draft, AtVersion, AtPages, AtHistory, AtWorkers, AtFirstWorker, InScript, InPlan, AtEnd, script_closed, version_of, header_in, take_in, is_printable, is_empty, take_fields, take_line, IsValidLine, IsValidCommand}
+use Rattle.model_jobs.specs.JobFiles.{are_same, number_in, address_in, bytes_in, byte_in, cell_in, short_in, word_in, class_in, words_in, one_field, two_fields, three_fields, five_fields, no_field, new_in, put_in, get_in, free_in, alias_in, addr_in, peek_in, poke_in, copy_in, is_second, job_rules, command_in, run_in, pair_in, groups_in, of_groups_in, sweep_in, bare_in, of_class_in, of_mesh_in, line_in, Section, Draft, AtVersion, AtPages, AtHistory, AtWorkers, AtFirstWorker, InScript, InPlan, AtEnd, script_closed, version_of, header_in, take_in, is_printable, is_empty, take_fields, take_line, IsValidLine, IsValidCommand}
 use Rattle.model_jobs.specs.Jobs.{Line, RunWorker, PairClass, BeginMesh, StepMesh, CancelMesh, StepClass, CancelClass, WholeMesh, SweepGroup, MakeReport}
 use Rattle.model_jobs.specs.ReaderLaws.{IsHeader, IsNextWorker, IsPlanHead, IsCommandLine, IsEnd, IsPlanLine}
 use Rattle.model_jobs.specs.Texts.{field, number_field, command_text, line_text}
@@ -32,31 +32,21 @@ one_told (a ∷ b ∷ more) f h = absurd (cc h)
 
 -- the two fields that there are
 two_told : (fields : List (List ℕ)) (f : List ℕ × List ℕ) → two_fields fields ≡ Ok f → fields ≡ f.0 ∷ f.1 ∷ []
-two_told [] f h = absurd (cc h)
-two_told (a ∷ []) f h = absurd (cc h)
 two_told (a ∷ b ∷ []) f h = let is : (a, b) ≡ f = cc h in subst (λ (g : List ℕ × List ℕ). a ∷ b ∷ [] ≡ g.0 ∷ g.1 ∷ []) is refl
-two_told (a ∷ b ∷ c ∷ more) f h = absurd (cc h)
+two_told fields f h = absurd (cc h)
 
 -- the three fields that there are
 three_told : (fields : List (List ℕ)) (f : List ℕ × List ℕ × List ℕ) → three_fields fields ≡ Ok f → fields ≡ f.0 ∷ f.1 ∷ f.2 ∷ []
-three_told [] f h = absurd (cc h)
-three_told (a ∷ []) f h = absurd (cc h)
-three_told (a ∷ b ∷ []) f h = absurd (cc h)
 three_told (a ∷ b ∷ c ∷ []) f h =
     let is : (a, b, c) ≡ f = cc h in subst (λ (g : List ℕ × List ℕ × List ℕ). a ∷ b ∷ c ∷ [] ≡ g.0 ∷ g.1 ∷ g.2 ∷ []) is refl
-three_told (a ∷ b ∷ c ∷ d ∷ more) f h = absurd (cc h)
+three_told fields f h = absurd (cc h)
 
 -- the five fields that there are
 five_told : (fields : List (List ℕ)) (f : List ℕ × List ℕ × List ℕ × List ℕ × List ℕ) → five_fields fields ≡ Ok f
     → fields ≡ f.0 ∷ f.1 ∷ f.2 ∷ f.3 ∷ f.4 ∷ []
-five_told [] f h = absurd (cc h)
-five_told (a ∷ []) f h = absurd (cc h)
-five_told (a ∷ b ∷ []) f h = absurd (cc h)
-five_told (a ∷ b ∷ c ∷ []) f h = absurd (cc h)
-five_told (a ∷ b ∷ c ∷ d ∷ []) f h = absurd (cc h)
 five_told (a ∷ b ∷ c ∷ d ∷ e ∷ []) f h = let is : (a, b, c, d, e) ≡ f = cc h in
     subst (λ (g : List ℕ × List ℕ × List ℕ × List ℕ × List ℕ). a ∷ b ∷ c ∷ d ∷ e ∷ [] ≡ g.0 ∷ g.1 ∷ g.2 ∷ g.3 ∷ g.4 ∷ []) is refl
-five_told (a ∷ b ∷ c ∷ d ∷ e ∷ f' ∷ more) f h = absurd (cc h)
+five_told fields f h = absurd (cc h)
 
 -- there is no field
 none_told : (fields : List (List ℕ)) (u : Unit {0}) → no_field fields ≡ Ok u → fields ≡ []
@@ -226,21 +216,20 @@ pair_told version workers (f ∷ g ∷ more) step h =
       ),
     )
 
-begin_told : (version : Version) (workers : ℕ) (fields : List (List ℕ)) (step : Line) → begin_in fields ≡ Ok step → IsStep version workers (codes "begin") fields step
-begin_told version workers fields step h =
-    let f = went_on (two_fields fields) _ step h in let source = went_on (short_in f.value.0) _ step f.then in
-    let destination = went_on (short_in f.value.1) _ step source.then in
+-- a line with two groups
+groups_told : (version : Version) (workers : ℕ) (line : ℕ → ℕ → Line) (word : List ℕ) (fields : List (List ℕ)) (step : Line)
+    → ((source destination : ℕ) → source ≤ 65535 → destination ≤ 65535 → IsStep version workers word (decimal source ∷ decimal destination ∷ []) (line source destination))
+    → of_groups_in line fields ≡ Ok step → IsStep version workers word fields step
+groups_told version workers line word fields step each h =
+    let groups = went_on (groups_in fields) _ step h in let f = went_on (two_fields fields) _ groups.value groups.is in
+    let source = went_on (short_in f.value.0) _ groups.value f.then in let destination = went_on (short_in f.value.1) _ groups.value source.then in
     let a = number_told 0 65535 f.value.0 source.value source.is in let b = number_told 0 65535 f.value.1 destination.value destination.is in
-    let is : BeginMesh source.value destination.value ≡ step = cc destination.then in
-    subst (λ (x : Line). IsStep version workers (codes "begin") fields x) is (refl, cc (two_told fields f.value f.is, a.0, b.0), (a.2, b.2))
-
-whole_told : (version : Version) (workers : ℕ) (fields : List (List ℕ)) (step : Line) → whole_in fields ≡ Ok step → IsStep version workers (codes "whole") fields step
-whole_told version workers fields step h =
-    let f = went_on (two_fields fields) _ step h in let source = went_on (short_in f.value.0) _ step f.then in
-    let destination = went_on (short_in f.value.1) _ step source.then in
-    let a = number_told 0 65535 f.value.0 source.value source.is in let b = number_told 0 65535 f.value.1 destination.value destination.is in
-    let is : WholeMesh source.value destination.value ≡ step = cc destination.then in
-    subst (λ (x : Line). IsStep version workers (codes "whole") fields x) is (refl, cc (two_told fields f.value f.is, a.0, b.0), (a.2, b.2))
+    let both : (source.value, destination.value) ≡ groups.value = cc destination.then in
+    let is : line source.value destination.value ≡ step = ap (λ (g : ℕ × ℕ). line g.0 g.1) both ∙ cc groups.then in
+    let two : fields ≡ decimal source.value ∷ decimal destination.value ∷ [] = cc (two_told fields f.value f.is, a.0, b.0) in
+    subst (λ (x : Line). IsStep version workers word fields x) is
+    (subst (λ (fs : List (List ℕ)). IsStep version workers word fs (line source.value destination.value)) (sym two)
+    (each source.value destination.value a.2 b.2))
 
 sweep_told : (version : Version) (workers : ℕ) (fields : List (List ℕ)) (step : Line) → sweep_in fields ≡ Ok step → IsStep version workers (codes "sweep") fields step
 sweep_told version workers fields step h =
@@ -287,10 +276,12 @@ step_told version workers word fields step some =
     let P : List ℕ → Type 0 = λ w. IsStep version workers w fields step in
     chosen P word (codes "run") (run_in workers fields) _ step (run_told version workers fields step some)
     (chosen P word (codes "pair") (pair_in fields) _ step (pair_told version workers fields step)
-    (chosen P word (codes "begin") (begin_in fields) _ step (begin_told version workers fields step)
+    (chosen P word (codes "begin") (of_groups_in BeginMesh fields) _ step
+    (groups_told version workers BeginMesh (codes "begin") fields step (λ s d few few'. (refl, refl, (few, few'))))
     (chosen P word (codes "step") (of_mesh_in version StepMesh StepClass fields) _ step (steps_told version workers fields step)
     (chosen P word (codes "cancel") (of_mesh_in version CancelMesh CancelClass fields) _ step (cancels_told version workers fields step)
-    (chosen P word (codes "whole") (whole_in fields) _ step (whole_told version workers fields step)
+    (chosen P word (codes "whole") (of_groups_in WholeMesh fields) _ step
+    (groups_told version workers WholeMesh (codes "whole") fields step (λ s d few few'. (refl, refl, (few, few'))))
     (chosen P word (codes "sweep") (sweep_in fields) _ step (sweep_told version workers fields step)
     (chosen P word (codes "report") (bare_in MakeReport fields) (Err Word) step (bare_told version workers MakeReport fields step refl tt) (λ h. absurd (cc h)))))))))
 

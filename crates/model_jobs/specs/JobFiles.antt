@@ -213,13 +213,13 @@ abbrev pub pair_in : List (List ℕ) → Result Line FaultKind
 pair_in fields =
     two_and_more fields >>= λ f. class_in f.0 >>= λ class. number_in 0 64 f.1 >>= λ t. words_in f.2 >>= λ words. Ok (PairClass class t words)
 
--- `begin SRC DST`
-abbrev pub begin_in : List (List ℕ) → Result Line FaultKind
-begin_in fields = two_fields fields >>= λ f. short_in f.0 >>= λ source. short_in f.1 >>= λ destination. Ok (BeginMesh source destination)
+-- `SRC DST`, the two groups of a mesh
+abbrev pub groups_in : List (List ℕ) → Result (ℕ × ℕ) FaultKind
+groups_in fields = two_fields fields >>= λ f. short_in f.0 >>= λ source. short_in f.1 >>= λ destination. Ok (source, destination)
 
--- `whole SRC DST`
-abbrev pub whole_in : List (List ℕ) → Result Line FaultKind
-whole_in fields = two_fields fields >>= λ f. short_in f.0 >>= λ source. short_in f.1 >>= λ destination. Ok (WholeMesh source destination)
+-- a line with two groups after its word
+abbrev pub of_groups_in : (ℕ → ℕ → Line) → List (List ℕ) → Result Line FaultKind
+of_groups_in line fields = groups_in fields >>= λ groups. Ok (line groups.0 groups.1)
 
 -- `sweep GROUP`
 abbrev pub sweep_in : List (List ℕ) → Result Line FaultKind
@@ -243,10 +243,10 @@ abbrev pub line_in : Version → ℕ → List ℕ → List (List ℕ) → Result
 line_in version workers word fields =
     if are_same word (codes "run") then run_in workers fields
     else (if are_same word (codes "pair") then pair_in fields
-    else (if are_same word (codes "begin") then begin_in fields
+    else (if are_same word (codes "begin") then of_groups_in BeginMesh fields
     else (if are_same word (codes "step") then of_mesh_in version StepMesh StepClass fields
     else (if are_same word (codes "cancel") then of_mesh_in version CancelMesh CancelClass fields
-    else (if are_same word (codes "whole") then whole_in fields
+    else (if are_same word (codes "whole") then of_groups_in WholeMesh fields
     else (if are_same word (codes "sweep") then sweep_in fields
     else (if are_same word (codes "report") then bare_in MakeReport fields else Err Word)))))))
 

@@ -100,14 +100,18 @@ text job = flat_map ended (job_lines job)
 abbrev pub refusal_text : Refusal → List ℕ
 refusal_text refusal = codes "refused" ++ number_field (number_of refusal) ++ field (name_of refusal)
 
+-- a reply's line, with addresses that are spelt so
+abbrev pub told_with : (ℕ → List ℕ) → Reply → List ℕ
+told_with spelt (Made serial address) = codes "object" ++ number_field serial ++ codes " at" ++ field (spelt address)
+told_with spelt Done = codes "done"
+told_with spelt (Bytes bytes) = codes "bytes" ++ field (bytes_text bytes.items)
+told_with spelt (At address) = codes "at" ++ field (spelt address)
+told_with spelt (Byte byte) = codes "byte" ++ field (byte_text byte)
+told_with spelt (Refused refusal) = refusal_text refusal
+
 -- a reply's line
 abbrev pub reply_text : Reply → List ℕ
-reply_text (Made serial address) = codes "object" ++ number_field serial ++ codes " at" ++ field (address_text address)
-reply_text Done = codes "done"
-reply_text (Bytes bytes) = codes "bytes" ++ field (bytes_text bytes.items)
-reply_text (At address) = codes "at" ++ field (address_text address)
-reply_text (Byte byte) = codes "byte" ++ field (byte_text byte)
-reply_text (Refused refusal) = refusal_text refusal
+reply_text reply = told_with address_text reply
 
 -- the word of a kind of step
 abbrev pub kind_text : StepKind → List ℕ

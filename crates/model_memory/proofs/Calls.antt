@@ -24,22 +24,7 @@ refusal_of n =
 refusal_back : (refusal : Refusal) → refusal_of (number_of refusal) ≡ refusal
 unfolding refusal_of
 refusal_back Zero = refl
-refusal_back TooLarge = refl
-refusal_back NoPages = refl
-refusal_back NoAddresses = refl
-refusal_back Empty = refl
-refusal_back Freed = refl
-refusal_back Outside = refl
-refusal_back Stray = refl
-refusal_back NoGroup = refl
-refusal_back Same = refl
-refusal_back Class = refl
-refusal_back Busy = refl
-refusal_back Overlap = refl
-refusal_back Members = refl
-refusal_back NoMesh = refl
-refusal_back TooLate = refl
-refusal_back NotEmpty = refl
+refusal_back refusal = refl
 
 -- a command as numbers
 command_code : Command → List ℕ
@@ -66,14 +51,7 @@ command_of _ = Free 0
 command_back : (command : Command) → command_of (command_code command) ≡ command
 unfolding command_of command_code
 command_back (New cell len word) = refl
-command_back (Put cell off bytes) = refl
-command_back (Get cell off len) = refl
-command_back (Free cell) = refl
-command_back (Alias to from) = refl
-command_back (Addr cell) = refl
-command_back (Peek place) = refl
-command_back (Poke place byte) = refl
-command_back (CopyBytes to to_off from from_off len) = refl
+command_back command = refl
 
 -- a reply as numbers
 reply_code : Reply → List ℕ
@@ -94,12 +72,8 @@ reply_of _ = Done
 -- a reply is the one of its numbers
 reply_back : (reply : Reply) → reply_of (reply_code reply) ≡ reply
 unfolding reply_of reply_code
-reply_back (Made serial address) = refl
-reply_back Done = refl
-reply_back (Bytes bytes) = refl
-reply_back (At address) = refl
-reply_back (Byte byte) = refl
 reply_back (Refused refusal) = ap (λ (r : Refusal). Refused r) (refusal_back refusal)
+reply_back reply = refl
 
 -- two lists of numbers are one or not
 same_numbers : (xs ys : List ℕ) → (xs ≡ ys) ⊎ (xs ≢ ys)

@@ -26,15 +26,10 @@ same_after m (Ok named) f = by (f named)
 
 -- a read leaves the memory
 pub read_stays : (m : Memory) (command : Command) → is_read command ≡ true → PlainStep m command (read_reply m command) m
-read_stays m (New cell len word) h = absurd (cc h)
-read_stays m (Put cell off bytes) h = absurd (cc h)
 read_stays m (Get cell off len) h = grind (arith, common_steps)
-read_stays m (Free cell) h = absurd (cc h)
-read_stays m (Alias to from) h = absurd (cc h)
 read_stays m (Addr cell) h = grind (arith, common_steps)
 read_stays m (Peek addr) h = grind (arith, common_steps)
-read_stays m (Poke addr byte) h = absurd (cc h)
-read_stays m (Copy to to_off from from_off len) h = absurd (cc h)
+read_stays m command h = absurd (cc h)
 
 -- what a step leaves
 pub left_is : (m n : Memory) (command : Command) (reply : Reply) → PlainStep m command reply n → n ≡ left_by m command reply

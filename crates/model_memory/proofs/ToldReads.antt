@@ -30,10 +30,7 @@ made_many : (m : Memory) (cell len : ℕ) (reply : Reply) → next_serial (made_
 made_many m cell len (Made serial address) =
     let l = length-append m.objects (Some (record { address = address; bytes = replicate len 0 }) ∷ []) in omega (arith, l)
 made_many m cell len Done = omega arith
-made_many m cell len (Bytes bytes) = omega arith
-made_many m cell len (At address) = omega arith
-made_many m cell len (Byte byte) = omega arith
-made_many m cell len (Refused refusal) = omega arith
+made_many m cell len reply = omega arith
 
 -- an answered command makes at most one object
 pub one_made : (m : Memory) (command : Command) (reply : Reply) → next_serial (left_by m command reply) ≤ suc (next_serial m)

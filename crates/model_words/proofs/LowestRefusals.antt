@@ -18,22 +18,7 @@ by_number =
 -- the refusal of its number
 of_number : (r : Refusal) → slice_index_or by_number (number_of r) Zero ≡ r
 of_number Zero = refl
-of_number TooLarge = refl
-of_number NoPages = refl
-of_number NoAddresses = refl
-of_number Empty = refl
-of_number Freed = refl
-of_number Outside = refl
-of_number Stray = refl
-of_number NoGroup = refl
-of_number Same = refl
-of_number Class = refl
-of_number Busy = refl
-of_number Overlap = refl
-of_number Members = refl
-of_number NoMesh = refl
-of_number TooLate = refl
-of_number NotEmpty = refl
+of_number r = refl
 
 -- refusals of one number are one
 same_number : (r s : Refusal) → number_of r ≡ number_of s → r ≡ s
@@ -42,22 +27,7 @@ same_number r s same = sym (of_number r) ∙ ap (λ (n : ℕ). slice_index_or by
 -- the numbers end
 number_few : (r : Refusal) → number_of r ≤ 17
 number_few Zero = lit≤ tt
-number_few TooLarge = lit≤ tt
-number_few NoPages = lit≤ tt
-number_few NoAddresses = lit≤ tt
-number_few Empty = lit≤ tt
-number_few Freed = lit≤ tt
-number_few Outside = lit≤ tt
-number_few Stray = lit≤ tt
-number_few NoGroup = lit≤ tt
-number_few Same = lit≤ tt
-number_few Class = lit≤ tt
-number_few Busy = lit≤ tt
-number_few Overlap = lit≤ tt
-number_few Members = lit≤ tt
-number_few NoMesh = lit≤ tt
-number_few TooLate = lit≤ tt
-number_few NotEmpty = lit≤ tt
+number_few r = lit≤ tt
 
 -- no refusal below the number holds
 abbrev pub AreFrom : ℕ → (Refusal → Type 0) → Type 0

@@ -1,5 +1,5 @@
 -- The numbers and names of the refusals, which are this project's own.
-use Rattle.std.specs.Prelude.{◌≡◌, ◌↔◌, ◌≤◌, Result, Ok, Err, ℕ, List, codes}
+use Rattle.std.specs.Prelude.{◌≡◌, ◌↔◌, ◌≤◌, ◌-◌, Result, Ok, Err, ℕ, List, [], ◌∷◌, codes, get_or}
 use Rattle.model_words.specs.declared.refusals.Refusal.{Refusal}
 use Rattle.model_words.specs.declared.refusals.Refusal.TheVariants.{Zero, TooLarge, NoPages, NoAddresses, Empty, Freed, Outside, Stray, NoGroup, Same, Class, Busy, Overlap, Members, NoMesh, TooLate, NotEmpty}
 
@@ -23,25 +23,17 @@ number_of NoMesh = 15
 number_of TooLate = 16
 number_of NotEmpty = 17
 
--- the name that answer lines print
+-- the names that answer lines print, in the order of the numbers
+abbrev pub refusal_names : List (List ℕ)
+refusal_names =
+    codes "ZERO" ∷ codes "TOO_LARGE" ∷ codes "NO_PAGES" ∷ codes "NO_ADDRESSES" ∷ codes "EMPTY" ∷
+    codes "FREED" ∷ codes "OUTSIDE" ∷ codes "STRAY" ∷ codes "NO_GROUP" ∷ codes "SAME" ∷
+    codes "CLASS" ∷ codes "BUSY" ∷ codes "OVERLAP" ∷ codes "MEMBERS" ∷
+    codes "NO_MESH" ∷ codes "TOO_LATE" ∷ codes "NOT_EMPTY" ∷ []
+
+-- the name of a refusal
 abbrev pub name_of : Refusal → List ℕ
-name_of Zero = codes "ZERO"
-name_of TooLarge = codes "TOO_LARGE"
-name_of NoPages = codes "NO_PAGES"
-name_of NoAddresses = codes "NO_ADDRESSES"
-name_of Empty = codes "EMPTY"
-name_of Freed = codes "FREED"
-name_of Outside = codes "OUTSIDE"
-name_of Stray = codes "STRAY"
-name_of NoGroup = codes "NO_GROUP"
-name_of Same = codes "SAME"
-name_of Class = codes "CLASS"
-name_of Busy = codes "BUSY"
-name_of Overlap = codes "OVERLAP"
-name_of Members = codes "MEMBERS"
-name_of NoMesh = codes "NO_MESH"
-name_of TooLate = codes "TOO_LATE"
-name_of NotEmpty = codes "NOT_EMPTY"
+name_of refusal = get_or refusal_names (number_of refusal - 1) []
 
 -- of the refusals that hold this one has the lowest number
 abbrev pub IsLowest : (Refusal → Type 0) → Refusal → Type 0
