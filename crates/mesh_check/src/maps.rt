@@ -36,15 +36,11 @@ pub fn store(
     }
 }
 
-/// Adds an object under a number. An error is an allocation failure.
-pub fn add(
-    objects: &mut BTreeMap<u32, Stored>,
-    number: u32,
-    object: Stored,
-) -> Result<(), AllocError>
-    ensures { OnOk result (IsSetAt (get nat_cmp objects.old) (get nat_cmp objects.new) number (Some object)) }
+/// Puts a value under a number: an object under its own, or the number that a cell holds. An error is an allocation failure.
+pub fn set<T: Drop>(map: &mut BTreeMap<u32, T>, key: u32, value: T) -> Result<(), AllocError>
+    ensures { OnOk result (IsSetAt (get nat_cmp map.old) (get nat_cmp map.new) key (Some value)) }
 {
-    objects.insert(number, object)?;
+    map.insert(key, value)?;
     Ok(())
 }
 
@@ -57,14 +53,6 @@ pub fn set_start(
     ensures { OnOk result (IsSetAt (get nat_cmp starts.old) (get nat_cmp starts.new) address (Some number)) }
 {
     starts.insert(address, number)?;
-    Ok(())
-}
-
-/// Lets a cell hold a number. An error is an allocation failure.
-pub fn point(roots: &mut BTreeMap<u32, u32>, cell: u32, number: u32) -> Result<(), AllocError>
-    ensures { OnOk result (IsSetAt (get nat_cmp roots.old) (get nat_cmp roots.new) cell (Some number)) }
-{
-    roots.insert(cell, number)?;
     Ok(())
 }
 

@@ -11,7 +11,7 @@ ghost use Rattle.model_history.specs.Recorded.{Recorded, any_allocator, nothing_
 ghost use Rattle.mesh_check.specs.Stands.{IsCopied, IsDone, IsRefused, Stands};
 
 use crate::faults::Fault;
-use crate::maps::{add, give, nearest, point, set_start, store};
+use crate::maps::{give, nearest, set, set_start, store};
 use crate::stored::Stored;
 use arrayvec::ArrayVec;
 use mesh_sparse::SparseBytes;
@@ -172,7 +172,7 @@ impl Tracked {
         ensures made { self.new.made ≡ self.old.made }
     {
         let (number, _) = self.named(from)?;
-        point(&mut self.roots, to, number)?;
+        set(&mut self.roots, to, number)?;
         Ok(())
     }
 
@@ -261,7 +261,7 @@ impl Tracked {
     {
         let number = self.made;
         let bytes = SparseBytes::new(self.alloc, len);
-        add(
+        set(
             &mut self.objects,
             number,
             Stored {
@@ -271,7 +271,7 @@ impl Tracked {
             },
         )?;
         set_start(&mut self.starts, address, number)?;
-        point(&mut self.roots, cell, number)?;
+        set(&mut self.roots, cell, number)?;
         give(&mut self.serials, serial)?;
         self.made = number + 1;
         Ok(())

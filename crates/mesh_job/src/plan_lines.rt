@@ -2,7 +2,7 @@
 ghost use Rattle.std.specs.Prelude.{◌≡◌, ◌≤◌, ◌↔◌, ℕ, false, codes, Ok, Err, IfOk, IfErr, IsTrue, IsSome};
 ghost use Rattle.model_words.specs.Classes.{row_of};
 ghost use Rattle.model_jobs.specs.JobFiles.{are_same, class_in, groups_in, line_in, of_class_in, of_groups_in, of_mesh_in, pair_in, run_in, sweep_in, words_in};
-ghost use Rattle.model_jobs.specs.Jobs.{Line, CancelMesh, CancelClass, StepMesh, StepClass};
+ghost use Rattle.model_jobs.specs.Jobs.{Line, BeginMesh, CancelMesh, CancelClass, StepMesh, StepClass, WholeMesh};
 ghost use Rattle.mesh_fields.specs.Lines.{texts};
 ghost use Rattle.mesh_job.specs.Plan.{line_of, read_line};
 ghost use Rattle.mesh_job.specs.Reading.{IsFaultOfStep};

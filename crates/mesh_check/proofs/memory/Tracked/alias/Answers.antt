@@ -7,5 +7,5 @@ pub returns-clause-done : goal.returns-clause-done
 returns-clause-done c = λ r st. (
   with_root r.memory c.args.to c.in_ok-number.number,
   alias_done r.memory c.args.to c.args.from _ (c.in_ok-number.ensures.named r st),
-  pointed_stands _ _ _ _ r _ _ c.args.to c.in_ok-number.number st c.ranges.to.fits c.in_ok-point.ensures,
+  pointed_stands _ _ _ _ r _ _ c.args.to c.in_ok-number.number st c.ranges.to.fits c.in_ok-set.ensures,
 )

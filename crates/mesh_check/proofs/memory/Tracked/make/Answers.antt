@@ -7,7 +7,7 @@ use Rattle.mesh_check.proofs.memory.Tracked.make.Goals as goal
 
 pub returns-clause-made : goal.returns-clause-made
 returns-clause-made c = λ r st vacant.
-    let added = subst (λ (bytes : List ℕ). IsSetAt (get nat_cmp c.args.self.now.objects) (get nat_cmp c.add.new.objects) c.args.self.now.made
-    (Some (record { address = c.args.address; bytes = bytes }))) c.new-bytes.ensures c.in_ok-add.ensures in
+    let added = subst (λ (bytes : List ℕ). IsSetAt (get nat_cmp c.args.self.now.objects) (get nat_cmp c.set.new.map) c.args.self.now.made
+    (Some (record { address = c.args.address; bytes = bytes }))) c.new-bytes.ensures c.in_ok-set.ensures in
     made_stands _ _ _ _ r _ _ _ _ _ c.args.cell c.args.len c.args.address c.args.serial st c.ranges.cell.fits c.requires.some vacant added
-    c.in_ok-set_start.ensures c.in_ok-point.ensures c.in_ok-give.ensures
+    c.in_ok-set_start.ensures c.in_ok-set-2.ensures c.in_ok-give.ensures
