@@ -34,8 +34,8 @@ use Rattle.mesh_steps.proofs.Objects.{live_found, reference_names}
 use Rattle.mesh_steps.proofs.Slots.{put_object}
 use Rattle.mesh_steps.specs.Heap.{Heap, IsFree, IsHeap, IsMade, IsNotMade, IsObjectAt, arena_of, index_of, live_record, live_records, map_of, memory_of, object_in, plain_of, table_of}
 use Rattle.mesh_steps.specs.PageHeap.{IsPlace, IsPlaceFault, KeepsOutside, PageHeap, first_page, group_number, open_group, table_emptied, table_in, table_with_object}
-use Rattle.mesh_steps.specs.declared.answers.NewFault.{NewFault}
-use Rattle.mesh_steps.specs.declared.answers.NewFault.TheVariants.{Memory as NoMemory, Refused}
+use Rattle.model_words.specs.declared.answers.NewFault.{NewFault}
+use Rattle.model_words.specs.declared.answers.NewFault.TheVariants.{Memory as NoMemory, Refused}
 use Rattle.mesh_steps.specs.declared.answers.Occupied.{Occupied}
 use Rattle.mesh_steps.specs.declared.answers.Ref.{Ref}
 
