@@ -35,7 +35,7 @@ keeps_book old new cells entries room kept = record { others = refl; memory = ke
 pub book_answered : {X Y : Type 0} (old new : Heap) (cells : Cells) (entries : List Entry) (room : ℕ) (wanted : Result Y Refusal) (r : Result X Refusal)
     (IsMade : X → Type 0) → IsAnswered KeepsMeaning old new wanted r IsMade
     → IsAnswered KeepsBook (record { heap = old; cells = cells; entries = entries; room = room })
-        (record { heap = new; cells = cells; entries = entries; room = room }) wanted r IsMade
+    (record { heap = new; cells = cells; entries = entries; room = room }) wanted r IsMade
 book_answered old new cells entries room wanted (Ok x) IsMade is = record {
   made = is.made;
   refused = is.refused;

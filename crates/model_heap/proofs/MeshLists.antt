@@ -11,18 +11,7 @@ use Rattle.model_heap.specs.Table.{Slot, Group, Progress, Made, Unwinding, Mesh,
 -- a mesh whose groups stay is sound
 pub mesh_kept : (t u : Table) (mesh : Mesh) (sound : IsSoundMesh t mesh) → group_of u mesh.source ≡ Some sound.source
     → group_of u mesh.destination ≡ Some sound.destination → IsSoundMesh u mesh
-mesh_kept t u mesh sound source destination = record {
-  source = sound.source;
-  destination = sound.destination;
-  source_is = source;
-  destination_is = destination;
-  two = sound.two;
-  source_class = sound.source_class;
-  destination_class = sound.destination_class;
-  apart = sound.apart;
-  few_members = sound.few_members;
-  within = sound.within;
-}
+mesh_kept t u mesh sound source destination = record sound { source_is = source; destination_is = destination }
 
 -- meshes whose groups stay are sound
 pub meshes_kept : (t u : Table) (ms : List Mesh) → ((n : ℕ) (g : Group) → group_of t n ≡ Some g → group_of u n ≡ Some g) → AreSoundMeshes t ms
