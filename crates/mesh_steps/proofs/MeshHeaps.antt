@@ -30,20 +30,24 @@ use Rattle.mesh_steps.specs.Sweeps.{HasGone}
 use Rattle.model_words.specs.declared.answers.StepDone.{StepDone}
 use Rattle.mesh_steps.specs.declared.busy.Busy.{Busy}
 
+-- the heap of a page heap
+abbrev heap_of : PageHeap → ℕ → Heap
+heap_of pages next = record { pages = pages; next_serial = next }
+
 -- a page heap whose table is sound and tied to what the heap meant, with the bytes of its objects, stands for the same
-module _ (pages new : PageHeap) (next : ℕ) (heap : IsHeap (record { pages = pages; next_serial = next })) (sound : IsSound (table_in new))
+module _ (pages new : PageHeap) (next : ℕ) (heap : IsHeap (heap_of pages next)) (sound : IsSound (table_in new))
     (kept : Keeps (layout_of pages.index) pages.arena new.arena pages.map new.map)
-    (tied : IsTied (plain_of (record { pages = pages; next_serial = next })) (table_in new)) where
-  moved_means : MeansTheSame (record { pages = pages; next_serial = next }) (record { pages = new; next_serial = next })
+    (tied : IsTied (plain_of (heap_of pages next)) (table_in new)) where
+  moved_means : MeansTheSame (heap_of pages next) (heap_of new next)
   moved_means = transition_means next pages.index (table_in pages) (table_in new) pages.map new.map pages.arena new.arena heap.sound sound refl kept heap.tied tied
 
-  moved_heap : IsHeap (record { pages = new; next_serial = next })
+  moved_heap : IsHeap (heap_of new next)
   moved_heap = record {
     sound = sound;
     tied = transition_tied next pages.index (table_in pages) (table_in new) pages.map new.map pages.arena new.arena heap.sound sound refl kept heap.tied tied;
   }
 
-  pub moved : IsHeap (record { pages = new; next_serial = next }) × KeepsMeaning (record { pages = pages; next_serial = next }) (record { pages = new; next_serial = next })
+  pub moved : IsHeap (heap_of new next) × KeepsMeaning (heap_of pages next) (heap_of new next)
   moved = (moved_heap, record { memory = moved_means; serial = refl; pages = kept.same_length })
 
 -- where arena and page map stay so do all bytes
@@ -54,13 +58,13 @@ same_kept pages new arena map =
 
 -- what a call of a mesher leaves: a heap, and its answer
 pub record Leaves {X Y : Type 0} (pages new : PageHeap) (next : ℕ) (wanted : Result Y Refusal) (r : Result X Refusal) (IsMade : X → Type 0) : Type 0 where
-  pub heap : IsHeap (record { pages = new; next_serial = next })
-  pub answered : IsAnswered KeepsMeaning (record { pages = pages; next_serial = next }) (record { pages = new; next_serial = next }) wanted r IsMade
+  pub heap : IsHeap (heap_of new next)
+  pub answered : IsAnswered KeepsMeaning (heap_of pages next) (heap_of new next) wanted r IsMade
 
-module _ (pages new : PageHeap) (next : ℕ) (heap : IsHeap (record { pages = pages; next_serial = next })) where
+module _ (pages new : PageHeap) (next : ℕ) (heap : IsHeap (heap_of pages next)) where
   -- a call that tells of the page heap what means as much of the heap; a refusal leaves it
   leaves : {X Y : Type 0} (wanted : Result Y Refusal) (r : Result X Refusal) (P IsMade : X → Type 0) → IfOk r P → IfErr r (λ e. (wanted ≡ Err e) × (new ≡ pages))
-      → ((x : X) → P x → (IsHeap (record { pages = new; next_serial = next }) × KeepsMeaning (record { pages = pages; next_serial = next }) (record { pages = new; next_serial = next })) × IsMade x)
+      → ((x : X) → P x → (IsHeap (heap_of new next) × KeepsMeaning (heap_of pages next) (heap_of new next)) × IsMade x)
       → Leaves pages new next wanted r IsMade
   leaves wanted (Ok x) P IsMade ok err means = let all = means x ok in record { heap = all.0.0; answered = record { made = all.1; refused = err; kept = all.0.1 } }
   leaves wanted (Err e) P IsMade ok err means = subst (λ (g : PageHeap). Leaves pages g next wanted (Err e) IsMade) (sym err.1)
@@ -69,50 +73,47 @@ module _ (pages new : PageHeap) (next : ℕ) (heap : IsHeap (record { pages = pa
   -- a heap in which a mesh began
   pub begun_leaves : (busy : Busy) (source destination : ℕ) (r : Result ℕ Refusal) → IfOk r (IsBegun busy pages new source destination)
       → IfErr r (λ refusal. (begin (busy_by busy) (table_in pages) source destination ≡ Err refusal) × (new ≡ pages))
-      → Leaves pages new next (begin (busy_by busy) (table_in pages) source destination) r
-      (IsMeshBegun (busy_by busy) (record { pages = pages; next_serial = next }) (record { pages = new; next_serial = next }) source destination)
+      → Leaves pages new next (begin (busy_by busy) (table_in pages) source destination) r (IsMeshBegun (busy_by busy) (heap_of pages next) (heap_of new next) source destination)
   begun_leaves busy source destination r ok err =
       leaves (begin (busy_by busy) (table_in pages) source destination) r (IsBegun busy pages new source destination) _ ok err (λ left is.
       let x : Counted = record { count = left; table = table_in new } in
       let means = moved pages new next heap
       (begin_sound (busy_by busy) (table_in pages) source destination x (busy_tells busy (table_in pages)) heap.sound is.table) (same_kept pages new is.arena is.map)
-      (begin_tied (plain_of (record { pages = pages; next_serial = next })) (busy_by busy) (table_in pages) source destination x heap.tied is.table) in
+      (begin_tied (plain_of (heap_of pages next)) (busy_by busy) (table_in pages) source destination x heap.tied is.table) in
       (means, record { table = is.table; arena = is.arena; map = is.map }))
 
   -- one of which a mesh made a step
   pub stepped_leaves : (class : ℕ) (r : Result StepDone Refusal) → IfOk r (IsStepped pages new class)
       → IfErr r (λ refusal. (step (table_in pages) (mesh_in (table_in pages) class) ≡ Err refusal) × (new ≡ pages))
-      → Leaves pages new next (step (table_in pages) (mesh_in (table_in pages) class)) r
-      (IsStepMade (record { pages = pages; next_serial = next }) (record { pages = new; next_serial = next }) class)
+      → Leaves pages new next (step (table_in pages) (mesh_in (table_in pages) class)) r (IsStepMade (heap_of pages next) (heap_of new next) class)
   stepped_leaves class r ok err =
       leaves (step (table_in pages) (mesh_in (table_in pages) class)) r (IsStepped pages new class) _ ok err (λ done is.
       let x : Stepped = record { kind = done.kind; left = done.left; table = table_in new } in
       let sound = step_sound (table_in pages) (λ mesh. nat_eq mesh.class class) x heap.sound is.table in
-      let tied = step_tied (plain_of (record { pages = pages; next_serial = next })) (table_in pages) (λ mesh. nat_eq mesh.class class) x heap.sound heap.tied is.table in
+      let tied = step_tied (plain_of (heap_of pages next)) (table_in pages) (λ mesh. nat_eq mesh.class class) x heap.sound heap.tied is.table in
       (moved pages new next heap sound is.kept tied, record { table = is.table; mesh = is.mesh; running = is.running; effect = is.effect }))
 
   -- one of which a mesh was cancelled
   pub cancelled_leaves : (class : ℕ) (r : Result ℕ Refusal) → IfOk r (IsCancelled pages new class)
       → IfErr r (λ refusal. (cancel (table_in pages) (mesh_in (table_in pages) class) ≡ Err refusal) × (new ≡ pages))
-      → Leaves pages new next (cancel (table_in pages) (mesh_in (table_in pages) class)) r
-      (IsMeshCancelled (record { pages = pages; next_serial = next }) (record { pages = new; next_serial = next }) class)
+      → Leaves pages new next (cancel (table_in pages) (mesh_in (table_in pages) class)) r (IsMeshCancelled (heap_of pages next) (heap_of new next) class)
   cancelled_leaves class r ok err =
       leaves (cancel (table_in pages) (mesh_in (table_in pages) class)) r (IsCancelled pages new class) _ ok err (λ left is.
       let x : Counted = record { count = left; table = table_in new } in
       let means = moved pages new next heap (cancel_sound (table_in pages) (λ mesh. nat_eq mesh.class class) x heap.sound is.table)
       (same_kept pages new is.arena is.map)
-      (cancel_tied (plain_of (record { pages = pages; next_serial = next })) (table_in pages) (mesh_in (table_in pages) class) x heap.tied is.table) in
+      (cancel_tied (plain_of (heap_of pages next)) (table_in pages) (mesh_in (table_in pages) class) x heap.tied is.table) in
       (means, record { table = is.table; arena = is.arena; map = is.map }))
 
   -- one of which a group was swept
   pub swept_leaves : (n : ℕ) (r : Result ℕ Refusal) → IsIndex pages.index.spans pages.index.groups → IfOk r (HasGone pages new n)
       → IfErr r (λ refusal. (sweep (table_in pages) n ≡ Err refusal) × (new ≡ pages))
-      → Leaves pages new next (sweep (table_in pages) n) r (IsSwept (record { pages = pages; next_serial = next }) (record { pages = new; next_serial = next }) n)
+      → Leaves pages new next (sweep (table_in pages) n) r (IsSwept (heap_of pages next) (heap_of new next) n)
   swept_leaves n r index ok err =
       leaves (sweep (table_in pages) n) r (HasGone pages new n) _ ok err (λ count is.
       let x : Counted = record { count = count; table = table_in new } in
       let sound = sweep_sound (table_in pages) n x heap.sound is.table in
-      let tied = sweep_tied (plain_of (record { pages = pages; next_serial = next })) (table_in pages) n x heap.tied is.table in (
+      let tied = sweep_tied (plain_of (heap_of pages next)) (table_in pages) n x heap.tied is.table in (
         moved pages new next heap sound is.kept tied,
         record {
           table = is.table;
