@@ -1,10 +1,3 @@
-pub use Rattle.model_heap.specs.MeaningLaws
-pub use Rattle.mesh_class.specs.Classes
-pub use Rattle.mesh_arena.specs.Pages
-pub use Rattle.mesh_pagemap.specs.Entries
-pub use Rattle.mesh_spans.specs.Groups
-pub use Rattle.mesh_spans.specs.Index
-pub use Rattle.mesh_store.specs.Places
 pub mod Layout
 pub mod Steps
 pub mod Growth

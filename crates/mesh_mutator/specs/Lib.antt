@@ -1,9 +1,3 @@
-pub use Rattle.model_words.specs.Commands
-pub use Rattle.model_jobs.specs.Jobs
-pub use Rattle.model_memory.specs.Plain
-pub use Rattle.model_words.specs.Refusals
-pub use Rattle.mesh_steps.specs.PageHeap
-pub use Rattle.mesh_steps.specs.Heap
 pub mod Attempts
 pub mod Book
 pub mod Codes

@@ -1,7 +1,6 @@
 //! Why no seats could be made, and why seats and journal make no history.
 ghost use Rattle.std.specs.Prelude.{◌≡◌};
 ghost use Rattle.mesh_seats.specs.declared.faults.FinishError.{FinishError};
-ghost use Rattle.mesh_seats.specs.declared.faults.OpenError.{OpenError};
 
 use std::alloc::{AllocError, AllocFailed};
 use thiserror::Error;
@@ -12,14 +11,6 @@ pub enum OpenError {
     /// Memory was refused.
     #[error("out of memory")]
     Memory,
-}
-
-impl From<AllocError> for OpenError {
-    ghost from_gives = { λ _ error. error ≡ OpenError.Memory };
-
-    fn from(_refused: AllocError) -> OpenError {
-        OpenError::Memory
-    }
 }
 
 /// Why seats and journal make no history. The first of these that holds is told, in the order in which they stand here; which seats and

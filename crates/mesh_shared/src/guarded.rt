@@ -11,7 +11,7 @@ ghost use Rattle.mesh_mutator.specs.Mesher.{KeepsBook};
 ghost use Rattle.mesh_mutator.specs.declared.attempts.Attempt.{Attempt};
 ghost use Rattle.mesh_shared.specs.MesherRuns.{IsOver, IsSpent};
 ghost use Rattle.mesh_seats.specs.Seat.{IsNew, IsNoted, IsStore, noted};
-ghost use Rattle.mesh_steps.specs.HeapMeshes.{IsMeshBegun, IsStepMade};
+ghost use Rattle.mesh_steps.specs.HeapMeshes.{IsAnswered, IsMeshBegun, IsStepMade};
 
 use crate::calls::Calls;
 use mesh_class::Class;
@@ -56,10 +56,8 @@ pub(crate) fn look(book: &Book, seat: &mut Seat, command: &Command) -> Reply
 /// Begins a mesh of a pair, as the book does. A call that is answered is counted.
 pub(crate) fn begin(book: &mut Book, pair: Pair, calls: &mut Calls) -> Result<u32, Refusal>
     requires { IsOver calls.old → ⊥ }
-    ensures begun { IfOk result (IsMeshBegun mesh_of_class book.old.heap book.new.heap pair.source pair.destination) }
-    ensures refused { IfErr result (λ refusal.
-        (begin mesh_of_class (table_of_book book.old) pair.source pair.destination ≡ Err refusal) × (book.new ≡ book.old)) }
-    ensures kept { KeepsBook book.old book.new }
+    ensures answered { IsAnswered KeepsBook book.old book.new (begin mesh_of_class (table_of_book book.old) pair.source pair.destination) result
+        (IsMeshBegun mesh_of_class book.old.heap book.new.heap pair.source pair.destination) }
     ensures counted { OnOk result (IsSpent calls.old calls.new) }
     ensures uncounted { OnErr result (calls.new ≡ calls.old) }
 {
@@ -71,10 +69,8 @@ pub(crate) fn begin(book: &mut Book, pair: Pair, calls: &mut Calls) -> Result<u3
 /// Makes the next step of the mesh of a class, as the book does. A call that is answered is counted.
 pub(crate) fn step(book: &mut Book, class: Class, calls: &mut Calls) -> Result<StepDone, Refusal>
     requires { IsOver calls.old → ⊥ }
-    ensures made { IfOk result (IsStepMade book.old.heap book.new.heap class) }
-    ensures refused { IfErr result (λ refusal.
-        (step (table_of_book book.old) (mesh_in (table_of_book book.old) class) ≡ Err refusal) × (book.new ≡ book.old)) }
-    ensures kept { KeepsBook book.old book.new }
+    ensures answered { IsAnswered KeepsBook book.old book.new (step (table_of_book book.old) (mesh_in (table_of_book book.old) class)) result
+        (IsStepMade book.old.heap book.new.heap class) }
     ensures counted { OnOk result (IsSpent calls.old calls.new) }
     ensures uncounted { OnErr result (calls.new ≡ calls.old) }
 {

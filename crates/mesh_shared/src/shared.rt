@@ -38,7 +38,9 @@ impl Shared {
         ensures seats { IfOk result (λ opened. IsEmptySeats 0 counts.now opened.1.items) }
         ensures count { IfOk result (λ opened. opened.0.seats ≡ length counts.now) }
     {
-        let seats = seats_of(alloc, counts)?;
+        let Ok(seats) = seats_of(alloc, counts) else {
+            return Err(OpenError::Memory);
+        };
         Ok((
             Shared {
                 book: RwLock::new(book),

@@ -3,6 +3,7 @@ use Rattle.std.specs.Prelude.{◌≡◌, ℕ, ◌+◌, ◌<◌, ◌≤◌, Bool,
 use Rattle.std.specs.Option.{option_map}
 use Rattle.std.specs.Coded.{Coded, code_by, coded×, coded_ℕ, coded_bool, coded_list, coded_option}
 use Rattle.mesh_class.specs.Classes.{pages_of, slots_of, IsClass}
+use Rattle.model_heap.specs.Stored.{slot_code}
 use Rattle.model_heap.specs.Table.{Slot, slot_address}
 
 -- a span: its first virtual page, its class by its size, and the number of its group
@@ -29,12 +30,6 @@ abbrev pub span_code : Coded SpanEntry
 span_code =
     code_by (ℕ × (ℕ × ℕ)) (coded× coded_ℕ (coded× coded_ℕ coded_ℕ)) (λ s. (s.first, (s.class, s.group)))
     (λ p. record { first = p.0; class = p.1.0; group = p.1.1 }) (λ _. refl)
-
--- an object in a slot is stored as its parts
-abbrev pub slot_code : Coded Slot
-slot_code =
-    code_by (ℕ × (ℕ × ℕ)) (coded× coded_ℕ (coded× coded_ℕ coded_ℕ)) (λ s. (s.member, (s.serial, s.len)))
-    (λ p. record { member = p.0; serial = p.1.0; len = p.1.1 }) (λ _. refl)
 
 -- a group is stored as its parts
 abbrev pub group_code : Coded GroupEntry

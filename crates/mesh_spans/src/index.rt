@@ -15,11 +15,11 @@ ghost use Rattle.mesh_spans.specs.Changes.{IsMergeable, Merges, Regroups, merged
 use crate::extent::Extent;
 use crate::group::Group;
 use crate::groups::Groups;
-use crate::occupant::Occupant;
 use crate::owners::Owners;
 use crate::{Slot, Span, Totals};
 use mesh_arena::Page;
 use mesh_class::Class;
+use model_heap::Occupant;
 use std::alloc::{AllocError, Global};
 use std::marker::Model;
 

@@ -12,7 +12,6 @@ mod group;
 mod groups;
 mod index;
 mod names;
-mod occupant;
 mod owners;
 mod totals;
 

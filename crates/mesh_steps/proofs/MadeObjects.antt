@@ -34,8 +34,8 @@ use Rattle.mesh_steps.proofs.Objects.{live_found, reference_names}
 use Rattle.mesh_steps.proofs.Slots.{put_object}
 use Rattle.mesh_steps.specs.Heap.{Heap, IsFree, IsHeap, IsMade, IsNotMade, IsObjectAt, arena_of, index_of, live_record, live_records, map_of, memory_of, object_in, plain_of, table_of}
 use Rattle.mesh_steps.specs.PageHeap.{IsPlace, IsPlaceFault, KeepsOutside, PageHeap, first_page, group_number, open_group, table_emptied, table_in, table_with_object}
-use Rattle.mesh_steps.specs.declared.answers.NewFault.{NewFault}
-use Rattle.mesh_steps.specs.declared.answers.NewFault.TheVariants.{Memory as NoMemory, Refused}
+use Rattle.model_words.specs.declared.answers.NewFault.{NewFault}
+use Rattle.model_words.specs.declared.answers.NewFault.TheVariants.{Memory as NoMemory, Refused}
 use Rattle.mesh_steps.specs.declared.answers.Occupied.{Occupied}
 use Rattle.mesh_steps.specs.declared.answers.Ref.{Ref}
 
@@ -189,12 +189,12 @@ live_outside : (t : Table) (len word serial : ℕ) (placed : Placed) (s x : ℕ)
     → record_with s (records_of t) ≡ Some r → IsIn r x → (x < placed.address) ⊎ (placed.address + len ≤ x)
 live_outside t len word serial placed s x r sound went found within =
     let of = (record_slot t s r sound found).1 in
-    let address_is : r.address ≡ slot_address of.slot.member of.group.class of.k = ap (λ (q : Record). q.address) of.is in
+    let address_is : r.address ≡ slot_address of.slot.member of.filled.group.class of.k = ap (λ (q : Record). q.address) of.is in
     let len_is : r.len ≡ of.slot.len = ap (λ (q : Record). q.len) of.is in
     let low = within.0 in
     let high = within.1 in
-    outside_apart placed.address len (slot_address of.slot.member of.group.class of.k) of.slot.len x
-    (new_apart t len word serial placed of.number of.k of.group of.slot sound went of.there of.filled)
+    outside_apart placed.address len (slot_address of.slot.member of.filled.group.class of.k) of.slot.len x
+    (new_apart t len word serial placed of.filled.number of.k of.filled.group of.slot sound went of.filled.there of.filled.filled)
     (omega (arith, low, address_is)) (omega (arith, high, address_is, len_is))
 
 -- an object of zeros put into a slot, and nothing else changed

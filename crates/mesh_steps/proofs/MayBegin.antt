@@ -14,7 +14,7 @@ use Rattle.model_heap.proofs.MayBegin.{may_begin_gives}
 use Rattle.model_heap.proofs.GroupPages.{found_sound}
 use Rattle.model_heap.proofs.MeshLists.{any_tells, class_tells}
 use Rattle.model_search.proofs.Searches.{overlap_by_sets}
-use Rattle.model_heap.specs.Mesh.{Pair, do_overlap, may_begin, step_count}
+use Rattle.model_heap.specs.Mesh.{do_overlap, may_begin, step_count}
 use Rattle.model_heap.specs.Table.{Group, Made, Table, group_of, has_number}
 use Rattle.model_words.specs.Classes.{row_of}
 use Rattle.model_heap.specs.Sound.{meshes_of}
@@ -109,30 +109,18 @@ busy_tells Any t class h = any_tells class t.meshes h
 
 -- what is known of a pair of groups of which a mesh may begin
 pub record HasPair (busy : Busy) (g : PageHeap) (s d class : ℕ) : Type 0 where
-  pub a : GroupEntry
-  pub b : GroupEntry
-  pub pair : Pair
-  pub source : group_at g.index.groups s ≡ Some a
-  pub destination : group_at g.index.groups d ≡ Some b
-  pub may : may_begin (busy_by busy) (table_in g) s d ≡ Ok pair
-  pub source_is : pair.source ≡ table_group g.index.spans s a
-  pub class_is : pair.source.class ≡ class
+  pub of : IsPair busy g s d class
+  pub from : IsEntry g.index s of.pair.source
+  pub into : IsEntry g.index d of.pair.destination
   pub idle : meshes_of class g.meshes ≡ 0
 
 has_pair : (busy : Busy) (g : PageHeap) (s d class : ℕ) → IsPair busy g s d class → HasPair busy g s d class
 has_pair busy g s d class is =
     let may = may_begin_gives (busy_by busy) (table_in g) s d is.pair is.may in
-    let a : IsEntry g.index s is.pair.source = table_entry g.index s is.pair.source may.source_is in
-    let b : IsEntry g.index d is.pair.destination = table_entry g.index d is.pair.destination may.destination_is in
     record {
-      a = a.entry;
-      b = b.entry;
-      pair = is.pair;
-      source = a.there;
-      destination = b.there;
-      may = is.may;
-      source_is = a.same;
-      class_is = is.class_is;
+      of = is;
+      from = table_entry g.index s is.pair.source may.source_is;
+      into = table_entry g.index d is.pair.destination may.destination_is;
       idle = subst (λ (c : ℕ). meshes_of c g.meshes ≡ 0) is.class_is (busy_tells busy (table_in g) is.pair.source.class may.idle);
     }
 
@@ -142,27 +130,27 @@ pair_inside busy inside seen s d class same is = has_pair busy inside s d class 
 
 -- so many steps has a mesh from the source
 pub steps_told : (busy : Busy) (g : PageHeap) (s d class : ℕ) (order : StepOrder) → (h : HasPair busy g s d class) → IsStepOrderOf (layout_of g.index) s order
-    → step_count h.pair.source ≡ order_steps order
+    → step_count h.of.pair.source ≡ order_steps order
 steps_told busy g s d class order h is =
-    let total = pages_counted g.index s h.a h.source in
-    let same = ap class_in h.source in
+    let total = pages_counted g.index s h.from.entry h.from.there in
+    let same = ap class_in h.from.there in
     let slots = ap slots_of same in
     let pages = ap pages_of same in
     let t = is.total in let c = is.slots in let p = is.pages in
-    ap step_count h.source_is ∙ (let sum : step_count (table_group g.index.spans s h.a) ≡ order_steps order = omega (arith, total, slots, pages, t, c, p) in sum)
+    ap step_count h.from.same ∙ (let sum : step_count (table_group g.index.spans s h.from.entry) ≡ order_steps order = omega (arith, total, slots, pages, t, c, p) in sum)
 
 -- fewer than ten meshes run before one begins
 pub few_running : (busy : Busy) (g : PageHeap) (s d class : ℕ) → IsPageHeap g.arena g.map g.index g.next_page g.meshes → HasPair busy g s d class → length g.meshes < 10
 few_running busy g s d class paged h =
-    let found = entry_in_table g.index s h.a h.source in
-    let row = (found_sound (table_in g) (has_number s) (table_group g.index.spans s h.a) paged.sound found).class in
+    let found = entry_in_table g.index s h.from.entry h.from.there in
+    let row = (found_sound (table_in g) (has_number s) (table_group g.index.spans s h.from.entry) paged.sound found).class in
     few_meshes (table_in g) class paged.sound
-    (subst (λ (c : ℕ). IsSome (row_of c)) (sym (ap (λ (x : Group). x.class) h.source_is) ∙ h.class_is) row) h.idle
+    (subst (λ (c : ℕ). IsSome (row_of c)) (sym (ap (λ (x : Group). x.class) h.from.same) ∙ h.of.class_is) row) h.idle
 
 -- what a mesh that begins leaves
 pub begun_heap : (busy : Busy) (g : PageHeap) (index : Index) (s d class left : ℕ) → IsPageHeap g.arena g.map g.index g.next_page g.meshes
-    → (h : HasPair busy g s d class) → Closes g.index index s d → step_count h.pair.source ≡ left
+    → (h : HasPair busy g s d class) → Closes g.index index s d → step_count h.of.pair.source ≡ left
     → Begins (busy_by busy) g.arena g.map g.index index g.next_page g.meshes (record { class = class; source = s; destination = d; progress = Made 0 }) left
 begun_heap busy g index s d class left paged h closes count =
     subst (λ (c : ℕ). Begins (busy_by busy) g.arena g.map g.index index g.next_page g.meshes (record { class = c; source = s; destination = d; progress = Made 0 }) left)
-    h.class_is (page_heap_begins (busy_by busy) g.arena g.map g.index index g.next_page g.meshes h.pair s d left paged (busy_tells busy (table_in g)) h.may closes count)
+    h.of.class_is (page_heap_begins (busy_by busy) g.arena g.map g.index index g.next_page g.meshes h.of.pair s d left paged (busy_tells busy (table_in g)) h.of.may closes count)

@@ -23,27 +23,31 @@ use Rattle.mesh_spans.specs.Index.{IsIndex}
 use Rattle.mesh_arena.specs.Pages.{Pages}
 use Rattle.mesh_steps.proofs.MayBegin.{busy_tells}
 use Rattle.mesh_steps.specs.Heap.{Heap, IsHeap, plain_of, table_of}
-use Rattle.mesh_steps.specs.HeapMeshes.{IsMeshBegun, IsMeshCancelled, IsMeshed, IsOnItsWay, IsStepMade, IsSwept, KeepsMeaning, MeansTheSame}
+use Rattle.mesh_steps.specs.HeapMeshes.{IsAnswered, IsMeshBegun, IsMeshCancelled, IsMeshed, IsOnItsWay, IsStepMade, IsSwept, KeepsMeaning, MeansTheSame}
 use Rattle.mesh_steps.specs.Meshes.{IsBegun, IsCancelled, IsStepped, busy_by}
 use Rattle.mesh_steps.specs.PageHeap.{PageHeap, table_in}
 use Rattle.mesh_steps.specs.Sweeps.{HasGone}
-use Rattle.mesh_steps.specs.declared.answers.StepDone.{StepDone}
+use Rattle.model_words.specs.declared.answers.StepDone.{StepDone}
 use Rattle.mesh_steps.specs.declared.busy.Busy.{Busy}
 
+-- the heap of a page heap
+abbrev heap_of : PageHeap → ℕ → Heap
+heap_of pages next = record { pages = pages; next_serial = next }
+
 -- a page heap whose table is sound and tied to what the heap meant, with the bytes of its objects, stands for the same
-module _ (pages new : PageHeap) (next : ℕ) (heap : IsHeap (record { pages = pages; next_serial = next })) (sound : IsSound (table_in new))
+module _ (pages new : PageHeap) (next : ℕ) (heap : IsHeap (heap_of pages next)) (sound : IsSound (table_in new))
     (kept : Keeps (layout_of pages.index) pages.arena new.arena pages.map new.map)
-    (tied : IsTied (plain_of (record { pages = pages; next_serial = next })) (table_in new)) where
-  moved_means : MeansTheSame (record { pages = pages; next_serial = next }) (record { pages = new; next_serial = next })
+    (tied : IsTied (plain_of (heap_of pages next)) (table_in new)) where
+  moved_means : MeansTheSame (heap_of pages next) (heap_of new next)
   moved_means = transition_means next pages.index (table_in pages) (table_in new) pages.map new.map pages.arena new.arena heap.sound sound refl kept heap.tied tied
 
-  moved_heap : IsHeap (record { pages = new; next_serial = next })
+  moved_heap : IsHeap (heap_of new next)
   moved_heap = record {
     sound = sound;
     tied = transition_tied next pages.index (table_in pages) (table_in new) pages.map new.map pages.arena new.arena heap.sound sound refl kept heap.tied tied;
   }
 
-  pub moved : IsHeap (record { pages = new; next_serial = next }) × KeepsMeaning (record { pages = pages; next_serial = next }) (record { pages = new; next_serial = next })
+  pub moved : IsHeap (heap_of new next) × KeepsMeaning (heap_of pages next) (heap_of new next)
   moved = (moved_heap, record { memory = moved_means; serial = refl; pages = kept.same_length })
 
 -- where arena and page map stay so do all bytes
@@ -52,80 +56,67 @@ same_kept pages new arena map =
     subst (λ (a : Pages). Keeps (layout_of pages.index) pages.arena a pages.map new.map) (sym arena)
     (subst (λ (m : Entries). Keeps (layout_of pages.index) pages.arena pages.arena pages.map m) (sym map) (record { each = λ n k o x slot live. refl; same_length = refl }))
 
--- what a call leaves: a heap that means what it meant, of which is told what is to be
-pub record Leaves {X : Type 0} (pages new : PageHeap) (next : ℕ) (r : Result X Refusal) (Told : X → Type 0) : Type 0 where
-  pub heap : IsHeap (record { pages = new; next_serial = next })
-  pub kept : KeepsMeaning (record { pages = pages; next_serial = next }) (record { pages = new; next_serial = next })
-  pub told : IfOk r Told
+-- what a call of a mesher leaves: a heap, and its answer
+pub record Leaves {X Y : Type 0} (pages new : PageHeap) (next : ℕ) (wanted : Result Y Refusal) (r : Result X Refusal) (IsMade : X → Type 0) : Type 0 where
+  pub heap : IsHeap (heap_of new next)
+  pub answered : IsAnswered KeepsMeaning (heap_of pages next) (heap_of new next) wanted r IsMade
 
-module _ (pages new : PageHeap) (next : ℕ) (heap : IsHeap (record { pages = pages; next_serial = next })) where
+module _ (pages new : PageHeap) (next : ℕ) (heap : IsHeap (heap_of pages next)) where
   -- a call that tells of the page heap what means as much of the heap; a refusal leaves it
-  leaves : {X : Type 0} (r : Result X Refusal) (P Told : X → Type 0) (Q : Refusal → Type 0) → IfOk r P → IfErr r (λ e. Q e × (new ≡ pages))
-      → ((x : X) → P x → (IsHeap (record { pages = new; next_serial = next }) × KeepsMeaning (record { pages = pages; next_serial = next }) (record { pages = new; next_serial = next })) × Told x) → Leaves pages new next r Told
-  leaves (Ok x) P Told Q ok err means = let all = means x ok in record { heap = all.0.0; kept = all.0.1; told = all.1 }
-  leaves (Err e) P Told Q ok err means = subst (λ (g : PageHeap). Leaves pages g next (Err e) Told) (sym err.1)
-      (record { heap = heap; kept = record { memory = λ roots. refl; serial = refl; pages = refl }; told = ok })
+  leaves : {X Y : Type 0} (wanted : Result Y Refusal) (r : Result X Refusal) (P IsMade : X → Type 0) → IfOk r P → IfErr r (λ e. (wanted ≡ Err e) × (new ≡ pages))
+      → ((x : X) → P x → (IsHeap (heap_of new next) × KeepsMeaning (heap_of pages next) (heap_of new next)) × IsMade x)
+      → Leaves pages new next wanted r IsMade
+  leaves wanted (Ok x) P IsMade ok err means = let all = means x ok in record { heap = all.0.0; answered = record { made = all.1; refused = err; kept = all.0.1 } }
+  leaves wanted (Err e) P IsMade ok err means = subst (λ (g : PageHeap). Leaves pages g next wanted (Err e) IsMade) (sym err.1)
+      (record { heap = heap; answered = record { made = ok; refused = (err.0, refl); kept = record { memory = λ roots. refl; serial = refl; pages = refl } } })
 
   -- a heap in which a mesh began
   pub begun_leaves : (busy : Busy) (source destination : ℕ) (r : Result ℕ Refusal) → IfOk r (IsBegun busy pages new source destination)
       → IfErr r (λ refusal. (begin (busy_by busy) (table_in pages) source destination ≡ Err refusal) × (new ≡ pages))
-      → Leaves pages new next r (IsMeshBegun (busy_by busy) (record { pages = pages; next_serial = next }) (record { pages = new; next_serial = next }) source destination)
+      → Leaves pages new next (begin (busy_by busy) (table_in pages) source destination) r (IsMeshBegun (busy_by busy) (heap_of pages next) (heap_of new next) source destination)
   begun_leaves busy source destination r ok err =
-      leaves r (IsBegun busy pages new source destination) _ (λ refusal. begin (busy_by busy) (table_in pages) source destination ≡ Err refusal) ok err (λ left is.
+      leaves (begin (busy_by busy) (table_in pages) source destination) r (IsBegun busy pages new source destination) _ ok err (λ left is.
       let x : Counted = record { count = left; table = table_in new } in
       let means = moved pages new next heap
       (begin_sound (busy_by busy) (table_in pages) source destination x (busy_tells busy (table_in pages)) heap.sound is.table) (same_kept pages new is.arena is.map)
-      (begin_tied (plain_of (record { pages = pages; next_serial = next })) (busy_by busy) (table_in pages) source destination x heap.tied is.table) in
-      (means, record { table = is.table; memory = means.1.memory; serial = refl; arena = is.arena; map = is.map }))
+      (begin_tied (plain_of (heap_of pages next)) (busy_by busy) (table_in pages) source destination x heap.tied is.table) in
+      (means, record { table = is.table; arena = is.arena; map = is.map }))
 
   -- one of which a mesh made a step
   pub stepped_leaves : (class : ℕ) (r : Result StepDone Refusal) → IfOk r (IsStepped pages new class)
       → IfErr r (λ refusal. (step (table_in pages) (mesh_in (table_in pages) class) ≡ Err refusal) × (new ≡ pages))
-      → Leaves pages new next r (IsStepMade (record { pages = pages; next_serial = next }) (record { pages = new; next_serial = next }) class)
+      → Leaves pages new next (step (table_in pages) (mesh_in (table_in pages) class)) r (IsStepMade (heap_of pages next) (heap_of new next) class)
   stepped_leaves class r ok err =
-      leaves r (IsStepped pages new class) _ (λ refusal. step (table_in pages) (mesh_in (table_in pages) class) ≡ Err refusal) ok err (λ done is.
+      leaves (step (table_in pages) (mesh_in (table_in pages) class)) r (IsStepped pages new class) _ ok err (λ done is.
       let x : Stepped = record { kind = done.kind; left = done.left; table = table_in new } in
       let sound = step_sound (table_in pages) (λ mesh. nat_eq mesh.class class) x heap.sound is.table in
-      let tied = step_tied (plain_of (record { pages = pages; next_serial = next })) (table_in pages) (λ mesh. nat_eq mesh.class class) x heap.sound heap.tied is.table in
-      let means = moved pages new next heap sound is.kept tied in (
-        means,
-        record {
-          table = is.table;
-          memory = means.1.memory;
-          serial = refl;
-          mesh = is.mesh;
-          running = is.running;
-          effect = is.effect;
-          pages = means.1.pages;
-        },
-      ))
+      let tied = step_tied (plain_of (heap_of pages next)) (table_in pages) (λ mesh. nat_eq mesh.class class) x heap.sound heap.tied is.table in
+      (moved pages new next heap sound is.kept tied, record { table = is.table; mesh = is.mesh; running = is.running; effect = is.effect }))
 
   -- one of which a mesh was cancelled
   pub cancelled_leaves : (class : ℕ) (r : Result ℕ Refusal) → IfOk r (IsCancelled pages new class)
       → IfErr r (λ refusal. (cancel (table_in pages) (mesh_in (table_in pages) class) ≡ Err refusal) × (new ≡ pages))
-      → Leaves pages new next r (IsMeshCancelled (record { pages = pages; next_serial = next }) (record { pages = new; next_serial = next }) class)
+      → Leaves pages new next (cancel (table_in pages) (mesh_in (table_in pages) class)) r (IsMeshCancelled (heap_of pages next) (heap_of new next) class)
   cancelled_leaves class r ok err =
-      leaves r (IsCancelled pages new class) _ (λ refusal. cancel (table_in pages) (mesh_in (table_in pages) class) ≡ Err refusal) ok err (λ left is.
+      leaves (cancel (table_in pages) (mesh_in (table_in pages) class)) r (IsCancelled pages new class) _ ok err (λ left is.
       let x : Counted = record { count = left; table = table_in new } in
       let means = moved pages new next heap (cancel_sound (table_in pages) (λ mesh. nat_eq mesh.class class) x heap.sound is.table)
       (same_kept pages new is.arena is.map)
-      (cancel_tied (plain_of (record { pages = pages; next_serial = next })) (table_in pages) (mesh_in (table_in pages) class) x heap.tied is.table) in
-      (means, record { table = is.table; memory = means.1.memory; serial = refl; arena = is.arena; map = is.map }))
+      (cancel_tied (plain_of (heap_of pages next)) (table_in pages) (mesh_in (table_in pages) class) x heap.tied is.table) in
+      (means, record { table = is.table; arena = is.arena; map = is.map }))
 
   -- one of which a group was swept
   pub swept_leaves : (n : ℕ) (r : Result ℕ Refusal) → IsIndex pages.index.spans pages.index.groups → IfOk r (HasGone pages new n)
-      → IfErr r (λ refusal. (sweep (table_in pages) n ≡ Err refusal) × (new ≡ pages)) → Leaves pages new next r (IsSwept (record { pages = pages; next_serial = next }) (record { pages = new; next_serial = next }) n)
+      → IfErr r (λ refusal. (sweep (table_in pages) n ≡ Err refusal) × (new ≡ pages))
+      → Leaves pages new next (sweep (table_in pages) n) r (IsSwept (heap_of pages next) (heap_of new next) n)
   swept_leaves n r index ok err =
-      leaves r (HasGone pages new n) _ (λ refusal. sweep (table_in pages) n ≡ Err refusal) ok err (λ count is.
+      leaves (sweep (table_in pages) n) r (HasGone pages new n) _ ok err (λ count is.
       let x : Counted = record { count = count; table = table_in new } in
       let sound = sweep_sound (table_in pages) n x heap.sound is.table in
-      let tied = sweep_tied (plain_of (record { pages = pages; next_serial = next })) (table_in pages) n x heap.tied is.table in
-      let means = moved pages new next heap sound is.kept tied in (
-        means,
+      let tied = sweep_tied (plain_of (heap_of pages next)) (table_in pages) n x heap.tied is.table in (
+        moved pages new next heap sound is.kept tied,
         record {
           table = is.table;
-          memory = means.1.memory;
-          serial = refl;
           unmapped = λ g i there below.
               let e : IsEntry pages.index n g = table_entry pages.index n g there in
               let total = pages_counted pages.index n e.entry e.there in
@@ -134,7 +125,6 @@ module _ (pages new : PageHeap) (next : ℕ) (heap : IsHeap (record { pages = pa
               subst (λ (v : ℕ). is_mapped new.map v ≡ false)
               (sym (ap (λ (x : Group). slice_index (virtual_pages x) i) e.same ∙ page_is pages.index n i e.entry e.there within))
               (is.unmapped i (virtual_page (layout_of pages.index) n i) (record { within = within; at = refl }));
-          pages = means.1.pages;
         },
       ))
 
@@ -148,21 +138,21 @@ kept_on old now new was is = record {
 
 -- a step of a mesh that has more
 pub gone_on : (old now new : Heap) (class steps made : ℕ) (r : Result StepDone Refusal) → IsOk (steps_of_class class steps (table_of old)) → made < steps
-    → IsOnItsWay old now class steps made → IfOk r (IsStepMade now new class)
-    → IfErr r (λ refusal. (step (table_of now) (mesh_in (table_of now) class) ≡ Err refusal) × (new ≡ now)) → KeepsMeaning now new
+    → IsOnItsWay old now class steps made
+    → IsAnswered KeepsMeaning now new (step (table_of now) (mesh_in (table_of now) class)) r (IsStepMade now new class)
     → IsOnItsWay old new class steps (made + 1)
-gone_on old now new class steps made (Ok done) whole below way ok err kept = record {
+gone_on old now new class steps made (Ok done) whole below way is = record {
   few = omega (arith, below);
   table =
       let next : steps - made ≡ suc (steps - (made + 1)) = omega (arith, below) in
-      sym (ap (λ (r : Result Stepped Refusal). r >>= λ x. steps_of_class class (steps - (made + 1)) x.table) ok.table)
+      sym (ap (λ (r : Result Stepped Refusal). r >>= λ x. steps_of_class class (steps - (made + 1)) x.table) is.made.table)
       ∙ sym (ap (λ (n : ℕ). steps_of_class class n (table_of now)) next) ∙ way.table;
-  kept = kept_on old now new way.kept kept;
+  kept = kept_on old now new way.kept is.kept;
 }
-gone_on old now new class steps made (Err refusal) whole below way ok err kept = absurd (
+gone_on old now new class steps made (Err refusal) whole below way is = absurd (
     let next : steps - made ≡ suc (steps - (made + 1)) = omega (arith, below) in
     let stuck : steps_of_class class (suc (steps - (made + 1))) (table_of now) ≡ Err refusal
-    = ap (λ (r : Result Stepped Refusal). r >>= λ x. steps_of_class class (steps - (made + 1)) x.table) err.0 in
+    = ap (λ (r : Result Stepped Refusal). r >>= λ x. steps_of_class class (steps - (made + 1)) x.table) is.refused.0 in
     let refused : steps_of_class class steps (table_of old) ≡ Err refusal
     = sym way.table ∙ ap (λ (n : ℕ). steps_of_class class n (table_of now)) next ∙ stuck in
     refuted (steps_of_class class steps (table_of old)) refusal refused whole)
@@ -189,22 +179,14 @@ module _ (busy : Busy) (old new : Heap) (source destination left class : ℕ) (h
   has_steps = rw (same_class, all.steps) refl
 
   -- once all its steps are made
-  pub meshed : (end : Heap) (pages : ℕ) → steps_of_class class left (table_of new) ≡ Ok (table_of end) → KeepsMeaning new end
-      → pages ≡ pages_of class → IsMeshed (busy_by busy) old end source destination pages
-  meshed end pages steps kept count =
+  pub meshed : (end : Heap) (pages : ℕ) → steps_of_class class left (table_of new) ≡ Ok (table_of end) → pages ≡ pages_of class
+      → IsMeshed (busy_by busy) old end source destination pages
+  meshed end pages steps count =
       let same : Ok all.ended ≡ Ok (table_of end) = sym all.steps ∙ ap (λ (c : ℕ). steps_of_class c left (table_of new)) (sym same_class) ∙ steps in
       let ended : all.ended ≡ table_of end = cc same in
       let counted : pages_of all.source.class ≡ pages = ap pages_of (sym same_class) ∙ sym count in
-      record {
-        table = all.whole ∙ both (pages_of all.source.class) pages all.ended (table_of end) counted ended;
-        memory = λ roots. kept.memory roots ∙ begun.memory roots;
-        serial = kept.serial ∙ begun.serial;
-        pages = kept.pages ∙ ap (λ (a : Pages). length a) begun.arena;
-      }
+      record { table = all.whole ∙ both (pages_of all.source.class) pages all.ended (table_of end) counted ended }
     where
       both : (n n' : ℕ) (t t' : Table) → n ≡ n' → t ≡ t'
           → ◌≡◌ {A = Result Counted Refusal} (Ok (record { count = n; table = t })) (Ok (record { count = n'; table = t' }))
       both n n' t t' count table = rw (count, table) refl
-
--- what is left of a heap by a mesher's calls
-pub ruleset mesher_calls = (begun_leaves, stepped_leaves, cancelled_leaves, swept_leaves)

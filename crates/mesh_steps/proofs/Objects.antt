@@ -107,10 +107,10 @@ pub live_place : (h : Heap) (serial : ℕ) (r : Record) → IsHeap h → record_
     → (r.serial ≡ serial) × LivePlace h.pages r
 live_place h serial r heap found =
     let slot = record_slot (table_of h) serial r heap.sound found in
-    let entry = table_entry (index_of h) slot.1.number slot.1.group slot.1.there in (
+    let entry = table_entry (index_of h) slot.1.filled.number slot.1.filled.group slot.1.filled.there in (
       slot.0,
       subst (λ (x : Record). LivePlace h.pages x) (sym slot.1.is)
-          (slot_placed h.pages slot.1.number slot.1.k slot.1.group slot.1.slot entry.entry heap.sound slot.1.there slot.1.filled entry.there entry.same),
+          (slot_placed h.pages slot.1.filled.number slot.1.k slot.1.filled.group slot.1.slot entry.entry heap.sound slot.1.filled.there slot.1.filled.filled entry.there entry.same),
     )
 
 -- a part of a live object is one of the layout's

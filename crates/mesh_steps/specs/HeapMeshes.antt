@@ -1,12 +1,13 @@
 -- What a mesher's calls do to a heap: it means what it meant, and its table is the definition's.
-use Rattle.std.specs.Prelude.{◌≡◌, ℕ, ◌-◌, ◌<◌, ◌≤◌, Bool, false, slice_index, List, Option, Some, Ok}
+use Rattle.std.specs.Prelude.{◌≡◌, ℕ, ◌-◌, ◌<◌, ◌≤◌, Bool, false, slice_index, List, Option, Some, Result, Err, Ok, IfErr, IfOk}
 use Rattle.mesh_layout.specs.Effects.{HasEffect}
 use Rattle.model_heap.specs.Mesh.{begin, cancel, mesh_in, mesh_whole, page_count, step, virtual_pages}
 use Rattle.model_heap.specs.MeshLaws.{steps_of_class}
 use Rattle.model_heap.specs.Table.{Group, Mesh, Table, group_of, sweep}
+use Rattle.model_words.specs.declared.answers.StepDone.{StepDone}
+use Rattle.model_words.specs.declared.refusals.Refusal.{Refusal}
 use Rattle.mesh_pagemap.specs.Entries.{is_mapped}
 use Rattle.mesh_steps.specs.Heap.{HasAsManyPages, Heap, arena_of, index_of, map_of, memory_of, table_of}
-use Rattle.mesh_steps.specs.declared.answers.StepDone.{StepDone}
 
 -- the heap stands for the same memory, whatever the roots
 abbrev pub MeansTheSame : Heap → Heap → Type 0
@@ -18,47 +19,42 @@ pub record KeepsMeaning (old new : Heap) : Type 0 where
   pub serial : new.next_serial ≡ old.next_serial
   pub pages : HasAsManyPages old new
 
--- a mesh began: so many steps are to come, and nothing else has changed
+-- what a call of a mesher is answered: this of what it did, or the refusal that the definition gives, and then nothing has changed; it keeps
+-- what such a call keeps, whatever it is answered
+pub record IsAnswered {S X Y : Type 0} (Keeps : S → S → Type 0) (old new : S) (wanted : Result Y Refusal) (result : Result X Refusal)
+    (IsMade : X → Type 0) : Type 0 where
+  pub made : IfOk result IsMade
+  pub refused : IfErr result (λ refusal. (wanted ≡ Err refusal) × (new ≡ old))
+  pub kept : Keeps old new
+
+-- a mesh began: so many steps are to come, and nothing lies elsewhere
 pub record IsMeshBegun (busy : Table → ℕ → Bool) (old new : Heap) (source destination left : ℕ) : Type 0 where
   pub table : begin busy (table_of old) source destination ≡ Ok (record { count = left; table = table_of new })
-  pub memory : MeansTheSame old new
-  pub serial : new.next_serial ≡ old.next_serial
   pub arena : arena_of new ≡ arena_of old
   pub map : map_of new ≡ map_of old
 
 -- the next step of the mesh of a class was made, with its effect on arena and page map and no other
 pub record IsStepMade (old new : Heap) (class : ℕ) (done : StepDone) : Type 0 where
   pub table : step (table_of old) (mesh_in (table_of old) class) ≡ Ok (record { kind = done.kind; left = done.left; table = table_of new })
-  pub memory : MeansTheSame old new
-  pub serial : new.next_serial ≡ old.next_serial
   pub mesh : Mesh
   pub running : mesh_in (table_of old) class ≡ Some mesh
   pub effect : HasEffect (index_of old) mesh (arena_of old) (arena_of new) (map_of old) (map_of new)
-  pub pages : HasAsManyPages old new
 
--- the mesh of a class was cancelled: so many unprotects are to come, and nothing else has changed
+-- the mesh of a class was cancelled: so many unprotects are to come, and nothing lies elsewhere
 pub record IsMeshCancelled (old new : Heap) (class left : ℕ) : Type 0 where
   pub table : cancel (table_of old) (mesh_in (table_of old) class) ≡ Ok (record { count = left; table = table_of new })
-  pub memory : MeansTheSame old new
-  pub serial : new.next_serial ≡ old.next_serial
   pub arena : arena_of new ≡ arena_of old
   pub map : map_of new ≡ map_of old
 
 -- two groups were meshed: so many pages came free
 pub record IsMeshed (busy : Table → ℕ → Bool) (old new : Heap) (source destination count : ℕ) : Type 0 where
   pub table : mesh_whole busy (table_of old) source destination ≡ Ok (record { count = count; table = table_of new })
-  pub memory : MeansTheSame old new
-  pub serial : new.next_serial ≡ old.next_serial
-  pub pages : HasAsManyPages old new
 
 -- an empty group's pages were given back: so many came free, and none of its virtual pages is mapped
 pub record IsSwept (old new : Heap) (group count : ℕ) : Type 0 where
   pub table : sweep (table_of old) group ≡ Ok (record { count = count; table = table_of new })
-  pub memory : MeansTheSame old new
-  pub serial : new.next_serial ≡ old.next_serial
   pub unmapped : (g : Group) (i : ℕ) → group_of (table_of old) group ≡ Some g → i < page_count g
       → is_mapped (map_of new) (slice_index (virtual_pages g) i) ≡ false
-  pub pages : HasAsManyPages old new
 
 -- of so many steps of the mesh of a class so many were made
 pub record IsOnItsWay (old now : Heap) (class steps made : ℕ) : Type 0 where

@@ -1,12 +1,3 @@
-pub use Rattle.model_heap.specs.MeaningLaws
-pub use Rattle.model_words.specs.Refusals
-pub use Rattle.mesh_class.specs.Classes
-pub use Rattle.mesh_arena.specs.Pages
-pub use Rattle.mesh_pagemap.specs.Entries
-pub use Rattle.mesh_spans.specs.Groups
-pub use Rattle.mesh_spans.specs.Index
-pub use Rattle.mesh_store.specs.Places
-pub use Rattle.mesh_running.specs.Phases
 pub mod Always
 pub mod Heap
 pub mod HeapMeshes

@@ -9,7 +9,7 @@ use Rattle.model_heap.specs.Table.{Mesh, Table, Unwinding}
 use Rattle.mesh_spans.specs.Groups.{groups_of, is_closed}
 use Rattle.mesh_spans.specs.Index.{Index, group_at}
 use Rattle.mesh_steps.specs.PageHeap.{PageHeap, table_in}
-use Rattle.mesh_steps.specs.declared.answers.StepDone.{StepDone}
+use Rattle.model_words.specs.declared.answers.StepDone.{StepDone}
 use Rattle.mesh_steps.specs.declared.busy.Busy.{Busy}
 use Rattle.mesh_steps.specs.declared.busy.Busy.TheVariants.{Any, OfClass}
 

@@ -13,9 +13,9 @@ use Rattle.mesh_pagemap.specs.Entries.{Entries, entry_code, page_of}
 use Rattle.mesh_spans.specs.Groups.{IsPicked, is_closed}
 use Rattle.mesh_spans.specs.Index.{Index, IsRecorded, IsSpan, IsVacant, address_in, index_code, span_at}
 use Rattle.mesh_running.specs.Phases.{mesh_code}
-use Rattle.mesh_steps.specs.declared.answers.NewFault.{NewFault}
+use Rattle.model_words.specs.declared.answers.NewFault.{NewFault}
 use Rattle.mesh_steps.specs.declared.answers.Report.{Report}
-use Rattle.mesh_steps.specs.declared.answers.NewFault.TheVariants.{Memory, Refused}
+use Rattle.model_words.specs.declared.answers.NewFault.TheVariants.{Memory, Refused}
 
 -- physical pages, page map, span index, the lowest virtual page that was never used, and the running meshes
 pub record PageHeap : Type 0 where

@@ -1,7 +1,6 @@
 //! What the heap's calls answer.
 use mesh_spans::{Slot, Span};
-use model_words::{Refusal, StepKind};
-use thiserror::Error;
+use model_words::Refusal;
 
 /// A reference to an object: its serial and its address. It is stale once the record at that address hasn't that serial.
 #[derive(Clone, Copy, Debug, PartialEq, Eq)]
@@ -21,37 +20,6 @@ pub enum Stored {
     Blocked,
     /// The store was refused. No byte was stored.
     Refused(Refusal),
-}
-
-/// Why no object was made. Nothing has changed.
-#[derive(Clone, Copy, Debug, PartialEq, Eq, Error)]
-pub enum NewFault {
-    /// The call was refused.
-    #[error("{0}")]
-    Refused(Refusal),
-    /// The memory for a new span was refused.
-    #[error("out of memory")]
-    Memory,
-}
-
-impl From<Refusal> for NewFault {
-    ghost use Rattle.std.specs.Prelude.{◌≡◌};
-    ghost use Rattle.mesh_steps.specs.declared.answers.NewFault.TheVariants.{Refused};
-
-    ghost from_gives = { λ refusal fault. fault ≡ Refused refusal };
-
-    fn from(refusal: Refusal) -> NewFault {
-        NewFault::Refused(refusal)
-    }
-}
-
-/// A step of a mesh that was made.
-#[derive(Clone, Copy, Debug, PartialEq, Eq)]
-pub struct StepDone {
-    /// Its kind.
-    pub kind: StepKind,
-    /// How many steps are to come; 0 once the mesh is over.
-    pub left: u32,
 }
 
 /// What a heap counts.

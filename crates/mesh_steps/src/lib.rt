@@ -15,6 +15,7 @@ mod running;
 mod step_order;
 mod steps;
 
-pub use answers::{Lead, NewFault, Ref, Report, StepDone, Stored};
+pub use answers::{Lead, Ref, Report, Stored};
 pub use heap::Heap;
 pub use mesh_running::{Phase, Running};
+pub use model_words::{NewFault, StepDone};

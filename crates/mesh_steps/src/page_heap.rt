@@ -18,7 +18,7 @@ mod meshes;
 mod shown;
 mod sweep;
 
-use crate::answers::{NewFault, Occupied, Report};
+use crate::answers::{Occupied, Report};
 use crate::growth::{give_pages, map_pages, take_pages};
 use crate::running::MAX_MESHES;
 use arrayvec::ArrayVec;
@@ -27,7 +27,7 @@ use mesh_running::Running;
 use mesh_search::{ClassView, class_view};
 use mesh_spans::{Slot, Span, Spans};
 use mesh_store::Store;
-use model_words::Refusal;
+use model_words::{NewFault, Refusal};
 use std::alloc::{AllocError, Global};
 use std::marker::Model;
 

@@ -1,6 +1,6 @@
 -- A mesher's call of a book, and what it is to the job.
 use Rattle.std.proofs.Common.{◌≡◌, ℕ, length, List, [], ◌∷◌, Option, None, Some, Result, Ok, Err, ap, refl, sym, subst, ◌∙◌, inl, inr}
-use Rattle.std.specs.Prelude.{IfErr, IfOk, find, nat_eq, true}
+use Rattle.std.specs.Prelude.{find, nat_eq, true}
 use Rattle.std.specs.Option.{option_map}
 use Rattle.std.proofs.lemmas.Bool.Decides.{eqb_tells}
 use Rattle.model_jobs.specs.Jobs.{Answer, Job, State, MesherRefused, Reported, StepMade, StepsLeft, counted, step_answered, told}
@@ -10,8 +10,8 @@ use Rattle.model_words.specs.declared.refusals.Refusal.{Refusal}
 use Rattle.model_words.specs.declared.refusals.Refusal.TheVariants.{NoMesh}
 use Rattle.mesh_mutator.specs.Book.{Book, table_of_book}
 use Rattle.mesh_mutator.specs.Mesher.{KeepsBook}
-use Rattle.mesh_steps.specs.HeapMeshes.{IsStepMade}
-use Rattle.mesh_steps.specs.declared.answers.StepDone.{StepDone}
+use Rattle.mesh_steps.specs.HeapMeshes.{IsAnswered, IsStepMade}
+use Rattle.model_words.specs.declared.answers.StepDone.{StepDone}
 use Rattle.mesh_text.specs.Answers.{count_told, step_told}
 use Rattle.mesh_steps.specs.Heap.{arena_of}
 use Rattle.mesh_steps.specs.PageHeap.{counts_told}
@@ -26,33 +26,33 @@ stands_after job state old new places at kept = record {
   table = refl;
   entries = ap (λ (b : Book). b.entries) kept.others ∙ at.entries;
   room = ap (λ (b : Book). b.room) kept.others ∙ at.room;
-  pages = kept.pages ∙ at.pages;
+  pages = kept.heap.pages ∙ at.pages;
   workers = at.workers;
   scripts = at.scripts;
 }
 
 -- a call that answers a count is what the definition of the count says
-pub counted_call : (say : ℕ → Answer) (what : Table → Result Counted Refusal) (old new : Book) (count : Result ℕ Refusal) {Made : ℕ → Type 0} → IfOk count Made
-    → ((n : ℕ) → Made n → what (table_of_book old) ≡ Ok (record { count = n; table = table_of_book new }))
-    → IfErr count (λ refusal. (what (table_of_book old) ≡ Err refusal) × (new ≡ old)) → KeepsBook old new
+pub counted_call : (say : ℕ → Answer) (what : Table → Result Counted Refusal) (old new : Book) (count : Result ℕ Refusal) {IsMade : ℕ → Type 0}
+    → ((n : ℕ) → IsMade n → what (table_of_book old) ≡ Ok (record { count = n; table = table_of_book new }))
+    → IsAnswered KeepsBook old new (what (table_of_book old)) count IsMade
     → IsCall (λ state. counted state say (what state.table)) old new (count_told say count)
-counted_call say what old new (Ok n) made table refused kept job state places at =
-    subst (λ r. IsNextAt job (counted state say r) new places (say n)) (sym (table n made) ∙ ap what at.table)
-    (record { answer_is = refl; at = stands_after job state old new places at kept })
-counted_call say what old new (Err refusal) made table refused kept job state places at =
-    subst (λ r. IsNextAt job (counted state say r) new places (MesherRefused refusal)) (sym refused.0 ∙ ap what at.table)
-    (record { answer_is = refl; at = subst (λ b. IsAt job state b places) (sym refused.1) at })
+counted_call say what old new (Ok n) table is job state places at =
+    subst (λ r. IsNextAt job (counted state say r) new places (say n)) (sym (table n is.made) ∙ ap what at.table)
+    (record { answer_is = refl; at = stands_after job state old new places at is.kept })
+counted_call say what old new (Err refusal) table is job state places at =
+    subst (λ r. IsNextAt job (counted state say r) new places (MesherRefused refusal)) (sym is.refused.0 ∙ ap what at.table)
+    (record { answer_is = refl; at = subst (λ b. IsAt job state b places) (sym is.refused.1) at })
 
 -- a step that was made, or not
-pub stepped_call : (old new : Book) (class : ℕ) (done : Result StepDone Refusal) → IfOk done (IsStepMade old.heap new.heap class)
-    → IfErr done (λ refusal. (step (table_of_book old) (mesh_in (table_of_book old) class) ≡ Err refusal) × (new ≡ old)) → KeepsBook old new
+pub stepped_call : (old new : Book) (class : ℕ) (done : Result StepDone Refusal)
+    → IsAnswered KeepsBook old new (step (table_of_book old) (mesh_in (table_of_book old) class)) done (IsStepMade old.heap new.heap class)
     → IsCall (λ state. step_answered state (step state.table (mesh_in state.table class))) old new (step_told done)
-stepped_call old new class (Ok done) made refused kept job state places at =
-    subst (λ r. IsNextAt job (step_answered state r) new places (StepMade done.kind done.left)) (sym made.table ∙ ap (λ t. step t (mesh_in t class)) at.table)
-    (record { answer_is = refl; at = stands_after job state old new places at kept })
-stepped_call old new class (Err refusal) made refused kept job state places at =
-    subst (λ r. IsNextAt job (step_answered state r) new places (MesherRefused refusal)) (sym refused.0 ∙ ap (λ t. step t (mesh_in t class)) at.table)
-    (record { answer_is = refl; at = subst (λ b. IsAt job state b places) (sym refused.1) at })
+stepped_call old new class (Ok done) is job state places at =
+    subst (λ r. IsNextAt job (step_answered state r) new places (StepMade done.kind done.left)) (sym is.made.table ∙ ap (λ t. step t (mesh_in t class)) at.table)
+    (record { answer_is = refl; at = stands_after job state old new places at is.kept })
+stepped_call old new class (Err refusal) is job state places at =
+    subst (λ r. IsNextAt job (step_answered state r) new places (MesherRefused refusal)) (sym is.refused.0 ∙ ap (λ t. step t (mesh_in t class)) at.table)
+    (record { answer_is = refl; at = subst (λ b. IsAt job state b places) (sym is.refused.1) at })
 
 -- a call that changes nothing
 pub look_call : (what : Table → Answer) (book : Book) (given : Answer) → given ≡ what (table_of_book book)

@@ -3,7 +3,7 @@ use Rattle.std.specs.Prelude.{ℕ, List, ◌++◌, Result, Ok, Err, decimal}
 use Rattle.model_jobs.specs.Jobs.{Answer, StepMade, MesherRefused}
 use Rattle.model_jobs.specs.Texts.{refusal_text}
 use Rattle.model_words.specs.declared.refusals.Refusal.{Refusal}
-use Rattle.mesh_steps.specs.declared.answers.StepDone.{StepDone}
+use Rattle.model_words.specs.declared.answers.StepDone.{StepDone}
 
 -- the answer to a call of the mesher that counts
 abbrev pub count_told : (ℕ → Answer) → Result ℕ Refusal → Answer

@@ -5,24 +5,15 @@ use Rattle.std.proofs.lemmas.Bool.Decides.{eqb_tells}
 use Rattle.model_words.proofs.Tests.{tells}
 use Rattle.model_heap.proofs.GroupLists.{find_mapped}
 use Rattle.model_heap.specs.Mesh.{do_overlap, is_mesh, mesh_at, with_progress, without_mesh}
-use Rattle.model_heap.specs.Sound.{IsWithinSteps, IsSoundMesh, AreSoundMeshes, meshes_of}
+use Rattle.model_heap.specs.Sound.{IsWithinSteps, IsSoundBetween, IsSoundMesh, AreSoundMeshes, meshes_of}
 use Rattle.model_heap.specs.Table.{Slot, Group, Progress, Made, Unwinding, Mesh, Table, group_of, takes_part, emptied_of, group_without, without_object}
 
 -- a mesh whose groups stay is sound
 pub mesh_kept : (t u : Table) (mesh : Mesh) (sound : IsSoundMesh t mesh) → group_of u mesh.source ≡ Some sound.source
     → group_of u mesh.destination ≡ Some sound.destination → IsSoundMesh u mesh
-mesh_kept t u mesh sound source destination = record {
-  source = sound.source;
-  destination = sound.destination;
-  source_is = source;
-  destination_is = destination;
-  two = sound.two;
-  source_class = sound.source_class;
-  destination_class = sound.destination_class;
-  apart = sound.apart;
-  few_members = sound.few_members;
-  within = sound.within;
-}
+mesh_kept t u mesh sound source destination =
+    subst (λ (o : Option Group). IsSoundBetween o (group_of u mesh.destination) mesh) (sound.source_is ∙ sym source)
+    (subst (λ (o : Option Group). IsSoundBetween (group_of t mesh.source) o mesh) (sound.destination_is ∙ sym destination) sound)
 
 -- meshes whose groups stay are sound
 pub meshes_kept : (t u : Table) (ms : List Mesh) → ((n : ℕ) (g : Group) → group_of t n ≡ Some g → group_of u n ≡ Some g) → AreSoundMeshes t ms

@@ -96,12 +96,10 @@ record_slot t serial r sound h =
     let on : 0 + place.at ≡ place.at = omega arith in (
       found_serial serial (records_of t) r h,
       record {
-        number = group.group.number;
-        group = group.group;
+        class = group.group.class;
         k = place.at;
         slot = place.slot;
-        there = group.there;
-        filled = place.filled;
+        filled = record { number = group.group.number; group = group.group; there = group.there; class_is = refl; filled = place.filled };
         is = place.is ∙ ap (λ (k : ℕ). record_in group.group.class k place.slot) on;
       },
     )
@@ -153,7 +151,7 @@ tied_below next t targets bytes roots sound tied serial past = none (record_with
     none None h = refl
     none (Some r) h =
         let of = record_slot t serial r sound h in
-        let live = tied.slots of.1.number of.1.k of.1.group of.1.slot of.1.there of.1.filled in
+        let live = tied.slots of.1.filled.number of.1.k of.1.filled.group of.1.slot of.1.filled.there of.1.filled.filled in
         let is : of.1.slot.serial ≡ serial = ap (λ (x : Record). x.serial) (sym of.1.is) ∙ of.0 in
         let clash : None ≡ Some live.object
         = sym (object_past next (records_of t) targets bytes roots of.1.slot.serial (omega (arith, past, is))) ∙ live.live in absurd (cc clash)

@@ -55,7 +55,7 @@ found_is : (m : Memory) (t : Table) (serial : ℕ) (r : Record) → IsSound t �
     → (object : Object) × (object_of m serial ≡ Some object) × (r.serial ≡ serial) × (object.address ≡ r.address) × (length object.bytes ≡ r.len)
 found_is m t serial r sound tied found =
     let of = record_slot t serial r sound found in
-    let live = tied.slots of.1.number of.1.k of.1.group of.1.slot of.1.there of.1.filled in
+    let live = tied.slots of.1.filled.number of.1.k of.1.filled.group of.1.slot of.1.filled.there of.1.filled.filled in
     let is : of.1.slot.serial ≡ serial = ap (λ (x : Record). x.serial) (sym of.1.is) ∙ of.0 in (
       live.object,
       ap (object_of m) (sym is) ∙ live.live,

@@ -8,11 +8,11 @@ use Rattle.model_heap.proofs.GroupLists.{find_mapped, find_changed_other, find_m
 use Rattle.model_heap.proofs.NewObjects.{fresh_none, last_found, none_from, by_place}
 use Rattle.model_heap.proofs.TableChanges.{class_paged, one_group}
 use Rattle.model_memory.proofs.Objects.{live_below}
-use Rattle.model_heap.proofs.TiedTables.{AreKept, IsFilled, live_slot}
+use Rattle.model_heap.proofs.TiedTables.{AreKept, live_slot}
 use Rattle.model_words.specs.Classes.{row_of, slots_of}
 use Rattle.model_memory.specs.Memory.{Memory, Object, next_serial, object_of}
 use Rattle.model_memory.specs.Plain.{made}
-use Rattle.model_heap.specs.Sound.{HasSlot, IsLiveSlot, IsSound, IsTied}
+use Rattle.model_heap.specs.Sound.{HasSlot, IsFilled, IsLiveSlot, IsSound, IsTied}
 use Rattle.model_heap.specs.Table.{Group, Placed, Slot, Table, changed_at, first_member, fresh_group, group_of, has_number, object_count, picked_slot, place_new, placed_in, slot_address, with_group, with_object_in, with_span}
 
 -- the second table has one filled slot more

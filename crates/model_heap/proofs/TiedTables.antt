@@ -10,17 +10,9 @@ use Rattle.model_heap.proofs.TableChanges.{differ, one_group, united_at, sweep_w
 use Rattle.model_words.specs.Classes.{slots_of}
 use Rattle.model_memory.specs.Memory.{Memory}
 use Rattle.model_heap.specs.Mesh.{Stepped, begin, both_occupied, cancel, cancelled, cancelled_at, do_overlap, mesh_whole, merged, merged_into, page_count, step, step_count, stepped, table_after, table_unwound, united}
-use Rattle.model_heap.specs.Sound.{IsLiveSlot, IsSound, IsTied}
+use Rattle.model_heap.specs.Sound.{IsFilled, IsLiveSlot, IsSound, IsTied}
 use Rattle.model_heap.specs.Table.{Counted, Group, Made, Mesh, Progress, Slot, Table, Unwinding, changed_at, group_of, has_number, object_count, slot_address, sweep}
 use Rattle.model_words.specs.declared.refusals.Refusal.TheVariants.{TooLate}
-
--- the slot stands under a number in a group of the class
-pub record IsFilled (t : Table) (class k : ℕ) (slot : Slot) : Type 0 where
-  pub number : ℕ
-  pub group : Group
-  pub there : group_of t number ≡ Some group
-  pub class_is : group.class ≡ class
-  pub filled : slice_get group.slots k ≡ Some (Some slot)
 
 -- what is filled in the first table is filled in the second
 abbrev pub AreKept : Table → Table → Type 0

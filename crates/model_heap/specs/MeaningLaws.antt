@@ -5,7 +5,7 @@ use Rattle.std.specs.Option.{option_map}
 use Rattle.model_memory.specs.Memory.{Memory, Object, are_apart, has_address, holder_of, next_serial, object_of, with_object, with_new}
 use Rattle.model_heap.specs.Places.{Place, Record, Target, byte_of, meaning, object_at, records_of, AreBelow, IsIn, record_in, record_with}
 use Rattle.model_memory.specs.Plain.{stored}
-use Rattle.model_heap.specs.Sound.{IsSound, IsTied}
+use Rattle.model_heap.specs.Sound.{IsFilled, IsSound, IsTied}
 use Rattle.model_heap.specs.Table.{Group, Placed, Slot, Table, changed_at, group_of, group_without, place_new, without_object, emptied_at}
 
 -- the next serial of what a heap means is its own
@@ -95,13 +95,11 @@ SlotHasRecord = (next : ℕ) (t : Table) (targets : ℕ → Target) (bytes : Pla
 
 -- the slot that a record is of
 pub record IsOfSlot (t : Table) (r : Record) : Type 0 where
-  pub number : ℕ
-  pub group : Group
+  pub class : ℕ
   pub k : ℕ
   pub slot : Slot
-  pub there : group_of t number ≡ Some group
-  pub filled : slice_get group.slots k ≡ Some (Some slot)
-  pub is : r ≡ record_in group.class k slot
+  pub filled : IsFilled t class k slot
+  pub is : r ≡ record_in filled.group.class k slot
 
 -- each record is that of a filled slot
 abbrev pub RecordHasSlot : Type 0

@@ -1,5 +1,5 @@
 -- What every table keeps, and what ties it to the plain memory.
-use Rattle.std.specs.Prelude.{◌≡◌, ℕ, ◌+◌, ◌*◌, ◌<◌, ◌≤◌, false, nat_eq, if◌then◌else◌, List, [], ◌∷◌, Some, IsSome, length, slice_get}
+use Rattle.std.specs.Prelude.{◌≡◌, ℕ, ◌+◌, ◌*◌, ◌<◌, ◌≤◌, false, nat_eq, if◌then◌else◌, List, [], ◌∷◌, Option, Some, IsSome, length, slice_get}
 use Rattle.std.specs.List.{flat_map}
 use Rattle.model_words.specs.Classes.{row_of, pages_of, slots_of}
 use Rattle.model_memory.specs.Memory.{Object, Memory, object_of}
@@ -45,17 +45,21 @@ IsWithinSteps source (Made d) = d < 3 * page_count source + slots_of source.clas
 IsWithinSteps source (Unwinding q u) = (u < q) × (q ≤ page_count source)
 
 -- the mesh is one of two different groups of its class, with no slot number occupied in both, and at most 8 members together
-pub record IsSoundMesh (t : Table) (mesh : Mesh) : Type 0 where
+pub record IsSoundBetween (from into : Option Group) (mesh : Mesh) : Type 0 where
   pub source : Group
   pub destination : Group
-  pub source_is : group_of t mesh.source ≡ Some source
-  pub destination_is : group_of t mesh.destination ≡ Some destination
+  pub source_is : from ≡ Some source
+  pub destination_is : into ≡ Some destination
   pub two : nat_eq mesh.source mesh.destination ≡ false
   pub source_class : source.class ≡ mesh.class
   pub destination_class : destination.class ≡ mesh.class
   pub apart : do_overlap source.slots destination.slots ≡ false
   pub few_members : length source.members + length destination.members ≤ 8
   pub within : IsWithinSteps source mesh.progress
+
+-- the mesh is one of two groups of the table
+abbrev pub IsSoundMesh : Table → Mesh → Type 0
+IsSoundMesh t mesh = IsSoundBetween (group_of t mesh.source) (group_of t mesh.destination) mesh
 
 -- each running mesh is sound
 abbrev pub AreSoundMeshes : Table → List Mesh → Type 0
@@ -77,6 +81,14 @@ pub record IsSound (t : Table) : Type 0 where
   pub numbers : AscendBetween 0 t.groups t.next_span
   pub meshes : AreSoundMeshes t t.meshes
   pub one_a_class : (class : ℕ) → meshes_of class t.meshes ≤ 1
+
+-- the slot stands under a number in a group of the class
+pub record IsFilled (t : Table) (class k : ℕ) (slot : Slot) : Type 0 where
+  pub number : ℕ
+  pub group : Group
+  pub there : group_of t number ≡ Some group
+  pub class_is : group.class ≡ class
+  pub filled : slice_get group.slots k ≡ Some (Some slot)
 
 -- the slot's object is live in the memory, at the slot's address and of its length
 pub record IsLiveSlot (m : Memory) (class k : ℕ) (slot : Slot) : Type 0 where

@@ -1,4 +1,5 @@
 pub mod AddressLaws
+pub mod Codes
 pub mod CopyLaws
 pub mod HistoryLaws
 pub mod Memory

@@ -1,5 +1,5 @@
 //! What a mesher asks of a book: its heap's own calls. None of them is recorded, and the journal still ends in what heap and roots stand for.
-ghost use Rattle.std.specs.Prelude.{◌≡◌, length, Err, IfErr, IfOk};
+ghost use Rattle.std.specs.Prelude.{◌≡◌, length, IfOk};
 ghost use Rattle.std.specs.Option.{option_map};
 ghost use Rattle.model_heap.specs.Mesh.{any_mesh, begin, cancel, first_mesh, mesh_in, mesh_of_class, mesh_whole, step};
 ghost use Rattle.model_search.specs.Search.{view_of, views};
@@ -7,7 +7,7 @@ ghost use Rattle.model_heap.specs.Table.{report_of, sweep};
 ghost use Rattle.mesh_mutator.specs.Book.{table_of_book};
 ghost use Rattle.mesh_mutator.specs.Mesher.{KeepsBook};
 ghost use Rattle.mesh_steps.specs.Heap.{arena_of};
-ghost use Rattle.mesh_steps.specs.HeapMeshes.{IsMeshBegun, IsMeshCancelled, IsMeshed, IsStepMade, IsSwept};
+ghost use Rattle.mesh_steps.specs.HeapMeshes.{IsAnswered, IsMeshBegun, IsMeshCancelled, IsMeshed, IsStepMade, IsSwept};
 ghost use Rattle.mesh_steps.specs.PageHeap.{counts_told};
 
 use super::Book;
@@ -36,20 +36,14 @@ impl Book {
     ///
     /// Refused with NO_GROUP, SAME, CLASS, BUSY where a mesh of their class runs, OVERLAP or MEMBERS, the first that holds.
     pub fn begin(&mut self, source: u32, destination: u32) -> Result<u32, Refusal>
-        ensures begun { IfOk result (IsMeshBegun mesh_of_class self.old.heap self.new.heap source destination) }
-        ensures refused { IfErr result (λ refusal.
-            (begin mesh_of_class (table_of_book self.old) source destination ≡ Err refusal) × (self.new ≡ self.old)) }
-        ensures kept { KeepsBook self.old self.new }
+        ensures { IsAnswered KeepsBook self.old self.new (begin mesh_of_class (table_of_book self.old) source destination) result (IsMeshBegun mesh_of_class self.old.heap self.new.heap source destination) }
     {
         self.heap.begin(source, destination)
     }
 
     /// Makes the next step of the mesh of a class. Refused with NO_MESH exactly where no mesh of the class runs.
     pub fn step(&mut self, class: Class) -> Result<StepDone, Refusal>
-        ensures made { IfOk result (IsStepMade self.old.heap self.new.heap class) }
-        ensures refused { IfErr result (λ refusal.
-            (step (table_of_book self.old) (mesh_in (table_of_book self.old) class) ≡ Err refusal) × (self.new ≡ self.old)) }
-        ensures kept { KeepsBook self.old self.new }
+        ensures { IsAnswered KeepsBook self.old self.new (step (table_of_book self.old) (mesh_in (table_of_book self.old) class)) result (IsStepMade self.old.heap self.new.heap class) }
     {
         self.heap.step(class)
     }
@@ -59,20 +53,14 @@ impl Book {
     ///
     /// Refused with NO_MESH where no mesh of the class runs, with TOO_LATE once a page was remapped.
     pub fn cancel(&mut self, class: Class) -> Result<u32, Refusal>
-        ensures cancelled { IfOk result (IsMeshCancelled self.old.heap self.new.heap class) }
-        ensures refused { IfErr result (λ refusal.
-            (cancel (table_of_book self.old) (mesh_in (table_of_book self.old) class) ≡ Err refusal) × (self.new ≡ self.old)) }
-        ensures kept { KeepsBook self.old self.new }
+        ensures { IsAnswered KeepsBook self.old self.new (cancel (table_of_book self.old) (mesh_in (table_of_book self.old) class)) result (IsMeshCancelled self.old.heap self.new.heap class) }
     {
         self.heap.cancel(class)
     }
 
     /// Meshes two groups by `begin` and all its steps, and answers how many physical pages came free. Refused as `begin` is.
     pub fn mesh_whole(&mut self, source: u32, destination: u32) -> Result<u32, Refusal>
-        ensures meshed { IfOk result (IsMeshed mesh_of_class self.old.heap self.new.heap source destination) }
-        ensures refused { IfErr result (λ refusal.
-            (mesh_whole mesh_of_class (table_of_book self.old) source destination ≡ Err refusal) × (self.new ≡ self.old)) }
-        ensures kept { KeepsBook self.old self.new }
+        ensures { IsAnswered KeepsBook self.old self.new (mesh_whole mesh_of_class (table_of_book self.old) source destination) result (IsMeshed mesh_of_class self.old.heap self.new.heap source destination) }
     {
         self.heap.mesh_whole(source, destination)
     }
@@ -81,29 +69,21 @@ impl Book {
     ///
     /// Refused with NO_GROUP, BUSY where the group is in a mesh, or NOT_EMPTY, the first that holds.
     pub fn sweep(&mut self, group: u32) -> Result<u32, Refusal>
-        ensures swept { IfOk result (IsSwept self.old.heap self.new.heap group) }
-        ensures refused { IfErr result (λ refusal. (sweep (table_of_book self.old) group ≡ Err refusal) × (self.new ≡ self.old)) }
-        ensures kept { KeepsBook self.old self.new }
+        ensures { IsAnswered KeepsBook self.old self.new (sweep (table_of_book self.old) group) result (IsSwept self.old.heap self.new.heap group) }
     {
         self.heap.sweep(group)
     }
 
     /// Begins a mesh as `begin` does, but is refused with BUSY where a mesh of any class runs.
     pub fn begin_alone(&mut self, source: u32, destination: u32) -> Result<u32, Refusal>
-        ensures begun { IfOk result (IsMeshBegun any_mesh self.old.heap self.new.heap source destination) }
-        ensures refused { IfErr result (λ refusal.
-            (begin any_mesh (table_of_book self.old) source destination ≡ Err refusal) × (self.new ≡ self.old)) }
-        ensures kept { KeepsBook self.old self.new }
+        ensures { IsAnswered KeepsBook self.old self.new (begin any_mesh (table_of_book self.old) source destination) result (IsMeshBegun any_mesh self.old.heap self.new.heap source destination) }
     {
         self.heap.begin_alone(source, destination)
     }
 
     /// Meshes two groups as `mesh_whole` does, but is refused with BUSY where a mesh of any class runs.
     pub fn whole_alone(&mut self, source: u32, destination: u32) -> Result<u32, Refusal>
-        ensures meshed { IfOk result (IsMeshed any_mesh self.old.heap self.new.heap source destination) }
-        ensures refused { IfErr result (λ refusal.
-            (mesh_whole any_mesh (table_of_book self.old) source destination ≡ Err refusal) × (self.new ≡ self.old)) }
-        ensures kept { KeepsBook self.old self.new }
+        ensures { IsAnswered KeepsBook self.old self.new (mesh_whole any_mesh (table_of_book self.old) source destination) result (IsMeshed any_mesh self.old.heap self.new.heap source destination) }
     {
         self.heap.whole_alone(source, destination)
     }

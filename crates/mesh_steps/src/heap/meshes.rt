@@ -1,11 +1,11 @@
 //! The meshes of a heap: what a mesher asks of it.
-ghost use Rattle.std.specs.Prelude.{◌≡◌, Err, Ok, IfErr, IfOk, IsOk};
+ghost use Rattle.std.specs.Prelude.{◌≡◌, Ok, IsOk};
 ghost use Rattle.std.specs.Option.{option_map};
 ghost use Rattle.model_heap.specs.Mesh.{any_mesh, begin, cancel, first_mesh, mesh_in, mesh_of_class, mesh_whole, step};
 ghost use Rattle.model_heap.specs.MeshLaws.{steps_of_class};
 ghost use Rattle.model_heap.specs.Table.{sweep};
 ghost use Rattle.mesh_steps.specs.Heap.{table_of};
-ghost use Rattle.mesh_steps.specs.HeapMeshes.{IsMeshBegun, IsMeshCancelled, IsMeshed, IsStepMade, IsSwept, KeepsMeaning};
+ghost use Rattle.mesh_steps.specs.HeapMeshes.{IsAnswered, IsMeshBegun, IsMeshCancelled, IsMeshed, IsStepMade, IsSwept, KeepsMeaning};
 ghost use Rattle.mesh_steps.specs.Meshes.{busy_by};
 
 use super::Heap;
@@ -14,17 +14,13 @@ use crate::busy::Busy;
 use mesh_class::Class;
 use model_words::Refusal;
 
-#[tactic(auto, using(crate::proofs::MeshHeaps::mesher_calls))]
 impl Heap {
     /// Begins a mesh of the group `source` into the group `destination`, and answers how many steps are to come. Both groups are closed to
     /// new objects until it has ended. It takes no memory.
     ///
     /// Refused with NO_GROUP, SAME, CLASS, BUSY where a mesh of their class runs, OVERLAP or MEMBERS, the first that holds.
     pub fn begin(&mut self, source: u32, destination: u32) -> Result<u32, Refusal>
-        ensures begun { IfOk result (IsMeshBegun mesh_of_class self.old self.new source destination) }
-        ensures refused { IfErr result (λ refusal.
-            (begin mesh_of_class (table_of self.old) source destination ≡ Err refusal) × (self.new ≡ self.old)) }
-        ensures kept { KeepsMeaning self.old self.new }
+        ensures { IsAnswered KeepsMeaning self.old self.new (begin mesh_of_class (table_of self.old) source destination) result (IsMeshBegun mesh_of_class self.old self.new source destination) }
     {
         self.start(source, destination, Busy::OfClass)
     }
@@ -33,10 +29,7 @@ impl Heap {
     ///
     /// Refused with NO_MESH exactly where no mesh of the class runs.
     pub fn step(&mut self, class: Class) -> Result<StepDone, Refusal>
-        ensures made { IfOk result (IsStepMade self.old self.new class) }
-        ensures refused { IfErr result (λ refusal.
-            (step (table_of self.old) (mesh_in (table_of self.old) class) ≡ Err refusal) × (self.new ≡ self.old)) }
-        ensures kept { KeepsMeaning self.old self.new }
+        ensures { IsAnswered KeepsMeaning self.old self.new (step (table_of self.old) (mesh_in (table_of self.old) class)) result (IsStepMade self.old self.new class) }
     {
         self.pages.sound();
         self.pages.step(class)
@@ -47,10 +40,7 @@ impl Heap {
     ///
     /// Refused with NO_MESH where no mesh of the class runs, with TOO_LATE once a page was remapped.
     pub fn cancel(&mut self, class: Class) -> Result<u32, Refusal>
-        ensures cancelled { IfOk result (IsMeshCancelled self.old self.new class) }
-        ensures refused { IfErr result (λ refusal.
-            (cancel (table_of self.old) (mesh_in (table_of self.old) class) ≡ Err refusal) × (self.new ≡ self.old)) }
-        ensures kept { KeepsMeaning self.old self.new }
+        ensures { IsAnswered KeepsMeaning self.old self.new (cancel (table_of self.old) (mesh_in (table_of self.old) class)) result (IsMeshCancelled self.old self.new class) }
     {
         self.pages.sound();
         self.pages.cancel(class)
@@ -61,10 +51,7 @@ impl Heap {
     ///
     /// Refused with NO_GROUP, SAME, CLASS, BUSY where a mesh of their class runs, OVERLAP or MEMBERS, the first that holds.
     pub fn mesh_whole(&mut self, source: u32, destination: u32) -> Result<u32, Refusal>
-        ensures meshed { IfOk result (IsMeshed mesh_of_class self.old self.new source destination) }
-        ensures refused { IfErr result (λ refusal.
-            (mesh_whole mesh_of_class (table_of self.old) source destination ≡ Err refusal) × (self.new ≡ self.old)) }
-        ensures kept { KeepsMeaning self.old self.new }
+        ensures { IsAnswered KeepsMeaning self.old self.new (mesh_whole mesh_of_class (table_of self.old) source destination) result (IsMeshed mesh_of_class self.old self.new source destination) }
     {
         self.whole(source, destination, Busy::OfClass)
     }
@@ -74,9 +61,7 @@ impl Heap {
     ///
     /// Refused with NO_GROUP, BUSY where the group is in a mesh, or NOT_EMPTY, the first that holds.
     pub fn sweep(&mut self, group: u32) -> Result<u32, Refusal>
-        ensures swept { IfOk result (IsSwept self.old self.new group) }
-        ensures refused { IfErr result (λ refusal. (sweep (table_of self.old) group ≡ Err refusal) × (self.new ≡ self.old)) }
-        ensures kept { KeepsMeaning self.old self.new }
+        ensures { IsAnswered KeepsMeaning self.old self.new (sweep (table_of self.old) group) result (IsSwept self.old self.new group) }
     {
         self.pages.sound();
         self.pages.sweep(group)
@@ -84,20 +69,14 @@ impl Heap {
 
     /// Begins a mesh as `begin` does, but is refused with BUSY where a mesh of any class runs. It takes no memory.
     pub fn begin_alone(&mut self, source: u32, destination: u32) -> Result<u32, Refusal>
-        ensures begun { IfOk result (IsMeshBegun any_mesh self.old self.new source destination) }
-        ensures refused { IfErr result (λ refusal.
-            (begin any_mesh (table_of self.old) source destination ≡ Err refusal) × (self.new ≡ self.old)) }
-        ensures kept { KeepsMeaning self.old self.new }
+        ensures { IsAnswered KeepsMeaning self.old self.new (begin any_mesh (table_of self.old) source destination) result (IsMeshBegun any_mesh self.old self.new source destination) }
     {
         self.start(source, destination, Busy::Any)
     }
 
     /// Meshes two groups as `mesh_whole` does, but is refused with BUSY where a mesh of any class runs. It takes no memory.
     pub fn whole_alone(&mut self, source: u32, destination: u32) -> Result<u32, Refusal>
-        ensures meshed { IfOk result (IsMeshed any_mesh self.old self.new source destination) }
-        ensures refused { IfErr result (λ refusal.
-            (mesh_whole any_mesh (table_of self.old) source destination ≡ Err refusal) × (self.new ≡ self.old)) }
-        ensures kept { KeepsMeaning self.old self.new }
+        ensures { IsAnswered KeepsMeaning self.old self.new (mesh_whole any_mesh (table_of self.old) source destination) result (IsMeshed any_mesh self.old self.new source destination) }
     {
         self.whole(source, destination, Busy::Any)
     }
@@ -118,10 +97,7 @@ impl Heap {
 
     /// Begins a mesh, where no running mesh keeps its class busy.
     fn start(&mut self, source: u32, destination: u32, busy: Busy) -> Result<u32, Refusal>
-        ensures begun { IfOk result (IsMeshBegun (busy_by busy) self.old self.new source destination) }
-        ensures refused { IfErr result (λ refusal.
-            (begin (busy_by busy) (table_of self.old) source destination ≡ Err refusal) × (self.new ≡ self.old)) }
-        ensures kept { KeepsMeaning self.old self.new }
+        ensures { IsAnswered KeepsMeaning self.old self.new (begin (busy_by busy) (table_of self.old) source destination) result (IsMeshBegun (busy_by busy) self.old self.new source destination) }
     {
         self.pages.sound();
         self.pages.begin(source, destination, busy)
@@ -129,10 +105,7 @@ impl Heap {
 
     /// Begins a mesh and makes all its steps.
     fn whole(&mut self, source: u32, destination: u32, busy: Busy) -> Result<u32, Refusal>
-        ensures meshed { IfOk result (IsMeshed (busy_by busy) self.old self.new source destination) }
-        ensures refused { IfErr result (λ refusal.
-            (mesh_whole (busy_by busy) (table_of self.old) source destination ≡ Err refusal) × (self.new ≡ self.old)) }
-        ensures kept { KeepsMeaning self.old self.new }
+        ensures { IsAnswered KeepsMeaning self.old self.new (mesh_whole (busy_by busy) (table_of self.old) source destination) result (IsMeshed (busy_by busy) self.old self.new source destination) }
     {
         self.sound();
         let left = self.start(source, destination, busy)?;

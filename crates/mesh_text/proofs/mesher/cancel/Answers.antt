@@ -4,4 +4,4 @@ use Rattle.mesh_text.proofs.MesherCalls.{counted_call}
 use Rattle.mesh_text.proofs.mesher.cancel.Goals as goal
 
 pub returns : goal.returns
-returns c = let e = c.cancel.ensures in counted_call StepsLeft (λ t. cancel t (mesh_in t c.args.class)) _ _ c.cancel.result e.cancelled (λ n m. m.table) e.refused e.kept
+returns c = counted_call StepsLeft (λ t. cancel t (mesh_in t c.args.class)) _ _ c.cancel.result (λ n m. m.table) c.cancel.ensures

@@ -2,4 +2,4 @@ use Rattle.mesh_text.proofs.MesherCalls.{stepped_call}
 use Rattle.mesh_text.proofs.mesher.step.Goals as goal
 
 pub returns : goal.returns
-returns c = stepped_call c.args.book.now c.step.new.self c.args.class c.step.result c.step.ensures.made c.step.ensures.refused c.step.ensures.kept
+returns c = stepped_call c.args.book.now c.step.new.self c.args.class c.step.result c.step.ensures

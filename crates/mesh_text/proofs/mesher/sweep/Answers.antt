@@ -4,4 +4,4 @@ use Rattle.mesh_text.proofs.MesherCalls.{counted_call}
 use Rattle.mesh_text.proofs.mesher.sweep.Goals as goal
 
 pub returns : goal.returns
-returns c = let e = c.sweep.ensures in counted_call PagesSwept (λ t. sweep t c.args.group) _ _ c.sweep.result e.swept (λ n m. m.table) e.refused e.kept
+returns c = counted_call PagesSwept (λ t. sweep t c.args.group) _ _ c.sweep.result (λ n m. m.table) c.sweep.ensures

@@ -8,16 +8,16 @@ use Rattle.mesh_steps.proofs.heap.Heap.whole.Goals as goal
 pub finish-requires : goal.finish-requires
 finish-requires c =
     has_steps c.args.busy c.args.self.now c.start.new.self c.args.source c.args.destination c.in_ok-left.left c.unwrap-class.result c.sound.ensures
-    c.in_ok-left.ensures.begun
+    c.in_ok-left.ensures.made
     (sym c.unwrap-class.ensures ∙ c.class_of.ensures
     ∙ ap (λ (h : Heap). option_map (λ (g : Group). g.class) (group_of (table_of h) c.args.source)) c.self.view_is)
 
-pub returns-clause-meshed : goal.returns-clause-meshed
-returns-clause-meshed c =
-    meshed c.args.busy c.args.self.now c.start.new.self c.args.source c.args.destination c.in_ok-left.left c.unwrap-class.result c.sound.ensures
-    c.in_ok-left.ensures.begun
-    (sym c.unwrap-class.ensures ∙ c.class_of.ensures
-    ∙ ap (λ (h : Heap). option_map (λ (g : Group). g.class) (group_of (table_of h) c.args.source)) c.self.view_is) c.finish.new.self c.pages.result c.finish.ensures.table c.finish.ensures.kept c.pages.ensures.value
-
-pub returns-clause-kept : goal.returns-clause-kept
-returns-clause-kept c = kept_on c.args.self.now c.start.new.self c.finish.new.self c.in_ok-left.ensures.kept c.finish.ensures.kept
+pub returns : goal.returns
+returns c = record {
+  made = meshed c.args.busy c.args.self.now c.start.new.self c.args.source c.args.destination c.in_ok-left.left c.unwrap-class.result c.sound.ensures
+      c.in_ok-left.ensures.made
+      (sym c.unwrap-class.ensures ∙ c.class_of.ensures
+      ∙ ap (λ (h : Heap). option_map (λ (g : Group). g.class) (group_of (table_of h) c.args.source)) c.self.view_is) c.finish.new.self c.pages.result c.finish.ensures.table c.pages.ensures.value;
+  refused = tt;
+  kept = kept_on c.args.self.now c.start.new.self c.finish.new.self c.in_ok-left.ensures.kept c.finish.ensures.kept;
+}

@@ -2,7 +2,7 @@ use Rattle.std.proofs.Common.{◌≡◌, ◌%◌, None, Result, Ok, Err, IfErr, 
 use Rattle.std.specs.Result.{IsErrAnd}
 use Rattle.mesh_class.specs.Classes.{slots_of}
 use Rattle.mesh_steps.specs.PageHeap.{IsPlaceFault, PageHeap, open_group, table_in}
-use Rattle.mesh_steps.specs.declared.answers.NewFault.{NewFault}
+use Rattle.model_words.specs.declared.answers.NewFault.{NewFault}
 use Rattle.mesh_steps.proofs.NewPlaces.{open_is, place_fresh, place_open}
 use Rattle.mesh_steps.proofs.page_heap.PageHeap.place.Goals as goal
 
