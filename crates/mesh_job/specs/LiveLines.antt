@@ -7,7 +7,7 @@ use Rattle.model_words.specs.Commands.{IsInRange}
 use Rattle.model_words.specs.Words.{◌>>=◌, refuse_if}
 use Rattle.model_words.specs.declared.commands.Command.{Command}
 use Rattle.model_words.specs.declared.faults.FaultKind.{FaultKind}
-use Rattle.model_words.specs.declared.faults.FaultKind.TheVariants.{TooLong, Trailing, LongLine, Cut, Byte, Word, Number, Hex}
+use Rattle.model_words.specs.declared.faults.FaultKind.TheVariants.{Word}
 use Rattle.model_words.specs.declared.versions.Version.TheVariants.{Two}
 use Rattle.mesh_fields.specs.Lines.{bytes_fit, line_fields}
 use Rattle.mesh_job.specs.Plan.{line_of}
@@ -21,14 +21,8 @@ pub data LiveLine : Type 0 where
 
 -- the kind of a fault is that of a wrong word, or of a wrong number of fields
 abbrev pub is_word_fault : FaultKind → Bool
-is_word_fault TooLong = false
-is_word_fault Trailing = false
-is_word_fault LongLine = false
-is_word_fault Cut = false
-is_word_fault Byte = false
 is_word_fault Word = true
-is_word_fault Number = false
-is_word_fault Hex = false
+is_word_fault kind = false
 
 -- a command was not read for its word, or for the number of its fields
 abbrev pub is_no_command : Result Command FaultKind → Bool

@@ -1,5 +1,5 @@
 -- The lines of a plan as the definitions have them.
-use Rattle.std.specs.Prelude.{Result, Ok, Err}
+use Rattle.std.specs.Prelude.{ℕ, Option, Some, None, Result, Ok, Err}
 use Rattle.model_jobs.specs.Jobs.{Line, RunWorker, PairClass, BeginMesh, StepMesh, CancelMesh, StepClass as StepsClass, CancelClass as CancelsClass, WholeMesh, SweepGroup, MakeReport}
 use Rattle.mesh_job.specs.declared.plan.PlanLine.{PlanLine}
 use Rattle.mesh_job.specs.declared.plan.PlanLine.TheVariants.{Run, Pair, Begin, Step, Cancel, StepClass, CancelClass, Whole, Sweep, Report}
@@ -21,3 +21,8 @@ line_of Report = MakeReport
 abbrev pub read_line : {E : Type 0} → Result PlanLine E → Result Line E
 read_line (Ok line) = Ok (line_of line)
 read_line (Err fault) = Err fault
+
+-- a line of a mesh: the bare one, or the one with the size of a class
+abbrev pub line_of_mesh : Line → (ℕ → Line) → Option ℕ → Line
+line_of_mesh bare of_class None = bare
+line_of_mesh bare of_class (Some class) = of_class class

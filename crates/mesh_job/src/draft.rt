@@ -113,7 +113,12 @@ impl Draft {
             self.take(few.as_slice())?;
             return Ok(Some(rest));
         }
-        self.take_long_line(text)
+        let Some((line, rest)) = next_line(text)? else {
+            return Ok(None);
+        };
+        let fields = fields_of(line)?;
+        self.take(fields.as_slice())?;
+        Ok(Some(rest))
     }
 
     /// Takes the next line of the text, where it is one that most texts have, and gives the bytes behind it. None elsewhere: then nothing
@@ -144,26 +149,6 @@ impl Draft {
             }
             _ => Ok(None),
         }
-    }
-
-    /// The same, for a line that has a fault or many fields, or that isn't whole.
-    #[cold]
-    #[inline(never)]
-    fn take_long_line<'a>(&mut self, text: &'a [u8]) -> Result<Option<&'a [u8]>, LineFault>
-        requires draft { IsDraft self.old }
-        requires going { has_ended (draft_of self.old).section ≡ false }
-        ensures draft { OnOk result (IsDraft self.new) }
-        ensures shorter { IfOk result (λ next. IfSome next (λ rest. length rest.now < length text.now)) }
-        ensures ok { IfOk result (λ next. IfSome next (λ rest. IsReadOn (draft_of self.old) text.now (draft_of self.new) rest.now)) }
-        ensures part { IfOk result (λ next. IsNone next → IsPartOfLine text.now × (self.new ≡ self.old)) }
-        ensures err { IfErr result (λ fault. IsFaultOfLine (draft_of self.old) text.now fault) }
-    {
-        let Some((line, rest)) = next_line(text)? else {
-            return Ok(None);
-        };
-        let fields = fields_of(line)?;
-        self.take(fields.as_slice())?;
-        Ok(Some(rest))
     }
 
     /// Takes the fields of the next line.

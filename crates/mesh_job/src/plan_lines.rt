@@ -4,7 +4,7 @@ ghost use Rattle.model_words.specs.Classes.{row_of};
 ghost use Rattle.model_jobs.specs.JobFiles.{are_same, class_in, groups_in, line_in, of_class_in, of_groups_in, of_mesh_in, pair_in, run_in, sweep_in, words_in};
 ghost use Rattle.model_jobs.specs.Jobs.{Line, BeginMesh, CancelMesh, CancelClass, StepMesh, StepClass, WholeMesh};
 ghost use Rattle.mesh_fields.specs.Lines.{texts};
-ghost use Rattle.mesh_job.specs.Plan.{line_of, read_line};
+ghost use Rattle.mesh_job.specs.Plan.{line_of, line_of_mesh, read_line};
 ghost use Rattle.mesh_job.specs.Reading.{IsFaultOfStep};
 
 use crate::faults::LineFault;
@@ -130,31 +130,27 @@ fn sweep_of(fields: &[&[u8]]) -> Result<PlanLine, FaultKind>
 fn step_of(version: Version, fields: &[&[u8]]) -> Result<PlanLine, FaultKind>
     ensures { read_line result ≡ of_mesh_in version StepMesh StepClass (texts fields.now) }
 {
-    match version {
-        Version::One => {
-            no_field(fields)?;
-            Ok(PlanLine::Step)
-        }
-        Version::Two => {
-            let class = class_field(fields)?;
-            Ok(PlanLine::StepClass(class))
-        }
-    }
+    Ok(mesh_class(version, fields)?.map_or(PlanLine::Step, PlanLine::StepClass))
 }
 
 /// `cancel` in version 1, and `cancel CLASS` in version 2
 fn cancel_of(version: Version, fields: &[&[u8]]) -> Result<PlanLine, FaultKind>
     ensures { read_line result ≡ of_mesh_in version CancelMesh CancelClass (texts fields.now) }
 {
+    Ok(mesh_class(version, fields)?.map_or(PlanLine::Cancel, PlanLine::CancelClass))
+}
+
+/// The class whose mesh a line names: none in version 1, which has one mesh at a time, and that of its one field in version 2.
+fn mesh_class(version: Version, fields: &[&[u8]]) -> Result<Option<Class>, FaultKind>
+    ensures ok { IfOk result (λ class. (bare : Line) (line : ℕ → Line) → of_mesh_in version bare line (texts fields.now) ≡ Ok (line_of_mesh bare line class)) }
+    ensures err { IfErr result (λ kind. (bare : Line) (line : ℕ → Line) → of_mesh_in version bare line (texts fields.now) ≡ Err kind) }
+{
     match version {
         Version::One => {
             no_field(fields)?;
-            Ok(PlanLine::Cancel)
+            Ok(None)
         }
-        Version::Two => {
-            let class = class_field(fields)?;
-            Ok(PlanLine::CancelClass(class))
-        }
+        Version::Two => Ok(Some(class_field(fields)?)),
     }
 }
 

@@ -1,5 +1,6 @@
 -- Bytes that are kept in one list, each run of them at a place of its own.
-use Rattle.std.specs.Prelude.{◌≡◌, ℕ, ◌+◌, ◌≤◌, List, ◌++◌, length, slice_range}
+use Rattle.std.specs.Prelude.{◌≡◌, ℕ, ◌+◌, ◌^◌, ◌<◌, ◌≤◌, List, ◌++◌, Vec, length, slice_range, vec_capacity, vec_len}
+use Rattle.std.specs.Global.{Global}
 use Rattle.arrayvec.specs.ArrayVec.{ArrayVec}
 use Rattle.mesh_packed.specs.declared.run.Run.{Run}
 
@@ -17,3 +18,13 @@ pub record KeepsAll (kept kept' : List ℕ) : Type 0 where
   pub runs : (run : Run) → IsRunWithin (length kept) run → run_in kept' run ≡ run_in kept run
   pub more : length kept ≤ length kept'
   pub few : length kept' ≤ length kept + 32
+
+-- 32 more bytes may be kept, and the places of all of them have 32 bits
+pub record HasRoom (kept : Vec ℕ Global) : Type 0 where
+  pub room : vec_len kept + 32 ≤ vec_capacity kept
+  pub few : vec_len kept < 2 ^ 32
+
+-- bytes were kept behind those before, and no room was lost
+pub record IsKeptOn (kept kept' : Vec ℕ Global) : Type 0 where
+  pub all : KeepsAll kept.items kept'.items
+  pub capacity : vec_capacity kept ≤ vec_capacity kept'

@@ -1,7 +1,7 @@
 //! Commands without their bytes.
-ghost use Rattle.std.specs.Prelude.{◌≡◌, ◌+◌, ◌^◌, ◌<◌, ◌≤◌, length, vec_capacity, vec_len};
+ghost use Rattle.std.specs.Prelude.{◌≡◌, length};
 ghost use Rattle.mesh_packed.specs.Packed.{IsCommandWithin, command_in};
-ghost use Rattle.mesh_packed.specs.Runs.{KeepsAll};
+ghost use Rattle.mesh_packed.specs.Runs.{HasRoom, IsKeptOn};
 
 use crate::run::{Run, bytes_of, keep};
 use model_words::Command;
@@ -23,12 +23,10 @@ pub enum PackedCommand {
 
 /// Packs a command. Its bytes, at most 32, come behind those that are kept, for which there is room.
 pub fn pack_command(kept: &mut Vec<u8>, command: &Command) -> PackedCommand
-    requires room { vec_len kept.old + 32 ≤ vec_capacity kept.old }
-    requires few { vec_len kept.old < 2 ^ 32 }
+    requires { HasRoom kept.old }
     ensures command { command_in kept.new.items result ≡ command.now }
     ensures within { IsCommandWithin (length kept.new.items) result }
-    ensures keeps { KeepsAll kept.old.items kept.new.items }
-    ensures capacity { vec_capacity kept.old ≤ vec_capacity kept.new }
+    ensures kept { IsKeptOn kept.old kept.new }
 {
     match command {
         Command::New(cell, len, word) => PackedCommand::New(*cell, *len, *word),

@@ -1,7 +1,7 @@
 //! Replies without their bytes.
-ghost use Rattle.std.specs.Prelude.{◌≡◌, ◌+◌, ◌^◌, ◌<◌, ◌≤◌, length, vec_capacity, vec_len};
+ghost use Rattle.std.specs.Prelude.{◌≡◌, length};
 ghost use Rattle.mesh_packed.specs.Packed.{IsReplyWithin, reply_in};
-ghost use Rattle.mesh_packed.specs.Runs.{KeepsAll};
+ghost use Rattle.mesh_packed.specs.Runs.{HasRoom, IsKeptOn};
 
 use crate::run::{Run, bytes_of, keep};
 use model_words::{Refusal, Reply};
@@ -25,12 +25,10 @@ pub enum PackedReply {
 
 /// Packs a reply. Its bytes, at most 32, come behind those that are kept, for which there is room.
 pub fn pack_reply(kept: &mut Vec<u8>, reply: &Reply) -> PackedReply
-    requires room { vec_len kept.old + 32 ≤ vec_capacity kept.old }
-    requires few { vec_len kept.old < 2 ^ 32 }
+    requires { HasRoom kept.old }
     ensures reply { reply_in kept.new.items result ≡ reply.now }
     ensures within { IsReplyWithin (length kept.new.items) result }
-    ensures keeps { KeepsAll kept.old.items kept.new.items }
-    ensures capacity { vec_capacity kept.old ≤ vec_capacity kept.new }
+    ensures kept { IsKeptOn kept.old kept.new }
 {
     match reply {
         Reply::Object(serial, addr) => PackedReply::Object(*serial, *addr),

@@ -1,7 +1,7 @@
 //! Where the bytes of a command or a reply are kept.
-ghost use Rattle.std.specs.Prelude.{◌≡◌, ◌+◌, ◌^◌, ◌<◌, ◌≤◌, ◌++◌, length, vec_capacity, vec_len};
+ghost use Rattle.std.specs.Prelude.{◌≡◌, length};
 ghost use Rattle.arrayvec.specs.ArrayVec.{array_vec_len};
-ghost use Rattle.mesh_packed.specs.Runs.{IsRunWithin, KeepsAll, run_in};
+ghost use Rattle.mesh_packed.specs.Runs.{HasRoom, IsKeptOn, IsRunWithin, run_in};
 
 use arrayvec::ArrayVec;
 use model_words::MAX_BYTES;
@@ -17,12 +17,10 @@ pub struct Run {
 
 /// Keeps up to 32 bytes behind the others, for which there is room, and tells where.
 pub(crate) fn keep(kept: &mut Vec<u8>, bytes: &ArrayVec<u8, MAX_BYTES>) -> Run
-    requires room { vec_len kept.old + 32 ≤ vec_capacity kept.old }
-    requires few { vec_len kept.old < 2 ^ 32 }
+    requires { HasRoom kept.old }
     ensures bytes { run_in kept.new.items result ≡ bytes.now }
     ensures within { IsRunWithin (length kept.new.items) result }
-    ensures keeps { KeepsAll kept.old.items kept.new.items }
-    ensures capacity { vec_capacity kept.old ≤ vec_capacity kept.new }
+    ensures kept { IsKeptOn kept.old kept.new }
 {
     let run = Run {
         place: kept.len() as u32,

@@ -9,7 +9,7 @@ pub invariant_of-self-2 : goal.invariant_of-self-2
 invariant_of-self-2 c =
     let old = c.self.inside in
     let packed = c.pack_command-packed.ensures in
-    let keeps = rw c.reserve-2.ensures.items at packed.keeps in
+    let keeps = rw c.reserve-2.ensures.items at packed.kept.all in
     rw (c.push_reserved.ensures.items, c.reserve.ensures.items)
     (script_pushed old.bytes.items c.pack_command-packed.new.kept.items old.commands.items c.pack_command-packed.result c.self.invariant keeps packed.within (subst IsInRange (sym packed.command) c.requires))
 
@@ -17,6 +17,6 @@ pub returns-clause-ok : goal.returns-clause-ok
 returns-clause-ok c =
     let old = c.self.inside in
     let packed = c.pack_command-packed.ensures in
-    let keeps = rw c.reserve-2.ensures.items at packed.keeps in
+    let keeps = rw c.reserve-2.ensures.items at packed.kept.all in
     rw (c.push_reserved.ensures.items, c.reserve.ensures.items, ← c.self.view_is)
     (view_pushed old.bytes.items c.pack_command-packed.new.kept.items old.commands.items c.pack_command-packed.result c.args.command.now c.self.invariant keeps packed.command)
