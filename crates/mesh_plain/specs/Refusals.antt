@@ -3,7 +3,7 @@ use Rattle.std.specs.Prelude.{◌≡◌, ℕ, Result, Ok, Err, IsOk}
 use Rattle.model_memory.specs.Memory.{Memory, Object}
 use Rattle.model_memory.specs.Plain.{named_by}
 use Rattle.model_words.specs.declared.commands.Command.{Command}
-use Rattle.model_words.specs.declared.commands.Command.TheVariants.{New, Alias}
+use Rattle.model_words.specs.declared.commands.Command.TheVariants.{New, Get, Addr, Peek, Alias}
 use Rattle.model_words.specs.declared.commands.Reply.{Reply}
 use Rattle.model_words.specs.declared.commands.Reply.TheVariants.{Object as Made}
 use Rattle.model_words.specs.declared.refusals.Refusal.{Refusal}
@@ -24,11 +24,23 @@ abbrev pub IsRefusedOrMemory : {X : Type 0} → PlainFault → Result X Refusal 
 IsRefusedOrMemory OfMemory step = IsOk step
 IsRefusedOrMemory fault step = IsRefusedAs fault step
 
+-- the command changes the memory, and makes no object
+abbrev pub IsChange : Command → Type 0
+IsChange (New cell len word) = ⊥
+IsChange (Get cell off len) = ⊥
+IsChange (Addr cell) = ⊥
+IsChange (Peek address) = ⊥
+IsChange command = Unit {0}
+
 -- the command may take memory where it was answered so: a `new` that made an object, and an `alias`
 abbrev pub MayTakeMemory : Command → Reply → Type 0
 MayTakeMemory (New cell len word) (Made serial address) = Unit {0}
 MayTakeMemory (Alias to from) reply = Unit {0}
 MayTakeMemory command reply = ⊥
+
+-- the command is refused so, or memory was wanting where it may take some
+abbrev pub IsRefusedFor : {X : Type 0} → Command → PlainFault → Result X Refusal → Type 0
+IsRefusedFor command fault step = IsRefusedOrMemory fault step × (fault ≡ OfMemory → (reply : Reply) → MayTakeMemory command reply)
 
 -- a live object of this serial and address is the one that the cell names
 pub record IsNamedAt (m : Memory) (cell serial address : ℕ) : Type 0 where

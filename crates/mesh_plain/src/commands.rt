@@ -7,7 +7,7 @@ ghost use Rattle.model_memory.specs.Plain.{Follows, plain};
 ghost use Rattle.model_words.specs.declared.commands.Command.{Command};
 ghost use Rattle.model_words.specs.declared.commands.Reply.{Reply};
 ghost use Rattle.model_words.specs.declared.refusals.Refusal.{Refusal};
-ghost use Rattle.mesh_plain.specs.Refusals.{IsRefusedAs, IsRefusedOrMemory, MayTakeMemory};
+ghost use Rattle.mesh_plain.specs.Refusals.{IsChange, IsRefusedAs, IsRefusedFor, IsRefusedOrMemory, MayTakeMemory};
 
 use crate::faults::PlainFault;
 use crate::plain::Plain;
@@ -63,14 +63,8 @@ impl Plain {
     {
         match command {
             Command::New(cell, len, _) => self.answer_new(*cell, *len, address),
-            Command::Put(cell, off, bytes) => done(self.put(*cell, *off, bytes.as_slice())),
-            Command::Free(cell) => done(self.free(*cell)),
-            Command::Alias(to, from) => done(self.alias(*to, *from)),
-            Command::Poke(at, byte) => done(self.poke(*at, *byte)),
-            Command::Copy(to, to_off, from, from_off, len) => {
-                done(self.copy(*to, *to_off, *from, *from_off, *len))
-            }
             Command::Get(_, _, _) | Command::Addr(_) | Command::Peek(_) => Ok(self.look(command)),
+            _ => done(self.change(command)),
         }
     }
 
@@ -109,14 +103,27 @@ impl Plain {
                 },
                 _ => Ok(()),
             },
-            Command::Put(cell, off, bytes) => only_memory(self.put(*cell, *off, bytes.as_slice())),
-            Command::Free(cell) => only_memory(self.free(*cell)),
-            Command::Alias(to, from) => only_memory(self.alias(*to, *from)),
-            Command::Poke(address, byte) => only_memory(self.poke(*address, *byte)),
-            Command::Copy(to, to_off, from, from_off, len) => {
-                only_memory(self.copy(*to, *to_off, *from, *from_off, *len))
-            }
             Command::Get(_, _, _) | Command::Addr(_) | Command::Peek(_) => Ok(()),
+            _ => only_memory(self.change(command)),
+        }
+    }
+
+    /// Does a command that changes the memory and makes no object. Memory is an error of an `Alias` alone.
+    fn change(&mut self, command: &Command) -> Result<(), PlainFault>
+        requires { IsChange command.now }
+        ensures done { OnOk result (plain self.old 0 command.now ≡ Ok (Reply.Done, self.new)) }
+        ensures fault { IfErr result (λ fault. IsRefusedFor command.now fault (plain self.old 0 command.now)) }
+        ensures unchanged { OnErr result (self.new ≡ self.old) }
+    {
+        match command {
+            Command::Put(cell, off, bytes) => self.put(*cell, *off, bytes.as_slice()),
+            Command::Free(cell) => self.free(*cell),
+            Command::Alias(to, from) => self.alias(*to, *from),
+            Command::Poke(address, byte) => self.poke(*address, *byte),
+            Command::Copy(to, to_off, from, from_off, len) => {
+                self.copy(*to, *to_off, *from, *from_off, *len)
+            }
+            _ => Ok(()),
         }
     }
 }

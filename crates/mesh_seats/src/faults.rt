@@ -2,7 +2,7 @@
 ghost use Rattle.std.specs.Prelude.{◌≡◌};
 ghost use Rattle.mesh_seats.specs.declared.faults.FinishError.{FinishError};
 
-use std::alloc::{AllocError, AllocFailed};
+use std::alloc::AllocError;
 use thiserror::Error;
 
 /// Why no seats could be made.
@@ -47,14 +47,6 @@ impl From<AllocError> for FinishError {
     ghost from_gives = { λ _ error. error ≡ FinishError.Memory };
 
     fn from(_refused: AllocError) -> FinishError {
-        FinishError::Memory
-    }
-}
-
-impl<T: Drop> From<AllocFailed<T>> for FinishError {
-    ghost from_gives = { λ _ error. error ≡ FinishError.Memory };
-
-    fn from(_refused: AllocFailed<T>) -> FinishError {
         FinishError::Memory
     }
 }

@@ -40,7 +40,9 @@ pub fn weave(alloc: Global, seats: &[Seat], journal: &Journal) -> Result<Vec<Ent
         let early = step(rests.as_mut_slice(), next.worker);
         tell(seats, &mut rests, early, &mut told);
         plain.apply(&next.command, &next.reply)?;
-        history.push(next)?;
+        let Ok(()) = history.push(next) else {
+            return Err(FinishError::Memory);
+        };
     }
     let wrong = take_all(
         &plain,

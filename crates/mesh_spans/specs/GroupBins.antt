@@ -1,5 +1,5 @@
 -- In which bin a group is: three for each class, of the groups that are empty, partly filled and full.
-use Rattle.std.specs.Prelude.{◌≡◌, ◌⊎◌, ℕ, ◌+◌, ◌*◌, ◌<◌, Bool, false, not, ◌&&◌, if◌then◌else◌, nat_eq, nat_le, nat_lt, count_by, is_some, filter, List, Option, Some, None, length, slice_index_or, slice_set}
+use Rattle.std.specs.Prelude.{◌≡◌, ◌⊎◌, ℕ, ◌+◌, ◌*◌, ◌<◌, Bool, false, not, ◌&&◌, if◌then◌else◌, nat_eq, nat_le, nat_lt, count_by, is_some, filter, List, Option, Some, None, IfSome, length, slice_index_or, slice_set}
 use Rattle.std.specs.Ordering.{nat_cmp}
 use Rattle.std.specs.FinSet as set
 use Rattle.mesh_class.specs.Class.{class_index}
@@ -44,6 +44,17 @@ unfiled bins n (Some place) = slice_set bins place (set.remove (bin_at bins plac
 abbrev pub filed : List (set.FinSet nat_cmp) → ℕ → Option ℕ → List (set.FinSet nat_cmp)
 filed bins n None = bins
 filed bins n (Some place) = slice_set bins place (set.insert (bin_at bins place) n)
+
+-- there are thirty bins, and a number's place is one of them, if it has one
+pub record HasPlace (bins : List (set.FinSet nat_cmp)) (n : ℕ) (place : Option ℕ) : Type 0 where
+  pub number : n < 65536
+  pub sized : length bins ≡ 30
+  pub few : IfSome place (λ p. p < 30)
+
+-- the bins are those, and still thirty
+pub record IsLeftWith (new wanted : List (set.FinSet nat_cmp)) : Type 0 where
+  pub bins : new ≡ wanted
+  pub sized : length new ≡ 30
 
 -- a number is moved from one bin to another: nothing changes where both are one
 abbrev pub AreMoved : List (set.FinSet nat_cmp) → List (set.FinSet nat_cmp) → ℕ → Option ℕ → Option ℕ → Type 0

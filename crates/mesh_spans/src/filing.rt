@@ -5,7 +5,7 @@ ghost use Rattle.mesh_bins.specs.Words.{IsLeast};
 ghost use Rattle.mesh_class.specs.Class.{class_index};
 ghost use Rattle.mesh_class.specs.Classes.{IsClass};
 ghost use Rattle.mesh_spans.specs.Counts.{IsWithin, counts_of};
-ghost use Rattle.mesh_spans.specs.GroupBins.{AreMoved, bin_at, file_of, filed, fullness_place, lower_of, unfiled};
+ghost use Rattle.mesh_spans.specs.GroupBins.{AreMoved, HasPlace, IsLeftWith, bin_at, file_of, filed, fullness_place, lower_of, unfiled};
 ghost use Rattle.mesh_spans.specs.Index.{IsGroup};
 
 use crate::Totals;
@@ -109,11 +109,8 @@ pub(crate) fn rebin(bins: &mut Vec<Bin>, n: u32, from: Option<u32>, to: Option<u
 
 /// Takes a number out of a bin.
 pub(crate) fn unfile(bins: &mut Vec<Bin>, n: u32, place: Option<u32>)
-    requires number { n < 65536 }
-    requires sized { length bins.old.items ≡ 30 }
-    requires few { IfSome place (λ p. p < 30) }
-    ensures bins { bins.new.items ≡ unfiled bins.old.items n place }
-    ensures sized { length bins.new.items ≡ 30 }
+    requires { HasPlace bins.old.items n place }
+    ensures { IsLeftWith bins.new.items (unfiled bins.old.items n place) }
 {
     if let Some(place) = place {
         bins[place as usize].remove(n);
@@ -122,11 +119,8 @@ pub(crate) fn unfile(bins: &mut Vec<Bin>, n: u32, place: Option<u32>)
 
 /// Puts a number into a bin.
 pub(crate) fn file(bins: &mut Vec<Bin>, n: u32, place: Option<u32>)
-    requires number { n < 65536 }
-    requires sized { length bins.old.items ≡ 30 }
-    requires few { IfSome place (λ p. p < 30) }
-    ensures bins { bins.new.items ≡ filed bins.old.items n place }
-    ensures sized { length bins.new.items ≡ 30 }
+    requires { HasPlace bins.old.items n place }
+    ensures { IsLeftWith bins.new.items (filed bins.old.items n place) }
 {
     if let Some(place) = place {
         bins[place as usize].insert(n);
