@@ -205,33 +205,31 @@ impl Tracked {
         ensures refused { IfErr result (IsRefused self.old self.new (Command.Copy to to_off from from_off len)) }
         ensures made { self.new.made ≡ self.old.made }
     {
-        let (number, bytes) = self.copied(to, to_off, from, from_off, len)?;
+        let (number, bytes) = self.copied((to, to_off), (from, from_off), len)?;
         store(&mut self.objects, number, to_off, bytes.as_slice())?;
         Ok(())
     }
 
-    /// The number of the object that a copy stores in, and the bytes that it stores.
+    /// The number of the object that a copy stores in, and the bytes that it stores: `to` and `from` are a cell and an offset each.
     fn copied(
         &self,
-        to: u32,
-        to_off: u32,
-        from: u32,
-        from_off: u32,
+        to: (u32, u32),
+        from: (u32, u32),
         len: u32,
     ) -> Result<(u32, ArrayVec<u8, MAX_BYTES>), Refusal>
         requires { len ≤ 32 }
-        ensures copied { IfOk result (λ found. IsCopied self.now (Command.Copy to to_off from from_off len) found.0 to_off found.1.items) }
+        ensures copied { IfOk result (λ found. IsCopied self.now (Command.Copy to.0 to.1 from.0 from.1 len) found.0 to.1 found.1.items) }
         ensures few { IfOk result (λ found. length found.1.items ≤ 32) }
-        ensures refusal { IfErr result (λ refusal. (r : Recorded) → Stands self.now r → plain r.memory 0 (Command.Copy to to_off from from_off len) ≡ Err refusal) }
+        ensures refusal { IfErr result (λ refusal. (r : Recorded) → Stands self.now r → plain r.memory 0 (Command.Copy to.0 to.1 from.0 from.1 len) ≡ Err refusal) }
     {
-        let target = self.root(to)?;
-        let source = self.root(from)?;
+        let target = self.root(to.0)?;
+        let source = self.root(from.0)?;
         let into = self.object(target)?;
         let out_of = self.object(source)?;
-        if into.ends_outside(to_off, len) || out_of.ends_outside(from_off, len) {
+        if into.ends_outside(to.1, len) || out_of.ends_outside(from.1, len) {
             return Err(Refusal::Outside);
         }
-        Ok((target, out_of.bytes.load(from_off, len)))
+        Ok((target, out_of.bytes.load(from.1, len)))
     }
 
     /// The serial of a live object that has an address of the range.

@@ -5,6 +5,27 @@ ghost use Rattle.model_words.specs.Refusals.{number_of, name_of};
 use std::error::Error;
 use std::fmt;
 
+/// The names of the refusals, in the order of their numbers.
+const REFUSAL_NAMES: [&str; 17] = [
+    "ZERO",
+    "TOO_LARGE",
+    "NO_PAGES",
+    "NO_ADDRESSES",
+    "EMPTY",
+    "FREED",
+    "OUTSIDE",
+    "STRAY",
+    "NO_GROUP",
+    "SAME",
+    "CLASS",
+    "BUSY",
+    "OVERLAP",
+    "MEMBERS",
+    "NO_MESH",
+    "TOO_LATE",
+    "NOT_EMPTY",
+];
+
 /// Why a call was refused. A refusal changes nothing in heap and roots.
 ///
 /// Where several hold for one call, the one with the lowest number is answered. Numbers and names are this project's own.
@@ -78,25 +99,7 @@ impl Refusal {
     pub fn name(self) -> &'static str
         ensures { result.now ≡ name_of self }
     {
-        match self {
-            Refusal::Zero => "ZERO",
-            Refusal::TooLarge => "TOO_LARGE",
-            Refusal::NoPages => "NO_PAGES",
-            Refusal::NoAddresses => "NO_ADDRESSES",
-            Refusal::Empty => "EMPTY",
-            Refusal::Freed => "FREED",
-            Refusal::Outside => "OUTSIDE",
-            Refusal::Stray => "STRAY",
-            Refusal::NoGroup => "NO_GROUP",
-            Refusal::Same => "SAME",
-            Refusal::Class => "CLASS",
-            Refusal::Busy => "BUSY",
-            Refusal::Overlap => "OVERLAP",
-            Refusal::Members => "MEMBERS",
-            Refusal::NoMesh => "NO_MESH",
-            Refusal::TooLate => "TOO_LATE",
-            Refusal::NotEmpty => "NOT_EMPTY",
-        }
+        REFUSAL_NAMES[usize::from(self.number() - 1)]
     }
 }
 
