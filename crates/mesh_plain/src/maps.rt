@@ -94,29 +94,27 @@ pub fn overwrite(
     Ok(())
 }
 
-/// Copies a range of one live object's bytes into another's, or within one.
+/// Copies a range of one live object's bytes into another's, or within one: each object by its serial and where its range begins.
 pub fn copy(
     alloc: Global,
     objects: &mut BTreeMap<u32, Stored>,
-    to: u32,
-    to_off: u32,
-    from: u32,
-    from_off: u32,
+    to: (u32, u32),
+    from: (u32, u32),
     len: u32,
 ) -> Result<(), PlainFault>
-    ensures { IsCopied (get nat_cmp objects.old) (get nat_cmp objects.new) to to_off from from_off len result }
+    ensures { IsCopied (get nat_cmp objects.old) (get nat_cmp objects.new) to.0 to.1 from.0 from.1 len result }
 {
-    let (Some(target), Some(source)) = (objects.get(&to), objects.get(&from)) else {
+    let (Some(target), Some(source)) = (objects.get(&to.0), objects.get(&from.0)) else {
         return Err(PlainFault::Freed);
     };
-    let (to_start, from_start, count) = (to_off as usize, from_off as usize, len as usize);
+    let (to_start, from_start, count) = (to.1 as usize, from.1 as usize, len as usize);
     if target.bytes.len() < to_start + count || source.bytes.len() < from_start + count {
         return Err(PlainFault::Outside);
     }
-    if to == from {
-        copy_in_one(objects, to, to_start, from_start, count);
+    if to.0 == from.0 {
+        copy_in_one(objects, to.0, to_start, from_start, count);
     } else {
-        copy_between(alloc, objects, to, to_start, from, from_start, count);
+        copy_between(alloc, objects, to.0, to_start, from.0, from_start, count);
     }
     Ok(())
 }

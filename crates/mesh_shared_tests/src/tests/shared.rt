@@ -119,15 +119,21 @@ enum Asked {
     Other,
 }
 
-/// What is asked before a book is finished: of which book, from the seat of which place, and the answer. The seats of the book that is finished
-/// have the places 0 and 1, those of the other one the places from 2 on.
-type Turn = (Asked, usize, Call, Answer);
+/// What is asked before a book is finished: of which book, from the seat of which place, and the call with its answer. The seats of the book
+/// that is finished have the places 0 and 1, those of the other one the places from 2 on.
+type Turn = (Asked, usize, (Call, Answer));
+
+/// An object made in cell 0, the first of its book.
+const MADE: (Call, Answer) = (Call::New(0, 2048), Answer::Object(0, 0x1000));
+
+/// A read of its first bytes.
+const READ: (Call, Answer) = (Call::Get(0, 0, 2), Answer::Bytes(&[0, 0]));
 
 /// By their names, what is asked before a book is finished, the places of the seats that are handed in, and the fault that is told.
 static MISFITS: [(&str, &[Turn], &[usize], FinishError); 7] = [
     (
         "an entry of no call of seat 0",
-        &[(Asked::Own, 2, Call::New(0, 2048), Answer::Object(0, 0x1000))],
+        &[(Asked::Own, 2, MADE)],
         &[0, 1],
         FinishError::SeatDiffers { seat: 0, call: 0 },
     ),
@@ -146,35 +152,19 @@ static MISFITS: [(&str, &[Turn], &[usize], FinishError); 7] = [
     ),
     (
         "an entry of a worker without a seat",
-        &[(Asked::Own, 4, Call::New(0, 2048), Answer::Object(0, 0x1000))],
+        &[(Asked::Own, 4, MADE)],
         &[0, 1],
         FinishError::SeatMissing(2),
     ),
     (
         "a call that stands in another journal",
-        &[
-            (
-                Asked::Other,
-                0,
-                Call::New(0, 2048),
-                Answer::Object(0, 0x1000),
-            ),
-            (Asked::Other, 0, Call::Get(0, 0, 2), Answer::Bytes(&[0, 0])),
-        ],
+        &[(Asked::Other, 0, MADE), (Asked::Other, 0, READ)],
         &[0, 1],
         FinishError::SeatDiffers { seat: 0, call: 0 },
     ),
     (
         "a read that saw another journal",
-        &[
-            (
-                Asked::Other,
-                3,
-                Call::New(0, 2048),
-                Answer::Object(0, 0x1000),
-            ),
-            (Asked::Other, 0, Call::Get(0, 0, 2), Answer::Bytes(&[0, 0])),
-        ],
+        &[(Asked::Other, 3, MADE), (Asked::Other, 0, READ)],
         &[0, 1],
         FinishError::ReadDiffers { seat: 0, call: 0 },
     ),
@@ -207,7 +197,7 @@ fn told(
     let (own, own_seats) = opened(alloc, &[4, 4])?;
     let (other, other_seats) = opened(alloc, &[4, 4, 4])?;
     let mut places = placed(alloc, own_seats, other_seats)?;
-    for (asked, place, call, answer) in turns {
+    for (asked, place, (call, answer)) in turns {
         let book = match asked {
             Asked::Own => &own,
             Asked::Other => &other,
