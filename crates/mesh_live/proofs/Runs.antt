@@ -1,13 +1,12 @@
 -- The lines of a text, taken byte by byte.
-use Rattle.std.proofs.Common.{◌≡◌, ◌⊎◌, ℕ, ◌+◌, ◌<◌, ◌≤◌, ◌^◌, Bool, true, false, ◌||◌, cond, if◌then◌else◌, nat_eq, List, [], ◌∷◌, ◌++◌, Option, Some, None, Err, append_assoc, append-nil, codes, length, take, length-take, ap, refl, sym, subst, ◌∙◌, arith, inl, inr}
+use Rattle.std.proofs.Common.{◌≡◌, ◌⊎◌, ℕ, ◌+◌, ◌<◌, ◌≤◌, ◌^◌, Bool, true, false, ◌||◌, if◌then◌else◌, nat_eq, List, [], ◌∷◌, ◌++◌, Option, Some, None, Err, append_assoc, append-nil, codes, length, drop, take, slice_index, take-append-drop, ap, refl, sym, subst, ◌∙◌, arith, inl, inr}
 use Rattle.std.proofs.KnownBytes.{Appends-trans, Consumes-trans}
 use Rattle.std.proofs.lemmas.Bool.{le-leb, true≢false}
-use Rattle.std.proofs.lemmas.Bool.Decides.{leb_tells}
-use Rattle.std.proofs.lemmas.List.{length-append, take-append-le, take_all}
-use Rattle.std.proofs.lemmas.List.Elements.{All-append, All-cons, All-nil}
+use Rattle.std.proofs.lemmas.List.{length-append, take-append-le, take_all, take_more}
+use Rattle.std.proofs.lemmas.List.Elements.{All-cons, All-nil}
 use Rattle.std.proofs.lemmas.List.Splits.{slice_split_at, slice_split_none}
 use Rattle.std.specs.Io.KnownBytes.{Appends, Consumes, IsAtEnd}
-use Rattle.std.specs.List.{All, onto_first}
+use Rattle.std.specs.List.{All}
 use Rattle.std.specs.Str.{bytes_eq}
 use Rattle.model_jobs.specs.JobFiles.{are_same}
 use Rattle.model_jobs.proofs.FieldReadings.{same_by_test}
@@ -16,12 +15,12 @@ use Rattle.model_jobs.specs.Texts.{ended}
 use Rattle.model_words.specs.declared.faults.FaultKind.{FaultKind}
 use Rattle.model_words.specs.declared.faults.FaultKind.TheVariants.{LongLine}
 use Rattle.mesh_job.specs.LiveLines.{live_line}
-use Rattle.mesh_fields.specs.KeptLines.{IsKept, IsUnended}
+use Rattle.mesh_fields.specs.KeptLines.{IsKept}
 use Rattle.mesh_fields.proofs.KeptLines.{Kept, Long, Whole, both_unended, kept_of, none_kept, rest_too_long}
 use Rattle.mesh_fields.proofs.Splits.{Parts, some_part}
 use Rattle.mesh_job.specs.Lines.{text_lines}
 use Rattle.mesh_live.specs.Answers.{Told, fault_text, told, told_read}
-use Rattle.mesh_live.specs.Runs.{HasFed, HasLived, HasTaken, ends_on, live_output, have_end, is_end, told_lines, told_on, told_rest}
+use Rattle.mesh_live.specs.Runs.{HasFed, HasLived, HasTaken, Keeps, Takes, ends_on, live_output, have_end, is_end, told_lines, told_on, told_rest}
 use Rattle.mesh_live.specs.Sessions.{IsSession, job_of, sizes_of, state_of}
 use Rattle.mesh_live.specs.declared.session.Session.{Session}
 use Rattle.mesh_live.specs.declared.sizes.Sizes.{Sizes}
@@ -85,8 +84,8 @@ kept_ends kept line (Long over over') = not_end kept over ∙ sym (not_end line 
 more_unended : (begun : List ℕ) (b : ℕ) → All (λ b. nat_eq b 10 ≡ false) begun → nat_eq b 10 ≡ false → All (λ b. nat_eq b 10 ≡ false) (begun ++ b ∷ [])
 more_unended begun b unended other = both_unended begun (b ∷ []) unended (All-cons (λ b. nat_eq b 10 ≡ false) b [] other (All-nil (λ b. nat_eq b 10 ≡ false)))
 
-pub keep_one : (kept begun : List ℕ) (b : ℕ) → IsKept kept begun → nat_eq b 10 ≡ false → length kept ≤ 1024 → IsKept (kept ++ b ∷ []) (begun ++ b ∷ [])
-keep_one kept begun b is other few = record {
+pub keep_one : (kept : List ℕ) (b : ℕ) → nat_eq b 10 ≡ false → length kept ≤ 1024 → Keeps kept b (kept ++ b ∷ [])
+keep_one kept b other few begun is = record {
   front = go (kept_of kept begun is.front);
   unended = more_unended begun b is.unended other;
 }
@@ -97,8 +96,8 @@ keep_one kept begun b is other few = record {
         ap (λ (bytes : List ℕ). bytes ++ b ∷ []) same ∙ sym (take_all 1025 (begun ++ b ∷ []) (omega (arith, few, len, length-append begun (b ∷ []))))
     go (Long over over') = absurd (omega (arith, few, over))
 
-pub keep_none : (kept begun : List ℕ) (b : ℕ) → IsKept kept begun → nat_eq b 10 ≡ false → 1024 < length kept → IsKept kept (begun ++ b ∷ [])
-keep_none kept begun b is other many = record {
+pub keep_none : (kept : List ℕ) (b : ℕ) → nat_eq b 10 ≡ false → 1024 < length kept → Keeps kept b kept
+keep_none kept b other many begun is = record {
   front = is.front ∙ sym (take-append-le 1025 begun (b ∷ []) (go (kept_of kept begun is.front)));
   unended = more_unended begun b is.unended other;
 }
@@ -107,36 +106,52 @@ keep_none kept begun b is other many = record {
     go (Whole same) = let len : length kept ≡ length begun = ap (λ (bytes : List ℕ). length bytes) same in omega (arith, many, len)
     go (Long over over') = omega (arith, over')
 
--- a byte of a line was taken, which isn't its end
-pub byte_taken : (session : Session) (begun kept : List ℕ) (b : ℕ) (written written' : Option (List ℕ)) → IsSession session → IsKept kept (begun ++ b ∷ [])
-    → Appends written written' [] → HasTaken false session session begun kept (b ∷ []) written written'
-byte_taken session begun kept b written written' sound is none = record {
+-- a line ends a session or not, as a test of its bytes told
+pub ends_by : (line slice : List ℕ) (result flag : Bool) → slice ≡ line → result ≡ is_end slice → result ≡ flag → is_end line ≡ flag
+ends_by line slice result flag same tested is = ap is_end (sym same) ∙ sym tested ∙ is
+
+-- nothing is written by whoever does nothing
+pub nothing_written : (written : Option (List ℕ)) → Appends written written []
+nothing_written None = tt
+nothing_written (Some xs) = sym (append-nil xs)
+
+-- bytes were taken of which nothing is told
+nothing_told : (over : Bool) (session : Session) (begun begun' kept bytes : List ℕ) (written : Option (List ℕ)) → IsSession session → IsKept kept begun'
+    → ((more : List ℕ) → told_on false session begun (bytes ++ more) ≡ told_on over session begun' more)
+    → ((more : List ℕ) → ends_on false begun (bytes ++ more) ≡ ends_on over begun' more) → HasTaken over session session begun kept bytes written written
+nothing_told over session begun begun' kept bytes written sound is tells ends = record {
   sound = sound;
   sizes = refl;
   wrote = [];
-  appended = none;
-  begun' = begun ++ b ∷ [];
+  appended = nothing_written written;
+  begun' = begun';
   is_kept = is;
-  tells = λ more. ap (λ text. told_lines (sizes_of session) (state_of session) (text_lines text)) (sym (append_assoc begun (b ∷ []) more));
-  ends = λ more. ap (λ text. have_end (text_lines text)) (sym (append_assoc begun (b ∷ []) more));
+  tells = tells;
+  ends = ends;
 }
 
+-- nothing was taken
+pub nothing_taken : (session : Session) (kept : List ℕ) (written : Option (List ℕ)) → IsSession session → Takes false session session kept kept [] written written
+nothing_taken session kept written sound begun is = nothing_told false session begun begun kept [] written sound is (λ more. refl) (λ more. refl)
+
+-- a byte of a line was taken, which isn't its end
+pub byte_taken : (session : Session) (kept kept' : List ℕ) (b : ℕ) (written : Option (List ℕ)) → IsSession session → Keeps kept b kept'
+    → Takes false session session kept kept' (b ∷ []) written written
+byte_taken session kept kept' b written sound keeps begun is =
+    nothing_told false session begun (begun ++ b ∷ []) kept' (b ∷ []) written sound (keeps begun is)
+    (λ more. ap (λ text. told_lines (sizes_of session) (state_of session) (text_lines text)) (sym (append_assoc begun (b ∷ []) more)))
+    (λ more. ap (λ text. have_end (text_lines text)) (sym (append_assoc begun (b ∷ []) more)))
+
 -- the end of the line `end` was taken
-pub end_taken : (session : Session) (begun kept : List ℕ) (b : ℕ) (written written' : Option (List ℕ)) → IsSession session → IsKept kept begun → b ≡ 10
-    → is_end kept ≡ true → Appends written written' [] → HasTaken true session session begun kept (b ∷ []) written written'
-end_taken session begun kept b written written' sound is at_end ended none =
+pub end_taken : (session : Session) (kept : List ℕ) (b : ℕ) (written : Option (List ℕ)) → IsSession session → b ≡ 10 → is_end kept ≡ true
+    → Takes true session session kept kept (b ∷ []) written written
+end_taken session kept b written sound at_end ended begun is =
     let over : is_end begun ≡ true = sym (kept_ends kept begun (kept_of kept begun is.front)) ∙ ended in
-    subst (λ (b : ℕ). HasTaken true session session begun kept (b ∷ []) written written') (sym at_end) (record {
-      sound = sound;
-      sizes = refl;
-      wrote = [];
-      appended = none;
-      begun' = begun;
-      is_kept = is;
-      tells = λ more. told_of_text (sizes_of session) (state_of session) begun more is.unended
-          ∙ ap (λ (o : Bool). told_first o (sizes_of session) (text_lines more) (told (sizes_of session) (state_of session) begun)) over;
-      ends = λ more. end_of_text begun more is.unended ∙ ap (λ (o : Bool). o || have_end (text_lines more)) over;
-    })
+    subst (λ (b : ℕ). HasTaken true session session begun kept (b ∷ []) written written) (sym at_end)
+    (nothing_told true session begun begun kept (10 ∷ []) written sound is
+    (λ more. told_of_text (sizes_of session) (state_of session) begun more is.unended
+    ∙ ap (λ (o : Bool). told_first o (sizes_of session) (text_lines more) (told (sizes_of session) (state_of session) begun)) over)
+    (λ more. end_of_text begun more is.unended ∙ ap (λ (o : Bool). o || have_end (text_lines more)) over))
 
 -- what is told from the end of a line on that isn't `end`, of which these bytes are kept
 pub line_told : (session : Session) (begun kept more : List ℕ) → IsKept kept begun → is_end kept ≡ false
@@ -152,10 +167,10 @@ line_told session begun kept more is going =
     ∙ ap (λ (t : Told). ended t.text ++ told_lines (sizes_of session) t.state (text_lines more)) (sym first)
 
 -- the end of another line was taken, and the line was answered
-pub line_taken : (old new : Session) (begun kept : List ℕ) (b : ℕ) (written written' : Option (List ℕ)) → IsSession new → sizes_of new ≡ sizes_of old
-    → state_of new ≡ (told (sizes_of old) (state_of old) kept).state → IsKept kept begun → b ≡ 10 → is_end kept ≡ false
-    → Appends written written' (ended (told (sizes_of old) (state_of old) kept).text) → HasTaken false old new begun [] (b ∷ []) written written'
-line_taken old new begun kept b written written' sound sizes stands is at_end going wrote =
+pub line_taken : (old new : Session) (kept : List ℕ) (b : ℕ) (written written' : Option (List ℕ)) → IsSession new → sizes_of new ≡ sizes_of old
+    → state_of new ≡ (told (sizes_of old) (state_of old) kept).state → b ≡ 10 → is_end kept ≡ false
+    → Appends written written' (ended (told (sizes_of old) (state_of old) kept).text) → Takes false old new kept [] (b ∷ []) written written'
+line_taken old new kept b written written' sound sizes stands at_end going wrote begun is =
     let on : is_end begun ≡ false = sym (kept_ends kept begun (kept_of kept begun is.front)) ∙ going in
     subst (λ (b : ℕ). HasTaken false old new begun [] (b ∷ []) written written') (sym at_end) (record {
       sound = sound;
@@ -170,24 +185,10 @@ line_taken old new begun kept b written written' sound sizes stands is at_end go
       ends = λ more. end_of_text begun more is.unended ∙ ap (λ (o : Bool). o || have_end (text_lines more)) on;
     })
 
--- nothing was taken
-pub nothing_taken : (session : Session) (begun kept : List ℕ) (written : Option (List ℕ)) → IsSession session → IsKept kept begun → Appends written written []
-    → HasTaken false session session begun kept [] written written
-nothing_taken session begun kept written sound is none = record {
-  sound = sound;
-  sizes = refl;
-  wrote = [];
-  appended = none;
-  begun' = begun;
-  is_kept = is;
-  tells = λ more. refl;
-  ends = λ more. refl;
-}
-
 -- bytes were taken, and then others
 pub taken_more : (over : Bool) (old mid new : Session) (begun kept kept' bytes more : List ℕ) (written written' written'' : Option (List ℕ))
     → HasTaken false old mid begun kept bytes written written'
-    → ((begun' : List ℕ) → IsKept kept begun' → HasTaken over mid new begun' kept' more written' written'') → HasTaken over old new begun kept' (bytes ++ more) written written''
+    → Takes over mid new kept kept' more written' written'' → HasTaken over old new begun kept' (bytes ++ more) written written''
 taken_more over old mid new begun kept kept' bytes more written written' written'' before after =
     let on = after before.begun' before.is_kept in
     record {
@@ -202,19 +203,29 @@ taken_more over old mid new begun kept kept' bytes more written written' written
       ends = λ rest. ap (ends_on false begun) (append_assoc bytes more rest) ∙ before.ends (more ++ rest) ∙ on.ends rest;
     }
 
+-- some of the bytes were taken, and then the next one
+pub next_taken : (over : Bool) (old mid new : Session) (kept kept' kept'' bytes : List ℕ) (i : ℕ) (written written' written'' : Option (List ℕ)) → i < length bytes
+    → Takes false old mid kept kept' (take i bytes) written written' → Takes over mid new kept' kept'' (slice_index bytes i ∷ []) written' written''
+    → Takes over old new kept kept'' (take (i + 1) bytes) written written''
+next_taken over old mid new kept kept' kept'' bytes i written written' written'' within before after begun is =
+    subst (λ some. HasTaken over old new begun kept'' some written written'') (sym (take_more bytes i 0 within))
+    (taken_more over old mid new begun kept' kept'' (take i bytes) (slice_index bytes i ∷ []) written written' written'' (before begun is) after)
+
 -- once the line `end` was taken, nothing that follows is told
-pub taken_over : (old new : Session) (begun kept bytes more : List ℕ) (written written' : Option (List ℕ))
-    → HasTaken true old new begun kept bytes written written' → HasTaken true old new begun kept (bytes ++ more) written written'
-taken_over old new begun kept bytes more written written' taken = record {
-  sound = taken.sound;
-  sizes = taken.sizes;
-  wrote = taken.wrote;
-  appended = taken.appended;
-  begun' = taken.begun';
-  is_kept = taken.is_kept;
-  tells = λ rest. ap (told_on false old begun) (append_assoc bytes more rest) ∙ taken.tells (more ++ rest);
-  ends = λ rest. ap (ends_on false begun) (append_assoc bytes more rest) ∙ taken.ends (more ++ rest);
-}
+pub taken_over : (old new : Session) (kept kept' bytes : List ℕ) (n : ℕ) (written written' : Option (List ℕ))
+    → Takes true old new kept kept' (take n bytes) written written' → Takes true old new kept kept' bytes written written'
+taken_over old new kept kept' bytes n written written' front begun is =
+    let taken = front begun is in
+    subst (λ all. HasTaken true old new begun kept' all written written') (take-append-drop n bytes) (record {
+      sound = taken.sound;
+      sizes = taken.sizes;
+      wrote = taken.wrote;
+      appended = taken.appended;
+      begun' = taken.begun';
+      is_kept = taken.is_kept;
+      tells = λ rest. ap (told_on false old begun) (append_assoc (take n bytes) (drop n bytes) rest) ∙ taken.tells (drop n bytes ++ rest);
+      ends = λ rest. ap (ends_on false begun) (append_assoc (take n bytes) (drop n bytes) rest) ∙ taken.ends (drop n bytes ++ rest);
+    })
 
 -- what is told of the bytes behind the last line end, of which these are kept, once a text has ended without the line `end`
 abbrev pub rest_on : Bool → List ℕ → List ℕ
@@ -256,15 +267,16 @@ all_told over sizes old new kept left left' written written' sizes_are at_openin
     ∙ ap (λ t. fed.told.wrote ++ t) (rest_told over new fed.told.begun' kept fed.told.is_kept)
 
 -- a session that was opened, fed a text and told what is left of it
-pub lived : (over : Bool) (sizes : Sizes) (old new : Session) (kept : List ℕ) (left left' written written' written'' : Option (List ℕ)) → sizes_of old ≡ sizes
-    → state_of old ≡ opening (job_of sizes) → HasFed over old new kept left left' written written' → Appends written' written'' (rest_on over kept)
+pub lived : (over known : Bool) (sizes : Sizes) (old new : Session) (kept : List ℕ) (left left' written written' written'' : Option (List ℕ)) → sizes_of old ≡ sizes
+    → state_of old ≡ opening (job_of sizes) → over ≡ known → HasFed over old new kept left left' written written' → Appends written' written'' (rest_on known kept)
     → HasLived sizes left left' written written''
-lived over sizes old new kept left left' written written' written'' sizes_are at_opening fed rest = record {
+lived over known sizes old new kept left left' written written' written'' sizes_are at_opening is fed rest = record {
   text = fed.text;
   taken = fed.taken;
   whole = ended_where over fed.text fed.told.begun' left' fed.whole (fed.told.ends []);
   wrote = subst (λ t. Appends written written'' t) (sym (all_told over sizes old new kept left left' written written' sizes_are at_opening fed))
-      (Appends-trans written written' written'' fed.told.wrote (rest_on over kept) fed.told.appended rest);
+      (Appends-trans written written' written'' fed.told.wrote (rest_on over kept) fed.told.appended
+      (subst (λ o. Appends written' written'' (rest_on o kept)) (sym is) rest));
 }
 
 -- a session read so many times, which gave a byte at least each time, and isn't over
@@ -274,11 +286,7 @@ pub record HasReadOn (times : ℕ) (old new : Session) (kept : List ℕ) (left l
   pub counted : times ≤ length text
   pub told : HasTaken false old new [] kept text written written'
 
--- nothing is written by whoever does nothing, and nothing is read
-pub nothing_written : (written : Option (List ℕ)) → Appends written written []
-nothing_written None = tt
-nothing_written (Some xs) = sym (append-nil xs)
-
+-- nothing is read by whoever does nothing
 pub nothing_read : (left : Option (List ℕ)) → Consumes left left []
 nothing_read None = tt
 nothing_read (Some xs) = refl
@@ -288,31 +296,31 @@ none_fed session kept left written sound none = record {
   text = [];
   taken = nothing_read left;
   counted = omega arith;
-  told = subst (λ k. HasTaken false session session [] k [] written written) (sym none) (nothing_taken session [] [] written sound none_kept (nothing_written written));
+  told = subst (λ k. HasTaken false session session [] k [] written written) (sym none) (nothing_taken session [] written sound [] none_kept);
 }
 
 -- one read more, whose bytes were taken
-pub read_more : (times : ℕ) (old mid new : Session) (kept kept' bytes : List ℕ) (left left' left'' written written' written'' : Option (List ℕ))
+pub read_more : (times : ℕ) (over : Bool) (old mid new : Session) (kept kept' bytes : List ℕ) (left left' left'' written written' written'' : Option (List ℕ))
     → HasReadOn times old mid kept left left' written written' → Consumes left' left'' bytes → 1 ≤ length bytes
-    → ((begun : List ℕ) → IsKept kept begun → HasTaken false mid new begun kept' bytes written' written'')
-    → HasReadOn (times + 1) old new kept' left left'' written written''
-read_more times old mid new kept kept' bytes left left' left'' written written' written'' before read some after = record {
+    → over ≡ false → Takes over mid new kept kept' bytes written' written'' → HasReadOn (times + 1) old new kept' left left'' written written''
+read_more times over old mid new kept kept' bytes left left' left'' written written' written'' before read some is after = record {
   text = before.text ++ bytes;
   taken = Consumes-trans left left' left'' before.text bytes before.taken read;
   counted = let counted = before.counted in omega (arith, counted, some, length-append before.text bytes);
-  told = taken_more false old mid new [] kept kept' before.text bytes written written' written'' before.told after;
+  told = subst (λ o. HasTaken o old new [] kept' (before.text ++ bytes) written written'') is
+      (taken_more over old mid new [] kept kept' before.text bytes written written' written'' before.told after);
 }
 
 -- one read more, with the line `end` among its bytes
-pub read_end : (times : ℕ) (old mid new : Session) (kept kept' bytes : List ℕ) (left left' left'' written written' written'' : Option (List ℕ))
+pub read_end : (times : ℕ) (over : Bool) (old mid new : Session) (kept kept' bytes : List ℕ) (left left' left'' written written' written'' : Option (List ℕ))
     → HasReadOn times old mid kept left left' written written' → Consumes left' left'' bytes
-    → ((begun : List ℕ) → IsKept kept begun → HasTaken true mid new begun kept' bytes written' written'')
-    → HasFed true old new kept' left left'' written written''
-read_end times old mid new kept kept' bytes left left' left'' written written' written'' before read after = record {
+    → over ≡ true → Takes over mid new kept kept' bytes written' written'' → HasFed true old new kept' left left'' written written''
+read_end times over old mid new kept kept' bytes left left' left'' written written' written'' before read is after = record {
   text = before.text ++ bytes;
   taken = Consumes-trans left left' left'' before.text bytes before.taken read;
-  whole = λ over. absurd (true≢false over);
-  told = taken_more true old mid new [] kept kept' before.text bytes written written' written'' before.told after;
+  whole = λ going. absurd (true≢false going);
+  told = subst (λ o. HasTaken o old new [] kept' (before.text ++ bytes) written written'') is
+      (taken_more over old mid new [] kept kept' before.text bytes written written' written'' before.told after);
 }
 
 -- no byte was left to read

@@ -1,7 +1,8 @@
 -- What was written when a session is stopped by an error.
-use Rattle.std.proofs.Common.{◌≡◌, ℕ, ◌+◌, false, List, [], ◌∷◌, ◌++◌, Option, Result, Ok, Err, append_assoc, append-nil, drop, length, take, take-append-drop, ap, refl, sym, subst, ◌∙◌}
+use Rattle.std.proofs.Common.{◌≡◌, ℕ, ◌+◌, ◌<◌, Bool, false, List, [], ◌∷◌, ◌++◌, Option, Result, Ok, Err, append_assoc, append-nil, drop, length, slice_index, take, take-append-drop, ap, refl, sym, subst, ◌∙◌}
 use Rattle.std.specs.Prelude.{OnErr}
 use Rattle.std.proofs.KnownBytes.{Appends-trans, Consumes-trans}
+use Rattle.std.proofs.lemmas.List.{take_more}
 use Rattle.std.proofs.Math.Seq.{take-append-add, take-append_seam}
 use Rattle.std.specs.Io.KnownBytes.{Appends, Consumes}
 use Rattle.model_jobs.specs.Jobs.{opening}
@@ -9,12 +10,11 @@ use Rattle.model_jobs.specs.Texts.{ended}
 use Rattle.mesh_job.specs.Lines.{text_lines}
 use Rattle.mesh_text.specs.Transfer.{AppendsBeginning}
 use Rattle.mesh_live.specs.Answers.{told}
-use Rattle.mesh_fields.specs.KeptLines.{IsKept}
-use Rattle.mesh_live.specs.Runs.{HasFed, HasStopped, HasTaken, IsFedPart, IsStopped, is_end, live_output, told_lines, told_on, told_rest}
+use Rattle.mesh_live.specs.Runs.{HasFed, HasStopped, IsFedPart, IsStopped, Takes, is_end, live_output, told_lines, told_on, told_rest}
 use Rattle.mesh_live.specs.Sessions.{job_of, sizes_of, state_of}
 use Rattle.mesh_live.specs.declared.session.Session.{Session}
 use Rattle.mesh_live.specs.declared.sizes.Sizes.{Sizes}
-use Rattle.mesh_live.proofs.Runs.{HasReadOn, all_told, from_opening, line_told, nothing_read, nothing_written}
+use Rattle.mesh_live.proofs.Runs.{HasReadOn, all_told, from_opening, line_told, nothing_read, nothing_written, rest_on}
 
 -- what holds in any case holds of an error
 pub on_error : {T E : Type 0} (P : Type 0) (r : Result T E) → P → OnErr r P
@@ -61,14 +61,19 @@ line_stopped session kept b written written' at_end going part begun is more =
 pub byte_stopped : (session : Session) (kept bytes : List ℕ) (written : Option (List ℕ)) → IsStopped session kept bytes written written
 byte_stopped session kept bytes written begun is more = none_begun written (told_on false session begun (bytes ++ more))
 
--- of some bytes one was not taken
-pub bytes_stopped : (old mid : Session) (kept kept' bytes front back : List ℕ) (b : ℕ) (written written' written'' : Option (List ℕ))
-    → ((begun : List ℕ) → IsKept kept begun → HasTaken false old mid begun kept' front written written') → IsStopped mid kept' (b ∷ []) written' written''
-    → bytes ≡ front ++ (b ∷ back) → IsStopped old kept bytes written written''
-bytes_stopped old mid kept kept' bytes front back b written written' written'' before stopped whole begun is more =
+-- some of the bytes were taken, and the next one was not
+pub next_stopped : (old mid : Session) (kept kept' bytes : List ℕ) (i : ℕ) (written written' written'' : Option (List ℕ)) → i < length bytes
+    → Takes false old mid kept kept' (take i bytes) written written' → IsStopped mid kept' (slice_index bytes i ∷ []) written' written''
+    → IsStopped old kept bytes written written''
+next_stopped old mid kept kept' bytes i written written' written'' within before stopped begun is more =
     let taken = before begun is in
+    let b : ℕ = slice_index bytes i in
+    let back : List ℕ = drop (i + 1) bytes in
+    let whole : bytes ≡ take i bytes ++ (b ∷ back)
+    = sym (take-append-drop (i + 1) bytes) ∙ ap (λ (front : List ℕ). front ++ back) (take_more bytes i 0 within) ∙ append_assoc (take i bytes) (b ∷ []) back in
     let all : told_on false old begun (bytes ++ more) ≡ taken.wrote ++ told_on false mid taken.begun' ((b ∷ []) ++ (back ++ more))
-    = ap (λ (bs : List ℕ). told_on false old begun (bs ++ more)) whole ∙ ap (told_on false old begun) (append_assoc front (b ∷ back) more) ∙ taken.tells ((b ∷ back) ++ more) in
+    = ap (λ (bs : List ℕ). told_on false old begun (bs ++ more)) whole ∙ ap (told_on false old begun) (append_assoc (take i bytes) (b ∷ back) more)
+    ∙ taken.tells ((b ∷ back) ++ more) in
     subst (λ text. AppendsBeginning written written'' text) (sym all)
     (more_begun written written' written'' taken.wrote (told_on false mid taken.begun' ((b ∷ []) ++ (back ++ more))) taken.appended
     (stopped taken.begun' taken.is_kept (back ++ more)))
@@ -112,12 +117,13 @@ part_stopped session left written written' at_opening fed = record {
   wrote = subst (λ all. AppendsBeginning written written' all) (from_opening (sizes_of session) session fed.text refl at_opening) fed.wrote;
 }
 
-pub rest_stopped : (old new : Session) (kept : List ℕ) (left left' written written' written'' : Option (List ℕ)) → state_of old ≡ opening (job_of (sizes_of old))
-    → HasFed false old new kept left left' written written' → AppendsBeginning written' written'' (told_rest kept) → HasStopped (sizes_of old) left written written''
-rest_stopped old new kept left left' written written' written'' at_opening fed part = record {
+pub rest_stopped : (over : Bool) (old new : Session) (kept : List ℕ) (left left' written written' written'' : Option (List ℕ)) → state_of old ≡ opening (job_of (sizes_of old))
+    → over ≡ false → HasFed over old new kept left left' written written' → AppendsBeginning written' written'' (told_rest kept) → HasStopped (sizes_of old) left written written''
+rest_stopped over old new kept left left' written written' written'' at_opening is fed part = record {
   text = fed.text;
   rest = left';
   taken = fed.taken;
-  wrote = subst (λ all. AppendsBeginning written written'' all) (sym (all_told false (sizes_of old) old new kept left left' written written' refl at_opening fed))
-      (more_begun written written' written'' fed.told.wrote (told_rest kept) fed.told.appended part);
+  wrote = subst (λ all. AppendsBeginning written written'' all) (sym (all_told over (sizes_of old) old new kept left left' written written' refl at_opening fed))
+      (more_begun written written' written'' fed.told.wrote (rest_on over kept) fed.told.appended
+      (subst (λ o. AppendsBeginning written' written'' (rest_on o kept)) (sym is) part));
 }

@@ -1,12 +1,9 @@
 -- What a session tells that is fed a text: the answers to its lines.
-use Rattle.std.specs.Prelude.{◌≡◌, ◌⊎◌, ◌^◌, ◌≤◌, ◌+◌, ℕ, Bool, true, false, ◌||◌, if◌then◌else◌, nat_eq, nat_lt, List, [], ◌∷◌, ◌++◌, Option, codes, length, take}
-use Rattle.std.specs.List.{All}
+use Rattle.std.specs.Prelude.{◌≡◌, ◌⊎◌, ◌^◌, ◌≤◌, ◌+◌, ℕ, Bool, true, false, ◌||◌, if◌then◌else◌, List, [], ◌∷◌, ◌++◌, Option, codes, length}
 use Rattle.std.specs.Io.KnownBytes.{Appends, Consumes, IsAtEnd}
 use Rattle.model_jobs.specs.JobFiles.{are_same}
 use Rattle.model_jobs.specs.Jobs.{State, opening}
 use Rattle.model_jobs.specs.Texts.{ended}
-use Rattle.model_words.specs.declared.faults.FaultKind.{FaultKind}
-use Rattle.model_words.specs.declared.faults.FaultKind.TheVariants.{Cut, LongLine}
 use Rattle.mesh_fields.specs.KeptLines.{IsKept, rest_fault}
 use Rattle.mesh_job.specs.Lines.{text_lines}
 use Rattle.mesh_text.specs.Transfer.{AppendsBeginning}
@@ -76,6 +73,14 @@ pub record HasTaken (over : Bool) (old new : Session) (begun kept bytes : List �
   pub is_kept : IsKept kept begun'
   pub tells : (more : List ℕ) → told_on false old begun (bytes ++ more) ≡ wrote ++ told_on over new begun' more
   pub ends : (more : List ℕ) → ends_on false begun (bytes ++ more) ≡ ends_on over begun' more
+
+-- the same, whatever line of which those bytes were kept it was
+abbrev pub Takes : Bool → Session → Session → List ℕ → List ℕ → List ℕ → Option (List ℕ) → Option (List ℕ) → Type 0
+Takes over old new kept kept' bytes written written' = (begun : List ℕ) → IsKept kept begun → HasTaken over old new begun kept' bytes written written'
+
+-- of a line, of which some bytes were kept, these are kept with one byte more
+abbrev pub Keeps : List ℕ → ℕ → List ℕ → Type 0
+Keeps kept byte kept' = (begun : List ℕ) → IsKept kept begun → IsKept kept' (begun ++ byte ∷ [])
 
 -- a session was fed this text, up to the line `end`, or to the input's end; these bytes are kept of what follows the last line end
 pub record HasFed (over : Bool) (old new : Session) (kept : List ℕ) (left left' written written' : Option (List ℕ)) : Type 0 where

@@ -1,12 +1,11 @@
 //! A whole session: its lines come from a device, and its answers go to one.
-ghost use Rattle.std.specs.Prelude.{◌≡◌, ◌≤◌, ◌⊎◌, ℕ, List, [], ◌∷◌, Err, false, true, is_err, length, vec_len, IfErr, IfOk, OnErr, OnOk};
+ghost use Rattle.std.specs.Prelude.{◌≡◌, ◌≢◌, ◌≤◌, ◌⊎◌, [], Err, false, true, is_err, length, vec_len, IfErr, IfOk, OnErr, OnOk};
 ghost use Rattle.std.specs.Io.KnownBytes.{Appends};
 ghost use Rattle.model_jobs.specs.Jobs.{opening};
 ghost use Rattle.model_jobs.specs.Texts.{ended};
-ghost use Rattle.mesh_fields.specs.KeptLines.{IsKept};
 ghost use Rattle.mesh_text.specs.Transfer.{AppendsBeginning};
 ghost use Rattle.mesh_live.specs.Answers.{told};
-ghost use Rattle.mesh_live.specs.Runs.{HasFed, HasLived, HasStopped, HasTaken, IsFedPart, IsStopped, is_end, told_rest};
+ghost use Rattle.mesh_live.specs.Runs.{HasFed, HasLived, HasStopped, IsFedPart, IsStopped, Keeps, Takes, is_end, told_rest};
 ghost use Rattle.mesh_live.specs.Sessions.{HasFairSizes, IsSession, job_of, sizes_of, state_of};
 
 use crate::answers::add_fault;
@@ -108,7 +107,8 @@ fn feed<I: Source, O: Sink>(
     Ok(false)
 }
 
-/// Takes bytes one by one. True where the line `end` was among them: nothing behind it is taken.
+/// Takes bytes one by one: keeps those of a line, and answers the line where a byte is its end. True where the line `end` was among them: nothing
+/// behind it is taken.
 fn take_bytes<O: Sink>(
     alloc: Global,
     session: &mut Session,
@@ -118,52 +118,35 @@ fn take_bytes<O: Sink>(
 ) -> Result<bool, ReplayError>
     requires sound { IsSession session.old }
     requires output { O.has_failed output.old ≡ false }
-    ensures ok { OnOk result (O.has_failed output.new ≡ false) }
-    ensures sound { OnOk result (IsSession session.new) }
-    ensures taken { IfOk result (λ over. (begun : List ℕ) → IsKept line.old.items begun
-        → HasTaken over session.old session.new begun line.new.items bytes.now (O.written output.old) (O.written output.new)) }
+    ensures ok { OnOk result ((O.has_failed output.new ≡ false) × IsSession session.new) }
+    ensures taken { IfOk result (λ over. Takes over session.old session.new line.old.items line.new.items bytes.now (O.written output.old) (O.written output.new)) }
     ensures stopped { OnErr result (IsStopped session.old line.old.items bytes.now (O.written output.old) (O.written output.new)) }
     ensures kinds { IfErr result (λ error. (error ≡ ReplayError.Write) ⊎ (error ≡ ReplayError.Memory)) }
     ensures write { result ≡ Err ReplayError.Write → O.has_failed output.new ≡ true }
 {
     for byte in bytes {
-        if take_byte(alloc, session, line, *byte, output)? {
+        if *byte != b'\n' {
+            keep(line, *byte)?;
+            continue;
+        }
+        if is_end(line.as_slice()) {
             return Ok(true);
         }
+        write_answer(alloc, session, line.as_slice(), output)?;
+        line.clear();
     }
     Ok(false)
 }
 
-/// Takes a byte of a line, or answers the line where the byte is its end. True where that line is `end`.
-fn take_byte<O: Sink>(
-    alloc: Global,
-    session: &mut Session,
-    line: &mut Vec<u8>,
-    byte: u8,
-    output: &mut O,
-) -> Result<bool, ReplayError>
-    requires sound { IsSession session.old }
-    requires output { O.has_failed output.old ≡ false }
-    ensures ok { OnOk result (O.has_failed output.new ≡ false) }
-    ensures sound { OnOk result (IsSession session.new) }
-    ensures taken { IfOk result (λ over. (begun : List ℕ) → IsKept line.old.items begun
-        → HasTaken over session.old session.new begun line.new.items (byte ∷ []) (O.written output.old) (O.written output.new)) }
-    ensures stopped { OnErr result (IsStopped session.old line.old.items (byte ∷ []) (O.written output.old) (O.written output.new)) }
-    ensures kinds { IfErr result (λ error. (error ≡ ReplayError.Write) ⊎ (error ≡ ReplayError.Memory)) }
-    ensures write { result ≡ Err ReplayError.Write → O.has_failed output.new ≡ true }
+/// Keeps a byte of a line, unless the line has too many.
+fn keep(line: &mut Vec<u8>, byte: u8) -> Result<(), AllocError>
+    requires { byte ≢ 10 }
+    ensures { OnOk result (Keeps line.old.items byte line.new.items) }
 {
-    if byte != b'\n' {
-        if line.len() <= MAX_LINE_BYTES {
-            line.extend_from_slice(&[byte])?;
-        }
-        return Ok(false);
+    if line.len() <= MAX_LINE_BYTES {
+        line.push(byte)?;
     }
-    if is_end(line.as_slice()) {
-        return Ok(true);
-    }
-    write_answer(alloc, session, line.as_slice(), output)?;
-    line.clear();
-    Ok(false)
+    Ok(())
 }
 
 /// Whether a line ends the session.
@@ -182,8 +165,7 @@ fn write_answer<O: Sink>(
 ) -> Result<(), ReplayError>
     requires sound { IsSession session.old }
     requires output { O.has_failed output.old ≡ false }
-    ensures ok { OnOk result (O.has_failed output.new ≡ false) }
-    ensures sound { OnOk result (IsSession session.new) }
+    ensures ok { OnOk result ((O.has_failed output.new ≡ false) × IsSession session.new) }
     ensures sizes { OnOk result (sizes_of session.new ≡ sizes_of session.old) }
     ensures stands { OnOk result (state_of session.new ≡ (told (sizes_of session.old) (state_of session.old) line.now).state) }
     ensures wrote { OnOk result (Appends (O.written output.old) (O.written output.new) (ended (told (sizes_of session.old) (state_of session.old) line.now).text)) }

@@ -1,8 +1,9 @@
 -- What `clap`'s contracts say of the program's command line.
-use Rattle.std.proofs.Common.{◌≡◌, true, false, List, [], ◌∷◌, Option, None, Some, Result, Ok, Err, IfErr, option_map, ap, refl, subst, sym, ◌∙◌, inl, inr}
+use Rattle.std.proofs.Common.{◌≡◌, true, false, List, [], ◌∷◌, ◌++◌, Option, None, Some, Result, Ok, Err, IfErr, option_map, ap, refl, subst, sym, ◌∙◌, inl, inr}
 use Rattle.std.specs.Box.{box_value}
 use Rattle.std.specs.Fmt.{digits}
-use Rattle.std.specs.Prelude.{codes, option_and_then}
+use Rattle.std.specs.List.{slice_split}
+use Rattle.std.specs.Prelude.{codes, nat_eq, option_and_then}
 use Rattle.clap.specs.Words.{App, FailsBy, HasKind, IsAmong, Row, Text, fault_of, first_of, first_value, is_simple, is_simple_and_free, kind_of, found_of, rows_of, subcommand_name_of, subcommand_of, subcommand_rows_of, takes}
 use Rattle.clap.specs.declared.error.Error.{Error}
 use Rattle.clap.specs.declared.parser.matches.ArgMatches.{ArgMatches}
@@ -10,7 +11,7 @@ use Rattle.clap.specs.declared.parser.matches.ArgMatches.TheViews.{out-ArgMatche
 use Rattle.clap.specs.declared.parser.matches.Found.{Found}
 use Rattle.clap.proofs.OnLiterals.{clap_on_literals}
 use Rattle.clap.proofs.WalkLemmas.{first_value-rows}
-use Rattle.mesh_run.specs.CommandLine.{IsSaidOf, asked, asked_by, asked_in, asked_of, is_taken, kinds_of, check_of, draw_of, explore_of, live_of, meshrun_app, replay_of, threads_of}
+use Rattle.mesh_run.specs.CommandLine.{Asked, IsSaidOf, asked, asked_by, asked_in, asked_of, is_taken, kinds_of, check_of, draw_of, explore_of, live_of, meshrun_app, replay_of, threads_of}
 use Rattle.mesh_run.specs.declared.printed.Printed.TheVariants.{Answers, History}
 
 -- the command line is one whose matches and faults `clap` tells
@@ -71,166 +72,85 @@ pub asked_of_file : (name : Text) (found : Found) (file : Option Text) → file 
     → option_and_then (asked_of name (rows_of found)) file ≡ option_and_then (asked_of name (rows_of found)) (first_of (codes "FILE") (rows_of found))
 asked_of_file name found file is = ap (option_and_then (asked_of name (rows_of found))) (is ∙ first_value-rows found (codes "FILE"))
 
--- where the command's name is a known one
-pub asked_of_known : (name known : Text) (found : Found) (file : Text) → name ≡ known → Some file ≡ first_value found (codes "FILE")
-    → asked_of known (rows_of found) file ≡ option_and_then (asked_of name (rows_of found)) (first_of (codes "FILE") (rows_of found))
-asked_of_known name known found file is has = sym (ap (λ text. asked_of text (rows_of found) file) is) ∙ asked_of_file name found (Some file) has
+-- where the command's name is a known one, and this is what that one asks for
+pub asked_of_known : (name known : Text) (found : Found) (file : Text) (asked : Option Asked) → name ≡ known → Some file ≡ first_value found (codes "FILE")
+    → asked ≡ asked_of known (rows_of found) file → asked ≡ option_and_then (asked_of name (rows_of found)) (first_of (codes "FILE") (rows_of found))
+asked_of_known name known found file asked is has asks =
+    asks ∙ sym (ap (λ text. asked_of text (rows_of found) file) is) ∙ asked_of_file name found (Some file) has
 
--- `meshrun replay hello.job` is a command line of the program, and asks a replay of `hello.job` that prints the answers
-abbrev hello : List Text
-hello = codes "meshrun" ∷ codes "replay" ∷ codes "hello.job" ∷ []
+-- the words of a command line: behind the program's name those of a text, with a space between two
+abbrev spoken : Text → List Text
+spoken text = codes "meshrun" ∷ slice_split (λ b. nat_eq b 32) text
 
-hello_is_asked : (is_taken hello ≡ true) × (asked hello ≡ Some (replay_of (codes "hello.job") Answers))
+-- a command line of the program that asks for this
+abbrev Asks : Text → Asked → Type 0
+Asks text what = (is_taken (spoken text) ≡ true) × (asked (spoken text) ≡ Some what)
+
+-- the answers of a replay are printed, or, with `--history` before the file or behind it, its history
+replays_are_asked :
+    Asks (codes "replay hello.job") (replay_of (codes "hello.job") Answers)
+    × Asks (codes "replay --history hello.job") (replay_of (codes "hello.job") History)
 unfolding clap_on_literals asked is_taken
-hello_is_asked = (refl, refl)
+replays_are_asked = ((refl, refl), (refl, refl))
 
--- with `--history`, before the file or behind it, it prints the history
-abbrev recorded : List Text
-recorded = codes "meshrun" ∷ codes "replay" ∷ codes "--history" ∷ codes "hello.job" ∷ []
-
-recorded_is_asked : (is_taken recorded ≡ true) × (asked recorded ≡ Some (replay_of (codes "hello.job") History))
+-- without `--meshers` one thread meshes; options stand in any order, and take the most that they may
+threads_are_asked :
+    Asks (codes "threads a.job --probe 2 --rounds 3 --workers 4 --seed 5")
+    (threads_of (codes "a.job") (record { probe = 2; rounds = 3; workers = 4; seed = 5; meshers = 1 }) Answers)
+    × Asks (codes "threads --meshers=10 --seed=18446744073709551615 --workers=16 a.job --rounds=1000 --history --probe=64")
+    (threads_of (codes "a.job") (record { probe = 64; rounds = 1000; workers = 16; seed = 18446744073709551615; meshers = 10 }) History)
 unfolding clap_on_literals asked is_taken
-recorded_is_asked = (refl, refl)
+threads_are_asked = ((refl, refl), (refl, refl))
 
--- the flag has no value
-abbrev valued : List Text
-valued = codes "meshrun" ∷ codes "replay" ∷ codes "hello.job" ∷ codes "--history=no" ∷ []
-
-valued_is_refused : is_taken valued ≡ false
-unfolding clap_on_literals is_taken
-valued_is_refused = refl
-
--- without `--meshers` one thread meshes
-abbrev small : List Text
-small = codes "meshrun" ∷ codes "threads" ∷ codes "a.job" ∷ codes "--probe" ∷ codes "2" ∷ codes "--rounds" ∷ codes "3" ∷ codes "--workers" ∷ codes "4" ∷ codes "--seed" ∷ codes "5" ∷ []
-
-small_is_asked : (is_taken small ≡ true) × (asked small ≡ Some (threads_of (codes "a.job") (record { probe = 2; rounds = 3; workers = 4; seed = 5; meshers = 1 }) Answers))
+-- a picture is of the whole plan, in as many columns as fit, or of a part of it from a line to another, in the most columns
+pictures_are_asked :
+    Asks (codes "draw a.job") (draw_of (codes "a.job") (record { from = 1; to = 1048576; columns = 0 }))
+    × Asks (codes "draw --to=1048576 a.job --columns=64 --from 12") (draw_of (codes "a.job") (record { from = 12; to = 1048576; columns = 64 }))
 unfolding clap_on_literals asked is_taken
-small_is_asked = (refl, refl)
+pictures_are_asked = ((refl, refl), (refl, refl))
 
--- options stand in any order, and take the most that they may; the history is printed
-abbrev large : List Text
-large = codes "meshrun" ∷ codes "threads" ∷ codes "--meshers=10" ∷ codes "--seed=18446744073709551615" ∷ codes "--workers=16" ∷ codes "a.job" ∷ codes "--rounds=1000" ∷ codes "--history" ∷ codes "--probe=64" ∷ []
-
-large_is_asked : (is_taken large ≡ true) × (asked large ≡ Some (threads_of (codes "a.job") (record { probe = 64; rounds = 1000; workers = 16; seed = 18446744073709551615; meshers = 10 }) History))
+-- a session is of the largest sizes; smaller ones may be asked for, and a journal with no room
+sessions_are_asked :
+    Asks (codes "live") (live_of (record { pages = 4096; history = 65536; workers = 64 }))
+    × Asks (codes "live --workers=1 --history 0 --pages=1") (live_of (record { pages = 1; history = 0; workers = 1 }))
 unfolding clap_on_literals asked is_taken
-large_is_asked = (refl, refl)
+sessions_are_asked = ((refl, refl), (refl, refl))
 
--- 17 threads make no search
-abbrev crowded : List Text
-crowded = codes "meshrun" ∷ codes "threads" ∷ codes "a.job" ∷ codes "--probe=2" ∷ codes "--rounds=3" ∷ codes "--workers=17" ∷ codes "--seed=5" ∷ []
-
-crowded_is_refused : is_taken crowded ≡ false
-unfolding clap_on_literals is_taken
-crowded_is_refused = refl
-
--- `meshrun draw a.job` asks for a picture of the whole plan, in as many columns as fit
-abbrev whole : List Text
-whole = codes "meshrun" ∷ codes "draw" ∷ codes "a.job" ∷ []
-
-whole_is_asked : (is_taken whole ≡ true) × (asked whole ≡ Some (draw_of (codes "a.job") (record { from = 1; to = 1048576; columns = 0 })))
+-- `check` asks whether a history is legal, and `-` is a file's name to the command line
+judgements_are_asked : Asks (codes "check a.history") (check_of (codes "a.history")) × Asks (codes "check -") (check_of (codes "-"))
 unfolding clap_on_literals asked is_taken
-whole_is_asked = (refl, refl)
+judgements_are_asked = ((refl, refl), (refl, refl))
 
--- a part of it from a line to another, in the most columns
-abbrev part : List Text
-part = codes "meshrun" ∷ codes "draw" ∷ codes "--to=1048576" ∷ codes "a.job" ∷ codes "--columns=64" ∷ codes "--from" ∷ codes "12" ∷ []
-
-part_is_asked : (is_taken part ≡ true) × (asked part ≡ Some (draw_of (codes "a.job") (record { from = 12; to = 1048576; columns = 64 })))
-unfolding clap_on_literals asked is_taken
-part_is_asked = (refl, refl)
-
--- there is no line 0
-abbrev early : List Text
-early = codes "meshrun" ∷ codes "draw" ∷ codes "a.job" ∷ codes "--from=0" ∷ []
-
-early_is_refused : is_taken early ≡ false
-unfolding clap_on_literals is_taken
-early_is_refused = refl
-
--- `meshrun live` asks for a session of the largest sizes
-abbrev largest : List Text
-largest = codes "meshrun" ∷ codes "live" ∷ []
-
-largest_is_asked : (is_taken largest ≡ true) × (asked largest ≡ Some (live_of (record { pages = 4096; history = 65536; workers = 64 })))
-unfolding clap_on_literals asked is_taken
-largest_is_asked = (refl, refl)
-
--- smaller ones may be asked for, and a journal with no room
-abbrev smallest : List Text
-smallest = codes "meshrun" ∷ codes "live" ∷ codes "--workers=1" ∷ codes "--history" ∷ codes "0" ∷ codes "--pages=1" ∷ []
-
-smallest_is_asked : (is_taken smallest ≡ true) × (asked smallest ≡ Some (live_of (record { pages = 1; history = 0; workers = 1 })))
-unfolding clap_on_literals asked is_taken
-smallest_is_asked = (refl, refl)
-
--- a session has no file
-abbrev filed : List Text
-filed = codes "meshrun" ∷ codes "live" ∷ codes "a.job" ∷ []
-
-filed_is_refused : is_taken filed ≡ false
-unfolding clap_on_literals is_taken
-filed_is_refused = refl
-
--- `meshrun check a.history` asks whether that history is legal, and `-` is a file's name to the command line
-abbrev judged : List Text
-judged = codes "meshrun" ∷ codes "check" ∷ codes "a.history" ∷ []
-
-judged_is_asked : (is_taken judged ≡ true) × (asked judged ≡ Some (check_of (codes "a.history")))
-unfolding clap_on_literals asked is_taken
-judged_is_asked = (refl, refl)
-
-abbrev piped : List Text
-piped = codes "meshrun" ∷ codes "check" ∷ codes "-" ∷ []
-
-piped_is_asked : (is_taken piped ≡ true) × (asked piped ≡ Some (check_of (codes "-")))
-unfolding clap_on_literals asked is_taken
-piped_is_asked = (refl, refl)
-
--- a picture isn't of a history
-abbrev pictured : List Text
-pictured = codes "meshrun" ∷ codes "draw" ∷ codes "a.job" ∷ codes "--history" ∷ []
-
-pictured_is_refused : is_taken pictured ≡ false
-unfolding clap_on_literals is_taken
-pictured_is_refused = refl
-
--- `meshrun explore a.job --mesh 1:0` asks for that mesh, never cancelled, and for all outcomes, of at most 100,000 states
-abbrev one_mesh : List Text
-one_mesh = codes "meshrun" ∷ codes "explore" ∷ codes "a.job" ∷ codes "--mesh" ∷ codes "1:0" ∷ []
-
-one_mesh_is_asked : (is_taken one_mesh ≡ true) × (asked one_mesh
-    ≡ Some (explore_of (codes "a.job") (record { meshes = record { source = 1; destination = 0 } ∷ []; cancel = None; states = 100000; witness = None })))
-unfolding clap_on_literals asked is_taken digits
-one_mesh_is_asked = (refl, refl)
-
--- two meshes in their order, between other options
-abbrev two_meshes : List Text
-two_meshes = codes "meshrun" ∷ codes "explore" ∷ codes "--mesh=65535:0" ∷ codes "--states" ∷ codes "1" ∷ codes "--cancel=1000" ∷ codes "a.job" ∷ codes "--mesh" ∷ codes "3:2" ∷ codes "--witness=0" ∷ []
-
-two_meshes_are_asked : (is_taken two_meshes ≡ true) × (asked two_meshes
-    ≡ Some (explore_of (codes "a.job") (record {
+-- one mesh is never cancelled, and explored for all outcomes, of at most 100,000 states; two meshes come in their order, between other options
+explorations_are_asked :
+    Asks (codes "explore a.job --mesh 1:0")
+    (explore_of (codes "a.job") (record { meshes = record { source = 1; destination = 0 } ∷ []; cancel = None; states = 100000; witness = None }))
+    × Asks (codes "explore --mesh=65535:0 --states 1 --cancel=1000 a.job --mesh 3:2 --witness=0")
+    (explore_of (codes "a.job") (record {
       meshes = record { source = 65535; destination = 0 } ∷ record { source = 3; destination = 2 } ∷ [];
       cancel = Some 1000;
       states = 1;
       witness = Some 0;
-    })))
+    }))
 unfolding clap_on_literals asked is_taken digits
-two_meshes_are_asked = (refl, refl)
+explorations_are_asked = ((refl, refl), (refl, refl))
 
--- a mesh has to be given
-abbrev unmeshed : List Text
-unmeshed = codes "meshrun" ∷ codes "explore" ∷ codes "a.job" ∷ []
-
-unmeshed_is_refused : is_taken unmeshed ≡ false
+-- the flag has no value, 17 threads make no search, there is no line 0, a session has no file, a picture isn't of a history, and a mesh has to be given
+are_refused :
+    (is_taken (spoken (codes "replay hello.job --history=no")) ≡ false)
+    × (is_taken (spoken (codes "threads a.job --probe=2 --rounds=3 --workers=17 --seed=5")) ≡ false)
+    × (is_taken (spoken (codes "draw a.job --from=0")) ≡ false)
+    × (is_taken (spoken (codes "live a.job")) ≡ false)
+    × (is_taken (spoken (codes "draw a.job --history")) ≡ false)
+    × (is_taken (spoken (codes "explore a.job")) ≡ false)
 unfolding clap_on_literals is_taken
-unmeshed_is_refused = refl
+are_refused = (refl, refl, refl, refl, refl, refl)
 
 -- a group has one spelling, and none is above 65,535: such words ask for nothing
-abbrev spelt : Text → List Text
-spelt pair = codes "meshrun" ∷ codes "explore" ∷ codes "a.job" ∷ codes "--mesh" ∷ pair ∷ []
+abbrev AsksNothing : Text → Type 0
+AsksNothing pair = asked (spoken (codes "explore a.job --mesh " ++ pair)) ≡ None
 
-misspelt_asks_nothing : (asked (spelt (codes "01:0")) ≡ None) × (asked (spelt (codes "1:+0")) ≡ None) × (asked (spelt (codes "65536:0")) ≡ None)
-    × (asked (spelt (codes "1")) ≡ None) × (asked (spelt (codes "1:0:2")) ≡ None)
+misspelt_asks_nothing : AsksNothing (codes "01:0") × AsksNothing (codes "1:+0") × AsksNothing (codes "65536:0") × AsksNothing (codes "1")
+    × AsksNothing (codes "1:0:2")
 unfolding clap_on_literals asked digits
 misspelt_asks_nothing = (refl, refl, refl, refl, refl)

@@ -1,10 +1,8 @@
 -- What `clap`'s contracts say of a command that is built.
-use Rattle.std.proofs.Common.{◌≡◌, ◌∙◌, Bool, true, false, Some, ap, ap₂, refl, sym}
+use Rattle.std.proofs.Common.{◌≡◌, ◌∙◌, Bool, true, false, ap, ap₂, refl, sym}
 use Rattle.std.proofs.Math.Bool.{and-false}
-use Rattle.std.specs.Borrow.{Bor}
-use Rattle.clap.specs.Simple.{app_of_fields}
 use Rattle.clap.specs.Walk.{is_simple_arg}
-use Rattle.clap.specs.Words.{AddsArg, AddsSubcommand, App, Rule, Text, app_of, rule_of, shape_of, with_rule, with_subcommand}
+use Rattle.clap.specs.Words.{AddsArg, AddsSubcommand, App, Rule, app_of, rule_of, shape_of, with_rule, with_subcommand}
 use Rattle.clap.specs.declared.builder.arg.Arg.{Arg}
 use Rattle.clap.specs.declared.builder.command.Command.{Command}
 use Rattle.clap.specs.declared.builder.command.Command.TheViews.{out-Command}
@@ -30,10 +28,6 @@ local_command c plain = go (out-Command c).has_globals refl
         let never : (shape_of c).is_plain ≡ false = rw is (simp and-false) in
         let bad : true ≡ false = sym plain ∙ never in
         absurd (cc bad)
-
--- a command told what it is about
-pub described : (old new : Command) (about : Bor Text) → out-Command new ≡ record (out-Command old) { about = Some about } → app_of new ≡ app_of old
-described old new about is = ap app_of_fields is
 
 -- a command with one more argument
 pub with_argument : (old : Command) (a : Arg) (new : Command) (app : App) (r : Rule) → AddsArg old a new → app_of old ≡ app → rule_of a ≡ r → r.is_simple ≡ true

@@ -4,4 +4,5 @@ pub mod ExplorationsRead
 pub mod FirstWords
 pub mod Messages
 pub mod NumbersRead
+pub mod Subcommands
 pub mod WordCounts

@@ -11,6 +11,7 @@ pub mod Runs
 pub mod Seen
 pub mod Status
 pub mod StatusLaws
+pub mod Subcommands
 pub mod Threads
 pub mod ThreadsArgs
 pub mod Words

@@ -4,7 +4,8 @@ ghost use Rattle.std.specs.IoError.{error_kind};
 ghost use Rattle.std.specs.declared.io.ErrorKind.TheVariants.{OutOfMemory as IoOutOfMemory};
 ghost use Rattle.clap.specs.Words.{app_of, first_of, found_of, kind_of, rows_of, rule_of, subcommand_rows_of};
 ghost use Rattle.mesh_run.specs.Meshes.{pairs_of};
-ghost use Rattle.mesh_run.specs.CommandLine.{IsAllowedOf, IsAsked, IsNoText, IsOutOfMemory, IsSaidOf, IsStopAt, asked, asked_in, asked_of, asking, check_app, draw_app, explore_app, explored_in, explored_of, file_rule, flag_rule, given_in, is_taken, live_app, mesh_rule, meshes_in, meshrun_app, number_in, number_or, number_rule, numbers_in, numbers_of, pair_of, pairs_in, printed_in, replay_app, required_number, shown_in, shown_of, sizes_in, sizes_of, status_of_kind, threads_app};
+ghost use Rattle.mesh_run.specs.Subcommands.{argument_rule, subcommand_app, with_subcommands};
+ghost use Rattle.mesh_run.specs.CommandLine.{IsAllowedOf, IsAsked, IsNoText, IsOutOfMemory, IsSaidOf, IsStopAt, asked, asked_in, asked_of, asking, explored_in, explored_of, flag_rule, given_in, is_taken, mesh_rule, meshes_in, meshrun_app, number_in, number_rule, numbers_in, numbers_of, pair_of, pairs_in, printed_in, shown_in, shown_of, sizes_in, sizes_of, status_of_kind};
 
 use crate::meshes::MOST_MESHES;
 use crate::status::{DONE, FAILED, FAULTY};
@@ -164,6 +165,93 @@ const WITNESS: NumberOption = NumberOption {
     most: 1000000,
     help: "Print a job file that leads to outcome K, 0 to 1000000, in place of what is told of all",
 };
+
+/// What may stand behind the name of a subcommand.
+#[derive(Clone, Copy)]
+enum Argument {
+    /// The file, with what help says of it.
+    File(&'static str),
+    /// The meshes.
+    Meshes,
+    /// An option with a number that has to be given.
+    Required(NumberOption),
+    /// An option with a number that is the default where it isn't given.
+    Default(NumberOption, &'static str),
+    /// An option with a number that may be left out.
+    Optional(NumberOption),
+    /// The flag that asks for a recorded history, with what help says of it.
+    Recorded(&'static str),
+}
+
+/// A subcommand: its name, what help says of it, and what may stand behind it.
+#[derive(Clone, Copy)]
+struct Subcommand {
+    name: &'static str,
+    about: &'static str,
+    arguments: &'static [Argument],
+}
+
+/// The subcommands, in the order in which help shows them.
+const SUBCOMMANDS: &[Subcommand] = &[
+    Subcommand {
+        name: "replay",
+        about: "Run a job file's plan and print one answer a line",
+        arguments: &[
+            Argument::File("The job file to replay"),
+            Argument::Recorded("Print the journal as a recorded history in place of the answers"),
+        ],
+    },
+    Subcommand {
+        name: "threads",
+        about: "Run a job file's scripts, a thread each, while others mesh, and print their answers",
+        arguments: &[
+            Argument::File("The job file; its plan is not used"),
+            Argument::Required(PROBE),
+            Argument::Required(ROUNDS),
+            Argument::Required(WORKERS),
+            Argument::Required(SEED),
+            Argument::Default(MESHERS, "1"),
+            Argument::Recorded(
+                "Print the history of all threads as a recorded history in place of each worker's answers",
+            ),
+        ],
+    },
+    Subcommand {
+        name: "draw",
+        about: "Draw a job file's plan as an SVG picture and print it",
+        arguments: &[
+            Argument::File("The job file to draw"),
+            Argument::Default(FROM, "1"),
+            Argument::Default(TO, "1048576"),
+            Argument::Default(COLUMNS, "0"),
+        ],
+    },
+    Subcommand {
+        name: "live",
+        about: "Answer the lines of standard input one by one, on a fresh heap",
+        arguments: &[
+            Argument::Default(PAGES, "4096"),
+            Argument::Default(HISTORY, "65536"),
+            Argument::Default(SESSION_WORKERS, "64"),
+        ],
+    },
+    Subcommand {
+        name: "explore",
+        about: "Run what a job file's plan leaves of its scripts in every interleaving with meshes, and print all answers",
+        arguments: &[
+            Argument::File("The job file; its plan is the setting"),
+            Argument::Meshes,
+            Argument::Optional(CANCEL),
+            Argument::Default(STATES, "100000"),
+            Argument::Optional(WITNESS),
+        ],
+    },
+    Subcommand {
+        name: "check",
+        about: "Judge a recorded history by the plain memory and say whether it is legal",
+        arguments: &[Argument::File("The recorded history, or - for standard input")],
+    },
+];
 
 /// The version that `--version` tells.
 const VERSION: &str = "0.1.0";
@@ -387,126 +475,69 @@ fn number_if_given<'a>(matches: &ArgMatches<'a>, option: NumberOption) -> Option
     }
 }
 
-/// The program's command line: a command with its file, help and version.
+/// The program's command line: a command with its subcommands, help and version.
 fn meshrun_command<'a>(alloc: Global) -> Result<Command<'a>, AllocError>
     ensures { IfOk result (λ command. app_of command ≡ meshrun_app) }
 {
-    let replay = replay_command(alloc)?;
-    let threads = threads_command(alloc)?;
-    let draw = draw_command(alloc)?;
-    let live = live_command(alloc)?;
-    let explore = explore_command(alloc)?;
-    let check = check_command(alloc)?;
-    Command::new(alloc, "meshrun")
+    let command = Command::new(alloc, "meshrun")
         .about("A modelled heap that is compacted by meshing")
         .version(VERSION)
         .subcommand_required(true)
-        .arg_required_else_help(true)
-        .subcommand(replay)?
-        .subcommand(threads)?
-        .subcommand(draw)?
-        .subcommand(live)?
-        .subcommand(explore)?
-        .subcommand(check)
+        .arg_required_else_help(true);
+    with_subcommands(alloc, command, SUBCOMMANDS)
 }
 
-/// `replay FILE [--history]`.
-fn replay_command<'a>(alloc: Global) -> Result<Command<'a>, AllocError>
-    ensures { IfOk result (λ command. app_of command ≡ replay_app) }
+/// A command with these subcommands behind those that it has.
+fn with_subcommands<'a>(
+    alloc: Global,
+    command: Command<'a>,
+    subcommands: &[Subcommand],
+) -> Result<Command<'a>, AllocError>
+    ensures { IfOk result (λ new. app_of new ≡ with_subcommands (app_of command.entry) subcommands.now) }
 {
-    Command::new(alloc, "replay")
-        .about("Run a job file's plan and print one answer a line")
-        .arg(file(alloc, "The job file to replay"))?
-        .arg(flag(
-            alloc,
-            RECORDED,
-            "Print the journal as a recorded history in place of the answers",
-        ))
+    let mut command = command;
+    let mut rest = subcommands;
+    while let [subcommand, behind @ ..] = rest {
+        command = command.subcommand(subcommand_of(alloc, subcommand)?)?;
+        rest = behind;
+    }
+    Ok(command)
 }
 
-/// `threads FILE --probe T --rounds R --workers N --seed S [--meshers M] [--history]`.
-fn threads_command<'a>(alloc: Global) -> Result<Command<'a>, AllocError>
-    ensures { IfOk result (λ command. app_of command ≡ threads_app) }
+/// What `clap` is told of a subcommand.
+fn subcommand_of<'a>(alloc: Global, subcommand: &Subcommand) -> Result<Command<'a>, AllocError>
+    ensures { IfOk result (λ command. app_of command ≡ subcommand_app subcommand.now) }
 {
-    Command::new(alloc, "threads")
-        .about(
-            "Run a job file's scripts, a thread each, while others mesh, and print their answers",
-        )
-        .arg(file(alloc, "The job file; its plan is not used"))?
-        .arg(required_number(alloc, PROBE))?
-        .arg(required_number(alloc, ROUNDS))?
-        .arg(required_number(alloc, WORKERS))?
-        .arg(required_number(alloc, SEED))?
-        .arg(number_or(alloc, MESHERS, "1"))?
-        .arg(flag(
-            alloc,
-            RECORDED,
-            "Print the history of all threads as a recorded history in place of each worker's answers",
-        ))
+    let mut command = Command::new(alloc, subcommand.name).about(subcommand.about);
+    let mut rest = subcommand.arguments;
+    while let [argument, behind @ ..] = rest {
+        command = command.arg(argument_of(alloc, argument))?;
+        rest = behind;
+    }
+    Ok(command)
 }
 
-/// `draw FILE [--from N] [--to N] [--columns N]`.
-fn draw_command<'a>(alloc: Global) -> Result<Command<'a>, AllocError>
-    ensures { IfOk result (λ command. app_of command ≡ draw_app) }
+/// What `clap` is told of what may stand behind a subcommand's name.
+fn argument_of<'a>(alloc: Global, argument: &Argument) -> Arg<'a>
+    ensures { rule_of result ≡ argument_rule argument.now }
 {
-    Command::new(alloc, "draw")
-        .about("Draw a job file's plan as an SVG picture and print it")
-        .arg(file(alloc, "The job file to draw"))?
-        .arg(number_or(alloc, FROM, "1"))?
-        .arg(number_or(alloc, TO, "1048576"))?
-        .arg(number_or(alloc, COLUMNS, "0"))
+    match *argument {
+        Argument::File(help) => Arg::new(alloc, FILE).required(true).help(help),
+        Argument::Meshes => mesh(alloc),
+        Argument::Required(option) => number_option(alloc, option).required(true),
+        Argument::Default(option, default) => number_option(alloc, option).default_value(default),
+        Argument::Optional(option) => number_option(alloc, option),
+        Argument::Recorded(help) => recorded(alloc).help(help),
+    }
 }
 
-/// `live [--pages P] [--history H] [--workers N]`.
-fn live_command<'a>(alloc: Global) -> Result<Command<'a>, AllocError>
-    ensures { IfOk result (λ command. app_of command ≡ live_app) }
+/// The flag that asks for a recorded history.
+fn recorded<'a>(alloc: Global) -> Arg<'a>
+    ensures { rule_of result ≡ flag_rule (codes "history") }
 {
-    Command::new(alloc, "live")
-        .about("Answer the lines of standard input one by one, on a fresh heap")
-        .arg(number_or(alloc, PAGES, "4096"))?
-        .arg(number_or(alloc, HISTORY, "65536"))?
-        .arg(number_or(alloc, SESSION_WORKERS, "64"))
-}
-
-/// `explore FILE --mesh SRC:DST [--mesh ..] [--cancel AFTER] [--states N] [--witness K]`.
-fn explore_command<'a>(alloc: Global) -> Result<Command<'a>, AllocError>
-    ensures { IfOk result (λ command. app_of command ≡ explore_app) }
-{
-    Command::new(alloc, "explore")
-        .about(
-            "Run what a job file's plan leaves of its scripts in every interleaving with meshes, and print all answers",
-        )
-        .arg(file(alloc, "The job file; its plan is the setting"))?
-        .arg(mesh(alloc))?
-        .arg(number_option(alloc, CANCEL))?
-        .arg(number_or(alloc, STATES, "100000"))?
-        .arg(number_option(alloc, WITNESS))
-}
-
-/// `check FILE`.
-fn check_command<'a>(alloc: Global) -> Result<Command<'a>, AllocError>
-    ensures { IfOk result (λ command. app_of command ≡ check_app) }
-{
-    Command::new(alloc, "check")
-        .about("Judge a recorded history by the plain memory and say whether it is legal")
-        .arg(file(alloc, "The recorded history, or - for standard input"))
-}
-
-/// The file.
-fn file<'a>(alloc: Global, help: &'static str) -> Arg<'a>
-    ensures { rule_of result ≡ file_rule }
-{
-    Arg::new(alloc, FILE).required(true).help(help)
-}
-
-/// A flag that is given by its name.
-fn flag<'a>(alloc: Global, name: &'static str, help: &'static str) -> Arg<'a>
-    ensures { rule_of result ≡ flag_rule name.now }
-{
-    Arg::new(alloc, name)
-        .long(name)
+    Arg::new(alloc, RECORDED)
+        .long(RECORDED)
         .action(ArgAction::SetTrue)
-        .help(help)
 }
 
 /// The option that asks for a mesh, and has to be given once or more.
@@ -519,20 +550,6 @@ fn mesh<'a>(alloc: Global) -> Arg<'a>
         .action(ArgAction::Append)
         .required(true)
         .help("A mesh of group SRC into group DST, each 0 to 65535; 1 to 10 times")
-}
-
-/// An option with a number that has to be given.
-fn required_number<'a>(alloc: Global, option: NumberOption) -> Arg<'a>
-    ensures { rule_of result ≡ required_number option.name.now option.least option.most }
-{
-    number_option(alloc, option).required(true)
-}
-
-/// An option with a number that is the default where it isn't given.
-fn number_or<'a>(alloc: Global, option: NumberOption, default: &'static str) -> Arg<'a>
-    ensures { rule_of result ≡ number_or option.name.now option.least option.most default.now }
-{
-    number_option(alloc, option).default_value(default)
 }
 
 /// An option with a number.

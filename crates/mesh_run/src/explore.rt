@@ -6,11 +6,11 @@ ghost use Rattle.mesh_run.specs.Explores.{EndsExplore, explore_status, explore_t
 ghost use Rattle.mesh_run.specs.Runs.{IsSound};
 
 use crate::fault_line::{Line, line_of, line_with};
-use crate::runs::tell;
+use crate::runs::{status_of, tell};
 use crate::status::{DONE, FAILED, FAULTY};
 use crate::{Devices, ExploreArgs};
 use mesh_outcomes::{ExploreError, ExploreOptions, explore};
-use mesh_text::{ReplayError, Sink, Source};
+use mesh_text::{Sink, Source};
 use std::alloc::Global;
 
 /// Explores what the plan of the job that the input gives leaves of its scripts, writes what is told to the output or a fault to `errors`, and gives
@@ -47,10 +47,7 @@ fn explore_line_of(error: ExploreError) -> Line
     ensures { result.items ≡ ended (explore_text error) }
 {
     match error {
-        ExploreError::Read => line_of(ReplayError::Read),
-        ExploreError::Write => line_of(ReplayError::Write),
-        ExploreError::Memory => line_of(ReplayError::Memory),
-        ExploreError::Text(fault) => line_of(ReplayError::Text(fault)),
+        ExploreError::Replay(error) => line_of(error),
         ExploreError::TooManyStates => line_with(b"too many states"),
         ExploreError::NoOutcome => line_with(b"no such outcome"),
     }
@@ -61,10 +58,8 @@ fn explore_status_of(error: ExploreError) -> u8
     ensures { result ≡ explore_status error }
 {
     match error {
-        ExploreError::Text(_) | ExploreError::NoOutcome => FAULTY,
-        ExploreError::Read
-        | ExploreError::Write
-        | ExploreError::Memory
-        | ExploreError::TooManyStates => FAILED,
+        ExploreError::Replay(error) => status_of(error),
+        ExploreError::TooManyStates => FAILED,
+        ExploreError::NoOutcome => FAULTY,
     }
 }

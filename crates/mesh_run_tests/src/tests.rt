@@ -6,7 +6,7 @@ ghost use Rattle.std.specs.Prelude.{◌≡◌, false};
 ghost use Rattle.mesh_run.specs.Runs.{IsSound};
 
 use mesh_run::{Devices, Input, Output, Printed, Source, replay_run};
-use std::alloc::Global;
+use std::alloc::{AllocError, Global};
 use std::fmt::Display;
 use std::process::Abort;
 
@@ -80,4 +80,22 @@ fn replayed_from<I: Source + Drop>(alloc: Global, input: I, printed: Printed) ->
 /// Replays a file from memory to memory, and prints its answers.
 fn replayed(alloc: Global, file: &[u8]) -> Ran {
     replayed_from(alloc, Input::new(file), Printed::Answers)
+}
+
+/// For each number of bytes `a`, with a line end or none, the kind of the fault of that line.
+static LENGTHS: [(usize, bool, &str); 5] = [
+    (1024, false, "CUT"),
+    (1024, true, "WORD"),
+    (1025, false, "LONG_LINE"),
+    (1025, true, "LONG_LINE"),
+    (40_000, true, "LONG_LINE"),
+];
+
+/// So many bytes `a`, with a line end or none.
+fn letters(alloc: Global, count: usize, has_end: bool) -> Result<Vec<u8>, AllocError> {
+    let mut text = vec![in alloc; b'a'; count]?;
+    if has_end {
+        text.push(b'\n')?;
+    }
+    Ok(text)
 }

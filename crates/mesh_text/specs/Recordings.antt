@@ -5,7 +5,7 @@ use Rattle.std.specs.List.{flat_map}
 use Rattle.model_memory.specs.Plain.{Entry}
 use Rattle.model_jobs.specs.Jobs.{Job, opening, state_after}
 use Rattle.model_jobs.specs.Texts.{command_text, ended, field, reply_text}
-use Rattle.mesh_text.specs.Replay.{HasFound, HasReadJob}
+use Rattle.mesh_text.specs.Replay.{HasFound, HasPlayed}
 use Rattle.mesh_text.specs.Transfer.{AppendsBeginning}
 use Rattle.mesh_text.specs.declared.faults.ReplayError.{ReplayError}
 use Rattle.mesh_text.specs.declared.faults.ReplayError.TheVariants.{Read, Write, Text, Memory}
@@ -31,16 +31,12 @@ abbrev pub journal_of : Job → List Entry
 journal_of job = (state_after job (opening job) job.plan).entries
 
 -- the input was read to its end, and the recorded history of its job's journal was written
-pub record HasReplayedRecorded (left left' written written' : Option (List ℕ)) : Type 0 where
-  pub job : Job
-  pub read : HasReadJob left left' job
-  pub wrote : Appends written written' (recorded_text (journal_of job))
+abbrev pub HasReplayedRecorded : Option (List ℕ) → Option (List ℕ) → Option (List ℕ) → Option (List ℕ) → Type 0
+HasReplayedRecorded left left' written written' = HasPlayed left left' (λ job. Appends written written' (recorded_text (journal_of job)))
 
 -- the input was read to its end, and a beginning of the recorded history of its job's journal was written
-pub record HasBegunRecorded (left left' written written' : Option (List ℕ)) : Type 0 where
-  pub job : Job
-  pub read : HasReadJob left left' job
-  pub wrote : AppendsBeginning written written' (recorded_text (journal_of job))
+abbrev pub HasBegunRecorded : Option (List ℕ) → Option (List ℕ) → Option (List ℕ) → Option (List ℕ) → Type 0
+HasBegunRecorded left left' written written' = HasPlayed left left' (λ job. AppendsBeginning written written' (recorded_text (journal_of job)))
 
 -- what was read and written, by the error that a recorded replay stopped for
 abbrev pub HasStoppedRecorded : Option (List ℕ) → Option (List ℕ) → Option (List ℕ) → Option (List ℕ) → ReplayError → Type 0

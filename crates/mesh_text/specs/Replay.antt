@@ -3,6 +3,7 @@ use Rattle.std.specs.Prelude.{◌≡◌, ◌⊎◌, ℕ, List, ◌++◌, Option,
 use Rattle.std.specs.Io.KnownBytes.{Appends, Consumes, IsAtEnd, Keeps}
 use Rattle.model_jobs.specs.JobFiles.{read_text, replayed}
 use Rattle.model_jobs.specs.Jobs.{Job}
+use Rattle.model_jobs.specs.Texts.{output}
 use Rattle.model_words.specs.declared.faults.TextFault.{TextFault}
 use Rattle.mesh_job.specs.Taken.{HasTaken}
 use Rattle.mesh_job.specs.declared.reader.Reading.{Reading}
@@ -44,21 +45,19 @@ pub record HasReplayed (left left' written written' : Option (List ℕ)) : Type 
   pub is_output : replayed text ≡ Ok answers
   pub wrote : Appends written written' answers
 
--- a job was read, and a beginning of its output was written
-pub record HasBegun (left left' written written' : Option (List ℕ)) : Type 0 where
-  pub text : List ℕ
-  pub read : HasRead left left' text
-  pub answers : List ℕ
-  pub is_output : replayed text ≡ Ok answers
-  pub wrote : AppendsBeginning written written' answers
-
--- a job was read, and the answers to a beginning of its plan were written
-pub record HasAnswered (left left' written written' : Option (List ℕ)) : Type 0 where
-  pub text : List ℕ
-  pub read : HasRead left left' text
+-- the input was read to its end, and this was done with its job
+pub record HasPlayed (left left' : Option (List ℕ)) (Does : Job → Type 0) : Type 0 where
   pub job : Job
-  pub is_job : read_text text ≡ Ok job
-  pub wrote : AppendsLines job written written'
+  pub read : HasReadJob left left' job
+  pub does : Does job
+
+-- a beginning of the job's output was written
+abbrev pub HasBegun : Option (List ℕ) → Option (List ℕ) → Option (List ℕ) → Option (List ℕ) → Type 0
+HasBegun left left' written written' = HasPlayed left left' (λ job. AppendsBeginning written written' (output job))
+
+-- the answers to a beginning of the job's plan were written
+abbrev pub HasAnswered : Option (List ℕ) → Option (List ℕ) → Option (List ℕ) → Option (List ℕ) → Type 0
+HasAnswered left left' written written' = HasPlayed left left' (λ job. AppendsLines job written written')
 
 -- a text was read that has this fault
 pub record HasFound (left left' : Option (List ℕ)) (fault : TextFault) : Type 0 where

@@ -22,7 +22,7 @@ mod run;
 mod transfer;
 mod turns;
 
-pub use answers::{add_bytes, add_decimal, add_refusal, add_reply};
+pub use answers::{add_bytes, add_decimal, add_refusal, add_reply, digit};
 pub use commands::add_command;
 pub use devices::{DeviceFault, Input, Output, Sink, Source};
 pub use faults::ReplayError;

@@ -1,34 +1,42 @@
 //! Files that are no job.
 use crate::tests::files::{FAULTS, FIRST_FILE};
-use crate::tests::replayed;
+use crate::tests::{LENGTHS, letters, replayed};
+use std::process::Abort;
 use std::test::Fail;
+
+/// The files that are no job: for each its name, its text and the line of its fault. All that go over them ask for them here, so that the proof
+/// of one function alone goes through the table.
+pub(crate) fn faulty_files() -> &'static [(&'static str, &'static str, &'static str)] {
+    FAULTS.as_slice()
+}
 
 #[test]
 fn tells_each_fault(rt: HostRuntime) {
-    for (name, file, fault) in FAULTS.iter() {
+    for (name, file, fault) in faulty_files() {
         replayed(rt.alloc(), file.as_bytes()).check(&rt, b"", fault, 2, *name);
     }
 }
 
-/// For each number of bytes `a`, with a line end or none, what is said of them.
-static LENGTHS: [(usize, bool, &str); 5] = [
-    (1024, false, "line 1: CUT\n"),
-    (1024, true, "line 1: WORD\n"),
-    (1025, false, "line 1: LONG_LINE\n"),
-    (1_048_576, false, "line 1: LONG_LINE\n"),
-    (1_048_577, false, "line 0: TOO_LONG\n"),
-];
+/// Asserts what is said of a file of so many bytes `a`, with a line end or none.
+fn check_length(
+    rt: &(impl Abort + AllocGlobal),
+    count: usize,
+    has_end: bool,
+    fault: &str,
+) -> Result<(), Fail> {
+    let file = letters(rt.alloc(), count, has_end)?;
+    replayed(rt.alloc(), file.as_slice()).check(rt, b"", fault, 2, count);
+    Ok(())
+}
 
 #[test]
 fn tells_faults_of_lengths(rt: HostRuntime) -> Result<(), Fail> {
-    for (count, has_end, fault) in LENGTHS.iter() {
-        let mut file = vec![in rt.alloc(); b'a'; *count]?;
-        if *has_end {
-            file.push(b'\n')?;
-        }
-        replayed(rt.alloc(), file.as_slice()).check(&rt, b"", fault, 2, *count);
+    for (count, has_end, kind) in LENGTHS.iter() {
+        let fault = format!(in rt.alloc(); "line 1: {kind}\n")?;
+        check_length(&rt, *count, *has_end, fault.as_str())?;
     }
-    Ok(())
+    check_length(&rt, 1_048_576, false, "line 1: LONG_LINE\n")?;
+    check_length(&rt, 1_048_577, false, "line 0: TOO_LONG\n")
 }
 
 #[test]

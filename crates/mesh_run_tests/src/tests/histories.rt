@@ -1,5 +1,5 @@
 //! The text of a history: its answers, and as it is recorded.
-use crate::tests::files::FAULTS;
+use crate::tests::faults::faulty_files;
 use crate::tests::replayed_from;
 use mesh_mutator::{Command, Entry, Refusal, Reply};
 use mesh_run::{Input, Printed};
@@ -65,7 +65,7 @@ fn a_replay_prints_its_journal(rt: HostRuntime) {
 
 #[test]
 fn a_faulty_file_has_no_journal(rt: HostRuntime) {
-    for (name, file, fault) in FAULTS.iter() {
+    for (name, file, fault) in faulty_files() {
         let input = Input::new(file.as_bytes());
         let run = replayed_from(rt.alloc(), input, Printed::History);
         run.check(&rt, b"", fault, 2, *name);

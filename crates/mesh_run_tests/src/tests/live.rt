@@ -1,4 +1,5 @@
 //! A live session: lines that are answered one by one.
+use crate::tests::{LENGTHS, letters};
 use mesh_live::{Sizes, live};
 use mesh_run::{Input, Output};
 use std::process::Abort;
@@ -81,23 +82,12 @@ fn answers_the_lines_of_a_row(rt: HostRuntime) -> Result<(), Fail> {
     Ok(())
 }
 
-/// How many bytes a line has, whether it has an end, and what it is told.
-static LENGTHS: [(usize, bool, &str); 6] = [
-    (0, false, ""),
-    (1024, false, "fault CUT\n"),
-    (1024, true, "fault WORD\n"),
-    (1025, false, "fault LONG_LINE\n"),
-    (1025, true, "fault LONG_LINE\n"),
-    (40_000, true, "fault LONG_LINE\n"),
-];
-
 #[test]
 fn answers_lines_of_many_bytes(rt: HostRuntime) -> Result<(), Fail> {
-    for (count, has_end, answer) in LENGTHS.iter() {
-        let mut asked = vec![in rt.alloc(); b'a'; *count]?;
-        if *has_end {
-            asked.push(b'\n')?;
-        }
+    check_session(&rt, b"", b"");
+    for (count, has_end, kind) in LENGTHS.iter() {
+        let asked = letters(rt.alloc(), *count, *has_end)?;
+        let answer = format!(in rt.alloc(); "fault {kind}\n")?;
         check_session(&rt, asked.as_slice(), answer.as_bytes());
     }
     Ok(())

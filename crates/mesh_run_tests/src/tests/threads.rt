@@ -2,7 +2,7 @@
 ghost use Rattle.std.specs.Prelude.{◌≡◌, ◌≤◌, false};
 
 use crate::tests::devices::SlowSource;
-use crate::tests::files::FAULTS;
+use crate::tests::faults::faulty_files;
 use crate::tests::{Ran, in_memory};
 use mesh_run::{Input, Printed, Source, ThreadsArgs, threads_run};
 use std::sync::Wait;
@@ -38,7 +38,7 @@ fn ran<R: Threads + Wait + Sync + AllocGlobal, I: Source + Drop>(
 
 #[test]
 fn tells_each_fault_of_a_file(rt: HostRuntime) {
-    for (name, file, fault) in FAULTS.iter() {
+    for (name, file, fault) in faulty_files() {
         let input = Input::new(file.as_bytes());
         let run = ran(&rt, input, &FEWEST, Printed::Answers);
         run.check(&rt, b"", fault, 2, *name);

@@ -1,7 +1,7 @@
-use Rattle.std.proofs.Common.{true, false, refl, subst}
+use Rattle.std.proofs.Common.{refl, subst}
 use Rattle.std.proofs.lemmas.Result.{on_ok_weaker}
 use Rattle.std.specs.Io.KnownBytes.{Appends}
-use Rattle.mesh_live.specs.Runs.{HasFed, told_rest}
+use Rattle.mesh_live.specs.Runs.{told_rest}
 use Rattle.mesh_live.specs.Sessions.{sizes_of}
 use Rattle.mesh_live.proofs.Runs.{lived, nothing_written}
 use Rattle.mesh_text.specs.Transfer.{AppendsBeginning}
@@ -10,22 +10,13 @@ use Rattle.mesh_live.proofs.run.live_on.Goals as goal
 
 pub returns-then-branch-clause-lived : goal.returns-then-branch-clause-lived
 returns-then-branch-clause-lived g c =
-    let left = g.I.Source.remaining in
-    let wrote = g.O.Sink.written in
-    let fed = subst (λ over. HasFed over c.args.session.now c.feed.new.session c.feed.new.line.items (left c.args.input.now) (left c.feed.new.input) (wrote c.args.output.now) (wrote c.feed.new.output))
-    c.if-branch.true c.in_ok-feed.ensures.fed in
-    lived true (sizes_of c.args.session.now) c.args.session.now c.feed.new.session c.feed.new.line.items (left c.args.input.now) (left c.feed.new.input)
-    (wrote c.args.output.now) (wrote c.feed.new.output) (wrote c.feed.new.output) refl c.requires.opening fed (nothing_written (wrote c.feed.new.output))
+    lived _ _ _ _ _ c.feed.new.line.items _ _ _ _ _ refl c.requires.opening c.if-branch.true c.in_ok-feed.ensures.fed (nothing_written (g.O.Sink.written c.feed.new.output))
 
 pub returns-clause-lived : goal.returns-clause-lived
 returns-clause-lived g c =
-    let left = g.I.Source.remaining in
     let wrote = g.O.Sink.written in
-    let fed = subst (λ over. HasFed over c.args.session.now c.feed.new.session c.feed.new.line.items (left c.args.input.now) (left c.feed.new.input) (wrote c.args.output.now) (wrote c.feed.new.output))
-    c.if-branch.false c.in_ok-feed.ensures.fed in
     on_ok_weaker c.write_rest.result
-    (λ rest. lived false (sizes_of c.args.session.now) c.args.session.now c.feed.new.session c.feed.new.line.items (left c.args.input.now) (left c.feed.new.input)
-    (wrote c.args.output.now) (wrote c.feed.new.output) (wrote c.write_rest.new.output) refl c.requires.opening fed
+    (λ rest. lived _ _ _ _ _ c.feed.new.line.items _ _ _ _ _ refl c.requires.opening c.if-branch.false c.in_ok-feed.ensures.fed
     (subst (λ bytes. Appends (wrote c.feed.new.output) (wrote c.write_rest.new.output) (told_rest bytes)) c.as_slice.ensures.value rest)) c.write_rest.ensures.wrote
 
 pub returns-in_err-buffer-clause-stopped : goal.returns-in_err-buffer-clause-stopped
@@ -33,17 +24,11 @@ returns-in_err-buffer-clause-stopped g c =
     on_error _ _ (none_stopped (sizes_of c.args.session.now) (g.I.Source.remaining c.args.input.now) (g.O.Sink.written c.args.output.now))
 
 pub returns-in_err-feed-clause-stopped : goal.returns-in_err-feed-clause-stopped
-returns-in_err-feed-clause-stopped g c =
-    on_error _ _ (part_stopped c.args.session.now (g.I.Source.remaining c.args.input.now) (g.O.Sink.written c.args.output.now) (g.O.Sink.written c.feed.new.output)
-    c.requires.opening c.in_err-feed.ensures.stopped)
+returns-in_err-feed-clause-stopped g c = on_error _ _ (part_stopped _ _ _ _ c.requires.opening c.in_err-feed.ensures.stopped)
 
 pub returns-clause-stopped : goal.returns-clause-stopped
 returns-clause-stopped g c =
-    let left = g.I.Source.remaining in
     let wrote = g.O.Sink.written in
-    let fed = subst (λ over. HasFed over c.args.session.now c.feed.new.session c.feed.new.line.items (left c.args.input.now) (left c.feed.new.input) (wrote c.args.output.now) (wrote c.feed.new.output))
-    c.if-branch.false c.in_ok-feed.ensures.fed in
     on_error_weaker c.write_rest.result
-    (λ part. rest_stopped c.args.session.now c.feed.new.session c.feed.new.line.items (left c.args.input.now) (left c.feed.new.input)
-    (wrote c.args.output.now) (wrote c.feed.new.output) (wrote c.write_rest.new.output) c.requires.opening fed
+    (λ part. rest_stopped _ _ _ _ _ _ _ _ _ c.requires.opening c.if-branch.false c.in_ok-feed.ensures.fed
     (subst (λ bytes. AppendsBeginning (wrote c.feed.new.output) (wrote c.write_rest.new.output) (told_rest bytes)) c.as_slice.ensures.value part)) c.write_rest.ensures.begun

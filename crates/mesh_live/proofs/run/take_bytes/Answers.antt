@@ -1,61 +1,72 @@
-use Rattle.std.proofs.Common.{◌∙◌, ap, append_assoc, ◌≡◌, ◌+◌, ℕ, List, [], ◌∷◌, ◌++◌, true, false, drop, slice_index, take, take-append-drop, subst, sym}
-use Rattle.std.proofs.lemmas.List.{take_all, take_more}
-use Rattle.mesh_fields.specs.KeptLines.{IsKept}
-use Rattle.mesh_live.specs.Runs.{HasTaken}
-use Rattle.mesh_live.proofs.Runs.{nothing_taken, nothing_written, taken_more, taken_over}
-use Rattle.mesh_live.proofs.Stops.{bytes_stopped, on_error}
+use Rattle.std.proofs.Common.{◌≡◌, ◌+◌, [], ◌∷◌, false, true, slice_index, sym, subst}
+use Rattle.std.specs.Io.KnownBytes.{Appends}
+use Rattle.std.proofs.lemmas.List.{take_all}
+use Rattle.model_jobs.specs.Texts.{ended}
+use Rattle.mesh_text.specs.Transfer.{AppendsBeginning}
+use Rattle.mesh_live.specs.Answers.{told}
+use Rattle.mesh_live.specs.Runs.{Takes, is_end}
+use Rattle.mesh_live.specs.Sessions.{sizes_of, state_of}
+use Rattle.mesh_live.proofs.Runs.{byte_taken, end_taken, ends_by, line_taken, next_taken, nothing_taken, taken_over}
+use Rattle.mesh_live.proofs.Stops.{byte_stopped, line_stopped, next_stopped, on_error}
 use Rattle.mesh_live.proofs.run.take_bytes.Goals as goal
 
 pub loop-byte-init : goal.loop-byte-init
 loop-byte-init g c = record {
   sound = c.requires.sound;
   fresh = c.requires.output;
-  taken = λ begun is. nothing_taken c.args.session.now begun c.args.line.now.items (g.O.Sink.written c.args.output.now) c.requires.sound is
-      (nothing_written (g.O.Sink.written c.args.output.now));
+  taken = nothing_taken c.args.session.now c.args.line.now.items (g.O.Sink.written c.args.output.now) c.requires.sound;
 }
 
-pub returns-then-branch-clause-taken : goal.returns-then-branch-clause-taken
-returns-then-branch-clause-taken g c = λ begun is.
-    let bytes = c.args.bytes.now in
-    let i = c.loop-byte.byte-index in
-    let one : take (i + 1) bytes ≡ take i bytes ++ slice_index bytes i ∷ [] = take_more bytes i 0 c.loop-byte-test.true in
-    let at = subst (λ over. (begun' : List ℕ) → IsKept c.loop-byte.line.items begun'
-    → HasTaken over c.loop-byte.session c.take_byte.new.session begun' c.take_byte.new.line.items (slice_index bytes i ∷ []) (g.O.Sink.written c.loop-byte.output) (g.O.Sink.written c.take_byte.new.output))
-    c.if-branch.true c.in_ok-take_byte.ensures.taken in
-    let taken = taken_more true c.args.session.now c.loop-byte.session c.take_byte.new.session begun c.loop-byte.line.items c.take_byte.new.line.items (take i bytes) (slice_index bytes i ∷ [])
-    (g.O.Sink.written c.args.output.now) (g.O.Sink.written c.loop-byte.output) (g.O.Sink.written c.take_byte.new.output) (c.loop-byte.invariant.taken begun is) at in
-    let front = subst (λ some. HasTaken true c.args.session.now c.take_byte.new.session begun c.take_byte.new.line.items some (g.O.Sink.written c.args.output.now) (g.O.Sink.written c.take_byte.new.output)) (sym one) taken in
-    subst (λ all. HasTaken true c.args.session.now c.take_byte.new.session begun c.take_byte.new.line.items all (g.O.Sink.written c.args.output.now) (g.O.Sink.written c.take_byte.new.output))
-    (take-append-drop (i + 1) bytes)
-    (taken_over c.args.session.now c.take_byte.new.session begun c.take_byte.new.line.items (take (i + 1) bytes) (drop (i + 1) bytes) (g.O.Sink.written c.args.output.now) (g.O.Sink.written c.take_byte.new.output) front)
+pub returns-in_err-keep-clause-stopped : goal.returns-in_err-keep-clause-stopped
+returns-in_err-keep-clause-stopped g c =
+    on_error _ _ (next_stopped _ _ c.args.line.now.items c.loop-byte.line.items c.args.bytes.now c.loop-byte.byte-index _ _ _ c.loop-byte-test.true c.loop-byte.invariant.taken
+    (byte_stopped c.loop-byte.session _ (slice_index c.args.bytes.now c.loop-byte.byte-index ∷ []) _))
+
+pub loop-byte-preserved-then-byte-ne10 : goal.loop-byte-preserved-then-byte-ne10
+loop-byte-preserved-then-byte-ne10 g c = record {
+  sound = c.loop-byte.invariant.sound;
+  fresh = c.loop-byte.invariant.fresh;
+  taken = next_taken _ _ _ _ _ c.loop-byte.line.items _ c.args.bytes.now c.loop-byte.byte-index _ _ _ c.loop-byte-test.true c.loop-byte.invariant.taken
+      (byte_taken c.loop-byte.session c.loop-byte.line.items _ _ _ c.loop-byte.invariant.sound c.in_ok-keep.ensures);
+}
+
+pub returns-then-is_end-clause-taken : goal.returns-then-is_end-clause-taken
+returns-then-is_end-clause-taken g c =
+    let ended : is_end c.loop-byte.line.items ≡ true = ends_by _ _ _ _ c.as_slice.ensures.value c.is_end.ensures c.if-is_end.true in
+    taken_over _ _ _ _ c.args.bytes.now (c.loop-byte.byte-index + 1) _ _
+    (next_taken _ _ _ _ _ c.loop-byte.line.items _ c.args.bytes.now c.loop-byte.byte-index _ _ _ c.loop-byte-test.true c.loop-byte.invariant.taken
+    (end_taken c.loop-byte.session c.loop-byte.line.items _ _ c.loop-byte.invariant.sound c.if-byte-ne10.false ended))
+
+pub returns-in_err-write_answer-clause-stopped : goal.returns-in_err-write_answer-clause-stopped
+returns-in_err-write_answer-clause-stopped g c =
+    let going : is_end c.loop-byte.line.items ≡ false = ends_by _ _ _ _ c.as_slice.ensures.value c.is_end.ensures c.if-is_end.false in
+    let old = c.loop-byte.session in
+    let begun = subst (λ line. AppendsBeginning (g.O.Sink.written c.loop-byte.output) (g.O.Sink.written c.write_answer.new.output) (ended (told (sizes_of old) (state_of old) line).text))
+    c.as_slice-in-loop-byte.ensures.value c.in_err-write_answer.ensures.begun in
+    on_error _ _ (next_stopped _ _ c.args.line.now.items c.loop-byte.line.items c.args.bytes.now c.loop-byte.byte-index _ _ _ c.loop-byte-test.true c.loop-byte.invariant.taken
+    (line_stopped old c.loop-byte.line.items _ _ _ c.if-byte-ne10.false going begun))
 
 pub loop-byte-preserved : goal.loop-byte-preserved
-loop-byte-preserved g c = record {
-  sound = c.in_ok-take_byte.ensures.sound;
-  fresh = c.in_ok-take_byte.ensures.ok;
-  taken = λ begun is.
-      let bytes = c.args.bytes.now in
-      let i = c.loop-byte.byte-index in
-      let one : take (i + 1) bytes ≡ take i bytes ++ slice_index bytes i ∷ [] = take_more bytes i 0 c.loop-byte-test.true in
-      let at = subst (λ over. (begun' : List ℕ) → IsKept c.loop-byte.line.items begun'
-      → HasTaken over c.loop-byte.session c.take_byte.new.session begun' c.take_byte.new.line.items (slice_index bytes i ∷ []) (g.O.Sink.written c.loop-byte.output) (g.O.Sink.written c.take_byte.new.output))
-      c.if-branch.false c.in_ok-take_byte.ensures.taken in
-      subst (λ some. HasTaken false c.args.session.now c.take_byte.new.session begun c.take_byte.new.line.items some (g.O.Sink.written c.args.output.now) (g.O.Sink.written c.take_byte.new.output)) (sym one)
-      (taken_more false c.args.session.now c.loop-byte.session c.take_byte.new.session begun c.loop-byte.line.items c.take_byte.new.line.items (take i bytes) (slice_index bytes i ∷ [])
-      (g.O.Sink.written c.args.output.now) (g.O.Sink.written c.loop-byte.output) (g.O.Sink.written c.take_byte.new.output) (c.loop-byte.invariant.taken begun is) at);
-}
-
-pub returns-clause-taken : goal.returns-clause-taken
-returns-clause-taken g c = λ begun is.
-    subst (λ all. HasTaken false c.args.session.now c.loop-byte.session begun c.loop-byte.line.items all (g.O.Sink.written c.args.output.now) (g.O.Sink.written c.loop-byte.output))
-    (take_all c.loop-byte.byte-index c.args.bytes.now c.loop-byte-test.false) (c.loop-byte.invariant.taken begun is)
-
-pub returns-in_err-take_byte-clause-stopped : goal.returns-in_err-take_byte-clause-stopped
-returns-in_err-take_byte-clause-stopped g c =
+loop-byte-preserved g c =
+    let going : is_end c.loop-byte.line.items ≡ false = ends_by _ _ _ _ c.as_slice.ensures.value c.is_end.ensures c.if-is_end.false in
+    let old = c.loop-byte.session in
+    let new = c.write_answer.new.session in
     let bytes = c.args.bytes.now in
     let i = c.loop-byte.byte-index in
-    let whole : bytes ≡ take i bytes ++ (slice_index bytes i ∷ drop (i + 1) bytes)
-    = sym (take-append-drop (i + 1) bytes) ∙ ap (λ (front : List ℕ). front ++ drop (i + 1) bytes) (take_more bytes i 0 c.loop-byte-test.true)
-    ∙ append_assoc (take i bytes) (slice_index bytes i ∷ []) (drop (i + 1) bytes) in
-    on_error _ _ (bytes_stopped c.args.session.now c.loop-byte.session c.args.line.now.items c.loop-byte.line.items bytes (take i bytes) (drop (i + 1) bytes) (slice_index bytes i)
-    (g.O.Sink.written c.args.output.now) (g.O.Sink.written c.loop-byte.output) (g.O.Sink.written c.take_byte.new.output) c.loop-byte.invariant.taken c.in_err-take_byte.ensures.stopped whole)
+    let wrote = g.O.Sink.written in
+    let stands = subst (λ line. state_of new ≡ (told (sizes_of old) (state_of old) line).state) c.as_slice-in-loop-byte.ensures.value c.in_ok-write_answer.ensures.stands in
+    let appended = subst (λ line. Appends (wrote c.loop-byte.output) (wrote c.write_answer.new.output) (ended (told (sizes_of old) (state_of old) line).text))
+    c.as_slice-in-loop-byte.ensures.value c.in_ok-write_answer.ensures.wrote in
+    let one = subst (λ kept. Takes false old new c.loop-byte.line.items kept (slice_index bytes i ∷ []) (wrote c.loop-byte.output) (wrote c.write_answer.new.output))
+    (sym c.clear.ensures.items)
+    (line_taken old new c.loop-byte.line.items (slice_index bytes i) _ _ c.in_ok-write_answer.ensures.ok.1 c.in_ok-write_answer.ensures.sizes stands c.if-byte-ne10.false going appended) in
+    record {
+      sound = c.in_ok-write_answer.ensures.ok.1;
+      fresh = c.in_ok-write_answer.ensures.ok.0;
+      taken = next_taken _ _ _ _ _ c.loop-byte.line.items _ bytes i _ _ _ c.loop-byte-test.true c.loop-byte.invariant.taken one;
+    }
+
+pub returns-clause-taken : goal.returns-clause-taken
+returns-clause-taken g c =
+    subst (λ all. Takes false c.args.session.now c.loop-byte.session c.args.line.now.items c.loop-byte.line.items all (g.O.Sink.written c.args.output.now) (g.O.Sink.written c.loop-byte.output))
+    (take_all c.loop-byte.byte-index c.args.bytes.now c.loop-byte-test.false) c.loop-byte.invariant.taken

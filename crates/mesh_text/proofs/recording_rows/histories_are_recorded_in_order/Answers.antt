@@ -3,10 +3,6 @@ use Rattle.std.specs.Fmt.{digits}
 use Rattle.mesh_text.specs.Recordings.{recorded_text}
 use Rattle.mesh_text.proofs.recording_rows.histories_are_recorded_in_order.Goals as goal
 
-pub returns-clause-none : goal.returns-clause-none
+pub returns : goal.returns
 unfolding recorded_text digits
-returns-clause-none c = refl
-
-pub returns-clause-each : goal.returns-clause-each
-unfolding recorded_text digits
-returns-clause-each c = refl
+returns c = record { none = refl; each = refl }
