@@ -1,12 +1,11 @@
 //! The line of a verdict.
 ghost use Rattle.std.specs.Prelude.{◌≡◌, ◌<◌, ◌++◌, IfOk, OnOk};
-ghost use Rattle.model_jobs.specs.Texts.{hex_digit};
 ghost use Rattle.mesh_check.specs.VerdictTexts.{found_text, reason_text, recorded_text, verdict_text, wide_text};
 
 use crate::reasons::Reason;
 use crate::verdicts::Verdict;
 use mesh_history::RecordedReply;
-use mesh_text::{add_bytes, add_decimal, add_refusal};
+use mesh_text::{add_bytes, add_decimal, add_refusal, digit};
 use std::alloc::{AllocError, Global};
 
 /// The line of a verdict, with its end: `legal N entries`, or `line L: REASON`. An error is an allocation failure.
@@ -98,16 +97,4 @@ fn add_address(text: &mut Vec<u8>, address: u64) -> Result<(), AllocError>
     add_address(text, address / 16)?;
     text.push(digit((address % 16) as u8))?;
     Ok(())
-}
-
-/// The hexadecimal digit of a value below 16, in lower case.
-fn digit(value: u8) -> u8
-    requires { value < 16 }
-    ensures { result ≡ hex_digit value }
-{
-    if value < 10 {
-        b'0' + value
-    } else {
-        b'a' + (value - 10)
-    }
 }
