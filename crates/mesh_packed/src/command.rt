@@ -10,14 +10,23 @@ use model_words::Command;
 /// the two cells of `Copy` stand together, and of `Put` it is told where its bytes are kept.
 #[derive(Debug, Drop)]
 pub enum PackedCommand {
+    /// `New(cell, len, word)`.
     New(u8, u32, u64),
+    /// `Put(cell, off, run)`: the bytes that are stored are the run's.
     Put(u8, u32, Run),
+    /// `Get(cell, off, len)`.
     Get(u8, u32, u32),
+    /// `Free(cell)`.
     Free(u8),
+    /// `Alias(to, from)`.
     Alias(u8, u8),
+    /// `Addr(cell)`.
     Addr(u8),
+    /// `Peek(addr)`.
     Peek(u32),
+    /// `Poke(addr, byte)`.
     Poke(u32, u8),
+    /// `Copy(to, from, to_off, from_off, len)`.
     Copy(u8, u8, u32, u32, u32),
 }
 

@@ -3,6 +3,7 @@ ghost use Rattle.std.specs.Prelude.{◌≡◌};
 ghost use Rattle.mesh_search.specs.declared.faults.SearchError.{SearchError};
 
 use std::alloc::AllocError;
+use std::thread::SpawnError;
 use thiserror::Error;
 
 /// Why a search ended without an answer.
@@ -21,5 +22,13 @@ impl From<AllocError> for SearchError {
 
     fn from(_refused: AllocError) -> SearchError {
         SearchError::Memory
+    }
+}
+
+impl<T: Drop> From<SpawnError<T>> for SearchError {
+    ghost from_gives = { λ _ error. error ≡ SearchError.Thread };
+
+    fn from(_refused: SpawnError<T>) -> SearchError {
+        SearchError::Thread
     }
 }

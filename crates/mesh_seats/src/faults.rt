@@ -1,8 +1,9 @@
 //! Why no seats could be made, and why seats and journal make no history.
 ghost use Rattle.std.specs.Prelude.{◌≡◌};
 ghost use Rattle.mesh_seats.specs.declared.faults.FinishError.{FinishError};
+ghost use Rattle.mesh_seats.specs.declared.faults.OpenError.{OpenError};
 
-use std::alloc::AllocError;
+use std::alloc::{AllocError, AllocFailed};
 use thiserror::Error;
 
 /// Why no seats could be made.
@@ -11,6 +12,14 @@ pub enum OpenError {
     /// Memory was refused.
     #[error("out of memory")]
     Memory,
+}
+
+impl From<AllocError> for OpenError {
+    ghost from_gives = { λ _ error. error ≡ OpenError.Memory };
+
+    fn from(_refused: AllocError) -> OpenError {
+        OpenError::Memory
+    }
 }
 
 /// Why seats and journal make no history. The first of these that holds is told, in the order in which they stand here; which seats and
@@ -47,6 +56,14 @@ impl From<AllocError> for FinishError {
     ghost from_gives = { λ _ error. error ≡ FinishError.Memory };
 
     fn from(_refused: AllocError) -> FinishError {
+        FinishError::Memory
+    }
+}
+
+impl<T: Drop> From<AllocFailed<T>> for FinishError {
+    ghost from_gives = { λ _ error. error ≡ FinishError.Memory };
+
+    fn from(_refused: AllocFailed<T>) -> FinishError {
         FinishError::Memory
     }
 }

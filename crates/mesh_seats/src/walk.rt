@@ -40,9 +40,7 @@ pub fn weave(alloc: Global, seats: &[Seat], journal: &Journal) -> Result<Vec<Ent
         let early = step(rests.as_mut_slice(), next.worker);
         tell(seats, &mut rests, early, &mut told);
         plain.apply(&next.command, &next.reply)?;
-        let Ok(()) = history.push(next) else {
-            return Err(FinishError::Memory);
-        };
+        history.push(next)?;
     }
     let wrong = take_all(
         &plain,

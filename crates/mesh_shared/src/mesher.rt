@@ -7,7 +7,7 @@ use crate::calls::Calls;
 use crate::guarded::{begin, step};
 use crate::plan::MeshPlan;
 use crate::shared::Shared;
-use crate::stops::{Stop, stop_of};
+use crate::stops::Stop;
 use mesh_class::Class;
 use mesh_search::{Actor, ClassView, Found, Gate, Pair, Point, search};
 use mesh_steps::StepDone;
@@ -131,7 +131,7 @@ impl<'a, R: Threads + Wait + Sync, G: Gate + Sync> Mesher<'a, R, G> {
     {
         let plan = self.plan;
         let views = self.own_views()?;
-        let searched = search(
+        let found = search(
             self.rt,
             self.alloc,
             views.as_slice(),
@@ -139,11 +139,7 @@ impl<'a, R: Threads + Wait + Sync, G: Gate + Sync> Mesher<'a, R, G> {
             plan.t,
             plan.workers,
             self.gate,
-        );
-        let found = match searched {
-            Ok(found) => found,
-            Err(error) => return Err(stop_of(error)),
-        };
+        )?;
         let whole = self.mesh_all(views.as_slice(), found.as_slice(), calls);
         Ok(Round {
             round,

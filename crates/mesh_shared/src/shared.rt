@@ -38,9 +38,7 @@ impl Shared {
         ensures seats { IfOk result (λ opened. IsEmptySeats 0 counts.now opened.1.items) }
         ensures count { IfOk result (λ opened. opened.0.seats ≡ length counts.now) }
     {
-        let Ok(seats) = seats_of(alloc, counts) else {
-            return Err(OpenError::Memory);
-        };
+        let seats = seats_of(alloc, counts)?;
         Ok((
             Shared {
                 book: RwLock::new(book),

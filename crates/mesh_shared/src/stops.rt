@@ -7,6 +7,7 @@ ghost use Rattle.mesh_shared.specs.declared.stops.Stop.{Stop};
 use mesh_search::SearchError;
 use mesh_seats::{FinishError, OpenError};
 use std::alloc::AllocError;
+use std::thread::SpawnError;
 use thiserror::Error;
 
 /// Why a run in threads hands out nothing: the first of these that some thread met, in the order in which they stand here.
@@ -52,6 +53,18 @@ impl From<FinishError> for RunError {
     }
 }
 
+impl From<Stop> for RunError {
+    ghost from_gives = { λ stop error. error ≡ error_of stop };
+
+    fn from(stop: Stop) -> RunError {
+        match stop {
+            Stop::Memory => RunError::Memory,
+            Stop::Thread => RunError::Thread,
+            Stop::History => RunError::History,
+        }
+    }
+}
+
 /// Why a thread ended before it was done.
 #[derive(Clone, Copy, Debug, PartialEq, Eq)]
 pub(crate) enum Stop {
@@ -71,6 +84,25 @@ impl From<AllocError> for Stop {
     }
 }
 
+impl<T: Drop> From<SpawnError<T>> for Stop {
+    ghost from_gives = { λ _ stop. stop ≡ Stop.Thread };
+
+    fn from(_refused: SpawnError<T>) -> Stop {
+        Stop::Thread
+    }
+}
+
+impl From<SearchError> for Stop {
+    ghost from_gives = { λ error stop. stop ≡ stop_of error };
+
+    fn from(error: SearchError) -> Stop {
+        match error {
+            SearchError::Memory => Stop::Memory,
+            SearchError::Thread => Stop::Thread,
+        }
+    }
+}
+
 impl Stop {
     /// The one of two that is told.
     fn first_of(self, other: Stop) -> Stop
@@ -81,27 +113,6 @@ impl Stop {
             (Stop::Thread, _) | (_, Stop::Thread) => Stop::Thread,
             _ => Stop::History,
         }
-    }
-}
-
-/// The stop that tells why a search ended.
-pub(crate) fn stop_of(error: SearchError) -> Stop
-    ensures { result ≡ stop_of error }
-{
-    match error {
-        SearchError::Memory => Stop::Memory,
-        SearchError::Thread => Stop::Thread,
-    }
-}
-
-/// The error that tells a stop.
-pub(crate) fn error_of(stop: Stop) -> RunError
-    ensures { result ≡ error_of stop }
-{
-    match stop {
-        Stop::Memory => RunError::Memory,
-        Stop::Thread => RunError::Thread,
-        Stop::History => RunError::History,
     }
 }
 

@@ -11,7 +11,7 @@ ghost use Rattle.mesh_shared.specs.Stops.{first_stop};
 use crate::mesher::{Meshed, Mesher, Meshes};
 use crate::plan::{MeshPlan, Patience};
 use crate::shared::Shared;
-use crate::stops::{RunError, Stop, either_stop, error_of};
+use crate::stops::{RunError, Stop, either_stop};
 use crate::worker::{Served, Works, serve};
 use mesh_mutator::{Book, Command};
 use mesh_search::{Gate, drop_results};
@@ -214,7 +214,7 @@ fn start_workers<'s, E, R: Threads + Wait + Sync, G: Gate + Sync>(
         { serve(rt, gate, shared, seat, script, tries) };
         match scope.spawn_with(Works { script, tries }, job) {
             Ok(handle) => workers.push_reserved(handle),
-            Err(_unstarted) => return Some(Stop::Thread),
+            Err(unstarted) => return Some(unstarted.into()),
         }
     }
     None
@@ -250,7 +250,7 @@ fn start_meshers<'s, E, R: Threads + Wait + Sync, G: Gate + Sync>(
         };
         match scope.spawn_with(meshes, job) {
             Ok(handle) => meshers.push_reserved(handle),
-            Err(_unstarted) => refused = Some(Stop::Thread),
+            Err(unstarted) => refused = Some(unstarted.into()),
         }
     }
     refused
@@ -284,7 +284,7 @@ fn join_all<'a, R: Threads>(
         }
     };
     if let Some(stop) = first_stop_of(refused, meshed.as_slice(), served.as_slice()) {
-        return Err(error_of(stop));
+        return Err(stop.into());
     }
     let seats = seats_of_served(alloc, served)?;
     Ok(Service {

@@ -6,7 +6,7 @@ pub returns-clause-searched : goal.returns-clause-searched
 returns-clause-searched g c =
     let plan = c.args.self.now.plan.now in record {
       of_classes = c.in_ok-views.ensures;
-      by_words = c.in-Ok.ensures
+      by_words = c.in_ok-found.ensures
           ∙ ap {B = List Found} (λ (l : List View). map (λ view. search view c.words_of.result.now plan.t) l) c.as_slice.ensures.value
           ∙ ap {B = List Found} (λ (words : List ℕ). map (λ view. search view words plan.t) c.in_ok-views.views.items) c.words_of.ensures;
     }
