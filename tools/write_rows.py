@@ -25,6 +25,9 @@ TREES = pathlib.Path("crates/mesh_explore_tests")
 # Explorations of at most so many interleavings are followed one by one as well.
 FEW_INTERLEAVINGS = 400
 
+# What stands between two rows of a table, and between two fields of a row.
+ROW_END, FIELD_END = "#", "|"
+
 # Rows whose file and answers the tests name by themselves.
 NAMED = {
     ROWS / "mutators" / "first_bytes.job": "FIRST",
@@ -122,26 +125,26 @@ def write_functions(subjects):
 
 
 def table(name, doc, rows, suffix):
-    """These rows as a table of Rust: name, file, and what is expected."""
-    lines = [f"/// {doc}", f"pub(crate) static {name}: [(&str, &str, &str); {len(rows)}] = ["]
-    for row in rows:
-        named = NAMED.get(row)
-        texts = f"{named}_FILE, {named}_ANSWERS" if named else f"{literal(file_text(row))}, {literal(row.with_suffix(suffix).read_text())}"
-        lines.append(f'    ("{row.parent.name}/{row.stem}", {texts}),')
-    return lines + ["];", ""]
+    """These rows as one text of Rust: name, file, and what is expected. A proof that goes through an array of strings takes a time that grows with the
+    square of their number."""
+    texts = [(f"{row.parent.name}/{row.stem}", file_text(row), row.with_suffix(suffix).read_text()) for row in rows]
+    assert not any(mark in text for fields in texts for text in fields for mark in (ROW_END, FIELD_END))
+    lines = [literal(FIELD_END.join(fields))[1:-1] for fields in texts]
+    return [f"/// {doc}", f'pub(crate) static {name}: &str = "\\', *[line + ROW_END + "\\" for line in lines[:-1]], f'{lines[-1]}";', ""]
 
 
 def write_tables():
-    lines = ["//! The worked rows. Written by `tools/write_rows.py`.", ""]
+    lines = [f"//! The worked rows, each table one text: `{ROW_END}` stands between two rows, and `{FIELD_END}` between two fields of a row. Written by",
+             "//! `tools/write_rows.py`.", ""]
     for row, name in NAMED.items():
         lines += [f"/// The file of the row `{row.parent.name}/{row.stem}`.", f"pub(crate) const {name}_FILE: &str = {literal(file_text(row))};", "",
                   "/// Its answers.", f"pub(crate) const {name}_ANSWERS: &str = {literal(row.with_suffix('.out').read_text())};", ""]
     for folder in sorted(folder for folder in ROWS.iterdir() if folder.is_dir() and folder.name not in UNTABLED):
         rows = sorted(row for row in folder.glob("*.job") if row.with_suffix(".out").exists())
         if rows:
-            lines += table(folder.name.upper(), f"Rows of {folder.name.replace('_', ' ')}: for each its name, its file and its answers.", rows, ".out")
+            lines += table(folder.name.upper(), f"Rows of {folder.name.replace('_', ' ')}: of each its name, its file and its answers.", rows, ".out")
     faults = [row for row in sorted(ROWS.glob("*/*.job")) if row.with_suffix(".err").exists() and len(file_text(row)) < 1000]
-    lines += table("FAULTS", "For each short file that is no job its name, its bytes and the line of its fault.", faults, ".err")
+    lines += table("FAULTS", "Of each short file that is no job its name, its bytes and the line of its fault.", faults, ".err")
     (TESTS / "src" / "tests" / "files.rt").write_text("\n".join(lines))
 
 

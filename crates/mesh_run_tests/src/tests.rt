@@ -82,6 +82,21 @@ fn replayed(alloc: Global, file: &[u8]) -> Ran {
     replayed_from(alloc, Input::new(file), Printed::Answers)
 }
 
+/// What stands between two rows of a table that is one text.
+///
+/// Such a table is proved about as fast as one string. Where it is an array of strings instead, the time grows with the square of their number.
+const ROW_END: char = '#';
+
+/// The three fields of a row of such a table.
+fn fields(row: &str) -> (&str, &str, &str) {
+    let mut fields = row.split('|');
+    (
+        fields.next().unwrap_or(""),
+        fields.next().unwrap_or(""),
+        fields.next().unwrap_or(""),
+    )
+}
+
 /// For each number of bytes `a`, with a line end or none, the kind of the fault of that line.
 static LENGTHS: [(usize, bool, &str); 5] = [
     (1024, false, "CUT"),

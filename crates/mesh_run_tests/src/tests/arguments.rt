@@ -2,41 +2,33 @@
 use mesh_run::{Args, Output, Printed, arguments, stop_run, unopened_run};
 use std::test::Fail;
 
-/// For each command line that asks for no run its words, the exit status, and how the text that it prints begins.
-static STOPS: [(&[&str], u8, &str); 17] = [
-    (&["meshrun", "--help"], 0, "A modelled heap"),
-    (&["meshrun", "--version"], 0, "meshrun 0.1.0\n"),
-    (&["meshrun", "replay", "--help"], 0, "Run a job file's plan"),
+/// Command lines that ask for no run, the exit status of each, and how the text that it prints begins.
+static STOPS: [(&str, u8, &str); 17] = [
+    ("meshrun --help", 0, "A modelled heap"),
+    ("meshrun --version", 0, "meshrun 0.1.0\n"),
+    ("meshrun replay --help", 0, "Run a job file's plan"),
+    ("meshrun threads --help", 0, "Run a job file's scripts"),
+    ("meshrun draw --help", 0, "Draw a job file's plan"),
+    ("meshrun live --help", 0, "Answer the lines"),
     (
-        &["meshrun", "threads", "--help"],
-        0,
-        "Run a job file's scripts",
-    ),
-    (&["meshrun", "draw", "--help"], 0, "Draw a job file's plan"),
-    (&["meshrun", "live", "--help"], 0, "Answer the lines"),
-    (
-        &["meshrun", "explore", "--help"],
+        "meshrun explore --help",
         0,
         "Run what a job file's plan leaves",
     ),
+    ("meshrun check --help", 0, "Judge a recorded history"),
+    ("meshrun", 2, "A modelled heap"),
+    ("meshrun replay", 2, "error: "),
+    ("meshrun draw", 2, "error: "),
+    ("meshrun check", 2, "error: "),
+    ("meshrun explore a.job", 2, "error: "),
     (
-        &["meshrun", "check", "--help"],
-        0,
-        "Judge a recorded history",
-    ),
-    (&["meshrun"], 2, "A modelled heap"),
-    (&["meshrun", "replay"], 2, "error: "),
-    (&["meshrun", "draw"], 2, "error: "),
-    (&["meshrun", "check"], 2, "error: "),
-    (&["meshrun", "explore", "a.job"], 2, "error: "),
-    (
-        &["meshrun", "explore", "a.job", "--mesh", "1"],
+        "meshrun explore a.job --mesh 1",
         2,
         "error: --mesh wants SRC:DST",
     ),
-    (&["meshrun", "replay", "a", "b"], 2, "error: "),
-    (&["meshrun", "replay", "--version"], 2, "error: "),
-    (&["meshrun", "report"], 2, "error: "),
+    ("meshrun replay a b", 2, "error: "),
+    ("meshrun replay --version", 2, "error: "),
+    ("meshrun report", 2, "error: "),
 ];
 
 /// Command lines that replay `a.job`, or run its scripts in threads, and what they print.
@@ -237,90 +229,89 @@ static EXPLORED: [(&str, &[[u32; 2]], Option<u32>, u32, Option<u32>); 9] = [
 ];
 
 /// Command lines with a fault, each of a command that has numbers or a flag, or of `check`.
-static FAULTY: [&str; 82] = [
-    "meshrun threads a.job --probe 65 --rounds 3 --workers 4 --seed 5 --meshers 6",
-    "meshrun threads a.job --probe 2 --rounds 1001 --workers 4 --seed 5 --meshers 6",
-    "meshrun threads a.job --probe 2 --rounds 3 --workers 0 --seed 5 --meshers 6",
-    "meshrun threads a.job --probe 2 --rounds 3 --workers 17 --seed 5 --meshers 6",
-    "meshrun threads a.job --probe 2 --rounds 3 --workers 4 --seed 18446744073709551616 --meshers 6",
-    "meshrun threads a.job --probe 2 --rounds 3 --workers 4 --seed 5 --meshers 0",
-    "meshrun threads a.job --probe 2 --rounds 3 --workers 4 --seed 5 --meshers 11",
-    "meshrun threads a.job --rounds 3 --workers 4 --seed 5 --meshers 6",
-    "meshrun threads a.job --probe 2 --workers 4 --seed 5 --meshers 6",
-    "meshrun threads a.job --probe 2 --rounds 3 --seed 5 --meshers 6",
-    "meshrun threads a.job --probe 2 --rounds 3 --workers 4 --meshers 6",
-    "meshrun threads a.job --probe -1 --rounds 3 --workers 4 --seed 5 --meshers 6",
-    "meshrun threads a.job --probe 2 --rounds 3 --workers 4 --seed 0x5 --meshers 6",
-    "meshrun threads a.job --probe 2 --rounds 3.0 --workers 4 --seed 5 --meshers 6",
-    "meshrun threads a.job --probe 2 --rounds 3 --workers 4 --seed 5 --meshers 6 --gate 1",
-    "meshrun threads a.job --probe 2 --rounds 3 --workers 4 --seed 5 --meshers 6 b.job",
-    "meshrun threads a.job --probe 2 --rounds 3 --workers 4 --seed 5 --meshers 6 --seed 5",
-    "meshrun threads a.job --probe 2 --rounds 3 --workers 4 --seed 5 --meshers 6 --version",
-    "meshrun threads --probe 2 --rounds 3 --workers 4 --seed 5 --meshers 6",
-    "meshrun threads a.job",
-    "meshrun threads",
-    "meshrun threads a.job --probe 2 --rounds 3 --workers 4 --seed 5 --history 6",
-    "meshrun threads a.job --probe 2 --rounds 3 --workers 4 --seed 5 --history=6",
-    "meshrun threads a.job --probe 2 --rounds 3 --workers 4 --seed 5 --history --history",
-    "meshrun replay a.job --seed 5",
-    "meshrun replay a.job --history=true",
-    "meshrun replay a.job --history --history",
-    "meshrun replay a.job --history b.job",
-    "meshrun replay --history",
-    "meshrun draw a.job --from 0",
-    "meshrun draw a.job --from 1048577",
-    "meshrun draw a.job --to 0",
-    "meshrun draw a.job --to 1048577",
-    "meshrun draw a.job --columns 65",
-    "meshrun draw a.job --columns -1",
-    "meshrun draw a.job --from 0x5",
-    "meshrun draw a.job --from 1 --from 2",
-    "meshrun draw a.job --seed 5",
-    "meshrun draw a.job --history",
-    "meshrun draw a.job b.job",
-    "meshrun draw --from 1 --to 2",
-    "meshrun draw a.job --version",
-    "meshrun explore a.job --mesh",
-    "meshrun explore --mesh 1:0",
-    "meshrun explore a.job --states 5",
-    "meshrun explore a.job --mesh 1",
-    "meshrun explore a.job --mesh :",
-    "meshrun explore a.job --mesh 1:",
-    "meshrun explore a.job --mesh :0",
-    "meshrun explore a.job --mesh 1:0:2",
-    "meshrun explore a.job --mesh 1:0:",
-    "meshrun explore a.job --mesh 01:0",
-    "meshrun explore a.job --mesh 1:00",
-    "meshrun explore a.job --mesh +1:0",
-    "meshrun explore a.job --mesh 65536:0",
-    "meshrun explore a.job --mesh 1:65536",
-    "meshrun explore a.job --mesh 0x1:0",
-    "meshrun explore a.job --mesh 1,0",
-    "meshrun explore a.job --mesh 1:0 --mesh 2",
-    "meshrun explore a.job --mesh 1 --mesh 2:0",
-    "meshrun explore a.job --mesh 1:0 2:0",
-    "meshrun explore a.job --mesh 1:0 --mesh 1:0 --mesh 1:0 --mesh 1:0 --mesh 1:0 --mesh 1:0 --mesh 1:0 --mesh 1:0 --mesh 1:0 --mesh 1:0 --mesh 1:0",
-    "meshrun explore a.job --mesh 1:0 --cancel 1001",
-    "meshrun explore a.job --mesh 1:0 --cancel -1",
-    "meshrun explore a.job --mesh 1:0 --cancel 1 --cancel 2",
-    "meshrun explore a.job --mesh 1:0 --states 0",
-    "meshrun explore a.job --mesh 1:0 --states 10000001",
-    "meshrun explore a.job --mesh 1:0 --witness 1000001",
-    "meshrun explore a.job --mesh 1:0 --witness 18446744073709551616",
-    "meshrun explore a.job --mesh 1:0 --witness",
-    "meshrun explore a.job b.job --mesh 1:0",
-    "meshrun explore a.job --mesh 1:0 --history",
-    "meshrun explore a.job --mesh 1:0 --version",
-    "meshrun live a.job",
-    "meshrun live --pages 0",
-    "meshrun live --pages 4097",
-    "meshrun live --history 65537",
-    "meshrun live --workers 0",
-    "meshrun live --workers 65",
-    "meshrun check a.history b.history",
-    "meshrun check a.history --history",
-    "meshrun check a.history --version",
-];
+static FAULTY: &str = "\
+meshrun threads a.job --probe 65 --rounds 3 --workers 4 --seed 5 --meshers 6\n\
+meshrun threads a.job --probe 2 --rounds 1001 --workers 4 --seed 5 --meshers 6\n\
+meshrun threads a.job --probe 2 --rounds 3 --workers 0 --seed 5 --meshers 6\n\
+meshrun threads a.job --probe 2 --rounds 3 --workers 17 --seed 5 --meshers 6\n\
+meshrun threads a.job --probe 2 --rounds 3 --workers 4 --seed 18446744073709551616 --meshers 6\n\
+meshrun threads a.job --probe 2 --rounds 3 --workers 4 --seed 5 --meshers 0\n\
+meshrun threads a.job --probe 2 --rounds 3 --workers 4 --seed 5 --meshers 11\n\
+meshrun threads a.job --rounds 3 --workers 4 --seed 5 --meshers 6\n\
+meshrun threads a.job --probe 2 --workers 4 --seed 5 --meshers 6\n\
+meshrun threads a.job --probe 2 --rounds 3 --seed 5 --meshers 6\n\
+meshrun threads a.job --probe 2 --rounds 3 --workers 4 --meshers 6\n\
+meshrun threads a.job --probe -1 --rounds 3 --workers 4 --seed 5 --meshers 6\n\
+meshrun threads a.job --probe 2 --rounds 3 --workers 4 --seed 0x5 --meshers 6\n\
+meshrun threads a.job --probe 2 --rounds 3.0 --workers 4 --seed 5 --meshers 6\n\
+meshrun threads a.job --probe 2 --rounds 3 --workers 4 --seed 5 --meshers 6 --gate 1\n\
+meshrun threads a.job --probe 2 --rounds 3 --workers 4 --seed 5 --meshers 6 b.job\n\
+meshrun threads a.job --probe 2 --rounds 3 --workers 4 --seed 5 --meshers 6 --seed 5\n\
+meshrun threads a.job --probe 2 --rounds 3 --workers 4 --seed 5 --meshers 6 --version\n\
+meshrun threads --probe 2 --rounds 3 --workers 4 --seed 5 --meshers 6\n\
+meshrun threads a.job\n\
+meshrun threads\n\
+meshrun threads a.job --probe 2 --rounds 3 --workers 4 --seed 5 --history 6\n\
+meshrun threads a.job --probe 2 --rounds 3 --workers 4 --seed 5 --history=6\n\
+meshrun threads a.job --probe 2 --rounds 3 --workers 4 --seed 5 --history --history\n\
+meshrun replay a.job --seed 5\n\
+meshrun replay a.job --history=true\n\
+meshrun replay a.job --history --history\n\
+meshrun replay a.job --history b.job\n\
+meshrun replay --history\n\
+meshrun draw a.job --from 0\n\
+meshrun draw a.job --from 1048577\n\
+meshrun draw a.job --to 0\n\
+meshrun draw a.job --to 1048577\n\
+meshrun draw a.job --columns 65\n\
+meshrun draw a.job --columns -1\n\
+meshrun draw a.job --from 0x5\n\
+meshrun draw a.job --from 1 --from 2\n\
+meshrun draw a.job --seed 5\n\
+meshrun draw a.job --history\n\
+meshrun draw a.job b.job\n\
+meshrun draw --from 1 --to 2\n\
+meshrun draw a.job --version\n\
+meshrun explore a.job --mesh\n\
+meshrun explore --mesh 1:0\n\
+meshrun explore a.job --states 5\n\
+meshrun explore a.job --mesh 1\n\
+meshrun explore a.job --mesh :\n\
+meshrun explore a.job --mesh 1:\n\
+meshrun explore a.job --mesh :0\n\
+meshrun explore a.job --mesh 1:0:2\n\
+meshrun explore a.job --mesh 1:0:\n\
+meshrun explore a.job --mesh 01:0\n\
+meshrun explore a.job --mesh 1:00\n\
+meshrun explore a.job --mesh +1:0\n\
+meshrun explore a.job --mesh 65536:0\n\
+meshrun explore a.job --mesh 1:65536\n\
+meshrun explore a.job --mesh 0x1:0\n\
+meshrun explore a.job --mesh 1,0\n\
+meshrun explore a.job --mesh 1:0 --mesh 2\n\
+meshrun explore a.job --mesh 1 --mesh 2:0\n\
+meshrun explore a.job --mesh 1:0 2:0\n\
+meshrun explore a.job --mesh 1:0 --mesh 1:0 --mesh 1:0 --mesh 1:0 --mesh 1:0 --mesh 1:0 --mesh 1:0 --mesh 1:0 --mesh 1:0 --mesh 1:0 --mesh 1:0\n\
+meshrun explore a.job --mesh 1:0 --cancel 1001\n\
+meshrun explore a.job --mesh 1:0 --cancel -1\n\
+meshrun explore a.job --mesh 1:0 --cancel 1 --cancel 2\n\
+meshrun explore a.job --mesh 1:0 --states 0\n\
+meshrun explore a.job --mesh 1:0 --states 10000001\n\
+meshrun explore a.job --mesh 1:0 --witness 1000001\n\
+meshrun explore a.job --mesh 1:0 --witness 18446744073709551616\n\
+meshrun explore a.job --mesh 1:0 --witness\n\
+meshrun explore a.job b.job --mesh 1:0\n\
+meshrun explore a.job --mesh 1:0 --history\n\
+meshrun explore a.job --mesh 1:0 --version\n\
+meshrun live a.job\n\
+meshrun live --pages 0\n\
+meshrun live --pages 4097\n\
+meshrun live --history 65537\n\
+meshrun live --workers 0\n\
+meshrun live --workers 65\n\
+meshrun check a.history b.history\n\
+meshrun check a.history --history\n\
+meshrun check a.history --version";
 
 #[test]
 fn reads_what_is_printed(rt: HostRuntime) -> Result<(), Fail> {
@@ -349,9 +340,10 @@ fn reads_checks(rt: HostRuntime) {
 }
 
 #[test]
-fn stops_at_others(rt: HostRuntime) {
-    for (words, status, text) in STOPS.iter() {
-        let Err(stop) = arguments(rt.alloc(), words) else {
+fn stops_at_others(rt: HostRuntime) -> Result<(), Fail> {
+    for (line, status, text) in STOPS.iter() {
+        let words: Vec<&str> = line.split(' ').collect(rt.alloc())?;
+        let Err(stop) = arguments(rt.alloc(), words.as_slice()) else {
             panic!(rt; "no stop before {text}");
         };
         let mut output = Output::new(Vec::new(rt.alloc()));
@@ -370,6 +362,7 @@ fn stops_at_others(rt: HostRuntime) {
         assert!(rt; told.starts_with(text.as_bytes()), "{text}");
         assert!(rt; other.is_empty(), "{text}");
     }
+    Ok(())
 }
 
 #[test]
@@ -440,7 +433,7 @@ fn reads_sizes(rt: HostRuntime) -> Result<(), Fail> {
 
 #[test]
 fn refuses_faulty_numbers(rt: HostRuntime) -> Result<(), Fail> {
-    for line in FAULTY.iter() {
+    for line in FAULTY.split('\n') {
         let words: Vec<&str> = line.split(' ').collect(rt.alloc())?;
         let Err(stop) = arguments(rt.alloc(), words.as_slice()) else {
             panic!(rt; "no stop: {line}");

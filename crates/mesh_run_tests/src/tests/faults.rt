@@ -1,19 +1,20 @@
 //! Files that are no job.
 use crate::tests::files::{FAULTS, FIRST_FILE};
-use crate::tests::{LENGTHS, letters, replayed};
+use crate::tests::{LENGTHS, ROW_END, fields, letters, replayed};
 use std::process::Abort;
 use std::test::Fail;
 
-/// The files that are no job: for each its name, its text and the line of its fault. All that go over them ask for them here, so that the proof
+/// The files that are no job, a row each: its name, its text and the line of its fault. All that go over them ask for them here, so that the proof
 /// of one function alone goes through the table.
-pub(crate) fn faulty_files() -> &'static [(&'static str, &'static str, &'static str)] {
-    FAULTS.as_slice()
+pub(crate) fn faulty_files() -> &'static str {
+    FAULTS
 }
 
 #[test]
 fn tells_each_fault(rt: HostRuntime) {
-    for (name, file, fault) in faulty_files() {
-        replayed(rt.alloc(), file.as_bytes()).check(&rt, b"", fault, 2, *name);
+    for row in faulty_files().split(ROW_END) {
+        let (name, file, fault) = fields(row);
+        replayed(rt.alloc(), file.as_bytes()).check(&rt, b"", fault, 2, name);
     }
 }
 

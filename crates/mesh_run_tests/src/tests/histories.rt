@@ -1,6 +1,6 @@
 //! The text of a history: its answers, and as it is recorded.
 use crate::tests::faults::faulty_files;
-use crate::tests::replayed_from;
+use crate::tests::{ROW_END, fields, replayed_from};
 use mesh_mutator::{Command, Entry, Refusal, Reply};
 use mesh_run::{Input, Printed};
 use mesh_text::{history_lines, recorded_history};
@@ -65,9 +65,10 @@ fn a_replay_prints_its_journal(rt: HostRuntime) {
 
 #[test]
 fn a_faulty_file_has_no_journal(rt: HostRuntime) {
-    for (name, file, fault) in faulty_files() {
+    for row in faulty_files().split(ROW_END) {
+        let (name, file, fault) = fields(row);
         let input = Input::new(file.as_bytes());
         let run = replayed_from(rt.alloc(), input, Printed::History);
-        run.check(&rt, b"", fault, 2, *name);
+        run.check(&rt, b"", fault, 2, name);
     }
 }

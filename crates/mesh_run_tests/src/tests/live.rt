@@ -1,64 +1,60 @@
 //! A live session: lines that are answered one by one.
-use crate::tests::{LENGTHS, letters};
+use crate::tests::{LENGTHS, fields, letters};
 use mesh_live::{Sizes, live};
 use mesh_run::{Input, Output};
 use std::process::Abort;
 use std::test::Fail;
 
 /// A worked row's plan, each command of its script where the plan runs it, with faults between its lines: each line and its answer.
-static ASKED: [(&str, &str); 48] = [
-    ("run 0 new 0 2048 0", "object 0 at 1000"),
-    ("run 0 new 1 2048 0", "object 1 at 1800"),
-    ("run 0 new 2 2048 0", "object 2 at 2000"),
-    ("run 0", "fault WORD"),
-    ("run 1 get 0 0 1", "fault NUMBER"),
-    ("", "fault WORD"),
-    ("run 0 new 3 2048 0", "object 3 at 2800"),
-    ("run 0 free 0", "done"),
-    ("run 0 free 3", "done"),
-    ("run 0 new 4 1024 0", "object 4 at 3000"),
-    ("run 0 new 5 1024 0", "object 5 at 3400"),
-    ("run 0 new 6 1024 0", "object 6 at 3800"),
-    ("run 0 new 7 1024 0", "object 7 at 3c00"),
-    ("run 0 new 8 1024 0", "object 8 at 4000"),
-    ("run 0 new 9 1024 0", "object 9 at 4400"),
-    ("run 0 new 10 1024 0", "object 10 at 4800"),
-    ("run 0 new 11 1024 0", "object 11 at 4c00"),
-    ("run 0 free 4", "done"),
-    ("run 0 free 9", "done"),
-    ("run 0 free 10", "done"),
-    ("run 0 free 11", "done"),
-    ("begin 3 2", "left 8"),
-    ("begin 1 0", "left 6"),
-    ("step", "fault WORD"),
-    ("run 0 put 0 0 0G", "fault HEX"),
-    ("cancel 1000", "fault NUMBER"),
-    ("step 1024", "protect left 7"),
-    ("step 2048", "protect left 5"),
-    ("step 2048", "copy left 4"),
-    ("cancel 1024", "left 1"),
-    ("cancel 2048", "left 1"),
-    ("step 1024", "unprotect left 0"),
-    ("step 2048", "unprotect left 0"),
-    ("cancel 1024", "refused 15 NO_MESH"),
-    ("step 16", "refused 15 NO_MESH"),
-    ("begin 3 2", "left 8"),
-    ("step 1024", "protect left 7"),
-    ("step 1024", "copy left 6"),
-    ("step 1024", "copy left 5"),
-    ("step 1024", "copy left 4"),
-    ("step 1024", "copy left 3"),
-    ("step 1024", "remap left 2"),
-    ("cancel 1024", "refused 16 TOO_LATE"),
-    ("step 1024", "unprotect left 1"),
-    ("step 1024", "release left 0"),
-    ("step 1024", "refused 15 NO_MESH"),
-    (
-        "report",
-        "report objects 6 bytes 8192 mapped 4 taken 3 saved 1",
-    ),
-    ("run 0 get 0 0 1", "refused 6 FREED"),
-];
+static ASKED: &str = "\
+run 0 new 0 2048 0|object 0 at 1000\n\
+run 0 new 1 2048 0|object 1 at 1800\n\
+run 0 new 2 2048 0|object 2 at 2000\n\
+run 0|fault WORD\n\
+run 1 get 0 0 1|fault NUMBER\n\
+|fault WORD\n\
+run 0 new 3 2048 0|object 3 at 2800\n\
+run 0 free 0|done\n\
+run 0 free 3|done\n\
+run 0 new 4 1024 0|object 4 at 3000\n\
+run 0 new 5 1024 0|object 5 at 3400\n\
+run 0 new 6 1024 0|object 6 at 3800\n\
+run 0 new 7 1024 0|object 7 at 3c00\n\
+run 0 new 8 1024 0|object 8 at 4000\n\
+run 0 new 9 1024 0|object 9 at 4400\n\
+run 0 new 10 1024 0|object 10 at 4800\n\
+run 0 new 11 1024 0|object 11 at 4c00\n\
+run 0 free 4|done\n\
+run 0 free 9|done\n\
+run 0 free 10|done\n\
+run 0 free 11|done\n\
+begin 3 2|left 8\n\
+begin 1 0|left 6\n\
+step|fault WORD\n\
+run 0 put 0 0 0G|fault HEX\n\
+cancel 1000|fault NUMBER\n\
+step 1024|protect left 7\n\
+step 2048|protect left 5\n\
+step 2048|copy left 4\n\
+cancel 1024|left 1\n\
+cancel 2048|left 1\n\
+step 1024|unprotect left 0\n\
+step 2048|unprotect left 0\n\
+cancel 1024|refused 15 NO_MESH\n\
+step 16|refused 15 NO_MESH\n\
+begin 3 2|left 8\n\
+step 1024|protect left 7\n\
+step 1024|copy left 6\n\
+step 1024|copy left 5\n\
+step 1024|copy left 4\n\
+step 1024|copy left 3\n\
+step 1024|remap left 2\n\
+cancel 1024|refused 16 TOO_LATE\n\
+step 1024|unprotect left 1\n\
+step 1024|release left 0\n\
+step 1024|refused 15 NO_MESH\n\
+report|report objects 6 bytes 8192 mapped 4 taken 3 saved 1\n\
+run 0 get 0 0 1|refused 6 FREED";
 
 /// The sizes of the row's job.
 const SIZES: Sizes = Sizes {
@@ -71,7 +67,8 @@ const SIZES: Sizes = Sizes {
 fn answers_the_lines_of_a_row(rt: HostRuntime) -> Result<(), Fail> {
     let mut asked = Vec::new(rt.alloc());
     let mut answers = Vec::new(rt.alloc());
-    for (line, answer) in ASKED.iter() {
+    for row in ASKED.split('\n') {
+        let (line, answer, _) = fields(row);
         add_line(&mut asked, line)?;
         add_line(&mut answers, answer)?;
     }

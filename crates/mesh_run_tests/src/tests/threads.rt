@@ -3,7 +3,7 @@ ghost use Rattle.std.specs.Prelude.{◌≡◌, ◌≤◌, false};
 
 use crate::tests::devices::SlowSource;
 use crate::tests::faults::faulty_files;
-use crate::tests::{Ran, in_memory};
+use crate::tests::{ROW_END, Ran, fields, in_memory};
 use mesh_run::{Input, Printed, Source, ThreadsArgs, threads_run};
 use std::sync::Wait;
 use std::test::Fail;
@@ -38,10 +38,11 @@ fn ran<R: Threads + Wait + Sync + AllocGlobal, I: Source + Drop>(
 
 #[test]
 fn tells_each_fault_of_a_file(rt: HostRuntime) {
-    for (name, file, fault) in faulty_files() {
+    for row in faulty_files().split(ROW_END) {
+        let (name, file, fault) = fields(row);
         let input = Input::new(file.as_bytes());
         let run = ran(&rt, input, &FEWEST, Printed::Answers);
-        run.check(&rt, b"", fault, 2, *name);
+        run.check(&rt, b"", fault, 2, name);
     }
 }
 
