@@ -8,7 +8,7 @@
 #![tactic(auto)]
 
 ghost use Rattle.std.specs.Prelude.{◌≡◌, false, IfOk};
-ghost use Rattle.mesh_text.specs.Devices.{input_has_failed};
+ghost use Rattle.mesh_run.specs.Runs.{IsSound};
 
 use mesh_run::{
     Args, Devices, Input, Output, Sink, arguments, check_run, draw_run, explore_run, live_run,
@@ -16,50 +16,21 @@ use mesh_run::{
 };
 use std::fs::File;
 use std::process::ExitCode;
+use std::sync::Wait;
+use std::thread::Threads;
 use std::{env, io};
 
 /// The path that names standard input.
 const STANDARD_INPUT: &str = "-";
 
 fn main(rt: HostRuntime) -> ExitCode {
-    let alloc = rt.alloc();
     let mut output = Output::new(rt.stdout());
     let mut errors = Output::new(rt.stderr());
     let status = match words(&rt) {
-        Ok(words) => match arguments(alloc, words.as_slice()) {
-            Ok(Args::Replay(path, printed)) => match opened(&rt, path, &mut errors) {
-                Ok(input) => {
-                    let mut devices = Devices::new(input, output, errors);
-                    replay_run(alloc, &mut devices, printed)
-                }
-                Err(status) => status,
+        Ok(words) => match arguments(rt.alloc(), words.as_slice()) {
+            Ok(args) => match run(&rt, &rt, args, output, errors) {
+                Ok(status) | Err(status) => status,
             },
-            Ok(Args::Threads(path, args, printed)) => match opened(&rt, path, &mut errors) {
-                Ok(input) => {
-                    let mut devices = Devices::new(input, output, errors);
-                    threads_run(&rt, alloc, &mut devices, &args, printed)
-                }
-                Err(status) => status,
-            },
-            Ok(Args::Draw(path, args)) => match opened(&rt, path, &mut errors) {
-                Ok(input) => {
-                    let mut devices = Devices::new(input, output, errors);
-                    draw_run(alloc, path, &args, &mut devices)
-                }
-                Err(status) => status,
-            },
-            Ok(Args::Explore(path, args)) => match opened(&rt, path, &mut errors) {
-                Ok(input) => {
-                    let mut devices = Devices::new(input, output, errors);
-                    explore_run(alloc, &args, &mut devices)
-                }
-                Err(status) => status,
-            },
-            Ok(Args::Live(args)) => {
-                let input = Input::new(rt.stdin());
-                live_run(alloc, &args, &mut Devices::new(input, output, errors))
-            }
-            Ok(Args::Check(path)) => check_at(&rt, path, output, errors),
             Err(stop) => stop_run(&stop, &mut output, &mut errors),
         },
         Err(error) => stop_run(&unread_words(&error), &mut output, &mut errors),
@@ -67,33 +38,57 @@ fn main(rt: HostRuntime) -> ExitCode {
     ExitCode::from(status)
 }
 
-/// Judges the history of the file at this path, or of standard input where it is `-`, and gives the exit status.
-fn check_at<O: Sink + Drop, E: Sink + Drop>(
+/// Does what the arguments ask for. The exit status is an error where the file can't be opened.
+fn run<R: Threads + Wait + Sync, O: Sink + Drop, E: Sink + Drop>(
+    rt: &HostRuntime,
+    threads: &R,
+    args: Args<'_>,
+    output: O,
+    errors: E,
+) -> Result<u8, u8>
+    requires { O.has_failed output ≡ false }
+{
+    let alloc = rt.alloc();
+    let status = match args {
+        Args::Replay(path, printed) => {
+            replay_run(alloc, &mut on_file(rt, path, output, errors)?, printed)
+        }
+        Args::Threads(path, args, printed) => {
+            let mut devices = on_file(rt, path, output, errors)?;
+            threads_run(threads, alloc, &mut devices, &args, printed)
+        }
+        Args::Draw(path, args) => {
+            draw_run(alloc, path, &args, &mut on_file(rt, path, output, errors)?)
+        }
+        Args::Explore(path, args) => {
+            explore_run(alloc, &args, &mut on_file(rt, path, output, errors)?)
+        }
+        Args::Live(args) => {
+            let input = Input::new(rt.stdin());
+            live_run(alloc, &args, &mut Devices::new(input, output, errors))
+        }
+        Args::Check(path) if path == STANDARD_INPUT => {
+            let input = Input::new(rt.stdin());
+            check_run(alloc, &mut Devices::new(input, output, errors))
+        }
+        Args::Check(path) => check_run(alloc, &mut on_file(rt, path, output, errors)?),
+    };
+    Ok(status)
+}
+
+/// The devices of a run from the file at this path, or the exit status where it can't be opened.
+fn on_file<O: Sink + Drop, E: Sink + Drop>(
     rt: &HostRuntime,
     path: &str,
     output: O,
     mut errors: E,
-) -> u8
+) -> Result<Devices<Input<File>, O, E>, u8>
     requires { O.has_failed output ≡ false }
-{
-    let alloc = rt.alloc();
-    if path == STANDARD_INPUT {
-        let input = Input::new(rt.stdin());
-        return check_run(alloc, &mut Devices::new(input, output, errors));
-    }
-    match opened(rt, path, &mut errors) {
-        Ok(input) => check_run(alloc, &mut Devices::new(input, output, errors)),
-        Err(status) => status,
-    }
-}
-
-/// The file as an input, or the exit status where it can't be opened.
-fn opened<E: Sink>(rt: &HostRuntime, path: &str, errors: &mut E) -> Result<Input<File>, u8>
-    ensures { IfOk result (λ input. input_has_failed input ≡ false) }
+    ensures { IfOk result IsSound }
 {
     match File::open(rt, path) {
-        Ok(file) => Ok(Input::new(file)),
-        Err(_) => Err(unopened_run(errors)),
+        Ok(file) => Ok(Devices::new(Input::new(file), output, errors)),
+        Err(_) => Err(unopened_run(&mut errors)),
     }
 }
 
