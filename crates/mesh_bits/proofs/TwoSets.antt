@@ -47,7 +47,8 @@ not_both true true h = let e = h refl in absurd (cc)
 not_member : (words : List ℕ) (width i : ℕ) → width ≤ i → is_member (members words width) i ≡ false
 not_member words width i above = get_or_past (members words width) i false (omega (arith, length_members words width))
 
-one_word_apart : (words others : List ℕ) (j : ℕ) → slice_index words j < 2 ^ 64 → j < 4 → HaveNoBitInBoth words others → bit_and (slice_index words j) (slice_index others j) ≡ 0
+-- where no bit is set in both, a word of each shares nothing
+pub one_word_apart : (words others : List ℕ) (j : ℕ) → slice_index words j < 2 ^ 64 → j < 4 → HaveNoBitInBoth words others → bit_and (slice_index words j) (slice_index others j) ≡ 0
 one_word_apart words others j fits below apart =
     word_apart (slice_index words j) (slice_index others j) fits (λ k l set.
     let word : (64 * j + k) / 64 ≡ j = omega arith in

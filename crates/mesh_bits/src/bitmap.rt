@@ -114,7 +114,7 @@ impl Bits {
         ensures meshable { result ≡ are_meshable self.now other.now }
         ensures apart { IsTrue result ↔ AreApart self.now other.now }
     {
-        share_no_bit(self.words, other.words)
+        share_no_bit(&self.words, &other.words)
     }
 
     /// The numbers that are in either set, where both are below one width.
@@ -220,11 +220,11 @@ fn count_bits(words: &[u64; WORDS]) -> u32
     a.count_ones() + b.count_ones() + c.count_ones() + d.count_ones()
 }
 
-/// Whether no bit is set in both, four lanes at once.
-fn share_no_bit(words: [u64; WORDS], others: [u64; WORDS]) -> bool
-    ensures { IsTrue result ↔ HaveNoBitInBoth words others }
+/// Whether no bit is set in both: the first words tell most sets that share one, and all four lanes at once the others.
+fn share_no_bit(words: &[u64; WORDS], others: &[u64; WORDS]) -> bool
+    ensures { IsTrue result ↔ HaveNoBitInBoth words.now others.now }
 {
-    any_lane(both_lanes(words, others)) == 0
+    words[0] & others[0] == 0 && any_lane(both_lanes(*words, *others)) == 0
 }
 
 /// The bits that are set in both, lane by lane.
