@@ -1,4 +1,5 @@
 pub mod Decimals
+mod DigitTable
 mod Digits
 pub mod FewFields
 pub mod HexFields

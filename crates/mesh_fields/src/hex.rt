@@ -14,8 +14,21 @@ const MAX_ADDRESS: u64 = 0xfff_ffff;
 /// The greatest address of 48 bits.
 const MAX_WIDE_ADDRESS: u64 = 0xffff_ffff_ffff;
 
-/// What is no value of a digit.
-const NO_DIGIT: u8 = 16;
+/// The value of each byte as a hexadecimal digit in lower case, 16 where it is none. The digits of a text fall as they like, so no branch
+/// is to depend on which they are.
+static VALUES: [u8; 256] = [
+    16, 16, 16, 16, 16, 16, 16, 16, 16, 16, 16, 16, 16, 16, 16, 16, 16, 16, 16, 16, 16, 16, 16, 16,
+    16, 16, 16, 16, 16, 16, 16, 16, 16, 16, 16, 16, 16, 16, 16, 16, 16, 16, 16, 16, 16, 16, 16, 16,
+    0, 1, 2, 3, 4, 5, 6, 7, 8, 9, 16, 16, 16, 16, 16, 16, 16, 16, 16, 16, 16, 16, 16, 16, 16, 16,
+    16, 16, 16, 16, 16, 16, 16, 16, 16, 16, 16, 16, 16, 16, 16, 16, 16, 16, 16, 16, 16, 16, 16, 10,
+    11, 12, 13, 14, 15, 16, 16, 16, 16, 16, 16, 16, 16, 16, 16, 16, 16, 16, 16, 16, 16, 16, 16, 16,
+    16, 16, 16, 16, 16, 16, 16, 16, 16, 16, 16, 16, 16, 16, 16, 16, 16, 16, 16, 16, 16, 16, 16, 16,
+    16, 16, 16, 16, 16, 16, 16, 16, 16, 16, 16, 16, 16, 16, 16, 16, 16, 16, 16, 16, 16, 16, 16, 16,
+    16, 16, 16, 16, 16, 16, 16, 16, 16, 16, 16, 16, 16, 16, 16, 16, 16, 16, 16, 16, 16, 16, 16, 16,
+    16, 16, 16, 16, 16, 16, 16, 16, 16, 16, 16, 16, 16, 16, 16, 16, 16, 16, 16, 16, 16, 16, 16, 16,
+    16, 16, 16, 16, 16, 16, 16, 16, 16, 16, 16, 16, 16, 16, 16, 16, 16, 16, 16, 16, 16, 16, 16, 16,
+    16, 16, 16, 16, 16, 16, 16, 16, 16, 16, 16, 16, 16, 16,
+];
 
 /// The value of a hexadecimal digit in lower case.
 #[inline]
@@ -23,20 +36,8 @@ pub fn digit(byte: u8) -> Option<u8>
     ensures value { result ≡ hex_value byte }
     ensures below { IfSome result (λ value. value < 16) }
 {
-    // The digits of a text fall as they like, so no branch is to depend on which they are: both readings are made, and one is chosen.
-    let letter = byte.wrapping_sub(b'a');
-    let decimal = byte.wrapping_sub(b'0');
-    let value = if letter < 6 {
-        letter + 10
-    } else if decimal < 10 {
-        decimal
-    } else {
-        NO_DIGIT
-    };
-    if value == NO_DIGIT {
-        return None;
-    }
-    Some(value)
+    let value = VALUES[byte as usize];
+    if value < 16 { Some(value) } else { None }
 }
 
 /// The byte of two hexadecimal digits. HEX where one of them is no such digit.
