@@ -1,6 +1,6 @@
 #!/bin/sh
-# Makes three job files of the same 32,000 commands, spread over 1, 2 and 4 workers, and prints the times of their scripts run by threads, beside
-# those of their replay: what the lock costs.
+# Makes three job files of the same 32,000 commands, spread over 1, 2 and 4 workers, and three more whose commands are loads alone, and prints the
+# times of their scripts run by threads, beside those of their replay: what the lock costs.
 #
 #     tools/lock_times.sh [PROGRAM [RUNS]]
 #

@@ -1,8 +1,9 @@
 #!/usr/bin/env python3
-"""Writes three job files of the same commands into a folder: workers_1.job, workers_2.job and workers_4.job. They are the same every time.
+"""Writes job files of the same commands into a folder: workers_1.job, workers_2.job and workers_4.job, and reads_1.job, reads_2.job and reads_4.job, whose
+commands are loads alone once their objects are made. They are the same every time.
 
 The commands are in four parts, each with root cells of its own. A file's workers share out the parts, and its plan makes all commands in one order,
-which is the same in all three files."""
+which is the same in all three files of a kind."""
 import pathlib
 import random
 import sys
@@ -39,6 +40,19 @@ def part(number):
     return lines
 
 
+def reads(number):
+    """The commands of a part of loads alone: an object under each cell, and loads of its bytes and its address."""
+    pick = random.Random(PARTS + number)
+    cells = range(CELLS * number, CELLS * (number + 1))
+    lengths = {cell: pick.choice(LENGTHS) for cell in cells}
+    lines = [f"new {cell} {lengths[cell]} 0" for cell in cells]
+    while len(lines) < COMMANDS:
+        cell = pick.choice(cells)
+        count = pick.randrange(1, 9)
+        lines.append(f"get {cell} {pick.randrange(lengths[cell] - count + 1)} {count}" if pick.random() < 0.8 else f"addr {cell}")
+    return lines
+
+
 def job(parts, workers):
     """The job of these parts and so many workers; part p is worker p mod workers'."""
     lines = ["mesh 1", "pages 4096", "history 65536", f"workers {workers}"]
@@ -54,9 +68,10 @@ def job(parts, workers):
 
 def main():
     folder = pathlib.Path(sys.argv[1])
-    parts = [part(number) for number in range(PARTS)]
-    for workers in (1, 2, 4):
-        (folder / f"workers_{workers}.job").write_text(job(parts, workers))
+    for kind, part_of in (("workers", part), ("reads", reads)):
+        parts = [part_of(number) for number in range(PARTS)]
+        for workers in (1, 2, 4):
+            (folder / f"{kind}_{workers}.job").write_text(job(parts, workers))
 
 
 if __name__ == "__main__":
