@@ -10,20 +10,21 @@ use std::alloc::Global;
 /// How many cells are used: each is written several times.
 const CELLS: u32 = 8;
 
-/// Fills a book.
+/// Opens a book, and fills it.
 pub(crate) fn fill(alloc: Global) -> End {
     let mut book = Book::open(alloc, PAGES, 200)?;
+    make_all(&mut book)
+}
+
+/// Makes the objects of all orders.
+fn make_all(book: &mut Book) -> End {
     let mut refused = 0u32;
     let mut serial = 0u32;
     for order in ORDERS.iter() {
         for k in 0..order.count {
             let wanted = Reply::Object(serial, order.address(k));
-            refused = refused.saturating_add(make(
-                &mut book,
-                (k % CELLS) as u8,
-                order.len,
-                &wanted,
-            )?);
+            let made_again = make(book, (k % CELLS) as u8, order.len, &wanted)?;
+            refused = refused.saturating_add(made_again);
             serial = serial.saturating_add(1);
         }
     }

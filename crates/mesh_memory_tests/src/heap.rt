@@ -4,9 +4,14 @@ use crate::orders::{ORDERS, PAGES};
 use mesh_steps::{Heap, NewFault, Ref};
 use std::alloc::Global;
 
-/// Fills a heap.
+/// Opens a heap, and fills it.
 pub(crate) fn fill(alloc: Global) -> End {
     let mut heap = Heap::open(alloc, PAGES)?;
+    make_all(&mut heap)
+}
+
+/// Makes the objects of all orders.
+fn make_all(heap: &mut Heap) -> End {
     let mut refused = 0u32;
     let mut serial = 0u32;
     for order in ORDERS.iter() {
@@ -15,7 +20,7 @@ pub(crate) fn fill(alloc: Global) -> End {
                 serial,
                 addr: order.address(k),
             };
-            refused = refused.saturating_add(make(&mut heap, order.len, wanted)?);
+            refused = refused.saturating_add(make(heap, order.len, wanted)?);
             serial = serial.saturating_add(1);
         }
     }

@@ -157,18 +157,18 @@ fn ran<R: Abort + AllocGlobal + Clock + Threads + Wait + Sync>(
     ended.expect(rt, "a history")
 }
 
-/// Runs the scripts of a course so.
+/// Runs the scripts of a course so, and looks at what it comes to.
 fn played<R: Abort + AllocGlobal + Clock + Threads + Wait + Sync>(
     rt: &R,
     course: &Course,
     calls: Option<u32>,
-) -> Ended {
+) -> Seen {
     let first = script_of(rt, course.first);
     let Some(parts) = course.second else {
-        return ran(rt, course, &alone(&first), calls);
+        return seen(ran(rt, course, &alone(&first), calls));
     };
     let second = script_of(rt, parts);
-    ran(rt, course, &both(&first, &second), calls)
+    seen(ran(rt, course, &both(&first, &second), calls))
 }
 
 /// How many entries of a history are a worker's.
@@ -195,11 +195,13 @@ fn steps_left(heap: &mut Heap, size: u32) -> u32 {
 /// The size of each class.
 static SIZES: [u32; 10] = [16, 32, 64, 128, 256, 384, 512, 1024, 1536, 2048];
 
-/// Asserts that no class of these sizes takes a step.
-fn are_unmeshed(rt: &impl Abort, heap: &mut Heap, sizes: &[u32]) {
-    for size in sizes {
-        assert_eq!(rt; steps_left(heap, *size), 0, "of {size}");
+/// How many steps all classes of the heap together still take.
+fn all_steps_left(heap: &mut Heap) -> u32 {
+    let mut left = 0u32;
+    for size in SIZES.iter() {
+        left = left.saturating_add(steps_left(heap, *size));
     }
+    left
 }
 
 /// Whether the first of the addresses holds a byte, and each other one a zero.
@@ -217,6 +219,34 @@ fn begins_with(heap: &Heap, addresses: Range<u32>, front: u8) -> bool {
 /// Whether the objects of `GROUPS` have the bytes of `STORES`.
 fn keep_bytes(heap: &Heap) -> bool {
     begins_with(heap, 0x1800..0x2000, 0xab) && begins_with(heap, 0x2000..0x2800, 0xcd)
+}
+
+/// What a run comes to.
+#[derive(Drop)]
+struct Seen {
+    // How many entries of the history are the first script's, and how many the second one's.
+    entries: (usize, usize),
+    // What the heap counts.
+    report: Report,
+    // Whether the objects of `GROUPS` have the bytes of `STORES` then, and whether they have them once no class takes a step.
+    keeps_bytes: (bool, bool),
+    // How many steps all classes together still took.
+    steps_left: u32,
+}
+
+/// Looks at what a run came to, and makes the steps that are left.
+fn seen(mut ended: Ended) -> Seen {
+    let history = ended.history.as_slice();
+    let entries = (count_of(history, 0), count_of(history, 1));
+    let report = ended.heap.report();
+    let kept = keep_bytes(&ended.heap);
+    let steps_left = all_steps_left(&mut ended.heap);
+    Seen {
+        entries,
+        report,
+        keeps_bytes: (kept, keep_bytes(&ended.heap)),
+        steps_left,
+    }
 }
 
 /// A byte stored in each of the two objects.
@@ -264,10 +294,9 @@ static READ_IN_A_COPY: Course = Course {
 
 #[test]
 fn a_reader_runs_during_a_copy(rt: HostRuntime) {
-    let mut ended = played(&rt, &READ_IN_A_COPY, None);
-    assert_eq!(rt; count_of(ended.history.as_slice(), 0), 10);
-    assert_eq!(rt; count_of(ended.history.as_slice(), 1), 2);
-    are_unmeshed(&rt, &mut ended.heap, &SIZES);
+    let seen = played(&rt, &READ_IN_A_COPY, None);
+    assert_eq!(rt; seen.entries, (10, 2));
+    assert_eq!(rt; seen.steps_left, 0);
 }
 
 /// Two reads of an empty cell, an object and a read of it.
@@ -298,8 +327,8 @@ static SEARCH_BESIDE: Course = Course {
 
 #[test]
 fn a_search_runs_beside_a_script(rt: HostRuntime) {
-    let ended = played(&rt, &SEARCH_BESIDE, None);
-    assert_eq!(rt; ended.history.len(), 4);
+    let seen = played(&rt, &SEARCH_BESIDE, None);
+    assert_eq!(rt; seen.entries, (4, 0));
 }
 
 #[test]
@@ -341,8 +370,8 @@ static TWO_READS: Course = Course {
 
 #[test]
 fn two_scripts_read_at_once(rt: HostRuntime) {
-    let ended = played(&rt, &TWO_READS, None);
-    assert_eq!(rt; ended.history.len(), 2);
+    let seen = played(&rt, &TWO_READS, None);
+    assert_eq!(rt; seen.entries, (1, 1));
 }
 
 /// Of sixteen objects of class 512 from cell 4 on all but two: those are the objects of two groups that can be meshed.
@@ -385,11 +414,10 @@ static TWO_COPIES: Course = Course {
 
 #[test]
 fn two_meshers_copy_at_once(rt: HostRuntime) {
-    let ended = played(&rt, &TWO_COPIES, None);
-    assert_eq!(rt; ended.history.len(), 36);
-    let report = ended.heap.report();
+    let seen = played(&rt, &TWO_COPIES, None);
+    assert_eq!(rt; seen.entries, (36, 0));
     assert!(rt;
-        report.mapped == 4 && report.taken == 2,
+        seen.report.mapped == 4 && seen.report.taken == 2,
         "each class is on one page"
     );
 }
@@ -409,7 +437,7 @@ static SEARCH_BEHIND: Course = Course {
 
 #[test]
 fn every_pair_is_meshed(rt: HostRuntime) {
-    let ended = played(&rt, &SEARCH_BEHIND, None);
+    let seen = played(&rt, &SEARCH_BEHIND, None);
     let report = Report {
         objects: 6,
         bytes: 12_288,
@@ -417,7 +445,7 @@ fn every_pair_is_meshed(rt: HostRuntime) {
         taken: 3,
         saved: 3,
     };
-    assert!(rt; ended.heap.report() == report, "three pages are saved");
+    assert!(rt; seen.report == report, "three pages are saved");
 }
 
 /// The search waits for the stores, and the reads wait for the mesh.
@@ -447,24 +475,11 @@ static NO_MESH: Course = Course {
 fn a_mesher_is_abandoned_after_each_call(rt: HostRuntime) {
     for calls in 0..8 {
         let course = if calls == 0 { &NO_MESH } else { &MESH_AMID };
-        let mut ended = played(&rt, course, Some(calls));
-        assert!(rt;
-            ended.history.len() == 12,
-            "all commands are answered, after {calls} calls"
-        );
-        assert!(rt;
-            keep_bytes(&ended.heap),
-            "both objects keep their bytes, after {calls} calls"
-        );
+        let seen = played(&rt, course, Some(calls));
+        assert_eq!(rt; seen.entries, (12, 0), "after {calls} calls");
+        assert_eq!(rt; seen.keeps_bytes, (true, true), "after {calls} calls");
         let left = if calls == 0 { 0 } else { 7 - calls };
-        assert!(rt;
-            steps_left(&mut ended.heap, 2048) == left,
-            "{left} steps are left after {calls} calls"
-        );
-        assert!(rt;
-            keep_bytes(&ended.heap),
-            "both objects keep their bytes to the end, after {calls} calls"
-        );
+        assert_eq!(rt; seen.steps_left, left, "after {calls} calls");
     }
 }
 
@@ -492,7 +507,6 @@ static STORE_HELD_BACK: Course = Course {
 
 #[test]
 fn a_store_is_given_up(rt: HostRuntime) {
-    let ended = played(&rt, &STORE_HELD_BACK, Some(2));
-    assert_eq!(rt; count_of(ended.history.as_slice(), 0), 10);
-    assert_eq!(rt; count_of(ended.history.as_slice(), 1), 1);
+    let seen = played(&rt, &STORE_HELD_BACK, Some(2));
+    assert_eq!(rt; seen.entries, (10, 1));
 }

@@ -15,9 +15,8 @@ use std::rt::Clock;
 use std::sync::Wait;
 use std::sync::atomic::AtomicBool;
 use std::sync::atomic::Ordering::SeqCst;
-use std::test::Fail;
 use std::thread;
-use std::thread::join;
+use std::thread::{Threads, join};
 use std::time::Duration;
 
 /// A book of 16 pages behind a lock, with a seat for each count.
@@ -32,14 +31,85 @@ fn opened(alloc: Global, counts: &[usize]) -> Result<(Shared, Vec<Seat>), AllocE
     }
 }
 
-/// A book behind a lock, and its two seats.
-fn opened_for_two(alloc: Global) -> Result<(Shared, Seat, Seat), AllocError> {
-    let (shared, mut seats) = opened(alloc, &[4, 4])?;
-    let second = seats.pop();
-    let first = seats.pop();
-    match (first, second) {
-        (Some(first), Some(second)) => Ok((shared, first, second)),
-        _ => Err(AllocError),
+/// What is done with a book behind a lock and its seats.
+#[derive(Clone, Copy)]
+enum Usage {
+    // Two threads make an object each, and read it back.
+    Threads,
+    // An object gets a second name, by which it is read.
+    Alias,
+    // A mesh is begun and cancelled, and an empty group swept.
+    Mesher,
+    // A store is held back by a mesh.
+    HeldBack,
+    // A seat calls more than the book has room for.
+    Full,
+    // Each of two readers waits for the other one.
+    Readers,
+}
+
+impl Usage {
+    /// How many calls each seat has room for.
+    fn counts(self) -> &'static [usize]
+        ensures some { 1 ≤ length result.now }
+        ensures few { length result.now ≤ 64 }
+    {
+        match self {
+            Usage::Threads | Usage::Alias => &[4, 4],
+            Usage::Mesher | Usage::HeldBack => &[16],
+            Usage::Full => &[4],
+            Usage::Readers => &[1],
+        }
+    }
+
+    /// Uses the book.
+    fn of<R: Abort + Clock + Threads + Wait + Sync>(
+        self,
+        rt: &R,
+        alloc: Global,
+        shared: &Shared,
+        seats: &mut [Seat],
+    ) {
+        match (self, seats) {
+            (Usage::Threads, [first, second]) => work_beside(rt, shared, first, second),
+            (Usage::Alias, [first, _]) => read_by_alias(rt, shared, first),
+            (Usage::Mesher, [seat]) => take_the_lock(rt, alloc, shared, seat),
+            (Usage::HeldBack, [seat]) => hold_back(rt, shared, seat),
+            (Usage::Full, [seat]) => fill(rt, shared, seat),
+            (Usage::Readers, _) => meet(rt, shared),
+            _ => assert!(rt; false, "another count of seats"),
+        }
+    }
+}
+
+/// What a book comes to.
+#[derive(Drop)]
+struct Closed {
+    // How many entries its history has.
+    entries: usize,
+    // What its heap counts.
+    report: Report,
+}
+
+/// Opens a book of so many pages and so many entries, uses it, and finishes it.
+fn used<R: Abort + AllocGlobal + Clock + Threads + Wait + Sync>(
+    rt: &R,
+    pages: u32,
+    entries: u32,
+    usage: Usage,
+) -> Closed
+    requires some { 1 ≤ pages }
+    requires most { pages ≤ 4096 }
+    requires few { entries ≤ 65536 }
+{
+    let alloc = rt.alloc();
+    let book = Book::open(alloc, pages, entries).expect(rt, "memory");
+    let (shared, mut seats) = Shared::open(alloc, book, usage.counts()).expect(rt, "memory");
+    usage.of(rt, alloc, &shared, seats.as_mut_slice());
+    let ended = shared.finish(alloc, seats).expect(rt, "a history");
+    Closed {
+        entries: ended.history.len(),
+        report: ended.heap.report(),
     }
 }
 
@@ -57,14 +127,6 @@ fn get_bytes(cell: u8) -> Command
     Command::Get(cell, 0, 2)
 }
 
-/// How many entries the history has; 0 where there is none.
-fn entries_of(ended: Result<Ended, FinishError>) -> usize {
-    match ended {
-        Ok(ended) => ended.history.len(),
-        Err(_) => 0,
-    }
-}
-
 /// A thread's work: an object, its bytes, and whether they are read back.
 fn works<R: Wait>(rt: &R, shared: &Shared, seat: &mut Seat, cell: u8) -> bool {
     let mut bytes = ArrayVec::new();
@@ -78,19 +140,24 @@ fn works<R: Wait>(rt: &R, shared: &Shared, seat: &mut Seat, cell: u8) -> bool {
     }
 }
 
-#[test]
-fn two_threads_share_a_book(rt: HostRuntime) -> Result<(), AllocError> {
-    let alloc = rt.alloc();
-    let (shared, mut first, mut second) = opened_for_two(alloc)?;
+/// Lets two threads work beside one another.
+fn work_beside<R: Abort + Threads + Wait + Sync>(
+    rt: &R,
+    shared: &Shared,
+    first: &mut Seat,
+    second: &mut Seat,
+) {
     let (a, b) = join(
-        &rt,
-        || works(&rt, &shared, &mut first, 0),
-        || works(&rt, &shared, &mut second, 1),
+        rt,
+        || works(rt, shared, first, 0),
+        || works(rt, shared, second, 1),
     );
-    assert!(&rt; a && b, "each reads its bytes");
-    let entries = entries_of(shared.finish(alloc, vec![in alloc; first, second]?));
-    assert!(&rt; entries == 6, "{entries} entries");
-    Ok(())
+    assert!(rt; a && b, "each reads its bytes");
+}
+
+#[test]
+fn two_threads_share_a_book(rt: HostRuntime) {
+    assert_eq!(rt; used(&rt, 16, 64, Usage::Threads).entries, 6);
 }
 
 /// Asserts that a command of a seat is done, and answered so.
@@ -229,26 +296,24 @@ static ALIASED: [(Call, Answer); 3] = [
     (Call::Get(1, 0, 2), Answer::Bytes(&[0, 0])),
 ];
 
-#[test]
-fn reads_come_into_the_history(rt: HostRuntime) -> Result<(), AllocError> {
-    let alloc = rt.alloc();
-    let (shared, mut first, second) = opened_for_two(alloc)?;
+/// Reads an object by its second name.
+fn read_by_alias(rt: &(impl Abort + Wait), shared: &Shared, seat: &mut Seat) {
     for (call, answer) in ALIASED.iter() {
-        check(&rt, &shared, &mut first, *call, *answer, "an alias");
+        check(rt, shared, seat, *call, *answer, "an alias");
     }
-    let entries = entries_of(shared.finish(alloc, vec![in alloc; first, second]?));
-    assert_eq!(rt; entries, 3);
-    Ok(())
 }
 
-/// What is there before a mesher comes: two groups of class 2,048, each with one object, and the seat that made them.
-fn set_up(rt: &(impl Abort + AllocGlobal + Wait)) -> (Shared, Seat, Class) {
-    let (shared, mut seats) = opened(rt.alloc(), &[16]).expect(rt, "memory");
-    let mut seat = seats.pop().expect(rt, "a seat");
+#[test]
+fn reads_come_into_the_history(rt: HostRuntime) {
+    assert_eq!(rt; used(&rt, 16, 64, Usage::Alias).entries, 3);
+}
+
+/// What is there before a mesher comes: two groups of class 2,048, each with one object.
+fn set_up(rt: &(impl Abort + Wait), shared: &Shared, seat: &mut Seat) -> Class {
     for call in GROUPS.iter() {
-        shared.call(rt, &mut seat, &command_of(rt, *call));
+        shared.call(rt, seat, &command_of(rt, *call));
     }
-    (shared, seat, class_of(2048).expect(rt, "a class"))
+    class_of(2048).expect(rt, "a class")
 }
 
 /// A call of a mesher.
@@ -316,18 +381,18 @@ fn has_one_group<R: Wait>(
     Ok(view.len() == 1 && view.number(0) == 1)
 }
 
+/// Begins a mesh and cancels it, and sweeps the group that is empty then.
+fn take_the_lock(rt: &(impl Abort + Wait), alloc: Global, shared: &Shared, seat: &mut Seat) {
+    let class = set_up(rt, shared, seat);
+    play(rt, shared, class, &CANCELLED);
+    shared.call(rt, seat, &Command::Free(1));
+    play(rt, shared, class, &SWEPT);
+    let left = has_one_group(rt, alloc, shared, class).expect(rt, "memory");
+    assert!(rt; left, "group 1 is the only one");
+}
+
 #[test]
-fn a_mesher_takes_the_lock(rt: HostRuntime) -> Result<(), Fail> {
-    let alloc = rt.alloc();
-    let (shared, mut seat, class) = set_up(&rt);
-    play(&rt, &shared, class, &CANCELLED);
-    shared.call(&rt, &mut seat, &Command::Free(1));
-    play(&rt, &shared, class, &SWEPT);
-    assert!(&rt;
-        has_one_group(&rt, alloc, &shared, class)?,
-        "group 1 is the only one"
-    );
-    let ended = shared.finish(alloc, vec![in alloc; seat]?)?;
+fn a_mesher_takes_the_lock(rt: HostRuntime) {
     let report = Report {
         objects: 1,
         bytes: 2048,
@@ -335,20 +400,25 @@ fn a_mesher_takes_the_lock(rt: HostRuntime) -> Result<(), Fail> {
         taken: 1,
         saved: 0,
     };
-    assert!(&rt; ended.heap.report() == report, "one object is left");
-    Ok(())
+    let closed = used(&rt, 16, 64, Usage::Mesher);
+    assert!(rt; closed.report == report, "one object is left");
+}
+
+/// Stores into the object of a read-only page.
+fn hold_back(rt: &(impl Abort + Wait), shared: &Shared, seat: &mut Seat) {
+    let class = set_up(rt, shared, seat);
+    assert!(rt; !shared.book.read(rt).running(class), "no mesh runs");
+    play(rt, shared, class, &CANCELLED[..2]);
+    assert!(rt; shared.book.read(rt).running(class), "a mesh runs");
+    let put = command_of(rt, Call::Put(2, 0, &[0x68]));
+    let stored = shared.call(rt, seat, &put);
+    assert!(rt; stored == Attempt::Blocked, "the store is held back");
+    assert!(rt; seat.calls().len() == 6, "and isn't kept");
 }
 
 #[test]
 fn a_call_tells_that_it_is_held_back(rt: HostRuntime) {
-    let (shared, mut seat, class) = set_up(&rt);
-    assert!(&rt; !shared.book.read(&rt).running(class), "no mesh runs");
-    play(&rt, &shared, class, &CANCELLED[..2]);
-    assert!(&rt; shared.book.read(&rt).running(class), "a mesh runs");
-    let put = command_of(&rt, Call::Put(2, 0, &[0x68]));
-    let stored = shared.call(&rt, &mut seat, &put);
-    assert!(&rt; stored == Attempt::Blocked, "the store is held back");
-    assert!(&rt; seat.calls().len() == 6, "and isn't kept");
+    assert_eq!(rt; used(&rt, 16, 64, Usage::HeldBack).entries, 6);
 }
 
 /// Three objects of half a page.
@@ -358,21 +428,21 @@ static HALF_PAGES: [(Call, Answer); 3] = [
     (Call::New(2, 2048), Answer::Refused(Refusal::NoPages)),
 ];
 
-#[test]
-fn the_book_is_the_one_handed_in(rt: HostRuntime) -> Result<(), Fail> {
-    let alloc = rt.alloc();
-    let book = Book::open(alloc, 1, 3)?;
-    let (shared, mut seats) = Shared::open(alloc, book, &[4])?;
-    let mut seat = seats.pop().expect(&rt, "a seat");
+/// Calls once more than there is room for.
+fn fill(rt: &(impl Abort + Wait), shared: &Shared, seat: &mut Seat) {
     for (call, answer) in HALF_PAGES.iter() {
-        check(&rt, &shared, &mut seat, *call, *answer, "one page");
+        check(rt, shared, seat, *call, *answer, "one page");
     }
-    let fourth = shared.call(&rt, &mut seat, &new_object(3));
-    assert!(&rt;
+    let fourth = shared.call(rt, seat, &new_object(3));
+    assert!(rt;
         fourth == Attempt::HistoryFull,
         "there is room for three entries"
     );
-    Ok(())
+}
+
+#[test]
+fn the_book_is_the_one_handed_in(rt: HostRuntime) {
+    assert_eq!(rt; used(&rt, 1, 3, Usage::Full).entries, 3);
 }
 
 /// How often a reader looks for the other one, and for how many microseconds it sleeps after each look.
@@ -393,16 +463,19 @@ fn meets<R: Clock + Wait>(rt: &R, shared: &Shared, own: &AtomicBool, other: &Ato
     false
 }
 
-#[test]
-fn two_reads_run_at_once(rt: HostRuntime) -> Result<(), AllocError> {
-    let (shared, _seats) = opened(rt.alloc(), &[1])?;
+/// Lets two readers hold the lock at once.
+fn meet<R: Abort + Clock + Threads + Wait + Sync>(rt: &R, shared: &Shared) {
     let first = AtomicBool::new(false);
     let second = AtomicBool::new(false);
     let (a, b) = join(
-        &rt,
-        || meets(&rt, &shared, &first, &second),
-        || meets(&rt, &shared, &second, &first),
+        rt,
+        || meets(rt, shared, &first, &second),
+        || meets(rt, shared, &second, &first),
     );
-    assert!(&rt; a && b, "both hold the lock");
-    Ok(())
+    assert!(rt; a && b, "both hold the lock");
+}
+
+#[test]
+fn two_reads_run_at_once(rt: HostRuntime) {
+    assert_eq!(rt; used(&rt, 16, 64, Usage::Readers).entries, 0);
 }

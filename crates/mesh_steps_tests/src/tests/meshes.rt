@@ -38,10 +38,12 @@ fn begun<R: Abort + AllocGlobal>(rt: &R, steps: usize) -> Tried<'_, R> {
 }
 
 /// How the heap and the book of a test begin.
-#[derive(Clone, Copy, Debug)]
+#[derive(Clone, Copy)]
 enum Start {
     /// So many objects of the class 2048.
     Objects(u32),
+    /// Nine groups of the class 2048 without an object.
+    Emptied,
     /// Two groups that can be meshed.
     TwoGroups,
     /// The same in an arena of two pages.
@@ -66,6 +68,7 @@ fn started<R: Abort + AllocGlobal>(rt: &R, start: Start) -> Tried<'_, R> {
             tried.make(0..count, 2048, 0x1000, 0x800);
             tried
         },
+        Start::Emptied => emptied(rt),
         Start::TwoGroups => two_groups(rt, 16),
         Start::TwoPages => two_groups(rt, 2),
         Start::Begun(steps) => begun(rt, steps),
@@ -95,14 +98,30 @@ static AFTER_THE_MESH: [(Call, Answer); 7] = [
     (Call::Peek(0x2000), Answer::Refused(Refusal::Stray)),
 ];
 
+/// A read of the object that is copied, whichever steps were made.
+const HELD_BYTE: (Call, Answer) = (Call::Read(2, 0, 1), Answer::Bytes(1, 0xab));
+
 #[test]
 fn reads_are_answered_at_each_step(rt: HostRuntime) {
-    let mut tried = begun(&rt, 0);
-    for (step, stepped) in &STEPS {
-        tried.check(*step, *stepped);
-        tried.check(Call::Read(2, 0, 1), Answer::Bytes(1, 0xab));
-    }
-    tried.play(&AFTER_THE_MESH);
+    played(
+        &rt,
+        Start::Begun(0),
+        &[
+            &STEPS[0..1],
+            &[HELD_BYTE],
+            &STEPS[1..2],
+            &[HELD_BYTE],
+            &STEPS[2..3],
+            &[HELD_BYTE],
+            &STEPS[3..4],
+            &[HELD_BYTE],
+            &STEPS[4..5],
+            &[HELD_BYTE],
+            &STEPS[5..6],
+            &[HELD_BYTE],
+            &AFTER_THE_MESH,
+        ],
+    );
 }
 
 /// What is answered while the second group's page is read-only.
@@ -328,10 +347,9 @@ fn cancelled_after(steps: u32) -> Answer {
 #[test]
 fn an_abandoned_mesh_keeps_its_answers(rt: HostRuntime) {
     for steps in 0..21 {
-        let mut tried = stopped_after(&rt, steps);
         let first = stored(1 <= steps && steps <= 14);
         let both = stored(1 <= steps && steps <= 15);
-        tried.play(&[
+        let calls = [
             HELD,
             (Call::Write(10, 0, &[0xff]), first),
             (Call::Write(10, 1020, CROSSING), both),
@@ -341,7 +359,8 @@ fn an_abandoned_mesh_keeps_its_answers(rt: HostRuntime) {
             (Call::Copy(10, 1020, 0, 0, 8), both),
             HELD,
             (Call::Cancel(1536), cancelled_after(steps)),
-        ]);
+        ];
+        played(&rt, Start::Long(steps), &[&calls]);
     }
 }
 
@@ -411,8 +430,25 @@ fn an_empty_group_is_swept(rt: HostRuntime) {
     played(&rt, Start::TwoGroups, &[&SWEPT]);
 }
 
-/// A mesh to a ninth member.
-static MOST_MEMBERS: [(Call, Answer); 3] = [
+/// Nine groups whose objects were freed.
+fn emptied<R: Abort + AllocGlobal>(rt: &R) -> Tried<'_, R> {
+    let mut tried = Tried::open(rt, 16);
+    tried.make(0..18, 2048, 0x1000, 0x800);
+    for serial in 0..18 {
+        tried.check(Call::Free(serial), Answer::Done);
+    }
+    tried
+}
+
+/// Meshes into the first group until it has eight members, and one to a ninth.
+static MOST_MEMBERS: [(Call, Answer); 10] = [
+    (Call::Whole(1, 0), Answer::Pages(1)),
+    (Call::Whole(2, 0), Answer::Pages(1)),
+    (Call::Whole(3, 0), Answer::Pages(1)),
+    (Call::Whole(4, 0), Answer::Pages(1)),
+    (Call::Whole(5, 0), Answer::Pages(1)),
+    (Call::Whole(6, 0), Answer::Pages(1)),
+    (Call::Whole(7, 0), Answer::Pages(1)),
     (Call::Whole(8, 0), Answer::Refused(Refusal::Members)),
     (Call::Sweep(0), Answer::Pages(1)),
     (Call::Report, Answer::Counts(0, 0, 1, 1, 0)),
@@ -420,15 +456,7 @@ static MOST_MEMBERS: [(Call, Answer); 3] = [
 
 #[test]
 fn eight_members_are_most(rt: HostRuntime) {
-    let mut tried = Tried::open(&rt, 16);
-    tried.make(0..18, 2048, 0x1000, 0x800);
-    for k in 0..18 {
-        tried.check(Call::Free(k), Answer::Done);
-    }
-    for k in 1..8 {
-        tried.check(Call::Whole(k, 0), Answer::Pages(1));
-    }
-    tried.play(&MOST_MEMBERS);
+    played(&rt, Start::Emptied, &[&MOST_MEMBERS]);
 }
 
 /// Sixteen objects in four groups, of which one in each group stays, in four different slots. The groups are meshed two by two.
@@ -458,22 +486,30 @@ fn four_groups_become_one(rt: HostRuntime) {
     played(&rt, Start::MeshedTwice, &[&FOUR_IN_ONE]);
 }
 
+/// A mesh whose source has two members, with stores to the object of each.
+static PAGE_BY_PAGE: [(Call, Answer); 17] = [
+    (Call::Begin(2, 0), Answer::Left(11)),
+    (Call::Step(1024), Answer::Stepped(StepKind::Protect, 10)),
+    (Call::Write(10, 0, &[0xaa]), Answer::Blocked),
+    (Call::Write(15, 0, &[0xbb]), Answer::Done),
+    (Call::Step(1024), Answer::Stepped(StepKind::Protect, 9)),
+    (Call::Step(1024), Answer::Stepped(StepKind::Copy, 8)),
+    (Call::Step(1024), Answer::Stepped(StepKind::Copy, 7)),
+    (Call::Step(1024), Answer::Stepped(StepKind::Copy, 6)),
+    (Call::Step(1024), Answer::Stepped(StepKind::Copy, 5)),
+    (Call::Step(1024), Answer::Stepped(StepKind::Remap, 4)),
+    (Call::Step(1024), Answer::Stepped(StepKind::Remap, 3)),
+    (Call::Write(10, 0, &[0xaa]), Answer::Blocked),
+    (Call::Step(1024), Answer::Stepped(StepKind::Unprotect, 2)),
+    (Call::Write(10, 0, &[0xaa]), Answer::Done),
+    (Call::Step(1024), Answer::Stepped(StepKind::Unprotect, 1)),
+    (Call::Step(1024), Answer::Stepped(StepKind::Release, 0)),
+    (Call::Read(15, 0, 1), Answer::Bytes(1, 0xbb)),
+];
+
 #[test]
 fn a_source_of_two_members_goes_page_by_page(rt: HostRuntime) {
-    let mut tried = meshed_twice(&rt);
-    tried.check(Call::Begin(2, 0), Answer::Left(11));
-    tried.step(1024, StepKind::Protect, 10..11);
-    tried.check(Call::Write(10, 0, &[0xaa]), Answer::Blocked);
-    tried.check(Call::Write(15, 0, &[0xbb]), Answer::Done);
-    tried.step(1024, StepKind::Protect, 9..10);
-    tried.step(1024, StepKind::Copy, 5..9);
-    tried.step(1024, StepKind::Remap, 3..5);
-    tried.check(Call::Write(10, 0, &[0xaa]), Answer::Blocked);
-    tried.step(1024, StepKind::Unprotect, 2..3);
-    tried.check(Call::Write(10, 0, &[0xaa]), Answer::Done);
-    tried.step(1024, StepKind::Unprotect, 1..2);
-    tried.step(1024, StepKind::Release, 0..1);
-    tried.check(Call::Read(15, 0, 1), Answer::Bytes(1, 0xbb));
+    played(&rt, Start::MeshedTwice, &[&PAGE_BY_PAGE]);
 }
 
 /// Beside the first two groups two of the class 1024, with three objects and one.

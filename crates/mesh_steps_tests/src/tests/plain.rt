@@ -1,106 +1,256 @@
-//! Each call, with an answer that was worked out by hand from the definition.
-ghost use Rattle.std.specs.Prelude.{◌≤◌, length};
+//! Each call of the plain memory, with an answer that was worked out by hand from the definition.
 
+use crate::tests::calls::number;
 use arrayvec::ArrayVec;
 use mesh_plain::{Plain, PlainFault};
 use model_words::{Command, Refusal, Reply};
 use std::process::Abort;
 
-/// Cell 0 names 8 bytes at 0x1000, and cell 1 names 4 bytes at 0x1010. They are 1 to 8, and 9 to 12.
-fn two_objects<R: AllocGlobal + Abort>(rt: &R) -> Plain {
-    let mut plain = Plain::new(rt.alloc());
-    assert_eq!(rt; plain.make(0, 8, 0x1000), Ok(0));
-    assert_eq!(rt; plain.make(1, 4, 0x1010), Ok(1));
-    assert_eq!(rt; plain.put(0, 0, &[1, 2, 3, 4, 5, 6, 7, 8]), Ok(()));
-    assert_eq!(rt; plain.put(1, 0, &[9, 10, 11, 12]), Ok(()));
-    plain
+/// A call of the plain memory, which names an object by a cell.
+#[derive(Clone, Copy)]
+enum PlainCall {
+    // Of a length, at an address.
+    Make(u8, u32, u32),
+    // To an offset.
+    Put(u8, u32, &'static [u8]),
+    // From an offset, so many bytes, at most 32.
+    Get(u8, u32, u32),
+    // To a cell's offset, from a cell's offset, so many bytes.
+    Copy(u8, u32, u8, u32, u32),
+    Alias(u8, u8),
+    Free(u8),
+    Addr(u8),
+    Peek(u32),
+    Poke(u32, u8),
 }
 
-/// The bytes of an object are these.
-fn holds<R: Abort>(rt: &R, plain: &Plain, cell: u8, bytes: &[u8])
-    requires { length bytes.now ≤ 32 }
-{
-    match plain.get(cell, 0, bytes.len() as u32) {
-        Ok(loaded) => assert_eq!(rt; loaded.as_slice(), bytes),
-        Err(fault) => assert!(rt; false, "{fault}"),
+/// What it is answered.
+#[derive(Clone, Copy, PartialEq, Eq)]
+enum PlainAnswer {
+    // The serial of a new object.
+    Made(u32),
+    Done,
+    // How many bytes, and what they are, the first one highest.
+    Bytes(usize, u64),
+    At(u32),
+    Byte(u8),
+    Fault(PlainFault),
+    // The call couldn't be made.
+    Unmade,
+}
+
+/// What a call is answered.
+fn answer_of(plain: &mut Plain, call: PlainCall) -> Result<PlainAnswer, PlainFault> {
+    Ok(match call {
+        PlainCall::Make(cell, len, address) if plain.next_serial() < u32::MAX => {
+            PlainAnswer::Made(plain.make(cell, len, address)?)
+        }
+        PlainCall::Get(cell, off, len) if len <= 32 => {
+            let bytes = plain.get(cell, off, len)?;
+            PlainAnswer::Bytes(bytes.len(), number(bytes.as_slice()))
+        }
+        PlainCall::Make(_, _, _) | PlainCall::Get(_, _, _) => PlainAnswer::Unmade,
+        PlainCall::Addr(cell) => PlainAnswer::At(plain.addr(cell)?),
+        PlainCall::Peek(address) => PlainAnswer::Byte(plain.peek(address)?),
+        _ => {
+            change(plain, call)?;
+            PlainAnswer::Done
+        }
+    })
+}
+
+/// Makes a call whose only answer is that it is done.
+fn change(plain: &mut Plain, call: PlainCall) -> Result<(), PlainFault> {
+    match call {
+        PlainCall::Put(cell, off, bytes) => plain.put(cell, off, bytes),
+        PlainCall::Copy(to, to_off, from, from_off, len) => {
+            plain.copy(to, to_off, from, from_off, len)
+        }
+        PlainCall::Alias(to, from) => plain.alias(to, from),
+        PlainCall::Free(cell) => plain.free(cell),
+        PlainCall::Poke(address, byte) => plain.poke(address, byte),
+        _ => Ok(()),
     }
 }
 
+/// Asserts that calls are answered so, one after another.
+fn play(rt: &impl Abort, plain: &mut Plain, calls: &[(PlainCall, PlainAnswer)]) {
+    for (place, (call, wanted)) in calls.iter().enumerate() {
+        let answer = match answer_of(plain, *call) {
+            Ok(answer) => answer,
+            Err(fault) => PlainAnswer::Fault(fault),
+        };
+        assert!(rt; answer == *wanted, "call {place}");
+    }
+}
+
+/// Asserts that a fresh memory answers the parts so, one after another.
+fn played(rt: &(impl Abort + AllocGlobal), parts: &[&[(PlainCall, PlainAnswer)]]) {
+    let mut plain = Plain::new(rt.alloc());
+    for part in parts {
+        play(rt, &mut plain, part);
+    }
+}
+
+/// Cell 0 names 8 bytes at 0x1000, and cell 1 names 4 bytes at 0x1010. They are 1 to 8, and 9 to 12.
+static TWO_OBJECTS: [(PlainCall, PlainAnswer); 4] = [
+    (PlainCall::Make(0, 8, 0x1000), PlainAnswer::Made(0)),
+    (PlainCall::Make(1, 4, 0x1010), PlainAnswer::Made(1)),
+    (
+        PlainCall::Put(0, 0, &[1, 2, 3, 4, 5, 6, 7, 8]),
+        PlainAnswer::Done,
+    ),
+    (PlainCall::Put(1, 0, &[9, 10, 11, 12]), PlainAnswer::Done),
+];
+
+/// A new object in the last cell.
+static ZEROS: [(PlainCall, PlainAnswer); 2] = [
+    (PlainCall::Make(255, 3, 0x1000), PlainAnswer::Made(0)),
+    (PlainCall::Get(255, 0, 3), PlainAnswer::Bytes(3, 0)),
+];
+
 #[test]
 fn a_new_object_is_of_zeros(rt: HostRuntime) {
-    let mut plain = Plain::new(rt.alloc());
-    assert_eq!(rt; plain.make(255, 3, 0x1000), Ok(0));
-    holds(&rt, &plain, 255, &[0, 0, 0]);
+    played(&rt, &[&ZEROS]);
 }
+
+/// A store, and what both objects hold then.
+static STORED: [(PlainCall, PlainAnswer); 3] = [
+    (PlainCall::Put(0, 6, &[20, 21]), PlainAnswer::Done),
+    (
+        PlainCall::Get(0, 0, 8),
+        PlainAnswer::Bytes(8, 0x0102_0304_0506_1415),
+    ),
+    (PlainCall::Get(1, 0, 4), PlainAnswer::Bytes(4, 0x090a_0b0c)),
+];
 
 #[test]
 fn bytes_are_stored_and_loaded(rt: HostRuntime) {
-    let mut plain = two_objects(&rt);
-    assert_eq!(rt; plain.put(0, 6, &[20, 21]), Ok(()));
-    holds(&rt, &plain, 0, &[1, 2, 3, 4, 5, 6, 20, 21]);
-    holds(&rt, &plain, 1, &[9, 10, 11, 12]);
+    played(&rt, &[&TWO_OBJECTS, &STORED]);
 }
+
+/// Copies within one object, whose ranges overlap, and from one object to another.
+static COPIED: [(PlainCall, PlainAnswer); 7] = [
+    (PlainCall::Copy(0, 2, 0, 0, 5), PlainAnswer::Done),
+    (
+        PlainCall::Get(0, 0, 8),
+        PlainAnswer::Bytes(8, 0x0102_0102_0304_0508),
+    ),
+    (PlainCall::Copy(0, 0, 0, 3, 4), PlainAnswer::Done),
+    (
+        PlainCall::Get(0, 0, 8),
+        PlainAnswer::Bytes(8, 0x0203_0405_0304_0508),
+    ),
+    (PlainCall::Copy(1, 1, 0, 6, 2), PlainAnswer::Done),
+    (PlainCall::Get(1, 0, 4), PlainAnswer::Bytes(4, 0x0905_080c)),
+    (
+        PlainCall::Get(0, 0, 8),
+        PlainAnswer::Bytes(8, 0x0203_0405_0304_0508),
+    ),
+];
 
 #[test]
 fn bytes_are_copied_whole_before_one_is_stored(rt: HostRuntime) {
-    let mut plain = two_objects(&rt);
-    assert_eq!(rt; plain.copy(0, 2, 0, 0, 5), Ok(()));
-    holds(&rt, &plain, 0, &[1, 2, 1, 2, 3, 4, 5, 8]);
-    assert_eq!(rt; plain.copy(0, 0, 0, 3, 4), Ok(()));
-    holds(&rt, &plain, 0, &[2, 3, 4, 5, 3, 4, 5, 8]);
-    assert_eq!(rt; plain.copy(1, 1, 0, 6, 2), Ok(()));
-    holds(&rt, &plain, 1, &[9, 5, 8, 12]);
-    holds(&rt, &plain, 0, &[2, 3, 4, 5, 3, 4, 5, 8]);
+    played(&rt, &[&TWO_OBJECTS, &COPIED]);
 }
+
+/// Addresses inside the objects and beside them.
+static ADDRESSES: [(PlainCall, PlainAnswer); 8] = [
+    (PlainCall::Addr(1), PlainAnswer::At(0x1010)),
+    (PlainCall::Peek(0x1000), PlainAnswer::Byte(1)),
+    (PlainCall::Peek(0x1007), PlainAnswer::Byte(8)),
+    (
+        PlainCall::Peek(0x1008),
+        PlainAnswer::Fault(PlainFault::Stray),
+    ),
+    (
+        PlainCall::Peek(0x0fff),
+        PlainAnswer::Fault(PlainFault::Stray),
+    ),
+    (PlainCall::Poke(0x1013, 77), PlainAnswer::Done),
+    (
+        PlainCall::Poke(0x1014, 77),
+        PlainAnswer::Fault(PlainFault::Stray),
+    ),
+    (PlainCall::Get(1, 0, 4), PlainAnswer::Bytes(4, 0x090a_0b4d)),
+];
 
 #[test]
 fn addresses_lead_to_bytes(rt: HostRuntime) {
-    let mut plain = two_objects(&rt);
-    assert_eq!(rt; plain.addr(1), Ok(0x1010));
-    assert_eq!(rt; plain.peek(0x1000), Ok(1));
-    assert_eq!(rt; plain.peek(0x1007), Ok(8));
-    assert_eq!(rt; plain.peek(0x1008), Err(PlainFault::Stray));
-    assert_eq!(rt; plain.peek(0x0fff), Err(PlainFault::Stray));
-    assert_eq!(rt; plain.poke(0x1013, 77), Ok(()));
-    assert_eq!(rt; plain.poke(0x1014, 77), Err(PlainFault::Stray));
-    holds(&rt, &plain, 1, &[9, 10, 11, 77]);
+    played(&rt, &[&TWO_OBJECTS, &ADDRESSES]);
 }
+
+/// An object that two cells name, before it is freed and after.
+static FREED: [(PlainCall, PlainAnswer); 8] = [
+    (PlainCall::Alias(9, 0), PlainAnswer::Done),
+    (
+        PlainCall::Get(9, 0, 8),
+        PlainAnswer::Bytes(8, 0x0102_0304_0506_0708),
+    ),
+    (PlainCall::Free(0), PlainAnswer::Done),
+    (PlainCall::Free(0), PlainAnswer::Fault(PlainFault::Freed)),
+    (PlainCall::Addr(9), PlainAnswer::Fault(PlainFault::Freed)),
+    (
+        PlainCall::Alias(1, 9),
+        PlainAnswer::Fault(PlainFault::Freed),
+    ),
+    (
+        PlainCall::Peek(0x1000),
+        PlainAnswer::Fault(PlainFault::Stray),
+    ),
+    (PlainCall::Get(1, 0, 4), PlainAnswer::Bytes(4, 0x090a_0b0c)),
+];
 
 #[test]
 fn a_freed_object_is_gone_from_each_cell(rt: HostRuntime) {
-    let mut plain = two_objects(&rt);
-    assert_eq!(rt; plain.alias(9, 0), Ok(()));
-    holds(&rt, &plain, 9, &[1, 2, 3, 4, 5, 6, 7, 8]);
-    assert_eq!(rt; plain.free(0), Ok(()));
-    assert_eq!(rt; plain.free(0), Err(PlainFault::Freed));
-    assert_eq!(rt; plain.addr(9), Err(PlainFault::Freed));
-    assert_eq!(rt; plain.alias(1, 9), Err(PlainFault::Freed));
-    assert_eq!(rt; plain.peek(0x1000), Err(PlainFault::Stray));
-    holds(&rt, &plain, 1, &[9, 10, 11, 12]);
+    played(&rt, &[&TWO_OBJECTS, &FREED]);
 }
+
+/// Calls that have one fault or two.
+static FAULTS: [(PlainCall, PlainAnswer); 10] = [
+    (
+        PlainCall::Put(0, 7, &[0, 0]),
+        PlainAnswer::Fault(PlainFault::Outside),
+    ),
+    (
+        PlainCall::Put(2, 7, &[0, 0]),
+        PlainAnswer::Fault(PlainFault::Empty),
+    ),
+    (
+        PlainCall::Get(1, 1, 4),
+        PlainAnswer::Fault(PlainFault::Outside),
+    ),
+    (
+        PlainCall::Alias(0, 2),
+        PlainAnswer::Fault(PlainFault::Empty),
+    ),
+    (
+        PlainCall::Copy(0, 0, 1, 2, 3),
+        PlainAnswer::Fault(PlainFault::Outside),
+    ),
+    (
+        PlainCall::Copy(1, 2, 0, 0, 3),
+        PlainAnswer::Fault(PlainFault::Outside),
+    ),
+    (PlainCall::Free(0), PlainAnswer::Done),
+    (
+        PlainCall::Copy(0, 0, 2, 0, 1),
+        PlainAnswer::Fault(PlainFault::Empty),
+    ),
+    (
+        PlainCall::Copy(1, 9, 0, 0, 1),
+        PlainAnswer::Fault(PlainFault::Freed),
+    ),
+    (PlainCall::Get(1, 0, 4), PlainAnswer::Bytes(4, 0x090a_0b0c)),
+];
 
 #[test]
 fn faults_come_in_their_order(rt: HostRuntime) {
-    let mut plain = two_objects(&rt);
-    assert_eq!(rt; plain.put(0, 7, &[0, 0]), Err(PlainFault::Outside));
-    assert_eq!(rt; plain.put(2, 7, &[0, 0]), Err(PlainFault::Empty));
-    assert!(rt;
-        plain
-            .get(1, 1, 4)
-            .is_err_and(|fault| fault == PlainFault::Outside)
-    );
-    assert_eq!(rt; plain.alias(0, 2), Err(PlainFault::Empty));
-    assert_eq!(rt; plain.copy(0, 0, 1, 2, 3), Err(PlainFault::Outside));
-    assert_eq!(rt; plain.copy(1, 2, 0, 0, 3), Err(PlainFault::Outside));
-    assert_eq!(rt; plain.free(0), Ok(()));
-    assert_eq!(rt; plain.copy(0, 0, 2, 0, 1), Err(PlainFault::Empty));
-    assert_eq!(rt; plain.copy(1, 9, 0, 0, 1), Err(PlainFault::Freed));
-    holds(&rt, &plain, 1, &[9, 10, 11, 12]);
+    played(&rt, &[&TWO_OBJECTS, &FAULTS]);
 }
 
-#[test]
-fn a_journal_is_applied(rt: HostRuntime) {
-    let mut plain = Plain::new(rt.alloc());
+/// Applies the commands of a journal, in which cell 4 comes to name two bytes.
+fn apply_entries(rt: &impl Abort, plain: &mut Plain) {
     let mut bytes = ArrayVec::new();
     bytes.push(5);
     let entries = [
@@ -115,16 +265,35 @@ fn a_journal_is_applied(rt: HostRuntime) {
     for (command, reply) in &entries {
         assert!(rt; plain.apply(command, reply).is_ok());
     }
-    holds(&rt, &plain, 4, &[5, 6]);
-    assert_eq!(rt; plain.look(&Command::Peek(0x1000)), Reply::Byte(5));
-    assert_eq!(rt; plain.look(&Command::Addr(3)), Reply::At(0x1000));
-    assert_eq!(rt;
-        plain.look(&Command::Get(3, 1, 2)),
-        Reply::Refused(Refusal::Outside)
+}
+
+/// Asserts that a read is answered so.
+fn check_look(rt: &impl Abort, plain: &Plain, read: PlainCall, wanted: &Reply) {
+    let reply = match read {
+        PlainCall::Peek(address) => plain.look(&Command::Peek(address)),
+        PlainCall::Get(cell, off, len) if 1 <= len && len <= 32 => {
+            plain.look(&Command::Get(cell, off, len))
+        }
+        PlainCall::Addr(cell) => plain.look(&Command::Addr(cell)),
+        _ => Reply::Done,
+    };
+    assert!(rt; reply == *wanted, "another reply");
+}
+
+#[test]
+fn a_journal_is_applied(rt: HostRuntime) {
+    let outside = Reply::Refused(Refusal::Outside);
+    let freed = Reply::Refused(Refusal::Freed);
+    let mut plain = Plain::new(rt.alloc());
+    apply_entries(&rt, &mut plain);
+    play(
+        &rt,
+        &mut plain,
+        &[(PlainCall::Get(4, 0, 2), PlainAnswer::Bytes(2, 0x0506))],
     );
-    assert_eq!(rt; plain.apply(&Command::Free(4), &Reply::Done).is_ok(), true);
-    assert_eq!(rt;
-        plain.look(&Command::Addr(3)),
-        Reply::Refused(Refusal::Freed)
-    );
+    check_look(&rt, &plain, PlainCall::Peek(0x1000), &Reply::Byte(5));
+    check_look(&rt, &plain, PlainCall::Addr(3), &Reply::At(0x1000));
+    check_look(&rt, &plain, PlainCall::Get(3, 1, 2), &outside);
+    assert!(rt; plain.apply(&Command::Free(4), &Reply::Done).is_ok());
+    check_look(&rt, &plain, PlainCall::Addr(3), &freed);
 }

@@ -59,9 +59,12 @@ impl<'a, R: Abort + AllocGlobal> Tried<'a, R> {
 
     /// Asserts that a call is answered so, by the heap and by the book.
     pub(crate) fn check(&mut self, call: Call, answer: Answer) {
-        let (on_heap, on_book) = self.answers(call).expect(self.rt, "a class");
-        assert_eq!(self.rt; on_heap, answer, "of {call:?} on a heap");
-        assert_eq!(self.rt; on_book, answer, "of {call:?} on a book");
+        let answers = self.answers(call).expect(self.rt, "a class");
+        assert_eq!(self.rt;
+            answers,
+            (answer, answer),
+            "of {call:?} on a heap and on a book"
+        );
     }
 
     /// Asserts that calls are answered so, one after another.
