@@ -1,7 +1,7 @@
 //! The journal of a book, entry by entry.
 
 use crate::tests::calls::{Answer, Call, command_of, reply_of};
-use mesh_mutator::{Attempt, Book, Entry, Reply, reply_again};
+use mesh_mutator::{Attempt, Book, Entry, Journal, Reply, reply_again};
 use model_words::Refusal;
 use std::alloc::AllocError;
 use std::process::Abort;
@@ -30,27 +30,28 @@ fn check_entries(rt: &impl Abort, book: &mut Book, entries: &[(Call, Answer)]) {
         let command = command_of(rt, *call);
         let reply = reply_of(rt, *answer);
         let attempt = book.act(7, &command);
-        assert_eq!(rt; attempt, Attempt::Done(reply_again(&reply)), "of {call:?}");
-        let journal = book.journal();
-        let last = journal.len().checked_sub(1).expect(rt, "an entry");
-        assert_eq!(rt;
-            journal.entry(last),
-            Entry::of(7, &command, &reply),
+        assert!(rt;
+            attempt == Attempt::Done(reply_again(&reply)),
             "of {call:?}"
         );
+        let journal = book.journal();
+        let last = journal.len().checked_sub(1).expect(rt, "an entry");
+        let entry = Entry::of(7, &command, &reply);
+        assert!(rt; journal.entry(last) == entry, "the entry of {call:?}");
     }
+}
+
+/// Asserts that the journal is full, and still tells the bytes of its store.
+fn check_store(rt: &impl Abort, journal: &Journal) {
+    assert!(rt; journal.len() == 11, "the journal is full");
+    let entry = Entry::of(7, &command_of(rt, PUT), &Reply::Done);
+    assert!(rt; journal.entry(1) == entry, "a store's bytes stay");
 }
 
 #[test]
 fn the_journal_tells_each_kind_of_entry(rt: HostRuntime) -> Result<(), AllocError> {
     let mut book = Book::open(rt.alloc(), 1, 11)?;
     check_entries(&rt, &mut book, &ENTRIES);
-    let journal = book.journal();
-    assert!(rt; journal.len() == 11, "the journal is full");
-    let put = command_of(&rt, PUT);
-    assert!(rt;
-        journal.entry(1) == Entry::of(7, &put, &Reply::Done),
-        "a store's bytes stay"
-    );
+    check_store(&rt, book.journal());
     Ok(())
 }

@@ -8,10 +8,9 @@ use crate::tests::gates::{Event, Hold, Holding, Mark};
 use mesh_class::class_of;
 use mesh_job::Commands;
 use mesh_mutator::{Book, Command, Entry, Reply};
-use mesh_shared::{Ended, MeshPlan, NoGate, run_abandoned, run_threads};
+use mesh_shared::{Ended, Gate, MeshPlan, run_abandoned, run_threads};
 use mesh_steps::{Heap, Report};
 use model_words::{Refusal, StepKind};
-use std::alloc::AllocError;
 use std::ops::Range;
 use std::process::Abort;
 use std::rt::Clock;
@@ -102,6 +101,8 @@ struct Course {
 /// How much a run has of what.
 #[derive(Clone, Copy)]
 struct Scale {
+    // How many pages the arena has.
+    pages: u32,
     // How many entries the journal has room for.
     room: u32,
     // The plan: rounds, searchers, 1 to 16, and meshers, 1 to 10.
@@ -112,6 +113,7 @@ struct Scale {
 
 /// Two rounds of one mesher, which searches alone.
 const USUAL: Scale = Scale {
+    pages: 16,
     room: 64,
     rounds: 2,
     searchers: 1,
@@ -121,7 +123,16 @@ const USUAL: Scale = Scale {
 /// How often a worker tries where meshers are abandoned.
 const TRIES: u32 = 10;
 
-/// Runs scripts on a book of 16 pages, with meshers that are abandoned after so many calls, if any, and asserts that it goes so.
+/// The marks of these events.
+fn marks_of(rt: &(impl Abort + AllocGlobal), events: &[Event]) -> Vec<Mark> {
+    let mut marks = Vec::new(rt.alloc());
+    for event in events {
+        marks.push(Mark::of(*event)).expect(rt, "memory");
+    }
+    marks
+}
+
+/// Runs the scripts of a course, with meshers that are abandoned after so many calls, if any, and asserts that it goes so.
 fn ran<R: Abort + AllocGlobal + Clock + Threads + Wait + Sync>(
     rt: &R,
     course: &Course,
@@ -132,28 +143,42 @@ fn ran<R: Abort + AllocGlobal + Clock + Threads + Wait + Sync>(
     requires few { length scripts.now ≤ 64 }
     requires range { All (λ script. All IsInRange script.now) scripts.now }
 {
+    let marks = marks_of(rt, course.events);
+    let gate = Holding::new(rt, marks.as_slice(), course.holds, course.orders);
+    let ended = ran_past(rt, course.scale, scripts, calls, &gate);
+    assert!(rt; gate.went_well(), "with {calls:?} calls of a mesher");
+    ended
+}
+
+/// Runs scripts past a gate on a fresh book.
+fn ran_past<R: Abort + AllocGlobal + Threads + Wait + Sync, G: Gate + Sync>(
+    rt: &R,
+    scale: Scale,
+    scripts: &[&[Command]],
+    calls: Option<u32>,
+    gate: &G,
+) -> Ended
+    requires some { 1 ≤ length scripts.now }
+    requires few { length scripts.now ≤ 64 }
+    requires range { All (λ script. All IsInRange script.now) scripts.now }
+{
     let Scale {
+        pages,
         room,
         rounds,
         searchers,
         meshers,
-    } = course.scale;
+    } = scale;
+    assert!(rt; 1 <= pages && pages <= 4096, "{pages} pages");
     assert!(rt; 1 <= searchers && searchers <= 16, "{searchers} searchers");
     assert!(rt; 1 <= meshers && meshers <= 10, "{meshers} meshers");
     assert!(rt; room <= 65_536, "room for {room}");
-    let alloc = rt.alloc();
-    let mut marks = Vec::new(alloc);
-    for event in course.events {
-        marks.push(Mark::of(*event)).expect(rt, "memory");
-    }
-    let gate = Holding::new(rt, marks.as_slice(), course.holds, course.orders);
-    let book = Book::open(alloc, 16, room).expect(rt, "memory");
     let plan = plan_of(rt, rounds, searchers, meshers);
+    let book = Book::open(rt.alloc(), pages, room).expect(rt, "memory");
     let ended = match calls {
-        None => run_threads(rt, alloc, book, scripts, &plan, &gate),
-        Some(calls) => run_abandoned(rt, alloc, book, scripts, &plan, calls, TRIES, &gate),
+        None => run_threads(rt, rt.alloc(), book, scripts, &plan, gate),
+        Some(calls) => run_abandoned(rt, rt.alloc(), book, scripts, &plan, calls, TRIES, gate),
     };
-    assert!(rt; gate.went_well(), "with {calls:?} calls of a mesher");
     ended.expect(rt, "a history")
 }
 
@@ -165,10 +190,10 @@ fn played<R: Abort + AllocGlobal + Clock + Threads + Wait + Sync>(
 ) -> Seen {
     let first = script_of(rt, course.first);
     let Some(parts) = course.second else {
-        return seen(ran(rt, course, &alone(&first), calls));
+        return look_at(ran(rt, course, &alone(&first), calls));
     };
     let second = script_of(rt, parts);
-    seen(ran(rt, course, &both(&first, &second), calls))
+    look_at(ran(rt, course, &both(&first, &second), calls))
 }
 
 /// How many entries of a history are a worker's.
@@ -176,6 +201,14 @@ fn count_of(history: &[Entry], worker: u32) -> usize {
     history
         .iter()
         .filter(|entry| entry.worker == worker)
+        .count()
+}
+
+/// How many entries of a history are refused for want of pages.
+fn no_pages_count(history: &[Entry]) -> usize {
+    history
+        .iter()
+        .filter(|entry| entry.reply == Reply::Refused(Refusal::NoPages))
         .count()
 }
 
@@ -226,6 +259,8 @@ fn keep_bytes(heap: &Heap) -> bool {
 struct Seen {
     // How many entries of the history are the first script's, and how many the second one's.
     entries: (usize, usize),
+    // How many are refused for want of pages.
+    no_pages: usize,
     // What the heap counts.
     report: Report,
     // Whether the objects of `GROUPS` have the bytes of `STORES` then, and whether they have them once no class takes a step.
@@ -235,14 +270,16 @@ struct Seen {
 }
 
 /// Looks at what a run came to, and makes the steps that are left.
-fn seen(mut ended: Ended) -> Seen {
+fn look_at(mut ended: Ended) -> Seen {
     let history = ended.history.as_slice();
     let entries = (count_of(history, 0), count_of(history, 1));
+    let no_pages = no_pages_count(history);
     let report = ended.heap.report();
     let kept = keep_bytes(&ended.heap);
     let steps_left = all_steps_left(&mut ended.heap);
     Seen {
         entries,
+        no_pages,
         report,
         keeps_bytes: (kept, keep_bytes(&ended.heap)),
         steps_left,
@@ -318,6 +355,7 @@ static SEARCH_BESIDE: Course = Course {
     ],
     orders: &[],
     scale: Scale {
+        pages: 16,
         room: 8,
         rounds: 1,
         searchers: 2,
@@ -331,20 +369,27 @@ fn a_search_runs_beside_a_script(rt: HostRuntime) {
     assert_eq!(rt; seen.entries, (4, 0));
 }
 
+/// Three objects of half a page on an arena of one page.
+static ONE_PAGE: Course = Course {
+    first: &[Part::Made(0, 3, 2048)],
+    second: None,
+    events: &[],
+    holds: &[],
+    orders: &[],
+    scale: Scale {
+        pages: 1,
+        room: 3,
+        rounds: 1,
+        searchers: 1,
+        meshers: 1,
+    },
+};
+
 #[test]
-fn a_book_of_one_page_has_no_second(rt: HostRuntime) -> Result<(), AllocError> {
-    let script = script_of(&rt, &[Part::Made(0, 3, 2048)]);
-    let alloc = rt.alloc();
-    let book = Book::open(alloc, 1, 3)?;
-    let plan = plan_of(&rt, 1, 1, 1);
-    let ended = run_threads(&rt, alloc, book, &alone(&script), &plan, &NoGate).expect(
-        &rt,
-        "a history",
-    );
-    let last = ended.history.last().expect(&rt, "an entry");
-    assert!(rt; last.reply == Reply::Refused(Refusal::NoPages));
-    assert_eq!(rt; ended.heap.report().taken, 1);
-    Ok(())
+fn a_book_of_one_page_has_no_second(rt: HostRuntime) {
+    let seen = played(&rt, &ONE_PAGE, None);
+    assert_eq!(rt; seen.no_pages, 1);
+    assert_eq!(rt; seen.report.taken, 1);
 }
 
 /// A read of an empty cell.
@@ -361,6 +406,7 @@ static TWO_READS: Course = Course {
     ],
     orders: &[],
     scale: Scale {
+        pages: 16,
         room: 8,
         rounds: 0,
         searchers: 1,
@@ -405,6 +451,7 @@ static TWO_COPIES: Course = Course {
     ],
     orders: &[],
     scale: Scale {
+        pages: 16,
         room: 64,
         rounds: 2,
         searchers: 1,
@@ -471,15 +518,20 @@ static NO_MESH: Course = Course {
     scale: USUAL,
 };
 
+/// Asserts that all commands were answered, that both objects keep their bytes, also to the end, and that so many steps were left.
+fn check_abandoned(rt: &impl Abort, seen: &Seen, left: u32) {
+    assert_eq!(rt; seen.entries, (12, 0));
+    assert_eq!(rt; seen.keeps_bytes, (true, true));
+    assert_eq!(rt; seen.steps_left, left);
+}
+
 #[test]
 fn a_mesher_is_abandoned_after_each_call(rt: HostRuntime) {
     for calls in 0..8 {
         let course = if calls == 0 { &NO_MESH } else { &MESH_AMID };
         let seen = played(&rt, course, Some(calls));
-        assert_eq!(rt; seen.entries, (12, 0), "after {calls} calls");
-        assert_eq!(rt; seen.keeps_bytes, (true, true), "after {calls} calls");
         let left = if calls == 0 { 0 } else { 7 - calls };
-        assert_eq!(rt; seen.steps_left, left, "after {calls} calls");
+        check_abandoned(&rt, &seen, left);
     }
 }
 

@@ -249,6 +249,12 @@ fn faults_come_in_their_order(rt: HostRuntime) {
     played(&rt, &[&TWO_OBJECTS, &FAULTS]);
 }
 
+/// Applies an entry of a journal.
+fn apply(rt: &impl Abort, plain: &mut Plain, command: &Command, reply: &Reply) {
+    assert!(rt; plain.next_serial() < u32::MAX);
+    assert!(rt; plain.apply(command, reply).is_ok());
+}
+
 /// Applies the commands of a journal, in which cell 4 comes to name two bytes.
 fn apply_entries(rt: &impl Abort, plain: &mut Plain) {
     let mut bytes = ArrayVec::new();
@@ -263,7 +269,7 @@ fn apply_entries(rt: &impl Abort, plain: &mut Plain) {
         (Command::Addr(4), Reply::At(0x1000)),
     ];
     for (command, reply) in &entries {
-        assert!(rt; plain.apply(command, reply).is_ok());
+        apply(rt, plain, command, reply);
     }
 }
 
@@ -294,6 +300,6 @@ fn a_journal_is_applied(rt: HostRuntime) {
     check_look(&rt, &plain, PlainCall::Peek(0x1000), &Reply::Byte(5));
     check_look(&rt, &plain, PlainCall::Addr(3), &Reply::At(0x1000));
     check_look(&rt, &plain, PlainCall::Get(3, 1, 2), &outside);
-    assert!(rt; plain.apply(&Command::Free(4), &Reply::Done).is_ok());
+    apply(&rt, &mut plain, &Command::Free(4), &Reply::Done);
     check_look(&rt, &plain, PlainCall::Addr(3), &freed);
 }
