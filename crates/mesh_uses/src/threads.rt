@@ -10,26 +10,18 @@ pub(crate) fn share<R: AllocGlobal + Threads + Wait + Sync>(rt: &R) -> Result<us
     let alloc = rt.alloc();
     let book = Book::open(alloc, 16, 64)?;
     let (shared, mut seats) = Shared::open(alloc, book, &[3, 3])?;
-    work_beside(rt, &shared, seats.as_mut_slice())?;
-    let ended = shared.finish(alloc, seats)?;
-    Ok(ended.history.len())
-}
-
-/// Lets two mutators work, each with its seat.
-fn work_beside<R: Threads + Wait + Sync>(
-    rt: &R,
-    shared: &Shared,
-    seats: &mut [Seat],
-) -> Result<(), Fault> {
-    let [first, second] = seats else {
+    let second = seats.pop();
+    let first = seats.pop();
+    let (Some(mut first), Some(mut second)) = (first, second) else {
         return Err(Fault::Answer("another count of seats"));
     };
     join(
         rt,
-        || use_heap(rt, shared, first, 0),
-        || use_heap(rt, shared, second, 1),
+        || use_heap(rt, &shared, &mut first, 0),
+        || use_heap(rt, &shared, &mut second, 1),
     );
-    Ok(())
+    let ended = shared.finish(alloc, vec![in alloc; first, second]?)?;
+    Ok(ended.history.len())
 }
 
 /// One mutator's work, with an object that its cell names.
