@@ -1,6 +1,9 @@
 //! Command lines.
-use mesh_run::{Args, Output, Printed, arguments, stop_run, unopened_run};
-use std::test::Fail;
+use mesh_run::{
+    Args, DrawArgs, ExploreArgs, LiveArgs, MeshPair, Output, Printed, Stop, ThreadsArgs, arguments,
+    stop_run, unopened_run,
+};
+use std::process::Abort;
 
 /// Command lines that ask for no run, the exit status of each, and how the text that it prints begins.
 static STOPS: [(&str, u8, &str); 17] = [
@@ -54,8 +57,12 @@ static PRINTED: [(&str, Printed); 7] = [
     ),
 ];
 
-/// The file that `check` is given.
-static CHECKED: [&str; 3] = ["a.history", "-", "replay"];
+/// Command lines that judge a history, and the file that each is given.
+static CHECKED: [(&str, &str); 3] = [
+    ("meshrun check a.history", "a.history"),
+    ("meshrun check -", "-"),
+    ("meshrun check replay", "replay"),
+];
 
 /// Command lines, and the numbers that they ask for on `a.job`: probe, rounds, workers, seed and meshers.
 static NUMBERS: [(&str, &[u64]); 14] = [
@@ -313,114 +320,132 @@ meshrun check a.history b.history\n\
 meshrun check a.history --history\n\
 meshrun check a.history --version";
 
+/// What a command line asks for beside its file.
+#[derive(Clone, Copy, PartialEq, Eq)]
+enum Asked {
+    Replay(Printed),
+    Threads(ThreadsArgs, Printed),
+    Draw(DrawArgs),
+    Live(LiveArgs),
+    Explore(ExploreArgs),
+    Check,
+}
+
+/// What a command line asks for, which must be of this file where it is of one.
+fn read_line(rt: &(impl Abort + AllocGlobal), line: &str, file: &str) -> Asked {
+    let words: Vec<&str> = line.split(' ').collect(rt.alloc()).expect(rt, "memory");
+    let (is_file, asked) = match arguments(rt.alloc(), words.as_slice()) {
+        Ok(Args::Replay(path, printed)) => (path == file, Asked::Replay(printed)),
+        Ok(Args::Threads(path, args, printed)) => (path == file, Asked::Threads(args, printed)),
+        Ok(Args::Draw(path, args)) => (path == file, Asked::Draw(args)),
+        Ok(Args::Live(args)) => (true, Asked::Live(args)),
+        Ok(Args::Explore(path, args)) => (path == file, Asked::Explore(args)),
+        Ok(Args::Check(path)) => (path == file, Asked::Check),
+        Err(stop) => panic!(rt; "{line}: {}", stop.text),
+    };
+    assert!(rt; is_file, "{line}");
+    asked
+}
+
+/// Why a command line asks for no run.
+fn stop_at(rt: &(impl Abort + AllocGlobal), line: &str) -> Stop {
+    let words: Vec<&str> = line.split(' ').collect(rt.alloc()).expect(rt, "memory");
+    match arguments(rt.alloc(), words.as_slice()) {
+        Ok(_) => panic!(rt; "no stop: {line}"),
+        Err(stop) => stop,
+    }
+}
+
 #[test]
-fn reads_what_is_printed(rt: HostRuntime) -> Result<(), Fail> {
+fn reads_what_is_printed(rt: HostRuntime) {
     for (line, printed) in PRINTED.iter() {
-        let words: Vec<&str> = line.split(' ').collect(rt.alloc())?;
-        match arguments(rt.alloc(), words.as_slice()) {
-            Ok(Args::Replay(file, read)) | Ok(Args::Threads(file, _, read)) => {
-                assert!(rt; file == "a.job" && read == *printed, "{line}")
-            }
-            Ok(_) => panic!(rt; "another command: {line}"),
-            Err(stop) => panic!(rt; "{}", stop.text),
+        match read_line(&rt, line, "a.job") {
+            Asked::Replay(read) | Asked::Threads(_, read) => assert!(rt;
+                read == *printed,
+                "{line}"
+            ),
+            _ => panic!(rt; "another command: {line}"),
         }
     }
-    Ok(())
 }
 
 #[test]
 fn reads_checks(rt: HostRuntime) {
-    for file in CHECKED.iter() {
-        let words = ["meshrun", "check", *file];
-        match arguments(rt.alloc(), words.as_slice()) {
-            Ok(args) => assert!(rt; args == Args::Check(*file), "{file}"),
-            Err(stop) => panic!(rt; "{}", stop.text),
-        }
+    for (line, file) in CHECKED.iter() {
+        assert!(rt; read_line(&rt, line, file) == Asked::Check, "{line}");
     }
 }
 
+/// Asserts that what stops before a run ends with this status, and prints a text that begins so where it is to.
+fn check_stop(rt: &(impl Abort + AllocGlobal), stop: &Stop, status: u8, text: &str) {
+    let mut output = Output::new(Vec::new(rt.alloc()));
+    let mut errors = Output::new(Vec::new(rt.alloc()));
+    assert_eq!(rt; stop_run(stop, &mut output, &mut errors), status, "{text}");
+    let (output, errors) = (output.into_inner(), errors.into_inner());
+    let (told, other) = if status == 0 {
+        (output, errors)
+    } else {
+        (errors, output)
+    };
+    assert!(rt; told.starts_with(text.as_bytes()), "{text}");
+    assert!(rt; other.is_empty(), "{text}");
+}
+
 #[test]
-fn stops_at_others(rt: HostRuntime) -> Result<(), Fail> {
+fn stops_at_others(rt: HostRuntime) {
     for (line, status, text) in STOPS.iter() {
-        let words: Vec<&str> = line.split(' ').collect(rt.alloc())?;
-        let Err(stop) = arguments(rt.alloc(), words.as_slice()) else {
-            panic!(rt; "no stop before {text}");
-        };
-        let mut output = Output::new(Vec::new(rt.alloc()));
-        let mut errors = Output::new(Vec::new(rt.alloc()));
-        assert_eq!(rt;
-            stop_run(&stop, &mut output, &mut errors),
-            *status,
-            "{text}"
-        );
-        let (output, errors) = (output.into_inner(), errors.into_inner());
-        let (told, other) = if *status == 0 {
-            (output, errors)
-        } else {
-            (errors, output)
-        };
-        assert!(rt; told.starts_with(text.as_bytes()), "{text}");
-        assert!(rt; other.is_empty(), "{text}");
+        check_stop(&rt, &stop_at(&rt, line), *status, text);
     }
-    Ok(())
 }
 
 #[test]
-fn reads_numbers(rt: HostRuntime) -> Result<(), Fail> {
+fn reads_numbers(rt: HostRuntime) {
     for (line, numbers) in NUMBERS.iter() {
-        let words: Vec<&str> = line.split(' ').collect(rt.alloc())?;
-        let Ok(Args::Threads(file, args, _)) = arguments(rt.alloc(), words.as_slice()) else {
+        let Asked::Threads(args, _) = read_line(&rt, line, "a.job") else {
             panic!(rt; "no threads: {line}");
         };
-        assert_eq!(rt; file, "a.job", "{line}");
         let counts = [args.probe, args.rounds, args.workers, args.meshers];
         let [probe, rounds, workers, meshers] = counts.map(u64::from);
         let read = [probe, rounds, workers, args.seed, meshers];
         assert!(rt; read.as_slice() == *numbers, "{line}");
     }
-    Ok(())
 }
 
 #[test]
-fn reads_what_is_drawn(rt: HostRuntime) -> Result<(), Fail> {
+fn reads_what_is_drawn(rt: HostRuntime) {
     for (line, shown) in SHOWN.iter() {
-        let words: Vec<&str> = line.split(' ').collect(rt.alloc())?;
-        let Ok(Args::Draw(file, args)) = arguments(rt.alloc(), words.as_slice()) else {
+        let Asked::Draw(args) = read_line(&rt, line, "a.job") else {
             panic!(rt; "no picture: {line}");
         };
-        assert_eq!(rt; file, "a.job", "{line}");
         assert!(rt; [args.from, args.to, args.columns] == *shown, "{line}");
     }
-    Ok(())
+}
+
+/// Whether the meshes are these, source and destination.
+fn are_meshes(pairs: &[MeshPair], meshes: &[[u32; 2]]) -> bool {
+    pairs.len() == meshes.len()
+        && pairs
+            .iter()
+            .zip(meshes.iter())
+            .all(|(pair, mesh)| [pair.source, pair.destination] == *mesh)
 }
 
 #[test]
-fn reads_what_is_explored(rt: HostRuntime) -> Result<(), Fail> {
+fn reads_what_is_explored(rt: HostRuntime) {
     for (line, meshes, cancel, states, witness) in EXPLORED.iter() {
-        let words: Vec<&str> = line.split(' ').collect(rt.alloc())?;
-        let Ok(Args::Explore(file, args)) = arguments(rt.alloc(), words.as_slice()) else {
+        let Asked::Explore(args) = read_line(&rt, line, "a.job") else {
             panic!(rt; "nothing explored: {line}");
         };
-        assert_eq!(rt; file, "a.job", "{line}");
-        let read: Vec<[u32; 2]> = args
-            .meshes
-            .as_slice()
-            .iter()
-            .map(|pair| [pair.source, pair.destination])
-            .collect(rt.alloc())?;
-        assert!(rt; read.as_slice() == *meshes, "{line}");
-        assert!(rt; args.cancel == *cancel, "{line}");
-        assert_eq!(rt; args.states, *states, "{line}");
-        assert!(rt; args.witness == *witness, "{line}");
+        assert!(rt; are_meshes(args.meshes.as_slice(), meshes), "{line}");
+        let read = (args.cancel, args.states, args.witness);
+        assert!(rt; read == (*cancel, *states, *witness), "{line}");
     }
-    Ok(())
 }
 
 #[test]
-fn reads_sizes(rt: HostRuntime) -> Result<(), Fail> {
+fn reads_sizes(rt: HostRuntime) {
     for (line, sizes) in SIZES.iter() {
-        let words: Vec<&str> = line.split(' ').collect(rt.alloc())?;
-        let Ok(Args::Live(args)) = arguments(rt.alloc(), words.as_slice()) else {
+        let Asked::Live(args) = read_line(&rt, line, "") else {
             panic!(rt; "no session: {line}");
         };
         assert!(rt;
@@ -428,20 +453,15 @@ fn reads_sizes(rt: HostRuntime) -> Result<(), Fail> {
             "{line}"
         );
     }
-    Ok(())
 }
 
 #[test]
-fn refuses_faulty_numbers(rt: HostRuntime) -> Result<(), Fail> {
+fn refuses_faulty_numbers(rt: HostRuntime) {
     for line in FAULTY.split('\n') {
-        let words: Vec<&str> = line.split(' ').collect(rt.alloc())?;
-        let Err(stop) = arguments(rt.alloc(), words.as_slice()) else {
-            panic!(rt; "no stop: {line}");
-        };
+        let stop = stop_at(&rt, line);
         assert_eq!(rt; stop.status, 2, "{line}");
         assert!(rt; stop.text.as_str().starts_with("error: "), "{line}");
     }
-    Ok(())
 }
 
 #[test]
