@@ -5,5 +5,6 @@ pub mod PackedScripts
 pub mod PlanReadings
 pub mod QuickFields
 pub mod QuickLines
+pub mod ScriptLines
 pub mod Takes
 pub mod TextLines

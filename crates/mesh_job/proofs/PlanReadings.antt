@@ -1,10 +1,10 @@
 -- The lines of a plan that were read.
-use Rattle.std.proofs.Common.{◌≡◌, ℕ, ◌≤◌, ◌<◌, rules, true, false, nat_eq, nat_le, List, ◌∷◌, ◌++◌, [], find, Some, option_map, Result, Ok, Err, ap, refl, sym, subst, ◌∙◌, arith, inl, inr, append_assoc}
+use Rattle.std.proofs.Common.{◌≡◌, ℕ, ◌-◌, ◌≤◌, ◌<◌, rules, true, false, nat_eq, nat_le, nat_lt, Bor, List, ◌∷◌, ◌++◌, [], length, get_or, take, drop, find, Some, option_map, Result, Ok, Err, ap, refl, sym, subst, ◌∙◌, arith, inl, inr, append_assoc}
 use Rattle.std.specs.Prelude.{IsSome, codes, map}
 use Rattle.std.specs.List.{All}
 use Rattle.std.proofs.lemmas.Bool.Decides.{eqb_tells, leb_tells}
-use Rattle.std.proofs.lemmas.Bool.{true≢false}
-use Rattle.std.proofs.lemmas.List.{map-append}
+use Rattle.std.proofs.lemmas.Bool.{lt-leb, true≢false}
+use Rattle.std.proofs.lemmas.List.{length-map, map-append, take_all}
 use Rattle.std.proofs.lemmas.List.Elements.{All-append, All-cons, All-nil}
 use Rattle.model_jobs.proofs.FieldReadings.{same_by_test}
 use Rattle.model_words.specs.Classes.{Row, class_for, row_of, table}
@@ -14,7 +14,8 @@ use Rattle.model_words.specs.Words.{◌>>=◌}
 use Rattle.model_words.specs.declared.faults.FaultKind.{FaultKind}
 use Rattle.model_words.specs.declared.versions.Version.{Version}
 use Rattle.model_jobs.proofs.LineReadings.{line_in_range}
-use Rattle.mesh_job.specs.Plan.{line_of}
+use Rattle.mesh_fields.specs.Lines.{texts}
+use Rattle.mesh_job.specs.Plan.{line_of, search_in}
 use Rattle.mesh_job.specs.declared.plan.PlanLine.{PlanLine}
 
 -- words that were read
@@ -74,6 +75,18 @@ pub pair_chosen : (version : Version) (workers : ℕ) (word : List ℕ) (fields 
     → line_in version workers word fields ≡ pair_in fields
 pair_chosen version workers word fields same =
     subst (λ (w : List ℕ). line_in version workers w fields ≡ pair_in fields) (sym (same_by_test word (codes "pair") same)) refl
+
+-- two fields and at most 32 more are a search's
+pub pair_is_search : (fields : List (Bor (List ℕ))) (other : Bor (List ℕ)) → 2 ≤ length fields → length (take (length fields - 2) (drop 2 fields)) ≤ 32
+    → pair_in (texts fields) ≡ search_in (get_or fields 0 other).now (get_or fields 1 other).now (texts (take (length fields - 2) (drop 2 fields)))
+pair_is_search [] other some few = absurd (omega (arith, some))
+pair_is_search (size ∷ []) other some few = absurd (omega (arith, some))
+pair_is_search (size ∷ rounds ∷ words) other some few =
+    let count : length (size ∷ rounds ∷ words) - 2 ≡ length words = omega arith in
+    let later : take (length (size ∷ rounds ∷ words) - 2) words ≡ words = take_all (length (size ∷ rounds ∷ words) - 2) words (omega (arith, count)) in
+    let short : length words ≤ 32 = rw later at few in
+    let fits : nat_lt 32 (length (texts words)) ≡ false = lt-leb 33 (length (texts words)) (omega (arith, short, length-map words (λ (field : Bor (List ℕ)). field.now))) in
+    rw (later, fits) refl
 
 -- a line that was read is in its ranges, so a plan with it at its end is
 pub plan_fits_more : (version : Version) (workers : ℕ) (word : List ℕ) (fields : List (List ℕ)) (lines lines' : List PlanLine) (line : PlanLine)

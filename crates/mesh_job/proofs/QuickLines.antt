@@ -3,7 +3,7 @@ use Rattle.std.proofs.Common.{Option, Some, None}
 use Rattle.std.specs.Prelude.{IfSome}
 use Rattle.model_words.specs.Commands.{IsInRange}
 use Rattle.model_words.specs.declared.commands.Command.{Command}
-use Rattle.model_words.specs.declared.commands.Command.TheVariants.{New, Put, Get, Free, Alias, Addr, Peek, Poke, Copy as CopyBytes}
+use Rattle.model_words.specs.declared.commands.Command.TheVariants.{Put, Get, Copy as CopyBytes}
 use Rattle.model_words.specs.declared.versions.Version.{Version}
 use Rattle.model_jobs.specs.JobFiles.{IsValidCommand}
 

@@ -1,7 +1,11 @@
 -- What is known of a job that is being read.
-use Rattle.std.specs.Prelude.{◌≡◌, ◌<◌, ◌≤◌, Bool, true, false, [], length, map}
+use Rattle.std.specs.Prelude.{◌≡◌, ◌<◌, ◌≤◌, ℕ, Bool, true, false, List, [], ◌∷◌, ◌++◌, Result, Ok, length, map}
 use Rattle.std.specs.List.{All}
-use Rattle.model_jobs.specs.JobFiles.{Section as PlainSection, Draft as PlainDraft, AtVersion, AtPages, AtHistory, AtWorkers, AtFirstWorker, InScript, InPlan, AtEnd, IsValidLine}
+use Rattle.model_jobs.specs.JobFiles.{Section as PlainSection, Draft as PlainDraft, AtVersion, AtPages, AtHistory, AtWorkers, AtFirstWorker, InScript, InPlan, AtEnd, IsValidLine, command_in, number_in, one_field}
+use Rattle.model_words.specs.Words.{◌>>=◌}
+use Rattle.model_words.specs.declared.commands.Command.{Command}
+use Rattle.model_words.specs.declared.faults.FaultKind.{FaultKind}
+use Rattle.model_words.specs.declared.versions.Version.{Version as FileVersion}
 use Rattle.mesh_job.specs.Plan.{line_of}
 use Rattle.mesh_job.specs.declared.draft.Section.{Section}
 use Rattle.mesh_job.specs.declared.draft.Section.TheVariants.{Version, Pages, History, Workers, FirstWorker, Worker, Plan, Ended}
@@ -69,3 +73,11 @@ HasAllBefore Ended d = HasScripts d
 -- a draft has what was read before its own section
 abbrev pub IsDraft : Draft → Type 0
 IsDraft d = HasAllBefore d.section d
+
+-- a line's one field, which is to be this number
+abbrev pub number_field_in : ℕ → List (List ℕ) → Result ℕ FaultKind
+number_field_in number fields = one_field fields >>= λ field. number_in number number field
+
+-- a script with the command of one more line
+abbrev pub with_line : List Command → FileVersion → List ℕ → List (List ℕ) → Result (List Command) FaultKind
+with_line script version word fields = command_in version word fields >>= λ command. Ok (script ++ command ∷ [])

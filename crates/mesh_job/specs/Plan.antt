@@ -1,6 +1,9 @@
 -- The lines of a plan as the definitions have them.
-use Rattle.std.specs.Prelude.{ℕ, Option, Some, None, Result, Ok, Err}
+use Rattle.std.specs.Prelude.{ℕ, List, Option, Some, None, Result, Ok, Err}
+use Rattle.model_jobs.specs.JobFiles.{class_in, number_in, words_in}
 use Rattle.model_jobs.specs.Jobs.{Line, RunWorker, PairClass, BeginMesh, StepMesh, CancelMesh, StepClass as StepsClass, CancelClass as CancelsClass, WholeMesh, SweepGroup, MakeReport}
+use Rattle.model_words.specs.Words.{◌>>=◌}
+use Rattle.model_words.specs.declared.faults.FaultKind.{FaultKind}
 use Rattle.mesh_job.specs.declared.plan.PlanLine.{PlanLine}
 use Rattle.mesh_job.specs.declared.plan.PlanLine.TheVariants.{Run, Pair, Begin, Step, Cancel, StepClass, CancelClass, Whole, Sweep, Report}
 
@@ -26,3 +29,8 @@ read_line (Err fault) = Err fault
 abbrev pub line_of_mesh : Line → (ℕ → Line) → Option ℕ → Line
 line_of_mesh bare of_class None = bare
 line_of_mesh bare of_class (Some class) = of_class class
+
+-- a search, by the fields of its class and its rounds, and those of its words
+abbrev pub search_in : List ℕ → List ℕ → List (List ℕ) → Result Line FaultKind
+search_in size rounds words =
+    class_in size >>= λ class. number_in 0 64 rounds >>= λ t. words_in words >>= λ read. Ok (PairClass class t read)

@@ -10,7 +10,7 @@ use std::marker::Model;
 /// Some commands in their order, as they are and not packed.
 ///
 /// Each stores or loads 1 to 32 bytes, where it does at all, so that each may be handed to the heap.
-#[derive(Debug, Drop)]
+#[derive(Drop)]
 pub struct Commands {
     commands: Vec<Command>,
 }

@@ -3,14 +3,13 @@ ghost use Rattle.std.specs.Prelude.{◌≡◌, ◌<◌, true, false, Ok, Err, le
 ghost use Rattle.std.specs.List.{list_any};
 ghost use Rattle.model_jobs.specs.JobFiles.{blank_draft, has_ended, is_empty, job_of, plan_line, script_line, take_fields, take_in, version_of};
 ghost use Rattle.mesh_fields.specs.Lines.{IsPartOfLine, texts};
-ghost use Rattle.mesh_job.specs.Draft.{IsDraft, draft_of, is_in_header, section_of};
+ghost use Rattle.mesh_job.specs.Draft.{IsDraft, draft_of, is_in_header, number_field_in, section_of};
 ghost use Rattle.mesh_job.specs.Reading.{IsFaultOfLine, IsFaultOfStep, IsReadOn};
 
-use crate::commands::command_of;
 use crate::faults::LineFault;
 use crate::plan_lines::plan_line;
 use crate::quick::{quick_command, quick_line};
-use crate::script::close_script;
+use crate::script::{close_script, push_line};
 use crate::{Job, Plan, PlanLine, Script, Scripts};
 use mesh_fields::lines::{
     FewFields, few_fields, fields_of, header, is_word, next_line, no_field, one_field,
@@ -108,11 +107,37 @@ impl Draft {
         if let Some(rest) = self.take_quick_line(text)? {
             return Ok(Some(rest));
         }
+        self.take_few_fields(text)
+    }
+
+    /// The same, field by field.
+    fn take_few_fields<'a>(&mut self, text: &'a [u8]) -> Result<Option<&'a [u8]>, LineFault>
+        requires draft { IsDraft self.old }
+        requires going { has_ended (draft_of self.old).section ≡ false }
+        ensures draft { OnOk result (IsDraft self.new) }
+        ensures shorter { IfOk result (λ next. IfSome next (λ rest. length rest.now < length text.now)) }
+        ensures ok { IfOk result (λ next. IfSome next (λ rest. IsReadOn (draft_of self.old) text.now (draft_of self.new) rest.now)) }
+        ensures part { IfOk result (λ next. IsNone next → IsPartOfLine text.now × (self.new ≡ self.old)) }
+        ensures err { IfErr result (λ fault. IsFaultOfLine (draft_of self.old) text.now fault) }
+    {
         let mut few = FewFields::new();
         if let Some(rest) = few_fields(text, &mut few) {
             self.take(few.as_slice())?;
             return Ok(Some(rest));
         }
+        self.take_all_fields(text)
+    }
+
+    /// The same, for a line of any number of fields.
+    fn take_all_fields<'a>(&mut self, text: &'a [u8]) -> Result<Option<&'a [u8]>, LineFault>
+        requires draft { IsDraft self.old }
+        requires going { has_ended (draft_of self.old).section ≡ false }
+        ensures draft { OnOk result (IsDraft self.new) }
+        ensures shorter { IfOk result (λ next. IfSome next (λ rest. length rest.now < length text.now)) }
+        ensures ok { IfOk result (λ next. IfSome next (λ rest. IsReadOn (draft_of self.old) text.now (draft_of self.new) rest.now)) }
+        ensures part { IfOk result (λ next. IsNone next → IsPartOfLine text.now × (self.new ≡ self.old)) }
+        ensures err { IfErr result (λ fault. IsFaultOfLine (draft_of self.old) text.now fault) }
+    {
         let Some((line, rest)) = next_line(text)? else {
             return Ok(None);
         };
@@ -218,8 +243,7 @@ impl Draft {
     {
         let next = worker + 1;
         if is_word(word, b"worker") && next < self.workers {
-            let field = one_field(fields)?;
-            number32(field, next, next)?;
+            check_number(fields, next)?;
             close_script(self.alloc, &mut self.script, &mut self.scripts)?;
             self.section = Section::Worker(next);
         } else if is_word(word, b"plan") && next == self.workers {
@@ -227,8 +251,7 @@ impl Draft {
             close_script(self.alloc, &mut self.script, &mut self.scripts)?;
             self.section = Section::Plan;
         } else {
-            let command = command_of(self.version, word, fields)?;
-            self.script.push(&command)?;
+            push_line(&mut self.script, self.version, word, fields)?;
         }
         Ok(())
     }
@@ -265,6 +288,16 @@ impl Draft {
             plan: Plan::new(self.plan),
         }
     }
+}
+
+/// That the one field of a line is this number.
+fn check_number(fields: &[&[u8]], number: u32) -> Result<(), FaultKind>
+    ensures ok { OnOk result (number_field_in number (texts fields.now) ≡ Ok number) }
+    ensures err { IfErr result (λ kind. number_field_in number (texts fields.now) ≡ Err kind) }
+{
+    let field = one_field(fields)?;
+    number32(field, number, number)?;
+    Ok(())
 }
 
 /// The version of this number.

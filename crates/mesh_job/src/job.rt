@@ -6,7 +6,7 @@ use model_words::Version;
 use std::marker::Model;
 
 /// The scripts of a job's workers, 1 to 64 of them. Worker `w` has the script at place `w`.
-#[derive(Debug, Drop)]
+#[derive(Drop)]
 pub struct Scripts {
     scripts: Vec<Script>,
 }
@@ -54,7 +54,7 @@ impl Scripts {
 ///
 /// Its type keeps the limits: 1 to 4,096 pages, a journal of at most 65,536 entries, and a plan that runs only workers that there
 /// are and has the lines of the job's version alone. The limits are this project's own choice.
-#[derive(Debug, Drop)]
+#[derive(Drop)]
 pub struct Job {
     /// The version of its file.
     pub version: Version,

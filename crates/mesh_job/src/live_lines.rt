@@ -1,9 +1,10 @@
 //! The lines of a live session: the fields of each, from left to right.
 ghost use Rattle.std.specs.Prelude.{◌≡◌, ◌≤◌, false, Ok, IfErr, IfOk};
 ghost use Rattle.std.specs.List.{list_any};
+ghost use Rattle.model_words.specs.Commands.{IsInRange};
 ghost use Rattle.model_jobs.specs.JobFiles.{is_empty};
 ghost use Rattle.mesh_fields.specs.Lines.{texts};
-ghost use Rattle.mesh_job.specs.LiveLines.{IsValidLive, attempt_in, call_in, is_no_command, live_line, live_of, live_of_fields, read_live};
+ghost use Rattle.mesh_job.specs.LiveLines.{IsValidLive, attempt_in, attempt_of, call_in, is_no_command, live_line, live_of, live_of_fields, read_live};
 ghost use Rattle.mesh_job.specs.Reading.{IsFaultOfStep};
 
 use crate::PlanLine;
@@ -16,7 +17,7 @@ use model_words::{Command, FaultKind, Version};
 use std::alloc::Global;
 
 /// One line of a live session, which is answered at once: an attempt of a worker, or a call of the mesher.
-#[derive(Debug, Drop)]
+#[derive(Drop)]
 pub enum LiveLine {
     /// `Attempt(w, command)`: worker `w` attempts this command now.
     Attempt(u32, Command),
@@ -82,11 +83,24 @@ fn attempt_of(workers: u32, fields: &[&[u8]]) -> Result<LiveLine, FaultKind>
     let [worker, word, fields @ ..] = fields else {
         return Err(FaultKind::Word);
     };
-    let read = command_of(Version::Two, *word, fields);
+    attempt_at(workers, *worker, command_of(Version::Two, *word, fields))
+}
+
+/// The attempt of the worker that a field names at a command that was read.
+fn attempt_at(
+    workers: u32,
+    worker: &[u8],
+    read: Result<Command, FaultKind>,
+) -> Result<LiveLine, FaultKind>
+    requires some { 1 ≤ workers }
+    requires in_range { IfOk read IsInRange }
+    ensures value { read_live result ≡ attempt_of workers worker.now read }
+    ensures in_range { IfOk result (λ asked. IsValidLive workers (live_of asked)) }
+{
     if is_no_command(&read) {
         return Err(FaultKind::Word);
     }
-    let worker = number32(*worker, 0, workers - 1)?;
+    let worker = number32(worker, 0, workers - 1)?;
     let command = read?;
     Ok(LiveLine::Attempt(worker, command))
 }

@@ -6,7 +6,7 @@ use mesh_class::Class;
 use std::marker::Model;
 
 /// What is searched for pairs of groups that can be meshed, and how.
-#[derive(Debug, Drop)]
+#[derive(Drop)]
 pub struct Search {
     /// The class whose groups are paired.
     pub class: Class,
@@ -17,7 +17,7 @@ pub struct Search {
 }
 
 /// One line of a job's plan: an attempt of a worker, or a call of the mesher.
-#[derive(Debug, Drop)]
+#[derive(Drop)]
 pub enum PlanLine {
     /// `Run(w)`: worker `w` attempts its next command.
     Run(u32),
@@ -52,7 +52,7 @@ pub enum PlanLine {
 }
 
 /// The lines of a job's plan, in their order.
-#[derive(Debug, Drop)]
+#[derive(Drop)]
 pub struct Plan {
     lines: Vec<PlanLine>,
 }

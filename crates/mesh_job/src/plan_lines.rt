@@ -4,7 +4,7 @@ ghost use Rattle.model_words.specs.Classes.{row_of};
 ghost use Rattle.model_jobs.specs.JobFiles.{are_same, class_in, groups_in, line_in, of_class_in, of_groups_in, of_mesh_in, pair_in, run_in, sweep_in, words_in};
 ghost use Rattle.model_jobs.specs.Jobs.{Line, BeginMesh, CancelMesh, CancelClass, StepMesh, StepClass, WholeMesh};
 ghost use Rattle.mesh_fields.specs.Lines.{texts};
-ghost use Rattle.mesh_job.specs.Plan.{line_of, line_of_mesh, read_line};
+ghost use Rattle.mesh_job.specs.Plan.{line_of, line_of_mesh, read_line, search_in};
 ghost use Rattle.mesh_job.specs.Reading.{IsFaultOfStep};
 
 use crate::faults::LineFault;
@@ -174,8 +174,21 @@ fn pair_of(alloc: Global, fields: &[&[u8]]) -> Result<PlanLine, LineFault>
     if words.len() > MAX_WORDS {
         return Err(LineFault::Kind(FaultKind::Word));
     }
-    let class = class(*size)?;
-    let rounds = number32(*rounds, 0, MAX_ROUNDS)?;
+    search_of(alloc, *size, *rounds, words)
+}
+
+/// The search with these fields, the third ones of which are its words.
+fn search_of(
+    alloc: Global,
+    size: &[u8],
+    rounds: &[u8],
+    words: &[&[u8]],
+) -> Result<PlanLine, LineFault>
+    ensures ok { IfOk result (λ line. search_in size.now rounds.now (texts words.now) ≡ Ok (line_of line)) }
+    ensures err { IfErr result (IsFaultOfStep (search_in size.now rounds.now (texts words.now))) }
+{
+    let class = class(size)?;
+    let rounds = number32(rounds, 0, MAX_ROUNDS)?;
     let words = search_words(alloc, words)?;
     let asked = Box::new(
         alloc,

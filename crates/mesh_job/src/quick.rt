@@ -25,13 +25,46 @@ pub(crate) fn quick_command(text: &[u8]) -> Option<(Command, &[u8])>
         [b'n', b'e', b'w', b' ', fields @ ..] => new_of(fields),
         [b'p', b'u', b't', b' ', fields @ ..] => put_of(fields),
         [b'g', b'e', b't', b' ', fields @ ..] => get_of(fields),
+        _ => cells_command(text),
+    }
+}
+
+/// The same, for a command whose fields are cells alone, and for one of an address.
+#[inline]
+fn cells_command(text: &[u8]) -> Option<(Command, &[u8])>
+    ensures spelt { IfSome result (λ read. text.now ≡ command_text read.0 ++ 10 ∷ read.1.now) }
+    ensures valid { IfSome result (λ read. (version : Version) → IsValidCommand version read.0) }
+{
+    match text {
         [b'f', b'r', b'e', b'e', b' ', fields @ ..] => free_of(fields),
         [b'a', b'l', b'i', b'a', b's', b' ', fields @ ..] => alias_of(fields),
         [b'a', b'd', b'd', b'r', b' ', fields @ ..] => addr_of(fields),
+        _ => address_command(text),
+    }
+}
+
+/// The same, for a command whose first field is an address.
+#[inline]
+fn address_command(text: &[u8]) -> Option<(Command, &[u8])>
+    ensures spelt { IfSome result (λ read. text.now ≡ command_text read.0 ++ 10 ∷ read.1.now) }
+    ensures valid { IfSome result (λ read. (version : Version) → IsValidCommand version read.0) }
+{
+    match text {
         [b'p', b'e', b'e', b'k', b' ', fields @ ..] => peek_of(fields),
         [b'p', b'o', b'k', b'e', b' ', fields @ ..] => poke_of(fields),
         _ => None,
     }
+}
+
+/// `CELL SIZE` and a space behind them: a root cell, and a length or an offset. Gives the bytes behind the space, too.
+#[inline]
+fn cell_and_size(fields: &[u8]) -> Option<(u8, u32, &[u8])>
+    ensures spelt { IfSome result (λ read. fields.now ≡ decimal read.0 ++ 32 ∷ decimal read.1 ++ 32 ∷ read.2.now) }
+    ensures most { IfSome result (λ read. read.1 ≤ 65535) }
+{
+    let (cell, rest) = cell(fields, b' ')?;
+    let (size, rest) = number(rest, 0, MAX_LENGTH, b' ')?;
+    Some((cell, size, rest))
 }
 
 /// `CELL LEN WORD` of a `new`
@@ -39,8 +72,7 @@ fn new_of(fields: &[u8]) -> Option<(Command, &[u8])>
     ensures spelt { IfSome result (λ read. codes "new" ++ 32 ∷ fields.now ≡ command_text read.0 ++ 10 ∷ read.1.now) }
     ensures valid { IfSome result (λ read. (version : Version) → IsValidCommand version read.0) }
 {
-    let (to, rest) = cell(fields, b' ')?;
-    let (len, rest) = number(rest, 0, MAX_LENGTH, b' ')?;
+    let (to, len, rest) = cell_and_size(fields)?;
     let (word, rest) = word(rest, b'\n')?;
     Some((Command::New(to, len, word), rest))
 }
@@ -50,8 +82,7 @@ fn put_of(fields: &[u8]) -> Option<(Command, &[u8])>
     ensures spelt { IfSome result (λ read. codes "put" ++ 32 ∷ fields.now ≡ command_text read.0 ++ 10 ∷ read.1.now) }
     ensures valid { IfSome result (λ read. (version : Version) → IsValidCommand version read.0) }
 {
-    let (of, rest) = cell(fields, b' ')?;
-    let (off, rest) = number(rest, 0, MAX_LENGTH, b' ')?;
+    let (of, off, rest) = cell_and_size(fields)?;
     let (stored, rest) = bytes(rest, b'\n')?;
     Some((Command::Put(of, off, stored), rest))
 }
@@ -61,8 +92,7 @@ fn get_of(fields: &[u8]) -> Option<(Command, &[u8])>
     ensures spelt { IfSome result (λ read. codes "get" ++ 32 ∷ fields.now ≡ command_text read.0 ++ 10 ∷ read.1.now) }
     ensures valid { IfSome result (λ read. (version : Version) → IsValidCommand version read.0) }
 {
-    let (of, rest) = cell(fields, b' ')?;
-    let (off, rest) = number(rest, 0, MAX_LENGTH, b' ')?;
+    let (of, off, rest) = cell_and_size(fields)?;
     let (len, rest) = number(rest, 1, 32, b'\n')?;
     Some((Command::Get(of, off, len), rest))
 }
@@ -156,9 +186,19 @@ fn class(text: &[u8]) -> Option<(Class, &[u8])>
     ensures row { IfSome result (λ read. IsSome (row_of read.0)) }
 {
     let (size, rest) = number(text, 16, 2048, b'\n')?;
-    if !is_class(u64::from(size)) {
-        return None;
-    }
-    let class = class_of(size).ok()?;
+    let class = class_sized(size)?;
     Some((class, rest))
+}
+
+/// The class of this size.
+#[inline]
+fn class_sized(size: u32) -> Option<Class>
+    ensures size { IfSome result (λ class. class ≡ size) }
+    ensures row { IfSome result (λ class. IsSome (row_of class)) }
+{
+    if is_class(u64::from(size)) {
+        class_of(size).ok()
+    } else {
+        None
+    }
 }

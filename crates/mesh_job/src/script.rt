@@ -1,11 +1,16 @@
 //! One worker's commands.
-ghost use Rattle.std.specs.Prelude.{◌≡◌, ◌<◌, ◌^◌, [], ◌∷◌, ◌++◌, length, slice_get, ◌↔◌, IsTrue, IfErr, IfOk, OnOk, OnErr, IfSome};
+ghost use Rattle.std.specs.Prelude.{◌≡◌, ◌<◌, ◌^◌, [], ◌∷◌, ◌++◌, length, slice_get, ◌↔◌, IsTrue, IfErr, IfOk, Ok, OnOk, OnErr, IfSome};
 ghost use Rattle.model_words.specs.Commands.{IsInRange};
+ghost use Rattle.model_jobs.specs.JobFiles.{command_in};
+ghost use Rattle.mesh_fields.specs.Lines.{texts};
+ghost use Rattle.mesh_job.specs.Draft.{with_line};
+ghost use Rattle.mesh_job.specs.Reading.{IsFaultOfStep};
 
 use crate::Commands;
+use crate::commands::command_of;
 use crate::faults::LineFault;
 use mesh_packed::{MAX_BYTES, PackedCommand, pack_command, unpack_command};
-use model_words::Command;
+use model_words::{Command, Version};
 use std::alloc::{AllocError, Global};
 use std::marker::Model;
 use std::mem;
@@ -17,7 +22,7 @@ const MAX_KEPT: usize = 0xffff_ffff;
 ///
 /// Each stores or loads 1 to 32 bytes, where it does at all, so that each may be handed to the heap. A command is kept in 16 bytes, and what it
 /// stores beside it.
-#[derive(Debug, Drop)]
+#[derive(Drop)]
 pub struct Script {
     commands: Vec<PackedCommand>,
     /// What they store, each one's bytes behind those of the one before.
@@ -99,6 +104,21 @@ impl Script {
         }
         Ok(commands)
     }
+}
+
+/// Adds the command of a line with this word and these fields.
+pub(crate) fn push_line(
+    script: &mut Script,
+    version: Version,
+    word: &[u8],
+    fields: &[&[u8]],
+) -> Result<(), LineFault>
+    ensures ok { OnOk result (with_line script.old version word.now (texts fields.now) ≡ Ok script.new) }
+    ensures err { IfErr result (IsFaultOfStep (command_in version word.now (texts fields.now))) }
+{
+    let command = command_of(version, word, fields)?;
+    script.push(&command)?;
+    Ok(())
 }
 
 /// Puts the script that was read behind the finished ones, and begins another.

@@ -1,7 +1,5 @@
-use Rattle.std.proofs.Common.{◌≡◌, sym, arith, subst}
+use Rattle.std.proofs.Common.{sym, subst}
 use Rattle.model_words.specs.Commands.{IsInRange}
-use Rattle.mesh_packed.specs.Runs.{KeepsAll}
-use Rattle.mesh_job.specs.Scripts.{IsScript}
 use Rattle.mesh_job.proofs.PackedScripts.{script_pushed, view_pushed}
 use Rattle.mesh_job.proofs.script.Script.push.Goals as goal
 

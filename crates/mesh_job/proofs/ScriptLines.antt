@@ -1,0 +1,23 @@
+-- The lines of a script that are taken into a draft.
+use Rattle.std.proofs.Common.{◌≡◌, ℕ, ◌+◌, false, nat_eq, nat_lt, ◌&&◌, List, ◌∷◌, ◌++◌, [], Result, Ok, Err, ap}
+use Rattle.std.specs.Prelude.{codes}
+use Rattle.model_words.specs.Words.{◌>>=◌}
+use Rattle.model_words.specs.declared.commands.Command.{Command}
+use Rattle.model_words.specs.declared.faults.FaultKind.{FaultKind}
+use Rattle.model_jobs.specs.JobFiles.{Draft, are_same, command_in, script_line}
+use Rattle.mesh_job.specs.Draft.{with_line}
+
+-- a command behind a script is one behind that of the draft
+script_taken : (draft : Draft) (script : List Command) (read : Result Command FaultKind) → (read >>= λ command. Ok (draft.script ++ command ∷ [])) ≡ Ok script
+    → (read >>= λ command. Ok (record draft { script = draft.script ++ command ∷ [] })) ≡ Ok (record draft { script = script })
+script_taken draft script (Ok command) is =
+    let same : draft.script ++ command ∷ [] ≡ script = cc in ap (λ (all : List Command). Ok (record draft { script = all })) same
+script_taken draft script (Err kind) is = cc
+
+-- a line that heads no section is a command
+pub command_taken : (draft : Draft) (worker : ℕ) (word : List ℕ) (fields : List (List ℕ)) (script : List Command)
+    → (are_same word (codes "worker") && nat_lt (worker + 1) draft.workers) ≡ false
+    → (are_same word (codes "plan") && nat_eq (worker + 1) draft.workers) ≡ false → with_line draft.script draft.version word fields ≡ Ok script
+    → script_line draft worker word fields ≡ Ok (record draft { script = script })
+command_taken draft worker word fields script no_worker no_plan is =
+    rw (no_worker, no_plan) (script_taken draft script (command_in draft.version word fields) is)
