@@ -20,7 +20,7 @@ const MAX_LENGTH: u32 = 65_535;
 const MAX_COUNT: u32 = 32;
 
 /// In which text a command's line stands: it tells the ranges of the line's numbers.
-#[derive(Clone, Copy, Debug, PartialEq, Eq)]
+#[derive(Clone, Copy)]
 pub enum Dialect {
     /// A job file of this version: cells up to 255, lengths and offsets up to 65,535, addresses up to fffffff, and `copy` from version 2 on.
     Job(Version),
@@ -32,7 +32,7 @@ pub enum Dialect {
 ///
 /// An offset counts bytes from the object's start. Of `Put`, `Get` and `Copy` 1 to 32 bytes are stored, loaded or copied. An address has 48
 /// bits at most.
-#[derive(Clone, Debug, Drop, PartialEq, Eq)]
+#[derive(Drop)]
 pub enum SpeltCommand {
     /// `New(cell, len, word)`: make an object of `len` zero bytes, and store its reference in `cell`.
     New(u32, u32, u64),

@@ -21,7 +21,7 @@ pub enum RecordedReply {
 }
 
 /// One answered command.
-#[derive(Clone, Debug, Drop, PartialEq, Eq)]
+#[derive(Drop)]
 pub struct RecordedEntry {
     /// Who asked.
     pub worker: u32,
