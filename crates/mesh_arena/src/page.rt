@@ -6,7 +6,7 @@ use std::marker::Model;
 /// The number of a physical page, counted from 0.
 ///
 /// An arena gives pages out; the default, page 0, only fills places that are not in use.
-#[derive(Clone, Copy, Debug, Default, PartialEq, Eq)]
+#[derive(Clone, Copy, Default, PartialEq, Eq)]
 pub struct Page(u16);
 
 impl Model for Page {

@@ -16,7 +16,7 @@ const WORDS: usize = 1024;
 const SUMMARY: usize = 16;
 
 /// A set of numbers below 65,536.
-#[derive(Debug, Drop)]
+#[derive(Drop)]
 pub struct Bin {
     // Number `n` is in the set where bit `n % 64` of word `n / 64` is set.
     words: Vec<u64>,

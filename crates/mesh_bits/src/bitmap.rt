@@ -15,7 +15,7 @@ const WORD_BITS: u32 = 64;
 const WORDS: usize = 4;
 
 /// A set of numbers below a width of 1 to 256.
-#[derive(Debug, Drop)]
+#[derive(Drop)]
 pub struct Bits {
     // Number `i` is in the set where bit `i % 64` of word `i / 64` is set. No bit is set from the width on.
     words: [u64; WORDS],

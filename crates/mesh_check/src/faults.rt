@@ -3,7 +3,7 @@ use model_words::Refusal;
 use std::alloc::AllocError;
 
 /// Why a command changed nothing in the memory.
-#[derive(Clone, Copy, Debug, PartialEq, Eq)]
+#[derive(Clone, Copy, PartialEq, Eq)]
 pub enum Fault {
     /// The plain memory refuses it.
     Refused(Refusal),

@@ -6,7 +6,7 @@ ghost use Rattle.mesh_check.specs.Reasons.{IsDifference, is_refusal};
 use mesh_history::RecordedReply;
 
 /// Why the plain memory doesn't take an entry.
-#[derive(Clone, Debug, Drop, PartialEq, Eq)]
+#[derive(Clone, Drop, PartialEq, Eq)]
 pub enum Reason {
     /// The plain memory answers this.
     Differs(RecordedReply),

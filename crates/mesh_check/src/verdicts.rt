@@ -2,7 +2,7 @@
 use crate::reasons::Reason;
 
 /// What is found of a text that has no fault as far as it was read.
-#[derive(Clone, Debug, Drop, PartialEq, Eq)]
+#[derive(Clone, Drop, PartialEq, Eq)]
 pub enum Verdict {
     /// It is a legal history of so many entries.
     Legal(u32),

@@ -4,7 +4,7 @@ use mesh_fields::commands::SpeltCommand;
 use model_words::{MAX_BYTES, Refusal};
 
 /// What the allocator that recorded answered.
-#[derive(Clone, Debug, Drop, PartialEq, Eq)]
+#[derive(Clone, Drop, PartialEq, Eq)]
 pub enum RecordedReply {
     /// `Object(serial, addr)`: the object was made. The serial is of the allocator's choice.
     Object(u32, u64),

@@ -1,7 +1,7 @@
 //! The sizes of a session.
 
 /// The sizes of a live session, as the header of a job file has them.
-#[derive(Clone, Copy, Debug, PartialEq, Eq)]
+#[derive(Clone, Copy, PartialEq, Eq)]
 pub struct Sizes {
     /// How many physical pages the arena has, 1 to 4,096.
     pub pages: u32,

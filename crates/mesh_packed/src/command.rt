@@ -8,7 +8,7 @@ use model_words::Command;
 
 /// A command without its bytes, in 16 bytes: what each says is what the command of its name says. The fields lie in memory in their order, so
 /// the two cells of `Copy` stand together, and of `Put` it is told where its bytes are kept.
-#[derive(Debug, Drop)]
+#[derive(Drop)]
 pub enum PackedCommand {
     /// `New(cell, len, word)`.
     New(u8, u32, u64),

@@ -7,7 +7,7 @@ use crate::run::{Run, bytes_of, keep};
 use model_words::{Refusal, Reply};
 
 /// A reply without its bytes, in 12 bytes.
-#[derive(Debug, Drop)]
+#[derive(Drop)]
 pub enum PackedReply {
     /// `Object(serial, addr)`
     Object(u32, u32),

@@ -7,7 +7,7 @@ use arrayvec::ArrayVec;
 use model_words::MAX_BYTES;
 
 /// Where some bytes stand among all that are kept: `len` of them from `place` on.
-#[derive(Clone, Copy, Debug)]
+#[derive(Clone, Copy)]
 pub struct Run {
     /// The place of the first.
     pub place: u32,

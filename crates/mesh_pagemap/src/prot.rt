@@ -1,7 +1,7 @@
 //! The protection of a virtual page.
 
 /// What a virtual page may be used for.
-#[derive(Clone, Copy, Debug, PartialEq, Eq)]
+#[derive(Clone, Copy, PartialEq, Eq)]
 pub enum Prot {
     /// Loads alone; a store into the page is blocked.
     ReadOnly,

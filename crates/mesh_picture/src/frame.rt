@@ -2,7 +2,7 @@
 use mesh_class::Class;
 
 /// A member of a group: a span, on virtual pages of its own.
-#[derive(Clone, Copy, Debug, PartialEq, Eq)]
+#[derive(Clone, Copy, PartialEq, Eq)]
 pub struct Member {
     /// The group's number.
     pub group: u32,
@@ -13,7 +13,7 @@ pub struct Member {
 }
 
 /// Where a virtual page leads.
-#[derive(Clone, Copy, Debug, PartialEq, Eq)]
+#[derive(Clone, Copy, PartialEq, Eq)]
 pub struct Lead {
     /// The virtual page.
     pub page: u32,
@@ -24,7 +24,7 @@ pub struct Lead {
 }
 
 /// A live object.
-#[derive(Clone, Copy, Debug, PartialEq, Eq)]
+#[derive(Clone, Copy, PartialEq, Eq)]
 pub struct Object {
     /// The span that it is an object of, by its first virtual page.
     pub member: u32,
@@ -37,7 +37,7 @@ pub struct Object {
 }
 
 /// A physical page of a group.
-#[derive(Clone, Copy, Debug, PartialEq, Eq)]
+#[derive(Clone, Copy, PartialEq, Eq)]
 pub struct Home {
     /// The group's number.
     pub group: u32,
@@ -50,7 +50,7 @@ pub struct Home {
 }
 
 /// How far a running mesh has come.
-#[derive(Clone, Copy, Debug, PartialEq, Eq)]
+#[derive(Clone, Copy, PartialEq, Eq)]
 pub enum MeshProgress {
     /// So many of its steps were made.
     Made(u32),
@@ -59,7 +59,7 @@ pub enum MeshProgress {
 }
 
 /// A running mesh.
-#[derive(Clone, Copy, Debug, PartialEq, Eq)]
+#[derive(Clone, Copy, PartialEq, Eq)]
 pub struct RunningMesh {
     /// The class of its two groups.
     pub class: Class,
@@ -72,7 +72,7 @@ pub struct RunningMesh {
 }
 
 /// How many pages a heap has.
-#[derive(Clone, Copy, Debug, Default, PartialEq, Eq)]
+#[derive(Clone, Copy, Default, PartialEq, Eq)]
 pub struct Counts {
     /// The virtual pages that are mapped.
     pub mapped: u32,

@@ -22,7 +22,7 @@ const MAX_TITLE: usize = 64;
 const LEAST_WIDTH: u32 = 12_200;
 
 /// What a job's header says.
-#[derive(Clone, Copy, Debug)]
+#[derive(Clone, Copy)]
 pub struct Header {
     /// The version of its file.
     pub version: u32,

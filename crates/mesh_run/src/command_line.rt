@@ -257,7 +257,7 @@ const SUBCOMMANDS: &[Subcommand] = &[
 const VERSION: &str = "0.1.0";
 
 /// What the command line asks for.
-#[derive(Clone, Copy, Debug, PartialEq, Eq)]
+#[derive(Clone, Copy, PartialEq, Eq)]
 pub enum Args<'a> {
     /// `replay FILE [--history]`: replay the job file at this path, and print this.
     Replay(&'a str, Printed),

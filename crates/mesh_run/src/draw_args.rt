@@ -2,7 +2,7 @@
 ghost use Rattle.mesh_run.specs.DrawArgs.{AreInRange};
 
 /// What `draw` is asked for beside its file. Its type keeps the ranges.
-#[derive(Clone, Copy, Debug, PartialEq, Eq)]
+#[derive(Clone, Copy, PartialEq, Eq)]
 pub struct DrawArgs {
     /// The first line of the plan that is drawn, 1 to 1,048,576.
     pub from: u32,

@@ -4,7 +4,7 @@ ghost use Rattle.mesh_run.specs.ExploreArgs.{AreInRange};
 use crate::Meshes;
 
 /// What `explore` is asked for beside its file. Its type keeps the ranges.
-#[derive(Clone, Copy, Debug, PartialEq, Eq)]
+#[derive(Clone, Copy, PartialEq, Eq)]
 pub struct ExploreArgs {
     /// The meshes, one to ten.
     pub meshes: Meshes,

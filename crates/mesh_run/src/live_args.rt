@@ -2,7 +2,7 @@
 ghost use Rattle.mesh_run.specs.LiveArgs.{AreFairSizes};
 
 /// The sizes of the session that `live` is asked for, as the header of a job file has them. Its type keeps the ranges.
-#[derive(Clone, Copy, Debug, PartialEq, Eq)]
+#[derive(Clone, Copy, PartialEq, Eq)]
 pub struct LiveArgs {
     /// How many physical pages the arena has, 1 to 4,096.
     pub pages: u32,

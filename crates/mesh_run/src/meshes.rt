@@ -7,7 +7,7 @@ use mesh_explore::MeshPair;
 pub(crate) const MOST_MESHES: usize = 10;
 
 /// Up to ten meshes that are to be made, in the order in which they were asked for.
-#[derive(Clone, Copy, Debug, PartialEq, Eq)]
+#[derive(Clone, Copy, PartialEq, Eq)]
 pub struct Meshes {
     // Those behind the count are all of group 0 into group 0.
     pairs: [MeshPair; MOST_MESHES],

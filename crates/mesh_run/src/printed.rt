@@ -1,7 +1,7 @@
 //! What a run prints.
 
 /// What a run prints of what its workers asked for and were answered.
-#[derive(Clone, Copy, Debug, PartialEq, Eq)]
+#[derive(Clone, Copy, PartialEq, Eq)]
 pub enum Printed {
     /// The answers alone.
     Answers,

@@ -2,7 +2,7 @@
 ghost use Rattle.mesh_run.specs.ThreadsArgs.{AreInRange};
 
 /// What `threads` is asked for beside its file. Its type keeps the ranges.
-#[derive(Clone, Copy, Debug, PartialEq, Eq)]
+#[derive(Clone, Copy, PartialEq, Eq)]
 pub struct ThreadsArgs {
     /// How many rounds of tries a search makes at most, 0 to 64.
     pub probe: u32,

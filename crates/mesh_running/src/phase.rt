@@ -1,7 +1,7 @@
 //! `Phase`, how far a mesh has come.
 
 /// How far a mesh has come.
-#[derive(Clone, Copy, Debug, PartialEq, Eq)]
+#[derive(Clone, Copy, PartialEq, Eq)]
 pub enum Phase {
     /// `Made(d)`: so many of its steps were made.
     Made(u32),

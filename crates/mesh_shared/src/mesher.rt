@@ -29,7 +29,7 @@ pub(crate) struct Mesher<'a, R, G> {
 }
 
 /// What a mesher's thread gives back.
-#[derive(Clone, Copy, Debug)]
+#[derive(Clone, Copy)]
 pub(crate) struct Meshed {
     /// The mesher's number.
     pub number: u32,

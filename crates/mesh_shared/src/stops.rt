@@ -66,7 +66,7 @@ impl From<Stop> for RunError {
 }
 
 /// Why a thread ended before it was done.
-#[derive(Clone, Copy, Debug, PartialEq, Eq)]
+#[derive(Clone, Copy, PartialEq, Eq)]
 pub(crate) enum Stop {
     /// Memory was refused.
     Memory,

@@ -12,7 +12,7 @@ use std::marker::Model;
 pub(crate) const PAGE_BYTES: u32 = 4096;
 
 /// Where one span lies, and which group it belongs to.
-#[derive(Debug, Drop)]
+#[derive(Drop)]
 pub(crate) struct Extent {
     // The first virtual page.
     first: u32,

@@ -3,7 +3,7 @@ ghost use Rattle.std.specs.Prelude.{◌≡◌, ◌≤◌};
 ghost use Rattle.mesh_spans.specs.GroupBins.{fullness_place};
 
 /// How full a group is: a class has a bin for each.
-#[derive(Clone, Copy, Debug, PartialEq, Eq)]
+#[derive(Clone, Copy, PartialEq, Eq)]
 pub(crate) enum Fullness {
     /// No slot is occupied.
     Empty,

@@ -26,7 +26,7 @@ use std::marker::Model;
 /// The index of all spans and groups.
 ///
 /// Spans and groups are numbered in the order of their making, and no number is used again.
-#[derive(Debug, Drop)]
+#[derive(Drop)]
 pub struct Spans {
     // By number.
     spans: Vec<Extent>,

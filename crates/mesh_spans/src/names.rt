@@ -4,7 +4,7 @@ ghost use Rattle.std.specs.Prelude.{◌≡◌, ◌*◌, ◌<◌, ◌^◌};
 use std::marker::Model;
 
 /// The number of a span, in the order of making, from 0. A group has the number of its first span.
-#[derive(Clone, Copy, Debug, Default, PartialEq, Eq)]
+#[derive(Clone, Copy, Default, PartialEq, Eq)]
 pub struct Span(u32);
 
 impl Model for Span {
@@ -34,7 +34,7 @@ impl Span {
 }
 
 /// The number of a slot in its span, from 0.
-#[derive(Clone, Copy, Debug, PartialEq, Eq)]
+#[derive(Clone, Copy, PartialEq, Eq)]
 pub struct Slot(u32);
 
 impl Model for Slot {

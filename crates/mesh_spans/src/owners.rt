@@ -14,7 +14,7 @@ const VIRTUAL_PAGES: usize = 65_536;
 ///
 /// There is room for all pages from the beginning; a page's place comes to be when it or a later page is first owned, so that no more
 /// memory is touched than that.
-#[derive(Debug, Drop)]
+#[derive(Drop)]
 pub(crate) struct Owners {
     spans: Vec<Option<Span>>,
 }

@@ -3,7 +3,7 @@ ghost use Rattle.std.specs.Prelude.{◌≡◌, ◌≤◌, None};
 ghost use Rattle.mesh_spans.specs.Counts.{IsPart, IsWithin, counts_of, with_group, without_group};
 
 /// What groups count together.
-#[derive(Clone, Copy, Debug, PartialEq, Eq)]
+#[derive(Clone, Copy, PartialEq, Eq)]
 pub struct Totals {
     /// The live objects.
     pub objects: u32,

@@ -38,7 +38,7 @@ pub struct Report {
 }
 
 /// Where a virtual page leads.
-#[derive(Clone, Copy, Debug, PartialEq, Eq)]
+#[derive(Clone, Copy, PartialEq, Eq)]
 pub struct Lead {
     /// The physical page.
     pub page: u32,

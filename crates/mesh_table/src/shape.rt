@@ -1,7 +1,7 @@
 //! `Shape`, what a mesh goes over.
 
 /// What a mesh from a group goes over.
-#[derive(Clone, Copy, Debug, PartialEq, Eq)]
+#[derive(Clone, Copy, PartialEq, Eq)]
 pub struct Shape {
     /// The virtual pages of all its members.
     pub pages: u32,

@@ -6,7 +6,7 @@ ghost use Rattle.mesh_text.specs.Devices.{input_has_failed, input_reader, is_rea
 use std::io;
 
 /// A call of a device failed.
-#[derive(Clone, Copy, Debug, PartialEq, Eq)]
+#[derive(Clone, Copy, PartialEq, Eq)]
 pub struct DeviceFault;
 
 /// A device that bytes are read from.

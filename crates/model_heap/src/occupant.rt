@@ -2,7 +2,7 @@
 use std::marker::Model;
 
 /// An object in a slot: the member that it is an address of, by the member's first virtual page, its serial and its length.
-#[derive(Clone, Copy, Debug, PartialEq, Eq)]
+#[derive(Clone, Copy, PartialEq, Eq)]
 pub struct Occupant {
     /// The first virtual page of the member.
     pub member: u32,
