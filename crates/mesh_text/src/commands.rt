@@ -1,7 +1,7 @@
 //! The text of mutators' commands, without line ends.
-ghost use Rattle.std.specs.Prelude.{◌≡◌, ◌++◌, OnOk};
+ghost use Rattle.std.specs.Prelude.{◌≡◌, ◌≤◌, ◌++◌, length, OnOk};
 ghost use Rattle.std.specs.List.{flat_map};
-ghost use Rattle.model_jobs.specs.Texts.{command_text, number_field};
+ghost use Rattle.model_jobs.specs.Texts.{address_text, bytes_text, command_text, field, number_field};
 
 use crate::answers::{add_address, add_bytes, add_decimal};
 use model_words::Command;
@@ -13,50 +13,58 @@ pub fn add_command(text: &mut Vec<u8>, command: &Command) -> Result<(), AllocErr
 {
     match command {
         Command::New(cell, len, word) => {
-            text.extend_from_slice(b"new")?;
-            add_numbers(text, &[u64::from(*cell), u64::from(*len), *word])
+            let numbers = [u64::from(*cell), u64::from(*len), *word];
+            add_named(text, b"new", &numbers)
         }
         Command::Put(cell, off, bytes) => {
-            text.extend_from_slice(b"put")?;
-            add_numbers(text, &[u64::from(*cell), u64::from(*off)])?;
-            text.push(b' ')?;
-            add_bytes(text, bytes.as_slice())
+            add_named(text, b"put", &[u64::from(*cell), u64::from(*off)])?;
+            add_run(text, bytes.as_slice())
         }
         Command::Get(cell, off, len) => {
-            text.extend_from_slice(b"get")?;
-            add_numbers(text, &[u64::from(*cell), u64::from(*off), u64::from(*len)])
+            let numbers = [u64::from(*cell), u64::from(*off), u64::from(*len)];
+            add_named(text, b"get", &numbers)
         }
-        Command::Free(cell) => {
-            text.extend_from_slice(b"free")?;
-            add_numbers(text, &[u64::from(*cell)])
-        }
+        Command::Free(cell) => add_named(text, b"free", &[u64::from(*cell)]),
         Command::Alias(to, from) => {
-            text.extend_from_slice(b"alias")?;
-            add_numbers(text, &[u64::from(*to), u64::from(*from)])
+            add_named(text, b"alias", &[u64::from(*to), u64::from(*from)])
         }
-        Command::Addr(cell) => {
-            text.extend_from_slice(b"addr")?;
-            add_numbers(text, &[u64::from(*cell)])
-        }
-        Command::Peek(address) => {
-            text.extend_from_slice(b"peek ")?;
-            add_address(text, *address)
-        }
+        Command::Addr(cell) => add_named(text, b"addr", &[u64::from(*cell)]),
+        Command::Peek(address) => add_placed(text, b"peek ", *address),
         Command::Poke(address, byte) => {
-            text.extend_from_slice(b"poke ")?;
-            add_address(text, *address)?;
-            text.push(b' ')?;
-            add_bytes(text, &[*byte])
+            add_placed(text, b"poke ", *address)?;
+            add_run(text, &[*byte])
         }
         Command::Copy(to, to_off, from, from_off, len) => {
-            text.extend_from_slice(b"copy")?;
-            add_numbers(text, &[u64::from(*to), u64::from(*to_off)])?;
-            add_numbers(
-                text,
-                &[u64::from(*from), u64::from(*from_off), u64::from(*len)],
-            )
+            add_named(text, b"copy", &[u64::from(*to), u64::from(*to_off)])?;
+            let source = [u64::from(*from), u64::from(*from_off), u64::from(*len)];
+            add_numbers(text, &source)
         }
     }
+}
+
+/// Adds the name of a command and its numbers, a space before each.
+fn add_named(text: &mut Vec<u8>, name: &[u8], numbers: &[u64]) -> Result<(), AllocError>
+    ensures { OnOk result (text.new.items ≡ text.old.items ++ name.now ++ flat_map number_field numbers.now) }
+{
+    text.extend_from_slice(name)?;
+    add_numbers(text, numbers)
+}
+
+/// Adds the name of a command with the space behind it, and an address.
+fn add_placed(text: &mut Vec<u8>, name: &[u8], address: u32) -> Result<(), AllocError>
+    ensures { OnOk result (text.new.items ≡ text.old.items ++ name.now ++ address_text address) }
+{
+    text.extend_from_slice(name)?;
+    add_address(text, address)
+}
+
+/// Adds a space and up to 32 bytes, two hexadecimal digits each.
+fn add_run(text: &mut Vec<u8>, bytes: &[u8]) -> Result<(), AllocError>
+    requires { length bytes.now ≤ 32 }
+    ensures { OnOk result (text.new.items ≡ text.old.items ++ field (bytes_text bytes.now)) }
+{
+    text.push(b' ')?;
+    add_bytes(text, bytes)
 }
 
 /// Adds numbers in decimal digits, a space before each.

@@ -30,10 +30,9 @@ impl Turns {
         ensures opening { IfOk result (λ turns. IsAt job.now (opening job.now) (book_of turns) (places_of turns)) }
         ensures stands { IfOk result (StandsBehind job.now 0) }
     {
-        Ok(Turns {
-            book: Book::open(alloc, job.pages, job.history)?,
-            next: vec![in alloc; 0; job.scripts.count()]?,
-        })
+        let next = vec![in alloc; 0; job.scripts.count()]?;
+        let book = Book::open(alloc, job.pages, job.history)?;
+        Ok(Turns { book, next })
     }
 
     /// The heap, as the lines so far have left it.
