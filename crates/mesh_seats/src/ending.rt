@@ -63,14 +63,14 @@ fn history_of(
     ensures ended { IfOk result (λ history. (memory : Memory) → IsLegal journal.now.entries memory → IsEnd count seats.now journal.now.entries history.items memory) }
     ensures fault { IfErr result (IsFault count seats.now journal.now.entries) }
 {
-    built_is_legal();
-    built_has_calls();
     if let Some(seat) = missing(seats, count, journal) {
         return Err(FinishError::SeatMissing(seat));
     }
     if let Some((seat, call)) = differing(seats, journal) {
         return Err(FinishError::SeatDiffers { seat, call });
     }
+    built_is_legal();
+    built_has_calls();
     let history = weave(alloc, seats, journal)?;
     Ok(history)
 }
