@@ -18,7 +18,7 @@ line_fits version workers lines plan i d line is fit within here =
     (All-get_or (IsValidLine version workers) (map line_of lines) i (line_of d) (omega (arith, within, length-map lines line_of)) all)
 
 -- as many lines as there are in the code
-lines_count : (lines : List PlanLine) (plan : List Line) → map line_of lines ≡ plan → length plan ≡ length lines
+pub lines_count : (lines : List PlanLine) (plan : List Line) → map line_of lines ≡ plan → length plan ≡ length lines
 lines_count lines plan is = ap (λ (ls : List Line). length ls) (sym is) ∙ length-map lines line_of
 
 -- one more line of a plan
