@@ -41,6 +41,11 @@ is_in_header (Worker worker) = false
 is_in_header Plan = false
 is_in_header _ = true
 
+-- a command of a worker may come next
+abbrev pub is_in_script : Section → Bool
+is_in_script (Worker worker) = true
+is_in_script _ = false
+
 -- no section of a worker was read
 abbrev pub HasNoScript : Draft → Type 0
 HasNoScript d = (d.scripts.items ≡ []) × (d.plan.items ≡ [])

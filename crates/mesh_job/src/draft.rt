@@ -3,7 +3,7 @@ ghost use Rattle.std.specs.Prelude.{◌≡◌, ◌<◌, true, false, Ok, Err, le
 ghost use Rattle.std.specs.List.{list_any};
 ghost use Rattle.model_jobs.specs.JobFiles.{blank_draft, has_ended, is_empty, job_of, plan_line, script_line, take_fields, take_in, version_of};
 ghost use Rattle.mesh_fields.specs.Lines.{IsPartOfLine, texts};
-ghost use Rattle.mesh_job.specs.Draft.{IsDraft, draft_of, is_in_header, number_field_in, section_of};
+ghost use Rattle.mesh_job.specs.Draft.{IsDraft, draft_of, is_in_header, is_in_script, number_field_in, section_of};
 ghost use Rattle.mesh_job.specs.Reading.{IsFaultOfLine, IsFaultOfStep, IsReadOn};
 
 use crate::faults::LineFault;
@@ -156,24 +156,47 @@ impl Draft {
         ensures some { IfOk result (λ next. IfSome next (λ rest. IsReadOn (draft_of self.old) text.now (draft_of self.new) rest.now)) }
         ensures none { IfOk result (λ next. IsNone next → self.new ≡ self.old) }
     {
-        lines_read_back();
         match self.section {
-            Section::Worker(_) => {
-                let Some((command, rest)) = quick_command(text) else {
-                    return Ok(None);
-                };
-                self.script.push(&command)?;
-                Ok(Some(rest))
-            }
-            Section::Plan => {
-                let Some((line, rest)) = quick_line(text, self.version, self.workers) else {
-                    return Ok(None);
-                };
-                self.plan.push(line)?;
-                Ok(Some(rest))
-            }
+            Section::Worker(_) => self.take_quick_command(text),
+            Section::Plan => self.take_quick_call(text),
             _ => Ok(None),
         }
+    }
+
+    /// The same, in the section of a worker.
+    #[inline]
+    fn take_quick_command<'a>(&mut self, text: &'a [u8]) -> Result<Option<&'a [u8]>, AllocError>
+        requires draft { IsDraft self.old }
+        requires section { is_in_script self.old.section ≡ true }
+        ensures draft { OnOk result (IsDraft self.new) }
+        ensures shorter { IfOk result (λ next. IfSome next (λ rest. length rest.now < length text.now)) }
+        ensures some { IfOk result (λ next. IfSome next (λ rest. IsReadOn (draft_of self.old) text.now (draft_of self.new) rest.now)) }
+        ensures none { IfOk result (λ next. IsNone next → self.new ≡ self.old) }
+    {
+        lines_read_back();
+        let Some((command, rest)) = quick_command(text) else {
+            return Ok(None);
+        };
+        self.script.push(&command)?;
+        Ok(Some(rest))
+    }
+
+    /// The same, in the section of the plan.
+    #[inline]
+    fn take_quick_call<'a>(&mut self, text: &'a [u8]) -> Result<Option<&'a [u8]>, AllocError>
+        requires draft { IsDraft self.old }
+        requires section { self.old.section ≡ Section.Plan }
+        ensures draft { OnOk result (IsDraft self.new) }
+        ensures shorter { IfOk result (λ next. IfSome next (λ rest. length rest.now < length text.now)) }
+        ensures some { IfOk result (λ next. IfSome next (λ rest. IsReadOn (draft_of self.old) text.now (draft_of self.new) rest.now)) }
+        ensures none { IfOk result (λ next. IsNone next → self.new ≡ self.old) }
+    {
+        lines_read_back();
+        let Some((line, rest)) = quick_line(text, self.version, self.workers) else {
+            return Ok(None);
+        };
+        self.plan.push(line)?;
+        Ok(Some(rest))
     }
 
     /// Takes the fields of the next line.

@@ -5,6 +5,7 @@ ghost use Rattle.model_words.specs.Classes.{row_of};
 ghost use Rattle.model_jobs.specs.JobFiles.{IsValidCommand, IsValidLine};
 ghost use Rattle.model_jobs.specs.Texts.{command_text, line_text};
 ghost use Rattle.model_words.specs.declared.versions.Version.{Version};
+ghost use Rattle.model_words.specs.declared.versions.Version.TheVariants.{Two as FileTwo};
 ghost use Rattle.mesh_job.specs.Plan.{line_of};
 
 use crate::PlanLine;
@@ -151,13 +152,21 @@ pub(crate) fn quick_line(text: &[u8], version: Version, workers: u32) -> Option<
     ensures valid { IfSome result (λ read. IsValidLine version workers (line_of read.0)) }
 {
     match text {
-        [b'r', b'u', b'n', b' ', fields @ ..] => {
-            let (worker, rest) = number(fields, 0, workers - 1, b'\n')?;
-            Some((PlanLine::Run(worker), rest))
-        }
+        [b'r', b'u', b'n', b' ', fields @ ..] => run_of(fields, workers),
         [b's', b't', b'e', b'p', fields @ ..] => step_of(fields, version),
         _ => None,
     }
+}
+
+/// `WORKER` of a `run`
+#[inline]
+fn run_of(fields: &[u8], workers: u32) -> Option<(PlanLine, &[u8])>
+    requires { 1 ≤ workers }
+    ensures spelt { IfSome result (λ read. codes "run" ++ 32 ∷ fields.now ≡ line_text (line_of read.0) ++ 10 ∷ read.1.now) }
+    ensures valid { IfSome result (λ read. (version : Version) → IsValidLine version workers (line_of read.0)) }
+{
+    let (worker, rest) = number(fields, 0, workers - 1, b'\n')?;
+    Some((PlanLine::Run(worker), rest))
 }
 
 /// What is behind `step`: nothing in version 1, and the size of a class in version 2
@@ -170,14 +179,20 @@ fn step_of(fields: &[u8], version: Version) -> Option<(PlanLine, &[u8])>
             let rest = behind(fields, b'\n')?;
             Some((PlanLine::Step, rest))
         }
-        Version::Two => {
-            let size = behind(fields, b' ')?;
-            let Some((class, rest)) = class(size) else {
-                return None;
-            };
-            Some((PlanLine::StepClass(class), rest))
-        }
+        Version::Two => class_step_of(behind(fields, b' ')?),
     }
+}
+
+/// `CLASS` of a `step`
+#[inline]
+fn class_step_of(fields: &[u8]) -> Option<(PlanLine, &[u8])>
+    ensures spelt { IfSome result (λ read. codes "step" ++ 32 ∷ fields.now ≡ line_text (line_of read.0) ++ 10 ∷ read.1.now) }
+    ensures valid { IfSome result (λ read. (workers : ℕ) → IsValidLine FileTwo workers (line_of read.0)) }
+{
+    let Some((class, rest)) = class(fields) else {
+        return None;
+    };
+    Some((PlanLine::StepClass(class), rest))
 }
 
 /// The class whose size the text's first bytes spell, and the bytes behind their line's end.
