@@ -12,7 +12,7 @@ use Rattle.model_jobs.proofs.FieldReadings.{same_by_test}
 use Rattle.model_jobs.specs.JobFiles.{are_same, is_between, with_decimal, decimal_value, number_in}
 use Rattle.model_words.specs.declared.faults.FaultKind.TheVariants.{Number}
 use Rattle.mesh_fields.specs.Fields.{is_decimal_digit}
-use Rattle.mesh_fields.proofs.Digits.{front_grows, grows}
+use Rattle.mesh_fields.proofs.Digits.{grows}
 use Rattle.mesh_fields.proofs.Sames.{fails, same_bytes, between_by_test}
 
 -- decimal digits give their number back
@@ -74,10 +74,6 @@ zero_first field long lead n small is =
     let at : get_or (decimal n) 0 0 ≡ 48 = ap (λ f. get_or f 0 0) (sym is) ∙ lead in
     ⊎_elim (λ (l : n < 1). omega (arith, first.2 (omega arith), ap length is)) (λ (m : 1 ≤ n). omega (arith, at, first.1 (omega arith))) (cases_lt n 1)
 
--- the number of the digits before one of them is a tenth at most of that of them all
-pub decimal_front : (digits : List ℕ) (i : ℕ) → i < length digits → 10 * decimal_value (take i digits) ≤ decimal_value digits
-decimal_front = front_grows 10 with_decimal (λ n d. omega arith) (λ n d. omega arith)
-
 -- the number of one digit more
 pub next_value : (digits : List ℕ) (i : ℕ) → i < length digits → decimal_value (take (i + 1) digits) ≡ 10 * decimal_value (take i digits) + (get_or digits i 0 - 48)
 next_value digits i h =
@@ -87,7 +83,7 @@ next_value digits i h =
 pub with_one_more : (digits : List ℕ) (i : ℕ) → i < length digits → decimal_value (take (i + 1) digits) ≤ decimal_value digits
 with_one_more digits i h =
     let whole : decimal_value (take (i + 1) digits ++ drop (i + 1) digits) ≡ decimal_value digits = ap decimal_value (take-append-drop (i + 1) digits) in
-    omega (arith, fold-append with_decimal 0 (take (i + 1) digits) (drop (i + 1) digits), grows 10 with_decimal (λ m d. omega arith) (λ m d. omega arith) (decimal_value (take (i + 1) digits)) (drop (i + 1) digits))
+    omega (arith, fold-append with_decimal 0 (take (i + 1) digits) (drop (i + 1) digits), grows with_decimal (λ m d. omega arith) (decimal_value (take (i + 1) digits)) (drop (i + 1) digits))
 
 -- a field that spells a number is read as it, in its range
 pub number_spelt : (least most : ℕ) (field : List ℕ) (n : ℕ) → n < 2 ^ 64 → field ≡ decimal n

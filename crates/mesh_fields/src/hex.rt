@@ -5,6 +5,7 @@ ghost use Rattle.arrayvec.specs.ArrayVec.{array_vec_len};
 ghost use Rattle.model_jobs.specs.JobFiles.{address_in, byte_from, byte_in, bytes_in, hex_number, hex_value};
 ghost use Rattle.mesh_fields.specs.Fields.{hex_in, is_hex_digit};
 
+use crate::numbers::with_digit;
 use arrayvec::ArrayVec;
 use model_words::{FaultKind, MAX_BYTES};
 
@@ -139,7 +140,7 @@ fn digits_value(digits: &[u8]) -> Option<u64>
     let mut value = 0u64;
     for byte in digits {
         let next = digit(*byte)?;
-        value = value.checked_mul(16)?.checked_add(u64::from(next))?;
+        value = with_digit(value, 16, next)?;
     }
     Some(value)
 }

@@ -84,12 +84,7 @@ pub fn next_line(text: &[u8]) -> Result<Option<(&[u8], &[u8])>, FaultKind>
             Ok(None)
         };
     };
-    if line.len() > MAX_LINE_BYTES {
-        return Err(FaultKind::LongLine);
-    }
-    if !line.iter().all(|byte| is_printable(*byte)) {
-        return Err(FaultKind::Byte);
-    }
+    check_bytes(line)?;
     Ok(Some((line, rest)))
 }
 

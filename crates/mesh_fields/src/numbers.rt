@@ -1,5 +1,5 @@
 //! Decimal fields.
-ghost use Rattle.std.specs.Prelude.{◌≡◌, ◌≢◌, ◌+◌, ◌<◌, ◌≤◌, ◌^◌, ◌⊎◌, ℕ, true, false, decimal, IfSome, IfOk, IsNone};
+ghost use Rattle.std.specs.Prelude.{◌≡◌, ◌≢◌, ◌+◌, ◌*◌, ◌<◌, ◌≤◌, ◌^◌, ◌⊎◌, ℕ, true, false, decimal, IfSome, IfOk, IsNone};
 ghost use Rattle.std.specs.List.{list_all};
 ghost use Rattle.model_jobs.specs.JobFiles.{decimal_value, number_in};
 ghost use Rattle.mesh_fields.specs.Fields.{is_decimal_digit};
@@ -31,9 +31,18 @@ fn digits_value(digits: &[u8]) -> Option<u64>
     let mut value = 0u64;
     for byte in digits {
         let next = digit(*byte)?;
-        value = value.checked_mul(10)?.checked_add(u64::from(next))?;
+        value = with_digit(value, 10, next)?;
     }
     Some(value)
+}
+
+/// A number with one more digit at its end, where that fits 64 bits.
+#[inline]
+pub(crate) fn with_digit(number: u64, base: u64, digit: u8) -> Option<u64>
+    ensures some { IfSome result (λ longer. longer ≡ number * base + digit) }
+    ensures none { IsNone result → 2 ^ 64 ≤ number * base + digit }
+{
+    number.checked_mul(base)?.checked_add(u64::from(digit))
 }
 
 /// The value of a decimal digit.
