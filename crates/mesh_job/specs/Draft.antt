@@ -41,6 +41,13 @@ is_in_header (Worker worker) = false
 is_in_header Plan = false
 is_in_header _ = true
 
+-- the header's line of the workers or of the first one comes next, or nothing may come
+abbrev pub is_behind_sizes : Section → Bool
+is_behind_sizes Workers = true
+is_behind_sizes FirstWorker = true
+is_behind_sizes Ended = true
+is_behind_sizes _ = false
+
 -- a command of a worker may come next
 abbrev pub is_in_script : Section → Bool
 is_in_script (Worker worker) = true

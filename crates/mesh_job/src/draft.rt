@@ -3,7 +3,7 @@ ghost use Rattle.std.specs.Prelude.{◌≡◌, ◌<◌, true, false, Ok, Err, le
 ghost use Rattle.std.specs.List.{list_any};
 ghost use Rattle.model_jobs.specs.JobFiles.{blank_draft, has_ended, is_empty, job_of, plan_line, script_line, take_fields, take_in, version_of};
 ghost use Rattle.mesh_fields.specs.Lines.{IsPartOfLine, texts};
-ghost use Rattle.mesh_job.specs.Draft.{IsDraft, draft_of, is_in_header, is_in_script, number_field_in, section_of};
+ghost use Rattle.mesh_job.specs.Draft.{IsDraft, draft_of, is_behind_sizes, is_in_header, is_in_script, number_field_in, section_of};
 ghost use Rattle.mesh_job.specs.Reading.{IsFaultOfLine, IsFaultOfStep, IsReadOn};
 
 use crate::faults::LineFault;
@@ -238,6 +238,20 @@ impl Draft {
                 self.history = header(word, fields, b"history", 0, MAX_HISTORY)?;
                 self.section = Section::Workers;
             }
+            _ => return self.take_workers(word, fields),
+        }
+        Ok(())
+    }
+
+    /// Takes the header's line of the workers or the first one's, or a line of what follows the end.
+    fn take_workers(&mut self, word: &[u8], fields: &[&[u8]]) -> Result<(), FaultKind>
+        requires draft { IsDraft self.old }
+        requires section { is_behind_sizes self.old.section ≡ true }
+        ensures draft { OnOk result (IsDraft self.new) }
+        ensures ok { OnOk result (take_in (section_of self.old.section) (draft_of self.old) word.now (texts fields.now) ≡ Ok (draft_of self.new)) }
+        ensures err { IfErr result (λ kind. take_in (section_of self.old.section) (draft_of self.old) word.now (texts fields.now) ≡ Err kind) }
+    {
+        match self.section {
             Section::Workers => {
                 self.workers = header(word, fields, b"workers", 1, MAX_WORKERS)?;
                 self.section = Section::FirstWorker;
