@@ -9,7 +9,18 @@ use std::thread::{Threads, join};
 pub(crate) fn share<R: AllocGlobal + Threads + Wait + Sync>(rt: &R) -> Result<usize, Fault> {
     let alloc = rt.alloc();
     let book = Book::open(alloc, 16, 64)?;
-    let (shared, mut seats) = Shared::open(alloc, book, &[3, 3])?;
+    let (shared, seats) = Shared::open(alloc, book, &[3, 3])?;
+    let seats = served(rt, &shared, seats)?;
+    let ended = shared.finish(alloc, seats)?;
+    Ok(ended.history.len())
+}
+
+/// The two seats behind their threads' work.
+fn served<R: AllocGlobal + Threads + Wait + Sync>(
+    rt: &R,
+    shared: &Shared,
+    mut seats: Vec<Seat>,
+) -> Result<Vec<Seat>, Fault> {
     let second = seats.pop();
     let first = seats.pop();
     let (Some(mut first), Some(mut second)) = (first, second) else {
@@ -17,11 +28,10 @@ pub(crate) fn share<R: AllocGlobal + Threads + Wait + Sync>(rt: &R) -> Result<us
     };
     join(
         rt,
-        || use_heap(rt, &shared, &mut first, 0),
-        || use_heap(rt, &shared, &mut second, 1),
+        || use_heap(rt, shared, &mut first, 0),
+        || use_heap(rt, shared, &mut second, 1),
     );
-    let ended = shared.finish(alloc, vec![in alloc; first, second]?)?;
-    Ok(ended.history.len())
+    Ok(vec![in rt.alloc(); first, second]?)
 }
 
 /// One mutator's work, with an object that its cell names.
