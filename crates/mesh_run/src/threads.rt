@@ -132,27 +132,31 @@ fn run_scripts<R: Threads + Wait + Sync>(
     ensures none { HasRoom job.now → IfErr result (IsNoRun job.now) }
 {
     let plan = plan_of(alloc, args)?;
-    let book = book_of(alloc, job)?;
-    run_book(rt, alloc, job, args, &plan, book)
+    let commands = commands_of(alloc, &job.scripts)?;
+    let scripts = slices_of(alloc, commands.as_slice())?;
+    run_book(rt, alloc, job, args, &plan, scripts.as_slice())
 }
 
-/// Runs a job's scripts on its book, while meshers do what the plan of the arguments says.
+/// Runs a job's scripts on a fresh book, while meshers do what the plan of the arguments says. The book is opened last, so that nothing else is left
+/// to go wrong while it is held.
 fn run_book<R: Threads + Wait + Sync>(
     rt: &R,
     alloc: Global,
     job: &Job,
     args: &ThreadsArgs,
     plan: &MeshPlan,
-    book: Book,
+    scripts: &[&[Command]],
 ) -> Result<Ended, ThreadsError>
     requires plan { IsPlanOf args.now plan.now }
-    requires book { IsBookOf job.now book }
+    requires scripts { map (λ script. script.now) scripts.now ≡ job.now.scripts }
+    requires some { 1 ≤ length scripts.now }
+    requires few { length scripts.now ≤ 64 }
+    requires range { All (λ script. All IsInRange script.now) scripts.now }
     ensures ended { IfOk result (λ ended. HasRun job.now.scripts ended.history.items (memory_in ended.heap ended.roots)) }
     ensures none { HasRoom job.now → IfErr result (IsNoRun job.now) }
 {
-    let commands = commands_of(alloc, &job.scripts)?;
-    let scripts = slices_of(alloc, commands.as_slice())?;
-    let ended = run_threads(rt, alloc, book, scripts.as_slice(), plan, &NoGate)?;
+    let book = book_of(alloc, job)?;
+    let ended = run_threads(rt, alloc, book, scripts, plan, &NoGate)?;
     Ok(ended)
 }
 
