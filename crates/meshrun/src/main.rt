@@ -7,13 +7,14 @@
 //! `meshrun check FILE` judges a recorded history.
 #![tactic(auto)]
 
-ghost use Rattle.std.specs.Prelude.{◌≡◌, false, IfOk};
+ghost use Rattle.std.specs.Prelude.{◌≡◌, false};
 ghost use Rattle.mesh_run.specs.Runs.{IsSound};
 
 use mesh_run::{
-    Args, Devices, Input, Output, Sink, arguments, check_run, draw_run, explore_run, live_run,
-    replay_run, stop_run, threads_run, unopened_run, unread_words,
+    Args, Devices, Input, Output, Sink, Source, arguments, check_run, draw_run, explore_run,
+    live_run, replay_run, stop_run, threads_run, unopened_run, unread_words,
 };
+use std::alloc::Global;
 use std::fs::File;
 use std::process::ExitCode;
 use std::sync::Wait;
@@ -28,9 +29,7 @@ fn main(rt: HostRuntime) -> ExitCode {
     let mut errors = Output::new(rt.stderr());
     let status = match words(&rt) {
         Ok(words) => match arguments(rt.alloc(), words.as_slice()) {
-            Ok(args) => match run(&rt, &rt, args, output, errors) {
-                Ok(status) | Err(status) => status,
-            },
+            Ok(args) => run(&rt, &rt, &args, output, errors),
             Err(stop) => stop_run(&stop, &mut output, &mut errors),
         },
         Err(error) => stop_run(&unread_words(&error), &mut output, &mut errors),
@@ -38,57 +37,59 @@ fn main(rt: HostRuntime) -> ExitCode {
     ExitCode::from(status)
 }
 
-/// Does what the arguments ask for. The exit status is an error where the file can't be opened.
+/// Does what the arguments ask for, and gives the exit status.
 fn run<R: Threads + Wait + Sync, O: Sink + Drop, E: Sink + Drop>(
     rt: &HostRuntime,
     threads: &R,
-    args: Args<'_>,
+    args: &Args<'_>,
     output: O,
-    errors: E,
-) -> Result<u8, u8>
+    mut errors: E,
+) -> u8
     requires { O.has_failed output ≡ false }
 {
     let alloc = rt.alloc();
-    let status = match args {
-        Args::Replay(path, printed) => {
-            replay_run(alloc, &mut on_file(rt, path, output, errors)?, printed)
-        }
-        Args::Threads(path, args, printed) => {
-            let mut devices = on_file(rt, path, output, errors)?;
-            threads_run(threads, alloc, &mut devices, &args, printed)
-        }
-        Args::Draw(path, args) => {
-            draw_run(alloc, path, &args, &mut on_file(rt, path, output, errors)?)
-        }
-        Args::Explore(path, args) => {
-            explore_run(alloc, &args, &mut on_file(rt, path, output, errors)?)
-        }
-        Args::Live(args) => {
-            let input = Input::new(rt.stdin());
-            live_run(alloc, &args, &mut Devices::new(input, output, errors))
-        }
-        Args::Check(path) if path == STANDARD_INPUT => {
-            let input = Input::new(rt.stdin());
-            check_run(alloc, &mut Devices::new(input, output, errors))
-        }
-        Args::Check(path) => check_run(alloc, &mut on_file(rt, path, output, errors)?),
+    let Some(path) = path_of(args) else {
+        let mut devices = Devices::new(Input::new(rt.stdin()), output, errors);
+        return run_on(threads, alloc, args, &mut devices);
     };
-    Ok(status)
+    match File::open(rt, path) {
+        Ok(file) => {
+            let mut devices = Devices::new(Input::new(file), output, errors);
+            run_on(threads, alloc, args, &mut devices)
+        }
+        Err(_) => unopened_run(&mut errors),
+    }
 }
 
-/// The devices of a run from the file at this path, or the exit status where it can't be opened.
-fn on_file<O: Sink + Drop, E: Sink + Drop>(
-    rt: &HostRuntime,
-    path: &str,
-    output: O,
-    mut errors: E,
-) -> Result<Devices<Input<File>, O, E>, u8>
-    requires { O.has_failed output ≡ false }
-    ensures { IfOk result IsSound }
+/// The path of the file that is read, or none where standard input is.
+fn path_of<'a>(args: &Args<'a>) -> Option<&'a str> {
+    match *args {
+        Args::Live(_) => None,
+        Args::Check(path) if path == STANDARD_INPUT => None,
+        Args::Replay(path, _)
+        | Args::Threads(path, _, _)
+        | Args::Draw(path, _)
+        | Args::Explore(path, _)
+        | Args::Check(path) => Some(path),
+    }
+}
+
+/// Makes the run that is asked for, from and to these devices, and gives the exit status.
+fn run_on<R: Threads + Wait + Sync, I: Source, O: Sink, E: Sink>(
+    threads: &R,
+    alloc: Global,
+    args: &Args<'_>,
+    devices: &mut Devices<I, O, E>,
+) -> u8
+    requires { IsSound devices.old }
 {
-    match File::open(rt, path) {
-        Ok(file) => Ok(Devices::new(Input::new(file), output, errors)),
-        Err(_) => Err(unopened_run(&mut errors)),
+    match args {
+        Args::Replay(_, printed) => replay_run(alloc, devices, *printed),
+        Args::Threads(_, args, printed) => threads_run(threads, alloc, devices, args, *printed),
+        Args::Draw(path, args) => draw_run(alloc, path, args, devices),
+        Args::Explore(_, args) => explore_run(alloc, args, devices),
+        Args::Live(args) => live_run(alloc, args, devices),
+        Args::Check(_) => check_run(alloc, devices),
     }
 }
 
