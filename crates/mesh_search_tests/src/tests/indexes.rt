@@ -1,65 +1,78 @@
 //! Indexes and views that tests search.
-ghost use Rattle.std.specs.Prelude.{◌≡◌, ◌≤◌, IfOk};
+ghost use Rattle.std.specs.Prelude.{◌≡◌, ◌≤◌};
 ghost use Rattle.mesh_spans.specs.Index.{AreUnused};
 
 use mesh_arena::Page;
 use mesh_class::{Class, class_of};
 use mesh_search::{ClassView, class_view};
 use mesh_spans::{Slot, Span, Spans};
-use std::alloc::{AllocError, Global};
+use std::process::Abort;
 
 /// The first number that is no virtual page.
 const END: u32 = 65_536;
 
+/// The sizes of the ten classes, ascending.
+pub(crate) static SIZES: [u32; 10] = [16, 32, 64, 128, 256, 384, 512, 1024, 1536, 2048];
+
 /// The views of the ten classes, ascending, of an index that has groups of one class. Slot k of a group is occupied where bit k of its word is set.
 pub(crate) fn views_of(
-    alloc: Global,
+    rt: &(impl Abort + AllocGlobal),
     size: u32,
     groups: &[u32],
-) -> Result<Vec<ClassView>, AllocError> {
-    let mut views = Vec::new(alloc);
-    let Ok(class) = class_of(size) else {
-        return Ok(views);
-    };
-    let spans = index_of(alloc, class, groups)?;
-    for each in [16, 32, 64, 128, 256, 384, 512, 1024, 1536, 2048] {
-        if let Ok(other) = class_of(each) {
-            views.push(class_view(alloc, &spans, other)?)?;
-        }
+) -> Vec<ClassView> {
+    views_in(
+        rt,
+        &index_of(rt, class_of(size).expect(rt, "a class"), groups),
+    )
+}
+
+/// The views of the ten classes that an index has.
+fn views_in(rt: &(impl Abort + AllocGlobal), spans: &Spans) -> Vec<ClassView> {
+    let mut views = Vec::new(rt.alloc());
+    for size in SIZES.iter() {
+        let class = class_of(*size).expect(rt, "a class");
+        let view = class_view(rt.alloc(), spans, class).expect(rt, "memory");
+        views.push(view).expect(rt, "memory");
     }
-    Ok(views)
+    views
 }
 
 /// An index that has groups of a class.
-fn index_of(alloc: Global, class: Class, groups: &[u32]) -> Result<Spans, AllocError> {
-    let mut spans = Spans::new(alloc)?;
+fn index_of(rt: &(impl Abort + AllocGlobal), class: Class, groups: &[u32]) -> Spans {
+    let mut spans = filled(rt, class, groups.len());
+    for n in 0..groups.len() {
+        thin(&mut spans, class, n, groups[n]);
+    }
+    spans
+}
+
+/// An index that has so many spans of a class, with an object in each slot.
+fn filled(rt: &(impl Abort + AllocGlobal), class: Class, count: usize) -> Spans {
+    let mut spans = Spans::new(rt.alloc()).expect(rt, "memory");
     let mut next = 1;
-    for _ in 0..groups.len() {
-        next = add(alloc, &mut spans, class, next)?;
+    for _ in 0..count {
+        next = add(rt, &mut spans, class, next);
         fill(&mut spans, class);
     }
-    for n in 0..groups.len() {
-        if let Some(span) = first_member(&spans, n) {
-            leave(&mut spans, class, span, groups[n]);
-        }
-    }
-    Ok(spans)
+    spans
 }
 
 /// Adds a span at a virtual page, where there is room, and answers the page after it. All spans have one physical page.
-fn add(alloc: Global, spans: &mut Spans, class: Class, next: u32) -> Result<u32, AllocError>
+fn add(rt: &(impl Abort + AllocGlobal), spans: &mut Spans, class: Class, next: u32) -> u32
     requires some { 1 ≤ next }
     requires unused { AreUnused spans.old next }
-    ensures some { IfOk result (λ end. 1 ≤ end) }
-    ensures unused { IfOk result (λ end. AreUnused spans.new end) }
+    ensures some { 1 ≤ result }
+    ensures unused { AreUnused spans.new result }
 {
     let end = next.saturating_add(class.pages());
     if end > END {
-        return Ok(next);
+        return next;
     }
     let pages = [Page::default(); 3];
-    spans.add_span(alloc, class, next, &pages[..class.pages() as usize])?;
-    Ok(end)
+    spans
+        .add_span(rt.alloc(), class, next, &pages[..class.pages() as usize])
+        .expect(rt, "memory");
+    end
 }
 
 /// Fills the slots of one span.
@@ -70,6 +83,13 @@ fn fill(spans: &mut Spans, class: Class)
         if let Some((span, slot)) = spans.open_slot(class, 0) {
             spans.occupy(span, slot, serial, 1);
         }
+    }
+}
+
+/// Leaves those objects of the group of a number whose slots a word has.
+fn thin(spans: &mut Spans, class: Class, number: usize, slots: u32) {
+    if let Some(span) = first_member(spans, number) {
+        leave(spans, class, span, slots);
     }
 }
 

@@ -1,25 +1,42 @@
 //! The worked views and their searches, by calls.
 use crate::tests::indexes::views_of;
-use mesh_search::{Found, part, search_one, shuffle};
-use std::test::Fail;
+use mesh_search::{ClassView, Found, Pair, part, search_one, shuffle};
+use std::process::Abort;
 
 /// Four groups of the class 2048: of eight objects the second, fourth, fifth and seventh are freed.
-pub(crate) const WORKED: [u32; 4] = [0b01, 0b01, 0b10, 0b10];
+pub(crate) static WORKED: [u32; 4] = [0b01, 0b01, 0b10, 0b10];
 
 /// The words of the worked searches.
-pub(crate) const WORDS: [u64; 3] = [2, 0, 5];
+pub(crate) static WORDS: [u64; 3] = [2, 0, 5];
 
 /// Whether a search found these pairs, source first, by so many tries.
 pub(crate) fn has_found(found: &Found, pairs: &[(u32, u32)], probes: u64) -> bool {
-    let same = found.pairs.iter().zip(pairs.iter()).all(|(pair, told)| pair.source == told.0
-        && pair.destination == told.1);
-    found.probes == probes && found.pairs.len() == pairs.len() && same
+    found.probes == probes && are_pairs(found.pairs.as_slice(), pairs)
+}
+
+/// Whether pairs are these, source first.
+fn are_pairs(found: &[Pair], pairs: &[(u32, u32)]) -> bool {
+    if found.len() != pairs.len() {
+        return false;
+    }
+    for k in 0..pairs.len() {
+        let pair = &found[k];
+        if pair.source != pairs[k].0 || pair.destination != pairs[k].1 {
+            return false;
+        }
+    }
+    true
 }
 
 #[test]
 fn four_are_shuffled(rt: HostRuntime) {
     let order = shuffle(rt.alloc(), &[0, 1, 2, 3], &WORDS).expect(&rt, "memory");
-    assert_eq!(&rt; order.as_slice(), [2, 0, 3, 1].as_slice());
+    check_order(&rt, order.as_slice());
+}
+
+/// Asserts that four places come in their worked order.
+fn check_order(rt: &impl Abort, order: &[u32]) {
+    assert_eq!(rt; order, [2, 0, 3, 1].as_slice());
 }
 
 #[test]
@@ -28,51 +45,69 @@ fn longer_parts_come_first(rt: HostRuntime) {
 }
 
 #[test]
-fn views_have_their_candidates(rt: HostRuntime) -> Result<(), Fail> {
-    let views = views_of(rt.alloc(), 2048, &WORKED)?;
+fn views_have_their_candidates(rt: HostRuntime) {
+    let views = views_of(&rt, 2048, &WORKED);
+    check_views(&rt, views.as_slice());
+}
+
+/// Asserts that of the ten views the last one has the four groups, and the others have none.
+fn check_views(rt: &impl Abort, views: &[ClassView]) {
     assert_eq!(rt; views.len(), 10);
     for k in 0..views.len() {
-        assert_eq!(rt; views[k].len(), if k == 9 { 4 } else { 0 });
-        for i in 0..views[k].len() {
-            assert_eq!(rt; views[k].number(i), i as u32);
-        }
+        check_numbers(rt, &views[k], if k == 9 { 4 } else { 0 });
     }
-    Ok(())
 }
 
-#[test]
-fn worked_pairs_are_found(rt: HostRuntime) -> Result<(), Fail> {
-    let alloc = rt.alloc();
-    let views = views_of(alloc, 2048, &WORKED)?;
+/// Asserts that a view has so many candidates, and that their numbers ascend from 0.
+fn check_numbers(rt: &impl Abort, view: &ClassView, count: usize) {
+    assert_eq!(rt; view.len(), count);
+    for i in 0..view.len() {
+        assert_eq!(rt; view.number(i), i as u32);
+    }
+}
+
+/// Asserts what a search of the view of a place, of ten views, finds in so many rounds by these words: pairs, source first, by so many tries.
+fn check(
+    rt: &(impl Abort + AllocGlobal),
+    views: &[ClassView],
+    place: usize,
+    words: &[u64],
+    t: u32,
+    pairs: &[(u32, u32)],
+    probes: u64,
+) {
     assert_eq!(rt; views.len(), 10);
-    assert!(rt; has_found(&search_one(alloc, &views[9], &WORDS, 0)?, &[], 0));
-    assert!(rt; has_found(&search_one(alloc, &views[9], &WORDS, 1)?, &[], 2));
+    let view = views.get(place).expect(rt, "a class");
+    let found = search_one(rt.alloc(), view, words, t).expect(rt, "memory");
     assert!(rt;
-        has_found(
-            &search_one(alloc, &views[9], &WORDS, 2)?,
-            &[(1, 2), (3, 0)],
-            4
-        )
+        has_found(&found, pairs, probes),
+        "in {t} rounds of view {place}"
     );
-    assert!(rt; has_found(&search_one(alloc, &views[9], &[], 1)?, &[(2, 0), (3, 1)], 2));
-    assert!(rt; has_found(&search_one(alloc, &views[2], &[9], 3)?, &[], 0));
-    Ok(())
 }
 
 #[test]
-fn an_empty_group_is_no_candidate(rt: HostRuntime) -> Result<(), Fail> {
-    let alloc = rt.alloc();
-    let views = views_of(alloc, 2048, &[0b01, 0b01, 0b10, 0b00])?;
-    assert_eq!(rt; views.len(), 10);
-    assert!(rt; has_found(&search_one(alloc, &views[9], &WORDS, 2)?, &[(0, 2)], 1));
-    Ok(())
+fn worked_pairs_are_found(rt: HostRuntime) {
+    let views = views_of(&rt, 2048, &WORKED);
+    check_worked(&rt, views.as_slice());
+}
+
+/// Asserts what the worked searches of the views of the four groups find.
+fn check_worked(rt: &(impl Abort + AllocGlobal), views: &[ClassView]) {
+    check(rt, views, 9, &WORDS, 0, &[], 0);
+    check(rt, views, 9, &WORDS, 1, &[], 2);
+    check(rt, views, 9, &WORDS, 2, &[(1, 2), (3, 0)], 4);
+    check(rt, views, 9, &[], 1, &[(2, 0), (3, 1)], 2);
+    check(rt, views, 2, &[9], 3, &[], 0);
 }
 
 #[test]
-fn the_group_with_fewer_objects_is_the_source(rt: HostRuntime) -> Result<(), Fail> {
-    let alloc = rt.alloc();
-    let views = views_of(alloc, 1024, &[0b1000, 0b0111])?;
-    assert_eq!(rt; views.len(), 10);
-    assert!(rt; has_found(&search_one(alloc, &views[7], &[], 1)?, &[(0, 1)], 1));
-    Ok(())
+fn an_empty_group_is_no_candidate(rt: HostRuntime) {
+    let views = views_of(&rt, 2048, &[0b01, 0b01, 0b10, 0b00]);
+    check(&rt, views.as_slice(), 9, &WORDS, 2, &[(0, 2)], 1);
+}
+
+#[test]
+fn the_group_with_fewer_objects_is_the_source(rt: HostRuntime) {
+    let views = views_of(&rt, 1024, &[0b1000, 0b0111]);
+    check(&rt, views.as_slice(), 7, &[], 1, &[(0, 1)], 1);
 }

@@ -1,69 +1,97 @@
 //! Searches by workers, against searches on one thread.
 ghost use Rattle.std.specs.Prelude.{◌≤◌};
 
-use crate::tests::indexes::views_of;
+use crate::tests::indexes::{SIZES, views_of};
 use crate::tests::search::{WORDS, WORKED, has_found};
-use mesh_search::{Actor, ClassView, Gate, NoGate, Point, SearchError, search, search_one};
+use mesh_search::{Actor, ClassView, Found, Gate, NoGate, Point, search, search_one};
 use rand_core::{Rng, SeedableRng};
 use rand_xoshiro::Xoshiro256PlusPlus;
-use std::alloc::{AllocError, Global};
+use std::process::Abort;
 use std::rt::Clock;
 use std::sync::Wait;
 use std::sync::atomic::Ordering::SeqCst;
 use std::sync::atomic::{AtomicBool, AtomicU64};
-use std::test::Fail;
 use std::thread;
 use std::thread::Threads;
 use std::time::Duration;
 
 /// Whether a search by workers finds in each view what one thread finds.
-fn agrees<R: Threads + Wait + Sync + AllocGlobal>(
+fn agrees<R: Threads + Wait + Sync + Abort + AllocGlobal>(
     rt: &R,
     views: &[ClassView],
     words: &[u64],
     t: u32,
     workers: u32,
-) -> Result<bool, SearchError>
+) -> bool
     requires some { 1 ≤ workers }
     requires most { workers ≤ 16 }
 {
-    let found = search(rt, rt.alloc(), views, words, t, workers, &NoGate)?;
+    let found = search(rt, rt.alloc(), views, words, t, workers, &NoGate).expect(rt, "search");
+    are_found_by_one(rt, found.as_slice(), views, words, t)
+}
+
+/// Whether these are what one thread finds in each view.
+fn are_found_by_one(
+    rt: &(impl Abort + AllocGlobal),
+    found: &[Found],
+    views: &[ClassView],
+    words: &[u64],
+    t: u32,
+) -> bool {
+    if found.len() != views.len() {
+        return false;
+    }
     for k in 0..views.len() {
-        let one = search_one(rt.alloc(), &views[k], words, t)?;
-        let Some(other) = found.get(k) else {
-            return Ok(false);
-        };
-        if one.probes != other.probes || one.pairs.as_slice() != other.pairs.as_slice() {
-            return Ok(false);
+        if !is_found_by_one(rt, &found[k], &views[k], words, t) {
+            return false;
         }
     }
-    Ok(found.len() == views.len())
+    true
+}
+
+/// Whether this is what one thread finds in a view.
+fn is_found_by_one(
+    rt: &(impl Abort + AllocGlobal),
+    found: &Found,
+    view: &ClassView,
+    words: &[u64],
+    t: u32,
+) -> bool {
+    let one = search_one(rt.alloc(), view, words, t).expect(rt, "memory");
+    one.probes == found.probes && one.pairs.as_slice() == found.pairs.as_slice()
 }
 
 #[test]
-fn workers_find_the_worked_pairs(rt: HostRuntime) -> Result<(), Fail> {
-    let alloc = rt.alloc();
-    let views = views_of(alloc, 2048, &WORKED)?;
+fn workers_find_the_worked_pairs(rt: HostRuntime) {
+    let views = views_of(&rt, 2048, &WORKED);
     for t in 0..3 {
-        let one = agrees(&rt, views.as_slice(), &WORDS, t, 1).expect(&rt, "search");
-        let three = agrees(&rt, views.as_slice(), &WORDS, t, 3).expect(&rt, "search");
-        let most = agrees(&rt, views.as_slice(), &WORDS, t, 16).expect(&rt, "search");
-        assert!(rt; one && three && most, "in {t} rounds");
+        check_agreement(&rt, views.as_slice(), t);
     }
-    Ok(())
+}
+
+/// Asserts that one worker, three and sixteen find what one thread finds, by the words of the worked searches.
+fn check_agreement<R: Threads + Wait + Sync + Abort + AllocGlobal>(
+    rt: &R,
+    views: &[ClassView],
+    t: u32,
+) {
+    let one = agrees(rt, views, &WORDS, t, 1);
+    let three = agrees(rt, views, &WORDS, t, 3);
+    let most = agrees(rt, views, &WORDS, t, 16);
+    assert!(rt; one && three && most, "in {t} rounds");
 }
 
 /// So many random words.
 fn words_of(
-    alloc: Global,
+    rt: &(impl Abort + AllocGlobal),
     random: &mut Xoshiro256PlusPlus,
     count: u32,
-) -> Result<Vec<u64>, AllocError> {
-    let mut words = Vec::new(alloc);
+) -> Vec<u64> {
+    let mut words = Vec::new(rt.alloc());
     for _ in 0..count {
-        words.push(random.next_u64())?;
+        words.push(random.next_u64()).expect(rt, "memory");
     }
-    Ok(words)
+    words
 }
 
 /// How many words each list of a comparison has, and up to how many groups are searched: so that the parts of a round have several tries.
@@ -73,40 +101,65 @@ const MAX_GROUPS: u32 = 160;
 
 /// The views of groups of 16 slots, with few or with many objects: of up to so many.
 fn random_views(
-    alloc: Global,
+    rt: &(impl Abort + AllocGlobal),
     random: &mut Xoshiro256PlusPlus,
-) -> Result<Vec<ClassView>, AllocError> {
-    let mut groups = Vec::new(alloc);
+) -> Vec<ClassView> {
+    let mut groups = Vec::new(rt.alloc());
     for _ in 0..random.next_u32() % (MAX_GROUPS + 1) {
-        let few = random.next_u32() & random.next_u32() & random.next_u32();
-        let many = random.next_u32() & random.next_u32();
-        groups.push(if random.next_u32() % 2 == 0 {
-            few
-        } else {
-            many
-        })?;
+        groups.push(random_group(random)).expect(rt, "memory");
     }
-    views_of(alloc, 256, groups.as_slice())
+    views_of(rt, 256, groups.as_slice())
+}
+
+/// The word of a group with few or with many objects.
+fn random_group(random: &mut Xoshiro256PlusPlus) -> u32 {
+    let few = random.next_u32() & random.next_u32() & random.next_u32();
+    let many = random.next_u32() & random.next_u32();
+    if random.next_u32() % 2 == 0 {
+        few
+    } else {
+        many
+    }
 }
 
 #[test]
-fn workers_find_what_one_thread_finds(rt: HostRuntime) -> Result<(), Fail> {
-    let alloc = rt.alloc();
+fn workers_find_what_one_thread_finds(rt: HostRuntime) {
     let mut random = Xoshiro256PlusPlus::seed_from_u64(14);
     let mut most = 0;
     for list in 0..100 {
-        let views = random_views(alloc, &mut random)?;
-        let words = words_of(alloc, &mut random, WORDS_OF_A_LIST)?;
-        let t = random.next_u32() % 5;
-        let one = views.as_slice().get(4..5).expect(&rt, "a class");
-        most = one[0].len().max(most);
-        for workers in 1..17 {
-            let same = agrees(&rt, one, words.as_slice(), t, workers).expect(&rt, "search");
-            assert!(rt; same, "list {list} by {workers} workers");
-        }
+        most = check_list(&rt, &mut random, list).max(most);
     }
-    assert!(rt; most > 64, "no list of more than {most} candidates");
-    Ok(())
+    assert!(&rt; most > 64, "no list of more than {most} candidates");
+}
+
+/// Asserts that workers find in random views what one thread finds, and gives how many candidates there are.
+fn check_list<R: Threads + Wait + Sync + Abort + AllocGlobal>(
+    rt: &R,
+    random: &mut Xoshiro256PlusPlus,
+    list: u32,
+) -> usize {
+    let views = random_views(rt, random);
+    let words = words_of(rt, random, WORDS_OF_A_LIST);
+    let t = random.next_u32() % 5;
+    let own = views.as_slice().get(4..5).expect(rt, "a class");
+    check_workers(rt, own, words.as_slice(), t, list);
+    own[0].len()
+}
+
+/// Asserts that any number of workers finds what one thread finds.
+fn check_workers<R: Threads + Wait + Sync + Abort + AllocGlobal>(
+    rt: &R,
+    views: &[ClassView],
+    words: &[u64],
+    t: u32,
+    list: u32,
+) {
+    for workers in 1..17 {
+        assert!(rt;
+            agrees(rt, views, words, t, workers),
+            "list {list} by {workers} workers"
+        );
+    }
 }
 
 /// How many searchers are counted, and the bits of one count: a count for each searcher and class.
@@ -122,9 +175,19 @@ struct Arrivals {
     strange: AtomicBool,
 }
 
+impl Arrivals {
+    /// The counts, where nobody arrived elsewhere.
+    fn counted(&self) -> Option<u64> {
+        if self.strange.load(SeqCst) {
+            return None;
+        }
+        Some(self.counts.load(SeqCst))
+    }
+}
+
 /// The place of a class of a size, by size.
 fn place_of(size: u32) -> Option<u32> {
-    [16, 32, 64, 128, 256, 384, 512, 1024, 1536, 2048]
+    SIZES
         .iter()
         .position(|each| *each == size)
         .map(|place| place as u32)
@@ -159,31 +222,33 @@ fn once_each(places: &[u32]) -> u64 {
 }
 
 #[test]
-fn each_searcher_arrives_once_at_each_class(rt: HostRuntime) -> Result<(), Fail> {
-    let alloc = rt.alloc();
-    let views = views_of(alloc, 2048, &WORKED)?;
+fn each_searcher_arrives_once_at_each_class(rt: HostRuntime) {
+    let views = views_of(&rt, 2048, &WORKED);
+    let all = views.as_slice();
     for t in 0..4 {
-        let gate = Arrivals {
-            counts: AtomicU64::new(0),
-            strange: AtomicBool::new(false),
-        };
-        search(&rt, alloc, views.as_slice(), &WORDS, t, 2, &gate).expect(&rt, "search");
-        assert!(rt; !gate.strange.load(SeqCst), "in {t} rounds");
-        assert_eq!(rt;
-            gate.counts.load(SeqCst),
-            once_each(&[0, 1, 2, 3, 4, 5, 6, 7, 8, 9]),
-            "in {t} rounds"
-        );
+        check_arrivals(&rt, all, t, &[0, 1, 2, 3, 4, 5, 6, 7, 8, 9]);
     }
-    let own = views.as_slice().get(9..10).expect(&rt, "a class");
+    check_arrivals(&rt, all.get(9..10).expect(&rt, "a class"), 2, &[9]);
+}
+
+/// Asserts that a search of views by two searchers has each of them arrive once at each of these places, and nowhere else.
+fn check_arrivals<R: Threads + Wait + Sync + Abort + AllocGlobal>(
+    rt: &R,
+    views: &[ClassView],
+    t: u32,
+    places: &[u32],
+) {
     let gate = Arrivals {
         counts: AtomicU64::new(0),
         strange: AtomicBool::new(false),
     };
-    search(&rt, alloc, own, &WORDS, 2, 2, &gate).expect(&rt, "search");
-    assert!(rt; !gate.strange.load(SeqCst));
-    assert_eq!(rt; gate.counts.load(SeqCst), once_each(&[9]));
-    Ok(())
+    search(rt, rt.alloc(), views, &WORDS, t, 2, &gate).expect(rt, "search");
+    check_counts(rt, gate.counted(), once_each(places), t, places.len());
+}
+
+/// Asserts what a gate counted at so many classes.
+fn check_counts(rt: &impl Abort, counted: Option<u64>, counts: u64, t: u32, classes: usize) {
+    assert_eq!(rt; counted, Some(counts), "in {t} rounds of {classes} views");
 }
 
 /// How often a held searcher looks again, and for how many microseconds it sleeps before.
@@ -199,6 +264,13 @@ struct Meeting<'a, R> {
     second: AtomicBool,
     // Whether a searcher waited in vain.
     missed: AtomicBool,
+}
+
+impl<'a, R> Meeting<'a, R> {
+    /// Whether both searchers came, and neither waited in vain.
+    fn has_been(&self) -> bool {
+        self.first.load(SeqCst) && self.second.load(SeqCst) && !self.missed.load(SeqCst)
+    }
 }
 
 impl<'a, R: Clock> Gate for Meeting<'a, R> {
@@ -223,18 +295,30 @@ impl<'a, R: Clock> Gate for Meeting<'a, R> {
 }
 
 #[test]
-fn two_searchers_are_there_at_once(rt: HostRuntime) -> Result<(), Fail> {
-    let alloc = rt.alloc();
-    let views = views_of(alloc, 2048, &WORKED)?;
+fn two_searchers_are_there_at_once(rt: HostRuntime) {
+    let views = views_of(&rt, 2048, &WORKED);
     let gate = Meeting {
         rt: &rt,
         first: AtomicBool::new(false),
         second: AtomicBool::new(false),
         missed: AtomicBool::new(false),
     };
-    let found = search(&rt, alloc, views.as_slice(), &WORDS, 2, 2, &gate).expect(&rt, "search");
-    assert!(rt; gate.first.load(SeqCst) && gate.second.load(SeqCst) && !gate.missed.load(SeqCst));
+    check_meeting(&rt, views.as_slice(), &gate);
+}
+
+/// Asserts that two searchers meet at a gate, and find the worked pairs.
+fn check_meeting<R: Threads + Wait + Sync + Abort + AllocGlobal + Clock>(
+    rt: &R,
+    views: &[ClassView],
+    gate: &Meeting<'_, R>,
+) {
+    let found = search(rt, rt.alloc(), views, &WORDS, 2, 2, gate).expect(rt, "search");
+    assert!(rt; gate.has_been());
+    check_worked(rt, found.as_slice());
+}
+
+/// Asserts that the last of ten searches found the worked pairs.
+fn check_worked(rt: &impl Abort, found: &[Found]) {
     assert_eq!(rt; found.len(), 10);
     assert!(rt; has_found(&found[9], &[(1, 2), (3, 0)], 4));
-    Ok(())
 }

@@ -1,6 +1,6 @@
 use Rattle.std.proofs.Common.{◌≤◌, ℕ}
 use Rattle.mesh_spans.specs.Index.{AreUnused, Index}
-use Rattle.mesh_search_tests.proofs.tests.indexes.index_of.Given as goal
+use Rattle.mesh_search_tests.proofs.tests.indexes.filled.Given as goal
 
 -- the next span may begin at this page
 pub record IsNext (index : Index) (next : ℕ) : Type 0 where
@@ -8,4 +8,4 @@ pub record IsNext (index : Index) (next : ℕ) : Type 0 where
   pub unused : AreUnused index next
 
 abbrev pub invariant-loop : goal.invariant-loop
-invariant-loop l = IsNext l.spans l.next
+invariant-loop g l = IsNext l.spans l.next
