@@ -1,13 +1,17 @@
 //! The calls of a heap, made of a book: an object is named by the cell of its serial's number.
-ghost use Rattle.std.specs.Prelude.{◌≤◌};
+ghost use Rattle.std.specs.Prelude.{◌≤◌, IfSome};
 ghost use Rattle.model_words.specs.Commands.{IsInRange};
 
-use crate::tests::calls::{Answer, number};
-use crate::tests::heaps::MAX_OBJECTS;
+use crate::tests::calls::{
+    BLOCKED, Call, DONE, NO_MEMORY, Told, UNMADE, freed, left, loaded, made, number, refused,
+    reported, running, stepped,
+};
+use crate::tests::heaps::{MAX_OBJECTS, class_at};
 use arrayvec::ArrayVec;
 use mesh_mutator::{Attempt, Book};
 use model_words::{Command, MAX_BYTES, Reply};
 use std::alloc::{AllocError, Global};
+use std::process::Abort;
 
 /// More entries than any test's calls are.
 const ROOM: u32 = 400;
@@ -15,7 +19,7 @@ const ROOM: u32 = 400;
 /// A book, and how many objects it has made.
 #[derive(Drop)]
 pub(crate) struct TriedBook {
-    pub(crate) book: Book,
+    book: Book,
     objects: u8,
 }
 
@@ -31,84 +35,106 @@ impl TriedBook {
         })
     }
 
-    /// Makes a command's attempt.
-    pub(crate) fn act(&mut self, command: &Command) -> Answer
+    /// What a call is answered.
+    pub(crate) fn answer(&mut self, rt: &impl Abort, call: Call) -> Told {
+        match command_of(rt, self.objects, call) {
+            Some(command) => self.act(&command),
+            None => meshed(rt, &mut self.book, call),
+        }
+    }
+
+    /// What a command is answered.
+    fn act(&mut self, command: &Command) -> Told
         requires { IsInRange command.now }
     {
-        match self.book.act(0, command) {
-            Attempt::Done(reply) => answer_of(reply),
-            Attempt::Blocked => Answer::Blocked,
-            Attempt::HistoryFull => Answer::Unmade,
-            Attempt::OutOfMemory => Answer::NoMemory,
-        }
-    }
-
-    /// The cell that names the object of a serial.
-    fn cell(&self, serial: u32) -> Option<u8> {
-        let cell = u8::try_from(serial).ok()?;
-        if cell < self.objects {
-            Some(cell)
-        } else {
-            None
-        }
-    }
-
-    pub(crate) fn free(&mut self, serial: u32) -> Answer {
-        match self.cell(serial) {
-            Some(cell) => self.act(&Command::Free(cell)),
-            None => Answer::Unmade,
-        }
-    }
-
-    pub(crate) fn make(&mut self, len: u32, word: u64) -> Answer {
-        if usize::from(self.objects) >= MAX_OBJECTS {
-            return Answer::Unmade;
-        }
-        let answer = self.act(&Command::New(self.objects, len, word));
-        if let Answer::Made(_, _) = answer {
+        let attempt = self.book.act(0, command);
+        if let Attempt::Done(Reply::Object(_, _)) = &attempt {
             self.objects = self.objects.saturating_add(1);
         }
-        answer
+        told(&attempt)
     }
+}
 
-    pub(crate) fn read(&mut self, serial: u32, off: u32, len: u32) -> Answer {
-        match self.cell(serial) {
-            Some(cell) if 1 <= len && len <= 32 => self.act(&Command::Get(cell, off, len)),
-            _ => Answer::Unmade,
-        }
-    }
+/// The command of a mutator's call of a book with so many objects.
+fn command_of(rt: &impl Abort, objects: u8, call: Call) -> Option<Command>
+    ensures { IfSome result (λ command. IsInRange command) }
+{
+    Some(match call {
+        Call::New(len, word) => {
+            assert!(rt; usize::from(objects) < MAX_OBJECTS, "too many objects");
+            Command::New(objects, len, word)
+        },
+        Call::Read(serial, off, len) => {
+            assert!(rt; 1 <= len && len <= 32, "a read of {len} bytes");
+            Command::Get(cell(rt, objects, serial), off, len)
+        },
+        Call::Write(serial, off, bytes) => {
+            let stored = bytes_of(rt, bytes);
+            assert!(rt; !stored.is_empty(), "a write of no byte");
+            Command::Put(cell(rt, objects, serial), off, stored)
+        },
+        Call::Copy(to, to_off, from, from_off, len) => {
+            assert!(rt; 1 <= len && len <= 32, "a copy of {len} bytes");
+            let target = cell(rt, objects, to);
+            let source = cell(rt, objects, from);
+            Command::Copy(target, to_off, source, from_off, len)
+        },
+        Call::Peek(addr) => Command::Peek(addr),
+        Call::Poke(addr, byte) => Command::Poke(addr, byte),
+        Call::Free(serial) => Command::Free(cell(rt, objects, serial)),
+        _ => return None,
+    })
+}
 
-    pub(crate) fn write(&mut self, serial: u32, off: u32, bytes: &[u8]) -> Answer {
-        let Some(cell) = self.cell(serial) else {
-            return Answer::Unmade;
-        };
-        let mut stored = ArrayVec::<u8, MAX_BYTES>::new();
-        if stored.try_extend_from_slice(bytes).is_err() || stored.is_empty() {
-            return Answer::Unmade;
-        }
-        self.act(&Command::Put(cell, off, stored))
-    }
+/// The cell that names the object of a serial, of so many objects.
+fn cell(rt: &impl Abort, objects: u8, serial: u32) -> u8 {
+    let cell = u8::try_from(serial).expect(rt, "a cell");
+    assert!(rt; cell < objects, "no object {serial}");
+    cell
+}
 
-    /// Copies to an object's offset, from an object's offset.
-    pub(crate) fn copy(&mut self, to: (u32, u32), from: (u32, u32), len: u32) -> Answer {
-        let (Some(target), Some(source)) = (self.cell(to.0), self.cell(from.0)) else {
-            return Answer::Unmade;
-        };
-        if len < 1 || len > 32 {
-            return Answer::Unmade;
-        }
-        self.act(&Command::Copy(target, to.1, source, from.1, len))
+/// At most 32 bytes, as a command stores them.
+fn bytes_of(rt: &impl Abort, bytes: &[u8]) -> ArrayVec<u8, MAX_BYTES> {
+    let mut stored = ArrayVec::new();
+    let extended = stored.try_extend_from_slice(bytes);
+    assert!(rt; extended.is_ok(), "a write of too many bytes");
+    stored
+}
+
+/// What an attempt comes to.
+fn told(attempt: &Attempt) -> Told {
+    match attempt {
+        Attempt::Done(reply) => replied(reply),
+        Attempt::Blocked => BLOCKED,
+        Attempt::HistoryFull => UNMADE,
+        Attempt::OutOfMemory => NO_MEMORY,
     }
 }
 
 /// What a reply is as an answer.
-fn answer_of(reply: Reply) -> Answer {
+fn replied(reply: &Reply) -> Told {
     match reply {
-        Reply::Object(serial, addr) => Answer::Made(serial, addr),
-        Reply::Done => Answer::Done,
-        Reply::Bytes(bytes) => Answer::Bytes(bytes.len(), number(bytes.as_slice())),
-        Reply::At(_) => Answer::Unmade,
-        Reply::Byte(byte) => Answer::Bytes(1, u64::from(byte)),
-        Reply::Refused(refusal) => Answer::Refused(refusal),
+        Reply::Object(serial, addr) => made(*serial, *addr),
+        Reply::Done => DONE,
+        Reply::Bytes(bytes) => loaded(bytes.len(), number(bytes.as_slice())),
+        Reply::At(_) => UNMADE,
+        Reply::Byte(byte) => loaded(1, *byte as u64),
+        Reply::Refused(refusal) => refused(*refusal),
+    }
+}
+
+/// What a mesher's call is answered.
+fn meshed(rt: &impl Abort, book: &mut Book, call: Call) -> Told {
+    match call {
+        Call::Begin(source, destination) => left(book.begin(source, destination)),
+        Call::BeginAlone(source, destination) => left(book.begin_alone(source, destination)),
+        Call::Whole(source, destination) => freed(book.mesh_whole(source, destination)),
+        Call::WholeAlone(source, destination) => freed(book.whole_alone(source, destination)),
+        Call::Sweep(group) => freed(book.sweep(group)),
+        Call::Report => reported(book.report()),
+        Call::Step(size) => stepped(book.step(class_at(rt, size))),
+        Call::Cancel(size) => left(book.cancel(class_at(rt, size))),
+        Call::Running(size) => running(book.running(class_at(rt, size))),
+        _ => UNMADE,
     }
 }

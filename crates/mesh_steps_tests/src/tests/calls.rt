@@ -1,9 +1,10 @@
 //! Calls of a heap and of a book, and what they are answered.
 
+use mesh_steps::{Report, StepDone};
 use model_words::{Refusal, StepKind};
 
 /// A call of a heap. It names an object by its serial, and a class by its size.
-#[derive(Clone, Copy, Debug)]
+#[derive(Clone, Copy)]
 pub(crate) enum Call {
     // Of a length, by a word.
     New(u32, u64),
@@ -28,8 +29,62 @@ pub(crate) enum Call {
     Report,
 }
 
-/// What a call is answered.
-#[derive(Clone, Copy, Debug, PartialEq, Eq)]
+impl Call {
+    /// The call's name, which a failure tells.
+    pub(crate) fn name(self) -> &'static str {
+        match self {
+            Call::New(_, _) => "New",
+            Call::Read(_, _, _) => "Read",
+            Call::Write(_, _, _) => "Write",
+            Call::Copy(_, _, _, _, _) => "Copy",
+            Call::Peek(_) => "Peek",
+            Call::Poke(_, _) => "Poke",
+            Call::Free(_) => "Free",
+            Call::Begin(_, _) => "Begin",
+            Call::BeginAlone(_, _) => "BeginAlone",
+            Call::Step(_) => "Step",
+            Call::Cancel(_) => "Cancel",
+            Call::Whole(_, _) => "Whole",
+            Call::WholeAlone(_, _) => "WholeAlone",
+            Call::Sweep(_) => "Sweep",
+            Call::Running(_) => "Running",
+            Call::Report => "Report",
+        }
+    }
+
+    /// The call's numbers, and of bytes how many they are: what a failure tells beside the name.
+    pub(crate) fn numbers(self) -> [u64; 5] {
+        match self {
+            Call::New(len, word) => [len as u64, word, 0, 0, 0],
+            Call::Read(serial, off, len) => [serial as u64, off as u64, len as u64, 0, 0],
+            Call::Write(serial, off, bytes) => {
+                [serial as u64, off as u64, bytes.len() as u64, 0, 0]
+            },
+            Call::Copy(to, to_off, from, from_off, len) => [
+                to as u64,
+                to_off as u64,
+                from as u64,
+                from_off as u64,
+                len as u64,
+            ],
+            Call::Poke(addr, byte) => [addr as u64, byte as u64, 0, 0, 0],
+            Call::Begin(source, destination)
+            | Call::BeginAlone(source, destination)
+            | Call::Whole(source, destination)
+            | Call::WholeAlone(source, destination) => [source as u64, destination as u64, 0, 0, 0],
+            Call::Peek(number)
+            | Call::Free(number)
+            | Call::Step(number)
+            | Call::Cancel(number)
+            | Call::Sweep(number)
+            | Call::Running(number) => [number as u64, 0, 0, 0, 0],
+            Call::Report => [0; 5],
+        }
+    }
+}
+
+/// What a call is to be answered.
+#[derive(Clone, Copy)]
 pub(crate) enum Answer {
     // The serial and the address of a new object.
     Made(u32, u32),
@@ -46,9 +101,122 @@ pub(crate) enum Answer {
     // Objects, bytes, mapped, taken and saved pages.
     Counts(u32, u32, u32, u32, u32),
     Refused(Refusal),
-    NoMemory,
-    // The call couldn't be made: it names no object, or no or too many bytes.
-    Unmade,
+}
+
+impl Answer {
+    /// The answer, as answers are compared.
+    pub(crate) fn told(self) -> Told {
+        match self {
+            Answer::Made(serial, addr) => made(serial, addr),
+            Answer::Bytes(len, number) => loaded(len, number),
+            Answer::Done => DONE,
+            Answer::Blocked => BLOCKED,
+            Answer::Left(steps) => counted("Left", steps),
+            Answer::Stepped(kind, left) => counted(name_of(kind), left),
+            Answer::Pages(pages) => counted("Pages", pages),
+            Answer::Runs(runs) => running(runs),
+            Answer::Counts(objects, bytes, mapped, taken, saved) => reported(Report {
+                objects,
+                bytes,
+                mapped,
+                taken,
+                saved,
+            }),
+            Answer::Refused(refusal) => refused(refusal),
+        }
+    }
+}
+
+/// An answer by its name and its numbers, as answers are compared and as a failure tells them.
+pub(crate) type Told = (&'static str, [u64; 5]);
+
+/// What a store is answered that was made, and one that was held back.
+pub(crate) const DONE: Told = ("Done", [0; 5]);
+
+pub(crate) const BLOCKED: Told = ("Blocked", [0; 5]);
+
+/// No memory for a call.
+pub(crate) const NO_MEMORY: Told = ("NoMemory", [0; 5]);
+
+/// No answer, since the call couldn't be made.
+pub(crate) const UNMADE: Told = ("Unmade", [0; 5]);
+
+/// A new object of a serial, at an address.
+pub(crate) fn made(serial: u32, addr: u32) -> Told {
+    ("Made", [serial as u64, addr as u64, 0, 0, 0])
+}
+
+/// So many bytes, and their number.
+pub(crate) fn loaded(len: usize, number: u64) -> Told {
+    ("Bytes", [len as u64, number, 0, 0, 0])
+}
+
+/// An answer of one number.
+pub(crate) fn counted(name: &'static str, count: u32) -> Told {
+    (name, [count as u64, 0, 0, 0, 0])
+}
+
+/// A refusal.
+pub(crate) fn refused(refusal: Refusal) -> Told {
+    (refusal.name(), [refusal.number() as u64, 0, 0, 0, 0])
+}
+
+/// Whether a mesh runs.
+pub(crate) fn running(runs: bool) -> Told {
+    if runs {
+        ("Runs", [0; 5])
+    } else {
+        ("Rests", [0; 5])
+    }
+}
+
+/// The counts of a report.
+pub(crate) fn reported(report: Report) -> Told {
+    (
+        "Counts",
+        [
+            report.objects as u64,
+            report.bytes as u64,
+            report.mapped as u64,
+            report.taken as u64,
+            report.saved as u64,
+        ],
+    )
+}
+
+/// The steps to come.
+pub(crate) fn left(steps: Result<u32, Refusal>) -> Told {
+    match steps {
+        Ok(steps) => counted("Left", steps),
+        Err(refusal) => refused(refusal),
+    }
+}
+
+/// A step of a mesh.
+pub(crate) fn stepped(step: Result<StepDone, Refusal>) -> Told {
+    match step {
+        Ok(done) => counted(name_of(done.kind), done.left),
+        Err(refusal) => refused(refusal),
+    }
+}
+
+/// The pages that came free.
+pub(crate) fn freed(pages: Result<u32, Refusal>) -> Told {
+    match pages {
+        Ok(pages) => counted("Pages", pages),
+        Err(refusal) => refused(refusal),
+    }
+}
+
+/// The name of a kind of step.
+fn name_of(kind: StepKind) -> &'static str {
+    match kind {
+        StepKind::Protect => "Protect",
+        StepKind::Copy => "Copy",
+        StepKind::Remap => "Remap",
+        StepKind::Unprotect => "Unprotect",
+        StepKind::Release => "Release",
+    }
 }
 
 /// The number whose last eight digits of base 256 are the last bytes.

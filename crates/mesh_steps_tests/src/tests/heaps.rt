@@ -1,11 +1,16 @@
 //! The calls of a heap: an object is named by its serial.
 ghost use Rattle.std.specs.Prelude.{◌≤◌};
 
-use crate::tests::calls::{Answer, number};
+use crate::tests::calls::{
+    BLOCKED, Call, DONE, NO_MEMORY, Told, UNMADE, freed, left, loaded, made, number, refused,
+    reported, running, stepped,
+};
 use arrayvec::ArrayVec;
+use mesh_class::{Class, class_of};
 use mesh_steps::{Heap, NewFault, Ref, Stored};
 use model_words::MAX_BYTES;
 use std::alloc::{AllocError, Global};
+use std::process::Abort;
 
 /// How many objects are made at most.
 pub(crate) const MAX_OBJECTS: usize = 32;
@@ -13,7 +18,7 @@ pub(crate) const MAX_OBJECTS: usize = 32;
 /// A heap with the addresses of its objects, by serial.
 #[derive(Drop)]
 pub(crate) struct TriedHeap {
-    pub(crate) heap: Heap,
+    heap: Heap,
     addresses: ArrayVec<u32, MAX_OBJECTS>,
 }
 
@@ -29,87 +34,126 @@ impl TriedHeap {
         })
     }
 
-    pub(crate) fn make(&mut self, len: u32, word: u64) -> Answer {
+    /// What a call is answered.
+    pub(crate) fn answer(&mut self, rt: &impl Abort, call: Call) -> Told {
+        match call {
+            Call::New(len, word) => self.make(len, word),
+            Call::Read(serial, off, len) => {
+                read(
+                    rt,
+                    &self.heap,
+                    object(rt, &self.addresses, serial),
+                    off,
+                    len,
+                )
+            },
+            Call::Write(serial, off, bytes) => {
+                write(
+                    rt,
+                    &mut self.heap,
+                    object(rt, &self.addresses, serial),
+                    off,
+                    bytes,
+                )
+            },
+            Call::Copy(to, to_off, from, from_off, len) => {
+                assert!(rt; 1 <= len && len <= 32, "a copy of {len} bytes");
+                let target = object(rt, &self.addresses, to);
+                let source = object(rt, &self.addresses, from);
+                told(self.heap.copy(target, to_off, source, from_off, len))
+            },
+            Call::Poke(addr, byte) => told(self.heap.poke(addr, byte)),
+            Call::Peek(addr) => peek(&self.heap, addr),
+            Call::Free(serial) => free(&mut self.heap, object(rt, &self.addresses, serial)),
+            _ => meshed(rt, &mut self.heap, call),
+        }
+    }
+
+    /// Makes an object.
+    fn make(&mut self, len: u32, word: u64) -> Told {
         if self.heap.is_full() || self.addresses.is_full() {
-            return Answer::Unmade;
+            return UNMADE;
         }
         match self.heap.new(len, word) {
             Ok(object) => {
                 self.addresses.push(object.addr);
-                Answer::Made(object.serial, object.addr)
+                made(object.serial, object.addr)
             },
-            Err(NewFault::Refused(refusal)) => Answer::Refused(refusal),
-            Err(NewFault::Memory) => Answer::NoMemory,
-        }
-    }
-
-    pub(crate) fn poke(&mut self, addr: u32, byte: u8) -> Answer {
-        told(self.heap.poke(addr, byte))
-    }
-
-    /// The reference to the object of a serial.
-    fn object(&self, serial: u32) -> Option<Ref> {
-        let addr = *self.addresses.get(serial as usize)?;
-        Some(Ref { serial, addr })
-    }
-
-    pub(crate) fn peek(&self, addr: u32) -> Answer {
-        match self.heap.peek(addr) {
-            Ok(byte) => Answer::Bytes(1, u64::from(byte)),
-            Err(refusal) => Answer::Refused(refusal),
-        }
-    }
-
-    pub(crate) fn read(&self, serial: u32, off: u32, len: u32) -> Answer {
-        let Some(object) = self.object(serial) else {
-            return Answer::Unmade;
-        };
-        if len < 1 || len > 32 {
-            return Answer::Unmade;
-        }
-        match self.heap.read(object, off, len) {
-            Ok(bytes) => Answer::Bytes(bytes.len(), number(bytes.as_slice())),
-            Err(refusal) => Answer::Refused(refusal),
-        }
-    }
-
-    pub(crate) fn write(&mut self, serial: u32, off: u32, bytes: &[u8]) -> Answer {
-        let Some(object) = self.object(serial) else {
-            return Answer::Unmade;
-        };
-        if bytes.is_empty() || bytes.len() > MAX_BYTES {
-            return Answer::Unmade;
-        }
-        told(self.heap.write(object, off, bytes))
-    }
-
-    /// Copies to an object's offset, from an object's offset.
-    pub(crate) fn copy(&mut self, to: (u32, u32), from: (u32, u32), len: u32) -> Answer {
-        let (Some(target), Some(source)) = (self.object(to.0), self.object(from.0)) else {
-            return Answer::Unmade;
-        };
-        if len < 1 || len > 32 {
-            return Answer::Unmade;
-        }
-        told(self.heap.copy(target, to.1, source, from.1, len))
-    }
-
-    pub(crate) fn free(&mut self, serial: u32) -> Answer {
-        let Some(object) = self.object(serial) else {
-            return Answer::Unmade;
-        };
-        match self.heap.free(object) {
-            Ok(()) => Answer::Done,
-            Err(refusal) => Answer::Refused(refusal),
+            Err(NewFault::Refused(refusal)) => refused(refusal),
+            Err(NewFault::Memory) => NO_MEMORY,
         }
     }
 }
 
-/// What a store's answer is.
-fn told(stored: Stored) -> Answer {
-    match stored {
-        Stored::Done => Answer::Done,
-        Stored::Blocked => Answer::Blocked,
-        Stored::Refused(refusal) => Answer::Refused(refusal),
+/// The reference to the object of a serial, of objects at these addresses.
+fn object(rt: &impl Abort, addresses: &ArrayVec<u32, MAX_OBJECTS>, serial: u32) -> Ref {
+    let addr = addresses.get(serial as usize).expect(rt, "an object");
+    Ref {
+        serial,
+        addr: *addr,
     }
+}
+
+/// Reads 1 to 32 bytes.
+fn read(rt: &impl Abort, heap: &Heap, object: Ref, off: u32, len: u32) -> Told {
+    assert!(rt; 1 <= len && len <= 32, "a read of {len} bytes");
+    match heap.read(object, off, len) {
+        Ok(bytes) => loaded(bytes.len(), number(bytes.as_slice())),
+        Err(refusal) => refused(refusal),
+    }
+}
+
+/// Writes 1 to 32 bytes.
+fn write(rt: &impl Abort, heap: &mut Heap, object: Ref, off: u32, bytes: &[u8]) -> Told {
+    assert!(rt;
+        !bytes.is_empty() && bytes.len() <= MAX_BYTES,
+        "a write of too few or too many"
+    );
+    told(heap.write(object, off, bytes))
+}
+
+/// Loads the byte at an address.
+fn peek(heap: &Heap, addr: u32) -> Told {
+    match heap.peek(addr) {
+        Ok(byte) => loaded(1, byte as u64),
+        Err(refusal) => refused(refusal),
+    }
+}
+
+/// Frees an object.
+fn free(heap: &mut Heap, object: Ref) -> Told {
+    match heap.free(object) {
+        Ok(()) => DONE,
+        Err(refusal) => refused(refusal),
+    }
+}
+
+/// What a store's answer is.
+fn told(stored: Stored) -> Told {
+    match stored {
+        Stored::Done => DONE,
+        Stored::Blocked => BLOCKED,
+        Stored::Refused(refusal) => refused(refusal),
+    }
+}
+
+/// What a mesher's call is answered.
+fn meshed(rt: &impl Abort, heap: &mut Heap, call: Call) -> Told {
+    match call {
+        Call::Begin(source, destination) => left(heap.begin(source, destination)),
+        Call::BeginAlone(source, destination) => left(heap.begin_alone(source, destination)),
+        Call::Whole(source, destination) => freed(heap.mesh_whole(source, destination)),
+        Call::WholeAlone(source, destination) => freed(heap.whole_alone(source, destination)),
+        Call::Sweep(group) => freed(heap.sweep(group)),
+        Call::Report => reported(heap.report()),
+        Call::Step(size) => stepped(heap.step(class_at(rt, size))),
+        Call::Cancel(size) => left(heap.cancel(class_at(rt, size))),
+        Call::Running(size) => running(heap.running(class_at(rt, size))),
+        _ => UNMADE,
+    }
+}
+
+/// The class of a size that is one's.
+pub(crate) fn class_at(rt: &impl Abort, size: u32) -> Class {
+    class_of(size).expect(rt, "a class")
 }

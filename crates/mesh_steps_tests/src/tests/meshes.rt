@@ -1,94 +1,220 @@
 //! The worked meshes and copies, by calls of a heap.
-ghost use Rattle.std.specs.Prelude.{◌≤◌};
 
 use crate::tests::calls::{Answer, Call};
 use crate::tests::tried::Tried;
 use model_words::{Refusal, StepKind};
-use std::ops::Range;
 use std::process::Abort;
 
-/// Two groups with one object each: the first has slot 1, the second slot 0.
-fn two_groups<R: Abort + AllocGlobal>(rt: &R, pages: u32) -> Tried<'_, R>
-    requires some { 1 ≤ pages }
-    requires most { pages ≤ 4096 }
-{
-    let mut tried = Tried::open(rt, pages);
-    tried.make(0..4, 2048, 0x1000, 0x800);
-    tried.free(&[0, 3]);
-    tried
-}
-
-/// The steps of their mesh.
-static STEPS: [(Call, Answer); 6] = [
-    (Call::Step(2048), Answer::Stepped(StepKind::Protect, 5)),
-    (Call::Step(2048), Answer::Stepped(StepKind::Copy, 4)),
-    (Call::Step(2048), Answer::Stepped(StepKind::Copy, 3)),
-    (Call::Step(2048), Answer::Stepped(StepKind::Remap, 2)),
-    (Call::Step(2048), Answer::Stepped(StepKind::Unprotect, 1)),
-    (Call::Step(2048), Answer::Stepped(StepKind::Release, 0)),
-];
-
-/// The two groups, with a byte in the second object and so many steps of their mesh made.
-fn begun<R: Abort + AllocGlobal>(rt: &R, steps: usize) -> Tried<'_, R> {
-    let mut tried = two_groups(rt, 16);
-    tried.check(Call::Write(2, 0, &[0xab]), Answer::Done);
-    tried.check(Call::Begin(1, 0), Answer::Left(6));
-    tried.play_part(&STEPS, 0..steps);
-    tried
-}
-
 /// How the heap and the book of a test begin.
-#[derive(Clone, Copy)]
-enum Start {
-    /// So many objects of the class 2048.
-    Objects(u32),
-    /// Nine groups of the class 2048 without an object.
-    Emptied,
-    /// Two groups that can be meshed.
-    TwoGroups,
-    /// The same in an arena of two pages.
-    TwoPages,
-    /// Two groups that can be meshed, with a byte stored, and so many steps of their mesh made.
-    Begun(usize),
-    /// Two groups after a mesh that was cancelled, and unwound.
-    Unwound,
-    /// Two groups of three pages, and so many steps of their mesh made.
-    Long(u32),
-    /// Four groups that became two.
-    MeshedTwice,
-    /// Two groups of each of two classes.
-    TwoClasses,
+struct Start {
+    pages: u32,
+    // How many objects are made, of which length, and how many bytes each stands after the one before. The first one stands at 0x1000.
+    objects: u32,
+    len: u32,
+    slot: u32,
+    // Those of them that are freed then.
+    freed: &'static [u32],
+    // The calls that are made then.
+    calls: &'static [(Call, Answer)],
 }
 
-/// A heap and a book that begin so.
-fn started<R: Abort + AllocGlobal>(rt: &R, start: Start) -> Tried<'_, R> {
-    match start {
-        Start::Objects(count) => {
-            let mut tried = Tried::open(rt, 16);
-            tried.make(0..count, 2048, 0x1000, 0x800);
-            tried
-        },
-        Start::Emptied => emptied(rt),
-        Start::TwoGroups => two_groups(rt, 16),
-        Start::TwoPages => two_groups(rt, 2),
-        Start::Begun(steps) => begun(rt, steps),
-        Start::Unwound => unwound(rt),
-        Start::Long(steps) => stopped_after(rt, steps),
-        Start::MeshedTwice => meshed_twice(rt),
-        Start::TwoClasses => of_two_classes(rt),
+/// No object.
+static NO_OBJECTS: Start = Start {
+    pages: 16,
+    objects: 0,
+    len: 2048,
+    slot: 0x800,
+    freed: &[],
+    calls: &[],
+};
+
+/// Four objects of the class 2048.
+static FOUR_OBJECTS: Start = Start {
+    pages: 16,
+    objects: 4,
+    len: 2048,
+    slot: 0x800,
+    freed: &[],
+    calls: &[],
+};
+
+/// Eight objects of the class 2048.
+static EIGHT_OBJECTS: Start = Start {
+    pages: 16,
+    objects: 8,
+    len: 2048,
+    slot: 0x800,
+    freed: &[],
+    calls: &[],
+};
+
+/// Nine groups of the class 2048 whose objects were freed.
+static EMPTIED: Start = Start {
+    pages: 16,
+    objects: 18,
+    len: 2048,
+    slot: 0x800,
+    freed: &[0, 1, 2, 3, 4, 5, 6, 7, 8, 9, 10, 11, 12, 13, 14, 15, 16, 17],
+    calls: &[],
+};
+
+/// Two groups with one object each: the first has slot 1, the second slot 0.
+static TWO_GROUPS: Start = Start {
+    pages: 16,
+    objects: 4,
+    len: 2048,
+    slot: 0x800,
+    freed: &[0, 3],
+    calls: &[],
+};
+
+/// The same in an arena of two pages.
+static TWO_PAGES: Start = Start {
+    pages: 2,
+    objects: 4,
+    len: 2048,
+    slot: 0x800,
+    freed: &[0, 3],
+    calls: &[],
+};
+
+/// The two groups, with a byte in the second object and their mesh begun.
+static BEGUN: Start = Start {
+    pages: 16,
+    objects: 4,
+    len: 2048,
+    slot: 0x800,
+    freed: &[0, 3],
+    calls: &[
+        (Call::Write(2, 0, &[0xab]), Answer::Done),
+        (Call::Begin(1, 0), Answer::Left(6)),
+    ],
+};
+
+/// The two groups, after a mesh that was cancelled when one slot was copied, and unwound.
+static UNWOUND: Start = Start {
+    pages: 16,
+    objects: 4,
+    len: 2048,
+    slot: 0x800,
+    freed: &[0, 3],
+    calls: &[
+        (Call::Write(2, 0, &[0xab]), Answer::Done),
+        (Call::Begin(1, 0), Answer::Left(6)),
+        (Call::Step(2048), Answer::Stepped(StepKind::Protect, 5)),
+        (Call::Step(2048), Answer::Stepped(StepKind::Copy, 4)),
+        (Call::Cancel(2048), Answer::Left(1)),
+        (Call::Step(2048), Answer::Stepped(StepKind::Unprotect, 0)),
+    ],
+};
+
+/// Two groups of three pages, with seven objects and one, and their mesh begun. The last object crosses from its group's first page to the second.
+static LONG: Start = Start {
+    pages: 16,
+    objects: 11,
+    len: 1500,
+    slot: 0x600,
+    freed: &[],
+    calls: &[
+        (Call::Write(10, 1020, CROSSING), Answer::Done),
+        (Call::Free(2), Answer::Done),
+        (Call::Free(8), Answer::Done),
+        (Call::Free(9), Answer::Done),
+        (Call::Begin(1, 0), Answer::Left(20)),
+    ],
+};
+
+/// Sixteen objects in four groups, of which one in each group stays, in four different slots. The groups are meshed two by two.
+static MESHED_TWICE: Start = Start {
+    pages: 16,
+    objects: 16,
+    len: 1024,
+    slot: 0x400,
+    freed: &[1, 2, 3, 4, 6, 7, 8, 9, 11, 12, 13, 14],
+    calls: &[
+        (Call::Whole(1, 0), Answer::Pages(1)),
+        (Call::Whole(3, 2), Answer::Pages(1)),
+    ],
+};
+
+/// Beside the two groups two of the class 1024, with three objects and one.
+static TWO_CLASSES: Start = Start {
+    pages: 16,
+    objects: 4,
+    len: 2048,
+    slot: 0x800,
+    freed: &[0, 3],
+    calls: &[
+        (Call::New(1024, 0), Answer::Made(4, 0x3000)),
+        (Call::New(1024, 0), Answer::Made(5, 0x3400)),
+        (Call::New(1024, 0), Answer::Made(6, 0x3800)),
+        (Call::New(1024, 0), Answer::Made(7, 0x3c00)),
+        (Call::New(1024, 0), Answer::Made(8, 0x4000)),
+        (Call::New(1024, 0), Answer::Made(9, 0x4400)),
+        (Call::New(1024, 0), Answer::Made(10, 0x4800)),
+        (Call::New(1024, 0), Answer::Made(11, 0x4c00)),
+        (Call::Free(4), Answer::Done),
+        (Call::Free(9), Answer::Done),
+        (Call::Free(10), Answer::Done),
+        (Call::Free(11), Answer::Done),
+    ],
+};
+
+/// Has a heap and a book begin so.
+fn begin<R: Abort + AllocGlobal>(tried: &mut Tried<'_, R>, start: &Start) {
+    let mut addr = 0x1000u32;
+    for serial in 0..start.objects {
+        tried.check(Call::New(start.len, 0), Answer::Made(serial, addr));
+        addr = addr.saturating_add(start.slot);
     }
-}
-
-/// Asserts that a heap and a book that begin so answer calls so, one part after another.
-fn played<R: Abort + AllocGlobal>(rt: &R, start: Start, parts: &[&[(Call, Answer)]]) {
-    let mut tried = started(rt, start);
-    for part in parts {
-        tried.play(part);
+    for serial in start.freed {
+        tried.check(Call::Free(*serial), Answer::Done);
     }
+    tried.play(start.calls);
 }
 
-/// What is answered once the two groups are one.
-static AFTER_THE_MESH: [(Call, Answer); 7] = [
+/// Asserts that a heap and a book that begin so answer calls so, one after another.
+fn played<R: Abort + AllocGlobal>(rt: &R, start: &Start, calls: &[(Call, Answer)]) {
+    played_after(rt, start, &[], calls);
+}
+
+/// Asserts the same after steps of a mesh.
+fn played_after<R: Abort + AllocGlobal>(
+    rt: &R,
+    start: &Start,
+    steps: &[(Call, Answer)],
+    calls: &[(Call, Answer)],
+) {
+    let mut tried = Tried::open(rt, start.pages);
+    play(&mut tried, start, steps, calls);
+}
+
+/// Plays on a fresh heap and book.
+fn play<R: Abort + AllocGlobal>(
+    tried: &mut Tried<'_, R>,
+    start: &Start,
+    steps: &[(Call, Answer)],
+    calls: &[(Call, Answer)],
+) {
+    begin(tried, start);
+    tried.play(steps);
+    tried.play(calls);
+}
+
+/// The steps of the mesh of the two groups, a read of the object that is copied after each, and what is answered once they are one.
+static READ_AT_EACH_STEP: [(Call, Answer); 19] = [
+    (Call::Step(2048), Answer::Stepped(StepKind::Protect, 5)),
+    (Call::Read(2, 0, 1), Answer::Bytes(1, 0xab)),
+    (Call::Step(2048), Answer::Stepped(StepKind::Copy, 4)),
+    (Call::Read(2, 0, 1), Answer::Bytes(1, 0xab)),
+    (Call::Step(2048), Answer::Stepped(StepKind::Copy, 3)),
+    (Call::Read(2, 0, 1), Answer::Bytes(1, 0xab)),
+    (Call::Step(2048), Answer::Stepped(StepKind::Remap, 2)),
+    (Call::Read(2, 0, 1), Answer::Bytes(1, 0xab)),
+    (Call::Step(2048), Answer::Stepped(StepKind::Unprotect, 1)),
+    (Call::Read(2, 0, 1), Answer::Bytes(1, 0xab)),
+    (Call::Step(2048), Answer::Stepped(StepKind::Release, 0)),
+    (Call::Read(2, 0, 1), Answer::Bytes(1, 0xab)),
     (Call::Peek(0x1000), Answer::Refused(Refusal::Stray)),
     (Call::Peek(0x2800), Answer::Refused(Refusal::Stray)),
     (Call::Peek(0x2000), Answer::Bytes(1, 0xab)),
@@ -98,50 +224,26 @@ static AFTER_THE_MESH: [(Call, Answer); 7] = [
     (Call::Peek(0x2000), Answer::Refused(Refusal::Stray)),
 ];
 
-/// A read of the object that is copied, whichever steps were made.
-const HELD_BYTE: (Call, Answer) = (Call::Read(2, 0, 1), Answer::Bytes(1, 0xab));
-
 #[test]
 fn reads_are_answered_at_each_step(rt: HostRuntime) {
-    played(
-        &rt,
-        Start::Begun(0),
-        &[
-            &STEPS[0..1],
-            &[HELD_BYTE],
-            &STEPS[1..2],
-            &[HELD_BYTE],
-            &STEPS[2..3],
-            &[HELD_BYTE],
-            &STEPS[3..4],
-            &[HELD_BYTE],
-            &STEPS[4..5],
-            &[HELD_BYTE],
-            &STEPS[5..6],
-            &[HELD_BYTE],
-            &AFTER_THE_MESH,
-        ],
-    );
+    played(&rt, &BEGUN, &READ_AT_EACH_STEP);
 }
 
-/// What is answered while the second group's page is read-only.
-static WHILE_PROTECTED: [(Call, Answer); 6] = [
+/// What is answered while the second group's page is read-only, once it is remapped and still read-only, and once it is writable again.
+static STORED_AT_STEPS: [(Call, Answer); 16] = [
+    (Call::Step(2048), Answer::Stepped(StepKind::Protect, 5)),
     (Call::Write(2, 0, &[0xcd]), Answer::Blocked),
     (Call::Read(2, 0, 1), Answer::Bytes(1, 0xab)),
     (Call::Write(1, 0, &[0xcd]), Answer::Done),
     (Call::Poke(0x2800, 0xcd), Answer::Refused(Refusal::Stray)),
     (Call::Poke(0x1800, 0xcd), Answer::Done),
     (Call::Poke(0x2000, 0xcd), Answer::Blocked),
-];
-
-/// What is answered once it is remapped, and still read-only.
-static WHILE_REMAPPED: [(Call, Answer); 2] = [
+    (Call::Step(2048), Answer::Stepped(StepKind::Copy, 4)),
+    (Call::Step(2048), Answer::Stepped(StepKind::Copy, 3)),
+    (Call::Step(2048), Answer::Stepped(StepKind::Remap, 2)),
     (Call::Write(2, 0, &[0xcd]), Answer::Blocked),
     (Call::Read(2, 0, 1), Answer::Bytes(1, 0xab)),
-];
-
-/// What is answered once it is writable again.
-static WHILE_WRITABLE: [(Call, Answer); 3] = [
+    (Call::Step(2048), Answer::Stepped(StepKind::Unprotect, 1)),
     (Call::Write(2, 0, &[0xcd]), Answer::Done),
     (Call::Read(2, 0, 1), Answer::Bytes(1, 0xcd)),
     (Call::Read(1, 0, 1), Answer::Bytes(1, 0xcd)),
@@ -149,25 +251,23 @@ static WHILE_WRITABLE: [(Call, Answer); 3] = [
 
 #[test]
 fn stores_are_blocked_while_a_page_is_protected(rt: HostRuntime) {
-    played(
-        &rt,
-        Start::Begun(1),
-        &[
-            &WHILE_PROTECTED,
-            &STEPS[1..4],
-            &WHILE_REMAPPED,
-            &STEPS[4..5],
-            &WHILE_WRITABLE,
-        ],
-    );
+    played(&rt, &BEGUN, &STORED_AT_STEPS);
 }
 
 /// The object that a running mesh would copy is freed.
-static FREED: [(Call, Answer); 1] = [(Call::Free(2), Answer::Done)];
+static FREED_AMID: [(Call, Answer); 7] = [
+    (Call::Step(2048), Answer::Stepped(StepKind::Protect, 5)),
+    (Call::Free(2), Answer::Done),
+    (Call::Step(2048), Answer::Stepped(StepKind::Copy, 4)),
+    (Call::Step(2048), Answer::Stepped(StepKind::Copy, 3)),
+    (Call::Step(2048), Answer::Stepped(StepKind::Remap, 2)),
+    (Call::Step(2048), Answer::Stepped(StepKind::Unprotect, 1)),
+    (Call::Step(2048), Answer::Stepped(StepKind::Release, 0)),
+];
 
 #[test]
 fn an_object_is_freed_in_a_mesh(rt: HostRuntime) {
-    played(&rt, Start::Begun(1), &[&FREED, &STEPS[1..6]]);
+    played(&rt, &BEGUN, &FREED_AMID);
 }
 
 /// Meshes of groups with a slot in common, of one group, and of a number that is no group.
@@ -182,7 +282,7 @@ static NO_MESHES: [(Call, Answer); 6] = [
 
 #[test]
 fn groups_that_do_not_mesh_are_refused(rt: HostRuntime) {
-    played(&rt, Start::Objects(4), &[&NO_MESHES]);
+    played(&rt, &FOUR_OBJECTS, &NO_MESHES);
 }
 
 /// An object that has a page only after a mesh.
@@ -194,34 +294,24 @@ static ROOM_MADE: [(Call, Answer); 3] = [
 
 #[test]
 fn a_mesh_makes_room(rt: HostRuntime) {
-    played(&rt, Start::TwoPages, &[&ROOM_MADE]);
+    played(&rt, &TWO_PAGES, &ROOM_MADE);
 }
 
-/// The two groups, after a mesh that was cancelled when one slot was copied, and unwound.
-fn unwound<R: Abort + AllocGlobal>(rt: &R) -> Tried<'_, R> {
-    let mut tried = begun(rt, 2);
-    tried.check(Call::Cancel(2048), Answer::Left(1));
-    tried.step(2048, StepKind::Unprotect, 0..1);
-    tried
-}
-
-/// A mesh that is begun again after it was cancelled.
-static BEGUN_AGAIN: [(Call, Answer); 3] = [
+/// A mesh that is begun again after it was cancelled, and a cancel behind its first remap.
+static BEGUN_AGAIN: [(Call, Answer); 8] = [
     (Call::Step(2048), Answer::Refused(Refusal::NoMesh)),
     (Call::Write(2, 0, &[0xee]), Answer::Done),
     (Call::Begin(1, 0), Answer::Left(6)),
+    (Call::Step(2048), Answer::Stepped(StepKind::Protect, 5)),
+    (Call::Step(2048), Answer::Stepped(StepKind::Copy, 4)),
+    (Call::Step(2048), Answer::Stepped(StepKind::Copy, 3)),
+    (Call::Step(2048), Answer::Stepped(StepKind::Remap, 2)),
+    (Call::Cancel(2048), Answer::Refused(Refusal::TooLate)),
 ];
-
-/// A cancel behind the first remap.
-static TOO_LATE: [(Call, Answer); 1] = [(Call::Cancel(2048), Answer::Refused(Refusal::TooLate))];
 
 #[test]
 fn a_mesh_is_cancelled_before_its_first_remap(rt: HostRuntime) {
-    played(
-        &rt,
-        Start::Unwound,
-        &[&BEGUN_AGAIN, &STEPS[0..4], &TOO_LATE],
-    );
+    played(&rt, &UNWOUND, &BEGUN_AGAIN);
 }
 
 /// Cancels before the first step, while the mesh unwinds, and after it.
@@ -240,7 +330,7 @@ static CANCELLED_TWICE: [(Call, Answer); 10] = [
 
 #[test]
 fn a_further_cancel_changes_nothing(rt: HostRuntime) {
-    played(&rt, Start::Begun(0), &[&CANCELLED_TWICE]);
+    played(&rt, &BEGUN, &CANCELLED_TWICE);
 }
 
 /// An object in the slot that was copied to.
@@ -251,7 +341,7 @@ static HIDDEN: [(Call, Answer); 2] = [
 
 #[test]
 fn a_new_object_hides_what_a_cancelled_mesh_copied(rt: HostRuntime) {
-    played(&rt, Start::Unwound, &[&HIDDEN]);
+    played(&rt, &UNWOUND, &HIDDEN);
 }
 
 /// Calls with the groups of a running mesh.
@@ -264,7 +354,7 @@ static CLOSED: [(Call, Answer); 4] = [
 
 #[test]
 fn groups_of_a_running_mesh_are_closed(rt: HostRuntime) {
-    played(&rt, Start::Begun(0), &[&CLOSED]);
+    played(&rt, &BEGUN, &CLOSED);
 }
 
 /// Bytes of the object that crosses pages. The first four lie in one page, the others in the next.
@@ -276,31 +366,34 @@ const HELD: (Call, Answer) = (
     Answer::Bytes(8, 0x0102_0304_0506_0708),
 );
 
-/// Makes those steps of the mesh of two groups of three pages whose places, of 20, are in the range.
-fn step_long<R: Abort + AllocGlobal>(tried: &mut Tried<'_, R>, places: Range<u32>) {
-    for place in places {
-        let kind = match place {
-            0..=2 => StepKind::Protect,
-            3..=10 => StepKind::Copy,
-            11..=13 => StepKind::Remap,
-            14..=16 => StepKind::Unprotect,
-            _ => StepKind::Release,
-        };
-        let left = 19u32.saturating_sub(place);
-        tried.check(Call::Step(1536), Answer::Stepped(kind, left));
-    }
-}
+/// The steps of the mesh of the two groups of three pages.
+static LONG_STEPS: [(Call, Answer); 20] = [
+    (Call::Step(1536), Answer::Stepped(StepKind::Protect, 19)),
+    (Call::Step(1536), Answer::Stepped(StepKind::Protect, 18)),
+    (Call::Step(1536), Answer::Stepped(StepKind::Protect, 17)),
+    (Call::Step(1536), Answer::Stepped(StepKind::Copy, 16)),
+    (Call::Step(1536), Answer::Stepped(StepKind::Copy, 15)),
+    (Call::Step(1536), Answer::Stepped(StepKind::Copy, 14)),
+    (Call::Step(1536), Answer::Stepped(StepKind::Copy, 13)),
+    (Call::Step(1536), Answer::Stepped(StepKind::Copy, 12)),
+    (Call::Step(1536), Answer::Stepped(StepKind::Copy, 11)),
+    (Call::Step(1536), Answer::Stepped(StepKind::Copy, 10)),
+    (Call::Step(1536), Answer::Stepped(StepKind::Copy, 9)),
+    (Call::Step(1536), Answer::Stepped(StepKind::Remap, 8)),
+    (Call::Step(1536), Answer::Stepped(StepKind::Remap, 7)),
+    (Call::Step(1536), Answer::Stepped(StepKind::Remap, 6)),
+    (Call::Step(1536), Answer::Stepped(StepKind::Unprotect, 5)),
+    (Call::Step(1536), Answer::Stepped(StepKind::Unprotect, 4)),
+    (Call::Step(1536), Answer::Stepped(StepKind::Unprotect, 3)),
+    (Call::Step(1536), Answer::Stepped(StepKind::Release, 2)),
+    (Call::Step(1536), Answer::Stepped(StepKind::Release, 1)),
+    (Call::Step(1536), Answer::Stepped(StepKind::Release, 0)),
+];
 
-/// Two groups of three pages, with seven objects and one, and so many steps of their mesh made. The last object crosses from its group's
-/// first page to the second.
-fn stopped_after<R: Abort + AllocGlobal>(rt: &R, steps: u32) -> Tried<'_, R> {
-    let mut tried = Tried::open(rt, 16);
-    tried.make(0..11, 1500, 0x1000, 0x600);
-    tried.check(Call::Write(10, 1020, CROSSING), Answer::Done);
-    tried.free(&[2, 8, 9]);
-    tried.check(Call::Begin(1, 0), Answer::Left(20));
-    step_long(&mut tried, 0..steps);
-    tried
+/// Asserts that the heap and the book of that mesh, after so many of its steps, answer calls so, one after another.
+fn played_long<R: Abort + AllocGlobal>(rt: &R, steps: usize, calls: &[(Call, Answer)]) {
+    let steps = LONG_STEPS.get(..steps).expect(rt, "steps");
+    played_after(rt, &LONG, steps, calls);
 }
 
 /// What is answered once the first of three pages is remapped, and the steps up to the first release.
@@ -320,12 +413,12 @@ static HALF_REMAPPED: [(Call, Answer); 11] = [
 
 #[test]
 fn an_object_across_pages_is_remapped_page_by_page(rt: HostRuntime) {
-    played(&rt, Start::Long(12), &[&HALF_REMAPPED]);
+    played_long(&rt, 12, &HALF_REMAPPED);
 }
 
-/// What a store is answered, blocked or not.
-fn stored(blocked: bool) -> Answer {
-    if blocked {
+/// What a store is answered that is blocked behind the first step of the mesh, and up to the last one.
+fn stored(steps: usize, last: usize) -> Answer {
+    if 1 <= steps && steps <= last {
         Answer::Blocked
     } else {
         Answer::Done
@@ -333,7 +426,7 @@ fn stored(blocked: bool) -> Answer {
 }
 
 /// What cancelling the mesh of three-page groups is answered after so many steps.
-fn cancelled_after(steps: u32) -> Answer {
+fn cancelled_after(steps: usize) -> Answer {
     match steps {
         0 => Answer::Left(0),
         1 => Answer::Left(1),
@@ -344,23 +437,28 @@ fn cancelled_after(steps: u32) -> Answer {
     }
 }
 
+/// Asserts what is answered where the mesh of three-page groups is abandoned after so many steps.
+fn check_abandoned<R: Abort + AllocGlobal>(rt: &R, steps: usize) {
+    let first = stored(steps, 14);
+    let both = stored(steps, 15);
+    let calls = [
+        HELD,
+        (Call::Write(10, 0, &[0xff]), first),
+        (Call::Write(10, 1020, CROSSING), both),
+        HELD,
+        (Call::Copy(0, 0, 10, 1020, 8), Answer::Done),
+        (Call::Copy(10, 1020, 1, 0, 8), both),
+        (Call::Copy(10, 1020, 0, 0, 8), both),
+        HELD,
+        (Call::Cancel(1536), cancelled_after(steps)),
+    ];
+    played_long(rt, steps, &calls);
+}
+
 #[test]
 fn an_abandoned_mesh_keeps_its_answers(rt: HostRuntime) {
     for steps in 0..21 {
-        let first = stored(1 <= steps && steps <= 14);
-        let both = stored(1 <= steps && steps <= 15);
-        let calls = [
-            HELD,
-            (Call::Write(10, 0, &[0xff]), first),
-            (Call::Write(10, 1020, CROSSING), both),
-            HELD,
-            (Call::Copy(0, 0, 10, 1020, 8), Answer::Done),
-            (Call::Copy(10, 1020, 1, 0, 8), both),
-            (Call::Copy(10, 1020, 0, 0, 8), both),
-            HELD,
-            (Call::Cancel(1536), cancelled_after(steps)),
-        ];
-        played(&rt, Start::Long(steps), &[&calls]);
+        check_abandoned(&rt, steps);
     }
 }
 
@@ -382,7 +480,7 @@ static UNWINDING: [(Call, Answer); 11] = [
 #[test]
 fn a_cancelled_mesh_unwinds(rt: HostRuntime) {
     for steps in 3..12 {
-        played(&rt, Start::Long(steps), &[&UNWINDING]);
+        played_long(&rt, steps, &UNWINDING);
     }
 }
 
@@ -399,7 +497,7 @@ static IN_THE_WAY: [(Call, Answer); 7] = [
 
 #[test]
 fn a_new_object_stands_in_the_way(rt: HostRuntime) {
-    played(&rt, Start::Objects(8), &[&IN_THE_WAY]);
+    played(&rt, &EIGHT_OBJECTS, &IN_THE_WAY);
 }
 
 /// What is counted before and after a mesh.
@@ -411,7 +509,7 @@ static PAGE_SAVED: [(Call, Answer); 3] = [
 
 #[test]
 fn a_mesh_saves_a_page(rt: HostRuntime) {
-    played(&rt, Start::TwoGroups, &[&PAGE_SAVED]);
+    played(&rt, &TWO_GROUPS, &PAGE_SAVED);
 }
 
 /// A group that is swept once it is empty.
@@ -427,17 +525,7 @@ static SWEPT: [(Call, Answer); 7] = [
 
 #[test]
 fn an_empty_group_is_swept(rt: HostRuntime) {
-    played(&rt, Start::TwoGroups, &[&SWEPT]);
-}
-
-/// Nine groups whose objects were freed.
-fn emptied<R: Abort + AllocGlobal>(rt: &R) -> Tried<'_, R> {
-    let mut tried = Tried::open(rt, 16);
-    tried.make(0..18, 2048, 0x1000, 0x800);
-    for serial in 0..18 {
-        tried.check(Call::Free(serial), Answer::Done);
-    }
-    tried
+    played(&rt, &TWO_GROUPS, &SWEPT);
 }
 
 /// Meshes into the first group until it has eight members, and one to a ninth.
@@ -456,21 +544,7 @@ static MOST_MEMBERS: [(Call, Answer); 10] = [
 
 #[test]
 fn eight_members_are_most(rt: HostRuntime) {
-    played(&rt, Start::Emptied, &[&MOST_MEMBERS]);
-}
-
-/// Sixteen objects in four groups, of which one in each group stays, in four different slots. The groups are meshed two by two.
-fn meshed_twice<R: Abort + AllocGlobal>(rt: &R) -> Tried<'_, R> {
-    let mut tried = Tried::open(rt, 16);
-    tried.make(0..16, 1024, 0x1000, 0x400);
-    for k in 0..16 {
-        if k % 5 != 0 {
-            tried.check(Call::Free(k), Answer::Done);
-        }
-    }
-    tried.check(Call::Whole(1, 0), Answer::Pages(1));
-    tried.check(Call::Whole(3, 2), Answer::Pages(1));
-    tried
+    played(&rt, &EMPTIED, &MOST_MEMBERS);
 }
 
 /// The last mesh of four groups.
@@ -483,7 +557,7 @@ static FOUR_IN_ONE: [(Call, Answer); 4] = [
 
 #[test]
 fn four_groups_become_one(rt: HostRuntime) {
-    played(&rt, Start::MeshedTwice, &[&FOUR_IN_ONE]);
+    played(&rt, &MESHED_TWICE, &FOUR_IN_ONE);
 }
 
 /// A mesh whose source has two members, with stores to the object of each.
@@ -509,19 +583,12 @@ static PAGE_BY_PAGE: [(Call, Answer); 17] = [
 
 #[test]
 fn a_source_of_two_members_goes_page_by_page(rt: HostRuntime) {
-    played(&rt, Start::MeshedTwice, &[&PAGE_BY_PAGE]);
+    played(&rt, &MESHED_TWICE, &PAGE_BY_PAGE);
 }
 
-/// Beside the first two groups two of the class 1024, with three objects and one.
-fn of_two_classes<R: Abort + AllocGlobal>(rt: &R) -> Tried<'_, R> {
-    let mut tried = two_groups(rt, 16);
-    tried.make(4..12, 1024, 0x3000, 0x400);
-    tried.free(&[4, 9, 10, 11]);
-    tried
-}
-
-/// Meshes of two classes, begun, stepped and cancelled beside one another.
-static ONE_IN_EACH: [(Call, Answer); 17] = [
+/// Meshes of two classes, begun, stepped and cancelled beside one another, the steps of the one that goes on, and what is answered once both are
+/// over.
+static ONE_IN_EACH: [(Call, Answer); 24] = [
     (Call::Running(2048), Answer::Runs(false)),
     (Call::Begin(1, 0), Answer::Left(6)),
     (Call::Running(2048), Answer::Runs(true)),
@@ -539,21 +606,18 @@ static ONE_IN_EACH: [(Call, Answer); 17] = [
     (Call::Step(1024), Answer::Refused(Refusal::NoMesh)),
     (Call::Running(1024), Answer::Runs(false)),
     (Call::Running(2048), Answer::Runs(true)),
-];
-
-/// What is answered once both meshes are over.
-static BOTH_OVER: [(Call, Answer); 2] = [
+    (Call::Step(2048), Answer::Stepped(StepKind::Copy, 4)),
+    (Call::Step(2048), Answer::Stepped(StepKind::Copy, 3)),
+    (Call::Step(2048), Answer::Stepped(StepKind::Remap, 2)),
+    (Call::Step(2048), Answer::Stepped(StepKind::Unprotect, 1)),
+    (Call::Step(2048), Answer::Stepped(StepKind::Release, 0)),
     (Call::Running(2048), Answer::Runs(false)),
     (Call::Report, Answer::Counts(6, 8192, 4, 3, 1)),
 ];
 
 #[test]
 fn one_mesh_runs_in_each_class(rt: HostRuntime) {
-    played(
-        &rt,
-        Start::TwoClasses,
-        &[&ONE_IN_EACH, &STEPS[1..6], &BOTH_OVER],
-    );
+    played(&rt, &TWO_CLASSES, &ONE_IN_EACH);
 }
 
 /// Meshes that none of another class may run beside.
@@ -570,7 +634,7 @@ static ALONE: [(Call, Answer); 8] = [
 
 #[test]
 fn a_mesh_alone_waits_for_each_class(rt: HostRuntime) {
-    played(&rt, Start::TwoClasses, &[&ALONE]);
+    played(&rt, &TWO_CLASSES, &ALONE);
 }
 
 /// Copies within one object.
@@ -595,7 +659,7 @@ static OVERLAPPING: [(Call, Answer); 10] = [
 
 #[test]
 fn ranges_of_a_copy_overlap(rt: HostRuntime) {
-    played(&rt, Start::Objects(0), &[&OVERLAPPING]);
+    played(&rt, &NO_OBJECTS, &OVERLAPPING);
 }
 
 /// Copies out of a read-only page and into it.
@@ -609,5 +673,5 @@ static BLOCKED_COPY: [(Call, Answer); 5] = [
 
 #[test]
 fn a_copy_is_blocked_where_it_writes(rt: HostRuntime) {
-    played(&rt, Start::Begun(0), &[&BLOCKED_COPY]);
+    played(&rt, &BEGUN, &BLOCKED_COPY);
 }

@@ -1,9 +1,9 @@
 //! Each call of the plain memory, with an answer that was worked out by hand from the definition.
 
-use crate::tests::calls::number;
+use crate::tests::calls::{DONE, Told, counted, loaded, number};
 use arrayvec::ArrayVec;
 use mesh_plain::{Plain, PlainFault};
-use model_words::{Command, Refusal, Reply};
+use model_words::{Command, MAX_BYTES, Refusal, Reply};
 use std::process::Abort;
 
 /// A call of the plain memory, which names an object by a cell.
@@ -24,8 +24,8 @@ enum PlainCall {
     Poke(u32, u8),
 }
 
-/// What it is answered.
-#[derive(Clone, Copy, PartialEq, Eq)]
+/// What it is to be answered.
+#[derive(Clone, Copy)]
 enum PlainAnswer {
     // The serial of a new object.
     Made(u32),
@@ -35,61 +35,116 @@ enum PlainAnswer {
     At(u32),
     Byte(u8),
     Fault(PlainFault),
-    // The call couldn't be made.
-    Unmade,
+}
+
+impl PlainAnswer {
+    /// The answer, as answers are compared.
+    fn told(self) -> Told {
+        match self {
+            PlainAnswer::Made(serial) => counted("Made", serial),
+            PlainAnswer::Done => DONE,
+            PlainAnswer::Bytes(len, number) => loaded(len, number),
+            PlainAnswer::At(address) => counted("At", address),
+            PlainAnswer::Byte(byte) => counted("Byte", byte as u32),
+            PlainAnswer::Fault(fault) => counted(name_of(fault), 0),
+        }
+    }
+}
+
+/// The name of a fault.
+fn name_of(fault: PlainFault) -> &'static str {
+    match fault {
+        PlainFault::Empty => "Empty",
+        PlainFault::Freed => "Freed",
+        PlainFault::Outside => "Outside",
+        PlainFault::Stray => "Stray",
+        PlainFault::Memory => "Memory",
+    }
 }
 
 /// What a call is answered.
-fn answer_of(plain: &mut Plain, call: PlainCall) -> Result<PlainAnswer, PlainFault> {
-    Ok(match call {
-        PlainCall::Make(cell, len, address) if plain.next_serial() < u32::MAX => {
-            PlainAnswer::Made(plain.make(cell, len, address)?)
-        }
-        PlainCall::Get(cell, off, len) if len <= 32 => {
-            let bytes = plain.get(cell, off, len)?;
-            PlainAnswer::Bytes(bytes.len(), number(bytes.as_slice()))
-        }
-        PlainCall::Make(_, _, _) | PlainCall::Get(_, _, _) => PlainAnswer::Unmade,
-        PlainCall::Addr(cell) => PlainAnswer::At(plain.addr(cell)?),
-        PlainCall::Peek(address) => PlainAnswer::Byte(plain.peek(address)?),
-        _ => {
-            change(plain, call)?;
-            PlainAnswer::Done
-        }
-    })
+fn answer_of(rt: &impl Abort, plain: &mut Plain, call: PlainCall) -> Told {
+    match call {
+        PlainCall::Make(cell, len, address) => {
+            assert!(rt; plain.next_serial() < u32::MAX);
+            told("Made", plain.make(cell, len, address))
+        },
+        PlainCall::Get(cell, off, len) => {
+            assert!(rt; len <= 32);
+            got(plain.get(cell, off, len))
+        },
+        PlainCall::Put(cell, off, bytes) => done(plain.put(cell, off, bytes)),
+        PlainCall::Copy(to, to_off, from, from_off, len) => {
+            done(plain.copy(to, to_off, from, from_off, len))
+        },
+        PlainCall::Alias(to, from) => done(plain.alias(to, from)),
+        PlainCall::Free(cell) => done(plain.free(cell)),
+        PlainCall::Addr(cell) => told("At", plain.addr(cell)),
+        PlainCall::Peek(address) => peeked(plain.peek(address)),
+        PlainCall::Poke(address, byte) => done(plain.poke(address, byte)),
+    }
 }
 
-/// Makes a call whose only answer is that it is done.
-fn change(plain: &mut Plain, call: PlainCall) -> Result<(), PlainFault> {
-    match call {
-        PlainCall::Put(cell, off, bytes) => plain.put(cell, off, bytes),
-        PlainCall::Copy(to, to_off, from, from_off, len) => {
-            plain.copy(to, to_off, from, from_off, len)
-        }
-        PlainCall::Alias(to, from) => plain.alias(to, from),
-        PlainCall::Free(cell) => plain.free(cell),
-        PlainCall::Poke(address, byte) => plain.poke(address, byte),
-        _ => Ok(()),
+/// What an answer of one number is.
+fn told(name: &'static str, answer: Result<u32, PlainFault>) -> Told {
+    match answer {
+        Ok(number) => counted(name, number),
+        Err(fault) => counted(name_of(fault), 0),
+    }
+}
+
+/// What an answer that is done is.
+fn done(answer: Result<(), PlainFault>) -> Told {
+    match answer {
+        Ok(()) => DONE,
+        Err(fault) => counted(name_of(fault), 0),
+    }
+}
+
+/// What a byte at an address is.
+fn peeked(answer: Result<u8, PlainFault>) -> Told {
+    match answer {
+        Ok(byte) => counted("Byte", byte as u32),
+        Err(fault) => counted(name_of(fault), 0),
+    }
+}
+
+/// What bytes that were loaded are.
+fn got(answer: Result<ArrayVec<u8, MAX_BYTES>, PlainFault>) -> Told {
+    match answer {
+        Ok(bytes) => loaded(bytes.len(), number(bytes.as_slice())),
+        Err(fault) => counted(name_of(fault), 0),
     }
 }
 
 /// Asserts that calls are answered so, one after another.
 fn play(rt: &impl Abort, plain: &mut Plain, calls: &[(PlainCall, PlainAnswer)]) {
     for (place, (call, wanted)) in calls.iter().enumerate() {
-        let answer = match answer_of(plain, *call) {
-            Ok(answer) => answer,
-            Err(fault) => PlainAnswer::Fault(fault),
-        };
-        assert!(rt; answer == *wanted, "call {place}");
+        check(rt, answer_of(rt, plain, *call), wanted.told(), place);
     }
 }
 
-/// Asserts that a fresh memory answers the parts so, one after another.
-fn played(rt: &(impl Abort + AllocGlobal), parts: &[&[(PlainCall, PlainAnswer)]]) {
+/// Asserts what the call of a place was answered.
+fn check(rt: &impl Abort, told: Told, wanted: Told, place: usize) {
+    assert_eq!(rt; told, wanted, "call {place}");
+}
+
+/// Asserts that a fresh memory answers calls so, one after another.
+fn played(rt: &(impl Abort + AllocGlobal), calls: &[(PlainCall, PlainAnswer)]) {
     let mut plain = Plain::new(rt.alloc());
-    for part in parts {
-        play(rt, &mut plain, part);
-    }
+    play(rt, &mut plain, calls);
+}
+
+/// Asserts that a memory with the two objects answers calls so, one after another.
+fn played_on_two(rt: &(impl Abort + AllocGlobal), calls: &[(PlainCall, PlainAnswer)]) {
+    let mut plain = Plain::new(rt.alloc());
+    play_on_two(rt, &mut plain, calls);
+}
+
+/// Asserts that a fresh memory answers calls so once it has the two objects.
+fn play_on_two(rt: &impl Abort, plain: &mut Plain, calls: &[(PlainCall, PlainAnswer)]) {
+    play(rt, plain, &TWO_OBJECTS);
+    play(rt, plain, calls);
 }
 
 /// Cell 0 names 8 bytes at 0x1000, and cell 1 names 4 bytes at 0x1010. They are 1 to 8, and 9 to 12.
@@ -111,7 +166,7 @@ static ZEROS: [(PlainCall, PlainAnswer); 2] = [
 
 #[test]
 fn a_new_object_is_of_zeros(rt: HostRuntime) {
-    played(&rt, &[&ZEROS]);
+    played(&rt, &ZEROS);
 }
 
 /// A store, and what both objects hold then.
@@ -126,7 +181,7 @@ static STORED: [(PlainCall, PlainAnswer); 3] = [
 
 #[test]
 fn bytes_are_stored_and_loaded(rt: HostRuntime) {
-    played(&rt, &[&TWO_OBJECTS, &STORED]);
+    played_on_two(&rt, &STORED);
 }
 
 /// Copies within one object, whose ranges overlap, and from one object to another.
@@ -151,7 +206,7 @@ static COPIED: [(PlainCall, PlainAnswer); 7] = [
 
 #[test]
 fn bytes_are_copied_whole_before_one_is_stored(rt: HostRuntime) {
-    played(&rt, &[&TWO_OBJECTS, &COPIED]);
+    played_on_two(&rt, &COPIED);
 }
 
 /// Addresses inside the objects and beside them.
@@ -177,7 +232,7 @@ static ADDRESSES: [(PlainCall, PlainAnswer); 8] = [
 
 #[test]
 fn addresses_lead_to_bytes(rt: HostRuntime) {
-    played(&rt, &[&TWO_OBJECTS, &ADDRESSES]);
+    played_on_two(&rt, &ADDRESSES);
 }
 
 /// An object that two cells name, before it is freed and after.
@@ -203,7 +258,7 @@ static FREED: [(PlainCall, PlainAnswer); 8] = [
 
 #[test]
 fn a_freed_object_is_gone_from_each_cell(rt: HostRuntime) {
-    played(&rt, &[&TWO_OBJECTS, &FREED]);
+    played_on_two(&rt, &FREED);
 }
 
 /// Calls that have one fault or two.
@@ -246,7 +301,7 @@ static FAULTS: [(PlainCall, PlainAnswer); 10] = [
 
 #[test]
 fn faults_come_in_their_order(rt: HostRuntime) {
-    played(&rt, &[&TWO_OBJECTS, &FAULTS]);
+    played_on_two(&rt, &FAULTS);
 }
 
 /// Applies an entry of a journal.
@@ -286,20 +341,28 @@ fn check_look(rt: &impl Abort, plain: &Plain, read: PlainCall, wanted: &Reply) {
     assert!(rt; reply == *wanted, "another reply");
 }
 
-#[test]
-fn a_journal_is_applied(rt: HostRuntime) {
-    let outside = Reply::Refused(Refusal::Outside);
-    let freed = Reply::Refused(Refusal::Freed);
-    let mut plain = Plain::new(rt.alloc());
-    apply_entries(&rt, &mut plain);
+/// Asserts what is read after the journal's commands, and after one more.
+fn check_applied(rt: &impl Abort, plain: &mut Plain) {
+    apply_entries(rt, plain);
     play(
-        &rt,
-        &mut plain,
+        rt,
+        plain,
         &[(PlainCall::Get(4, 0, 2), PlainAnswer::Bytes(2, 0x0506))],
     );
-    check_look(&rt, &plain, PlainCall::Peek(0x1000), &Reply::Byte(5));
-    check_look(&rt, &plain, PlainCall::Addr(3), &Reply::At(0x1000));
-    check_look(&rt, &plain, PlainCall::Get(3, 1, 2), &outside);
-    apply(&rt, &mut plain, &Command::Free(4), &Reply::Done);
-    check_look(&rt, &plain, PlainCall::Addr(3), &freed);
+    check_look(rt, plain, PlainCall::Peek(0x1000), &Reply::Byte(5));
+    check_look(rt, plain, PlainCall::Addr(3), &Reply::At(0x1000));
+    check_refusal(rt, plain, PlainCall::Get(3, 1, 2), Refusal::Outside);
+    apply(rt, plain, &Command::Free(4), &Reply::Done);
+    check_refusal(rt, plain, PlainCall::Addr(3), Refusal::Freed);
+}
+
+/// Asserts that a read is refused so.
+fn check_refusal(rt: &impl Abort, plain: &Plain, read: PlainCall, refusal: Refusal) {
+    check_look(rt, plain, read, &Reply::Refused(refusal));
+}
+
+#[test]
+fn a_journal_is_applied(rt: HostRuntime) {
+    let mut plain = Plain::new(rt.alloc());
+    check_applied(&rt, &mut plain);
 }

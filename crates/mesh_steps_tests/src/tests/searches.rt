@@ -1,7 +1,7 @@
 //! The worked searches, over the views that a heap and a book give of themselves.
 use mesh_class::{Class, class_of};
 use mesh_mutator::{Book, Command};
-use mesh_search::{ClassView, Found, search_one};
+use mesh_search::{ClassView, Found, Pair, search_one};
 use mesh_steps::{Heap, Ref};
 use std::process::Abort;
 
@@ -10,14 +10,29 @@ const OBJECTS: u8 = 8;
 
 static FREED: [u8; 4] = [1, 3, 4, 6];
 
+/// The last object.
+const LAST: u8 = 7;
+
 /// The words of the worked searches.
 static WORDS: [u64; 3] = [2, 0, 5];
 
 /// Whether a search found these pairs, source first, by so many tries.
 fn has_found(found: &Found, pairs: &[(u32, u32)], probes: u64) -> bool {
-    let same = found.pairs.iter().zip(pairs.iter()).all(|(pair, told)| pair.source == told.0
-        && pair.destination == told.1);
-    found.probes == probes && found.pairs.len() == pairs.len() && same
+    found.probes == probes && are_pairs(found.pairs.as_slice(), pairs)
+}
+
+/// Whether pairs are these, source first.
+fn are_pairs(found: &[Pair], pairs: &[(u32, u32)]) -> bool {
+    if found.len() != pairs.len() {
+        return false;
+    }
+    for k in 0..pairs.len() {
+        let pair = &found[k];
+        if pair.source != pairs[k].0 || pair.destination != pairs[k].1 {
+            return false;
+        }
+    }
+    true
 }
 
 /// Asserts what a search of a view finds in so many rounds.
@@ -39,19 +54,33 @@ fn check_four(rt: &(impl Abort + AllocGlobal), view: &ClassView) {
     check(rt, view, 2, &[(1, 2), (3, 0)], 4);
 }
 
-/// Makes the objects in a heap and frees those that are to be, and gives the reference of the last one.
-fn fill(rt: &(impl Abort + AllocGlobal), heap: &mut Heap) -> Ref {
-    let mut objects = Vec::new(rt.alloc());
+/// The object of a serial: each stands half a page after the one before.
+fn object(serial: u8) -> Ref {
+    Ref {
+        serial: u32::from(serial),
+        addr: 0x1000 + 0x800 * u32::from(serial),
+    }
+}
+
+/// Makes the objects in a heap and frees those that are to be.
+fn fill(rt: &impl Abort, heap: &mut Heap) {
     for _ in 0..OBJECTS {
-        assert!(rt; !heap.is_full());
-        let object = heap.new(2048, 0).expect(rt, "an object");
-        objects.push(object).expect(rt, "memory");
+        make(rt, heap);
     }
-    for k in FREED.iter() {
-        let object = objects.get(usize::from(*k)).expect(rt, "an object");
-        assert!(rt; heap.free(*object).is_ok());
+    for serial in FREED.iter() {
+        free(rt, heap, *serial);
     }
-    *objects.last().expect(rt, "an object")
+}
+
+/// Makes an object in a heap.
+fn make(rt: &impl Abort, heap: &mut Heap) {
+    assert!(rt; !heap.is_full());
+    assert!(rt; heap.new(2048, 0).is_ok());
+}
+
+/// Frees the object of a serial.
+fn free(rt: &impl Abort, heap: &mut Heap, serial: u8) {
+    assert!(rt; heap.free(object(serial)).is_ok());
 }
 
 /// Asserts what is found in a heap's view of the class 2048, which is the last of all its views.
@@ -66,14 +95,19 @@ fn check_three(rt: &(impl Abort + AllocGlobal), view: &ClassView) {
     check(rt, view, 2, &[(0, 2)], 1);
 }
 
+/// Asserts what is found in a heap as it is filled, and once the last object is freed too.
+fn search_heap(rt: &(impl Abort + AllocGlobal), heap: &mut Heap) {
+    let class = class_of(2048).expect(rt, "a class");
+    fill(rt, heap);
+    check_heap(rt, heap, class);
+    free(rt, heap, LAST);
+    check_three(rt, &heap.view(rt.alloc(), class).expect(rt, "memory"));
+}
+
 #[test]
 fn a_heap_is_searched_by_its_own_view(rt: HostRuntime) {
     let mut heap = Heap::open(rt.alloc(), 16).expect(&rt, "memory");
-    let last = fill(&rt, &mut heap);
-    let class = class_of(2048).expect(&rt, "a class");
-    check_heap(&rt, &heap, class);
-    assert!(&rt; heap.free(last).is_ok());
-    check_three(&rt, &heap.view(rt.alloc(), class).expect(&rt, "memory"));
+    search_heap(&rt, &mut heap);
 }
 
 /// Asserts what is found in a book's view of the class 2048, which is the last of all its views.
@@ -83,17 +117,27 @@ fn check_book(rt: &(impl Abort + AllocGlobal), book: &Book, class: Class) {
     check_four(rt, views.as_slice().get(9).expect(rt, "a class"));
 }
 
-#[test]
-fn a_book_is_searched_by_its_own_view(rt: HostRuntime) {
-    let mut book = Book::open(rt.alloc(), 16, 64).expect(&rt, "memory");
+/// Makes the objects in a book and frees those that are to be.
+fn fill_book(book: &mut Book) {
     for k in 0..OBJECTS {
         book.act(0, &Command::New(k, 2048, 0));
     }
     for k in FREED.iter() {
         book.act(0, &Command::Free(*k));
     }
-    let class = class_of(2048).expect(&rt, "a class");
-    check_book(&rt, &book, class);
-    book.act(0, &Command::Free(7));
-    check_three(&rt, &book.view(rt.alloc(), class).expect(&rt, "memory"));
+}
+
+/// Asserts what is found in a book as it is filled, and once the last object is freed too.
+fn search_book(rt: &(impl Abort + AllocGlobal), book: &mut Book) {
+    let class = class_of(2048).expect(rt, "a class");
+    fill_book(book);
+    check_book(rt, book, class);
+    book.act(0, &Command::Free(LAST));
+    check_three(rt, &book.view(rt.alloc(), class).expect(rt, "memory"));
+}
+
+#[test]
+fn a_book_is_searched_by_its_own_view(rt: HostRuntime) {
+    let mut book = Book::open(rt.alloc(), 16, 64).expect(&rt, "memory");
+    search_book(&rt, &mut book);
 }
