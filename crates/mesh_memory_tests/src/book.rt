@@ -5,6 +5,7 @@ ghost use Rattle.model_words.specs.Commands.{IsInRange};
 use crate::ends::{End, Fault, expect};
 use crate::orders::{ORDERS, PAGES};
 use mesh_mutator::{Attempt, Book, Command, Reply};
+use mesh_steps::Report;
 use std::alloc::Global;
 
 /// How many cells are used: each is written several times.
@@ -12,8 +13,10 @@ const CELLS: u32 = 8;
 
 /// Opens a book, and fills it.
 pub(crate) fn fill(alloc: Global) -> End {
-    let mut book = Book::open(alloc, PAGES, 200)?;
-    make_all(&mut book)
+    match Book::open(alloc, PAGES, 200) {
+        Ok(mut book) => make_all(&mut book),
+        Err(_) => Err(Fault::Memory),
+    }
 }
 
 /// Makes the objects of all orders.
@@ -31,26 +34,57 @@ fn make_all(book: &mut Book) -> End {
     Ok(refused)
 }
 
+/// What a refused New must leave.
+#[derive(Drop)]
+struct Before {
+    // What a load of the cell is answered.
+    seen: Reply,
+    report: Report,
+    entries: usize,
+}
+
+impl Before {
+    /// What a book is before a New of a cell.
+    fn of(book: &Book, cell: u8) -> Before {
+        Before {
+            seen: book.look(&Command::Get(cell, 0, 16)),
+            report: book.report(),
+            entries: book.journal().len(),
+        }
+    }
+
+    /// Right where a book is still so.
+    fn check(&self, book: &Book, cell: u8) -> Result<(), Fault> {
+        let seen = book.look(&Command::Get(cell, 0, 16));
+        if seen != self.seen {
+            return Err(Fault::Wrong("a refused New wrote its cell"));
+        }
+        if book.report() != self.report {
+            return Err(Fault::Wrong("a refused New changed the report"));
+        }
+        expect(
+            book.journal().len() == self.entries,
+            "a refused New was recorded",
+        )
+    }
+}
+
 /// Makes an object that a cell names, and makes it again where memory was refused.
 fn make(book: &mut Book, cell: u8, len: u32, wanted: &Reply) -> End {
-    let get = Command::Get(cell, 0, 16);
-    let seen = book.look(&get);
-    let before = book.report();
-    let entries = book.journal().len();
+    let before = Before::of(book, cell);
     if has_room(book, cell, len, wanted)? {
         return Ok(0);
     }
-    expect(book.look(&get) == seen, "a refused New wrote its cell")?;
-    expect(book.report() == before, "a refused New changed the report")?;
-    expect(
-        book.journal().len() == entries,
-        "a refused New was recorded",
-    )?;
-    expect(
-        has_room(book, cell, len, wanted)?,
-        "one allocation was refused twice",
-    )?;
-    Ok(1)
+    before.check(book, cell)?;
+    make_again(book, cell, len, wanted)
+}
+
+/// Makes an object for which memory was refused once.
+fn make_again(book: &mut Book, cell: u8, len: u32, wanted: &Reply) -> End {
+    if has_room(book, cell, len, wanted)? {
+        return Ok(1);
+    }
+    Err(Fault::Wrong("one allocation was refused twice"))
 }
 
 /// Whether there was memory for an object, which must be answered so.

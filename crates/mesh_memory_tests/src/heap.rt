@@ -6,8 +6,10 @@ use std::alloc::Global;
 
 /// Opens a heap, and fills it.
 pub(crate) fn fill(alloc: Global) -> End {
-    let mut heap = Heap::open(alloc, PAGES)?;
-    make_all(&mut heap)
+    match Heap::open(alloc, PAGES) {
+        Ok(mut heap) => make_all(&mut heap),
+        Err(_) => Err(Fault::Memory),
+    }
 }
 
 /// Makes the objects of all orders.
@@ -33,12 +35,18 @@ fn make(heap: &mut Heap, len: u32, wanted: Ref) -> End {
     if has_room(heap, len, wanted)? {
         return Ok(0);
     }
-    expect(heap.report() == before, "a refused new changed the report")?;
-    expect(
-        has_room(heap, len, wanted)?,
-        "one allocation was refused twice",
-    )?;
-    Ok(1)
+    if heap.report() != before {
+        return Err(Fault::Wrong("a refused new changed the report"));
+    }
+    make_again(heap, len, wanted)
+}
+
+/// Makes an object for which memory was refused once.
+fn make_again(heap: &mut Heap, len: u32, wanted: Ref) -> End {
+    if has_room(heap, len, wanted)? {
+        return Ok(1);
+    }
+    Err(Fault::Wrong("one allocation was refused twice"))
 }
 
 /// Whether there was memory for an object, which must be this one.

@@ -1,4 +1,5 @@
 //! Meshes that run, between whose steps nothing takes memory.
+ghost use Rattle.std.specs.Prelude.{◌≡◌, ◌∷◌, []};
 ghost use Rattle.model_words.specs.Commands.{IsInRange};
 
 use crate::ends::{End, Fault, expect};
@@ -6,12 +7,15 @@ use arrayvec::ArrayVec;
 use mesh_class::{Class, class_of};
 use mesh_mutator::{Attempt, Book, Command, Reply};
 use mesh_steps::Report;
+use model_words::MAX_BYTES;
 use std::alloc::Global;
 
 /// Makes meshes step by step, with commands between the steps. The two lines that it prints bound the stretch without an allocation.
 pub(crate) fn mesh<R: Print>(rt: &R, alloc: Global) -> End {
-    let mut book = Book::open(alloc, 16, 400)?;
-    mesh_in(rt, &mut book)
+    match Book::open(alloc, 16, 400) {
+        Ok(mut book) => mesh_in(rt, &mut book),
+        Err(_) => Err(Fault::Memory),
+    }
 }
 
 /// Makes the meshes of a fresh book.
@@ -20,29 +24,54 @@ fn mesh_in<R: Print>(rt: &R, book: &mut Book) -> End {
     let (Ok(large), Ok(small)) = (class_of(2048), class_of(1024)) else {
         return Err(Fault::Wrong("no class"));
     };
-    if print!(rt; "mesh: a stretch begins in which nothing takes memory\n").is_err() {
-        return Err(Fault::Wrong("a line can't be written"));
-    }
+    go_between(rt, book, large, small)
+}
+
+/// The stretch between the two lines.
+fn go_between<R: Print>(rt: &R, book: &mut Book, large: Class, small: Class) -> End {
+    tell(rt, "mesh: a stretch begins in which nothing takes memory\n")?;
     let end = go_through(book, large, small);
-    if print!(rt; "mesh: the stretch ends\n").is_err() {
-        return Err(Fault::Wrong("a line can't be written"));
-    }
+    tell(rt, "mesh: the stretch ends\n")?;
     end?;
     Ok(0)
 }
 
+/// Prints a line.
+fn tell<R: Print>(rt: &R, line: &str) -> Result<(), Fault> {
+    match print!(rt; "{line}") {
+        Ok(()) => Ok(()),
+        Err(_) => Err(Fault::Wrong("a line can't be written")),
+    }
+}
+
+/// The cells and the lengths of the objects that are made before the meshes.
+static OBJECTS: [(u8, u32); 14] = [
+    (0, 2048),
+    (1, 2048),
+    (2, 2048),
+    (3, 2048),
+    (10, 1024),
+    (11, 1024),
+    (12, 1024),
+    (13, 1024),
+    (14, 1024),
+    (15, 1024),
+    (16, 1024),
+    (17, 1024),
+    (20, 16),
+    (21, 64),
+];
+
+/// The cells whose objects are freed then.
+static FREED: [u8; 7] = [0, 3, 10, 11, 16, 17, 20];
+
 /// Two groups that can be meshed of each of two classes, groups 0 to 3, an empty group 4, and group 5 of one object.
 fn set_up(book: &mut Book) -> Result<(), Fault> {
-    for cell in 0..4u8 {
-        make(book, cell, 2048)?;
+    for (cell, len) in OBJECTS.iter() {
+        make(book, *cell, *len)?;
     }
-    for cell in 10..18u8 {
-        make(book, cell, 1024)?;
-    }
-    make(book, 20, 16)?;
-    make(book, 21, 64)?;
-    for cell in [0u8, 3, 10, 11, 16, 17, 20].iter() {
-        done(book.act(0, &Command::Free(*cell)))?;
+    for cell in FREED.iter() {
+        done(book, Command::Free(*cell))?;
     }
     Ok(())
 }
@@ -56,22 +85,50 @@ fn make(book: &mut Book, cell: u8, len: u32) -> Result<(), Fault> {
     }
 }
 
-/// Right where a command was answered so.
-fn done(attempt: Attempt) -> Result<(), Fault> {
-    expect(
-        attempt == Attempt::Done(Reply::Done),
-        "a command that isn't done",
-    )
+/// Makes a command, which must be answered so.
+fn answered(
+    book: &mut Book,
+    command: Command,
+    reply: Reply,
+    what: &'static str,
+) -> Result<(), Fault>
+    requires { IsInRange command }
+{
+    expect(book.act(0, &command) == Attempt::Done(reply), what)
+}
+
+/// Makes a command, which must be done.
+fn done(book: &mut Book, command: Command) -> Result<(), Fault>
+    requires { IsInRange command }
+{
+    answered(book, command, Reply::Done, "a command that isn't done")
 }
 
 /// The stretch: one mesh is made and the other one cancelled, both step by step, an object of its source is freed meanwhile; then that one is
 /// made whole, and the empty group is swept.
 fn go_through(book: &mut Book, large: Class, small: Class) -> Result<(), Fault> {
-    done(book.act(0, &put(2, b'm')))?;
-    expect(book.begin(1, 0) == Ok(6), "another mesh of the class 2048")?;
-    expect(book.begin(3, 2).is_ok(), "no mesh of the class 1024")?;
-    expect(book.step(small).is_ok(), "no step of the class 1024")?;
-    done(book.act(0, &Command::Free(15)))?;
+    begin_both(book, small)?;
+    step_through(book, large, small)?;
+    finish(book)
+}
+
+/// Begins both meshes, makes a step of the one of the smaller class, and frees an object of its source.
+fn begin_both(book: &mut Book, small: Class) -> Result<(), Fault> {
+    done(book, put(2, b'm'))?;
+    if book.begin(1, 0) != Ok(6) {
+        return Err(Fault::Wrong("another mesh of the class 2048"));
+    }
+    if book.begin(3, 2).is_err() {
+        return Err(Fault::Wrong("no mesh of the class 1024"));
+    }
+    if book.step(small).is_err() {
+        return Err(Fault::Wrong("no step of the class 1024"));
+    }
+    done(book, Command::Free(15))
+}
+
+/// Makes the steps of the mesh of the larger class, with every other call after each, and cancels the one of the smaller class amid them.
+fn step_through(book: &mut Book, large: Class, small: Class) -> Result<(), Fault> {
     let mut left = 6u32;
     for _ in 0..6u32 {
         left = step(book, large, left)?;
@@ -80,17 +137,27 @@ fn go_through(book: &mut Book, large: Class, small: Class) -> Result<(), Fault> 
             unwind(book, small)?;
         }
     }
-    expect(left == 0, "a mesh that isn't over")?;
-    expect(book.mesh_whole(3, 2) == Ok(1), "another mesh made whole")?;
-    expect(book.sweep(4) == Ok(1), "another sweep")?;
-    let report = Report {
-        objects: 6,
-        bytes: 2 * 2048 + 3 * 1024 + 64,
-        mapped: 5,
-        taken: 3,
-        saved: 2,
-    };
-    expect(book.report() == report, "another report")
+    expect(left == 0, "a mesh that isn't over")
+}
+
+/// What a book counts after the stretch.
+const REPORT: Report = Report {
+    objects: 6,
+    bytes: 2 * 2048 + 3 * 1024 + 64,
+    mapped: 5,
+    taken: 3,
+    saved: 2,
+};
+
+/// Makes the mesh whole that was cancelled, and sweeps the empty group.
+fn finish(book: &mut Book) -> Result<(), Fault> {
+    if book.mesh_whole(3, 2) != Ok(1) {
+        return Err(Fault::Wrong("another mesh made whole"));
+    }
+    if book.sweep(4) != Ok(1) {
+        return Err(Fault::Wrong("another sweep"));
+    }
+    expect(book.report() == REPORT, "another report")
 }
 
 /// Makes a step of a mesh, and gives how many are left: one less than there were.
@@ -120,44 +187,70 @@ fn unwind(book: &mut Book, class: Class) -> Result<(), Fault> {
 fn put(cell: u8, byte: u8) -> Command
     ensures { IsInRange result }
 {
+    Command::Put(cell, 0, one(byte))
+}
+
+/// One byte, as a store takes it and a load gives it.
+fn one(byte: u8) -> ArrayVec<u8, MAX_BYTES>
+    ensures { result.items ≡ byte ∷ [] }
+{
     let mut bytes = ArrayVec::new();
     bytes.push(byte);
-    Command::Put(cell, 0, bytes)
+    bytes
 }
 
 /// Each command, a New in an open group, and a report. A store may be blocked.
 fn attempt_all(book: &mut Book) -> Result<(), Fault> {
-    let mut bytes = ArrayVec::new();
-    bytes.push(b'm');
-    expect(
-        book.act(0, &Command::Get(2, 0, 1)) == Attempt::Done(Reply::Bytes(bytes)),
+    read_all(book)?;
+    store_all(book)?;
+    make_and_free(book)?;
+    if book.sweep(2).is_ok() {
+        return Err(Fault::Wrong("a sweep of a group with objects"));
+    }
+    expect(book.report().objects == 6, "another count of objects")
+}
+
+/// Each command that reads.
+fn read_all(book: &mut Book) -> Result<(), Fault> {
+    answered(
+        book,
+        Command::Get(2, 0, 1),
+        Reply::Bytes(one(b'm')),
         "another byte",
     )?;
-    expect(
-        book.act(0, &Command::Addr(2)) == Attempt::Done(Reply::At(0x2000)),
-        "another address",
-    )?;
-    expect(
-        book.act(0, &Command::Peek(0x2000)) == Attempt::Done(Reply::Byte(b'm')),
+    answered(book, Command::Addr(2), Reply::At(0x2000), "another address")?;
+    answered(
+        book,
+        Command::Peek(0x2000),
+        Reply::Byte(b'm'),
         "another byte at the address",
-    )?;
-    done(book.act(0, &Command::Alias(30, 2)))?;
-    done(book.act(0, &put(1, b'x')))?;
-    done_or_blocked(book.act(0, &Command::Poke(0x2000, b'm')))?;
-    done_or_blocked(book.act(0, &Command::Copy(2, 1, 1, 1, 8)))?;
-    done_or_blocked(book.act(0, &put(2, b'm')))?;
+    )
+}
+
+/// Each command that stores.
+fn store_all(book: &mut Book) -> Result<(), Fault> {
+    done(book, Command::Alias(30, 2))?;
+    done(book, put(1, b'x'))?;
+    done_or_blocked(book, Command::Poke(0x2000, b'm'))?;
+    done_or_blocked(book, Command::Copy(2, 1, 1, 1, 8))?;
+    done_or_blocked(book, put(2, b'm'))
+}
+
+/// A New, and a Free of its object and of one that is freed.
+fn make_and_free(book: &mut Book) -> Result<(), Fault> {
     expect(
         book.act(0, &Command::Free(0)) != Attempt::Done(Reply::Done),
         "an object freed twice",
     )?;
     make(book, 22, 64)?;
-    done(book.act(0, &Command::Free(22)))?;
-    expect(book.sweep(2).is_err(), "a sweep of a group with objects")?;
-    expect(book.report().objects == 6, "another count of objects")
+    done(book, Command::Free(22))
 }
 
-/// Right where a store was done or held back.
-fn done_or_blocked(attempt: Attempt) -> Result<(), Fault> {
+/// Makes a store, which must be done or held back.
+fn done_or_blocked(book: &mut Book, command: Command) -> Result<(), Fault>
+    requires { IsInRange command }
+{
+    let attempt = book.act(0, &command);
     expect(
         attempt == Attempt::Done(Reply::Done) || attempt == Attempt::Blocked,
         "a store that is refused",

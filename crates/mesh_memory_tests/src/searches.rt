@@ -1,7 +1,7 @@
 //! Views and searches of the worked groups.
 use crate::ends::{End, Fault, expect};
 use mesh_mutator::{Attempt, Book, Command};
-use mesh_search::{ClassView, Found, NoGate, search, search_one, shuffle};
+use mesh_search::{ClassView, Found, NoGate, Pair, search, search_one, shuffle};
 use std::alloc::Global;
 use std::sync::Wait;
 use std::thread::Threads;
@@ -14,8 +14,10 @@ static WORDS: [u64; 3] = [2, 0, 5];
 
 /// The views of the worked groups.
 fn worked(alloc: Global) -> Result<Vec<ClassView>, Fault> {
-    let mut book = Book::open(alloc, 16, 64)?;
-    views_of(alloc, &mut book)
+    match Book::open(alloc, 16, 64) {
+        Ok(mut book) => views_of(alloc, &mut book),
+        Err(_) => Err(Fault::Memory),
+    }
 }
 
 /// The views of a fresh book, once the worked groups stand in it.
@@ -39,36 +41,78 @@ static PAIRS: [(u32, u32); 2] = [(1, 2), (3, 0)];
 
 /// Whether a search found the worked pairs by four tries.
 fn is_worked(found: &Found) -> bool {
-    let same = found.pairs.iter().zip(PAIRS.iter()).all(|(pair, told)| pair.source == told.0
-        && pair.destination == told.1);
-    same && found.probes == 4 && found.pairs.len() == 2
+    found.probes == 4 && are_worked(found.pairs.as_slice())
+}
+
+/// Whether pairs are the worked ones.
+fn are_worked(found: &[Pair]) -> bool {
+    if found.len() != PAIRS.len() {
+        return false;
+    }
+    for k in 0..PAIRS.len() {
+        let pair = &found[k];
+        if pair.source != PAIRS[k].0 || pair.destination != PAIRS[k].1 {
+            return false;
+        }
+    }
+    true
+}
+
+/// Right where a search of the view of a place found the worked pairs in the last one, and none in another.
+fn check(found: &Found, place: usize) -> Result<(), Fault> {
+    if place == 9 && !is_worked(found) {
+        return Err(Fault::Wrong("other pairs"));
+    }
+    expect(
+        place == 9 || found.pairs.is_empty(),
+        "pairs of an empty class",
+    )
 }
 
 /// The view, the order and the pairs of the worked groups, on one thread.
 pub(crate) fn search_alone(alloc: Global) -> End {
     let views = worked(alloc)?;
-    expect(views.len() == 10, "another count of views")?;
-    let order = shuffle(alloc, &[0, 1, 2, 3], &WORDS)?;
-    expect(order.as_slice() == [2, 0, 3, 1].as_slice(), "another order")?;
+    search_views(alloc, views.as_slice())
+}
+
+/// The order and the pairs of ten views.
+fn search_views(alloc: Global, views: &[ClassView]) -> End {
+    if views.len() != 10 {
+        return Err(Fault::Wrong("another count of views"));
+    }
+    check_order(alloc)?;
     for k in 0..views.len() {
-        let found = search_one(alloc, &views[k], &WORDS, 2)?;
-        expect(k != 9 || is_worked(&found), "other pairs")?;
-        expect(k == 9 || found.pairs.is_empty(), "pairs of an empty class")?;
+        search_view(alloc, &views[k], k)?;
     }
     Ok(0)
+}
+
+/// The order of four groups.
+fn check_order(alloc: Global) -> Result<(), Fault> {
+    let order = shuffle(alloc, &[0, 1, 2, 3], &WORDS)?;
+    expect(order.as_slice() == [2, 0, 3, 1].as_slice(), "another order")
+}
+
+/// The pairs of the view of a place.
+fn search_view(alloc: Global, view: &ClassView, place: usize) -> Result<(), Fault> {
+    let found = search_one(alloc, view, &WORDS, 2)?;
+    check(&found, place)
 }
 
 /// The search of all views by two workers.
 pub(crate) fn search_by_two<R: Threads + Wait + Sync>(rt: &R, alloc: Global) -> End {
     let views = worked(alloc)?;
     let found = search(rt, alloc, views.as_slice(), &WORDS, 2, 2, &NoGate)?;
-    expect(found.len() == 10, "another count of searches")?;
+    check_all(found.as_slice())
+}
+
+/// Right where these are the ten searches of the worked groups.
+fn check_all(found: &[Found]) -> End {
+    if found.len() != 10 {
+        return Err(Fault::Wrong("another count of searches"));
+    }
     for k in 0..found.len() {
-        expect(k != 9 || is_worked(&found[k]), "other pairs")?;
-        expect(
-            k == 9 || found[k].pairs.is_empty(),
-            "pairs of an empty class",
-        )?;
+        check(&found[k], k)?;
     }
     Ok(0)
 }

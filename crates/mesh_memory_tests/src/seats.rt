@@ -68,24 +68,24 @@ fn call_each<R: Wait>(
 ) -> Result<(), Fault> {
     let mut bytes = ArrayVec::new();
     bytes.push(b'w');
-    call(rt, shared, seat, &Command::Put(first, 0, bytes))?;
-    call(rt, shared, seat, &Command::Get(first, 0, 1))?;
-    call(rt, shared, seat, &Command::Copy(next, 0, first, 0, 1))?;
-    call(rt, shared, seat, &Command::Addr(next))?;
-    call(rt, shared, seat, &Command::Poke(0x1000, b'p'))?;
-    call(rt, shared, seat, &Command::Peek(0x1000))?;
-    call(rt, shared, seat, &Command::Alias(next, first))?;
-    call(rt, shared, seat, &Command::Free(first))
+    call(rt, shared, seat, Command::Put(first, 0, bytes))?;
+    call(rt, shared, seat, Command::Get(first, 0, 1))?;
+    call(rt, shared, seat, Command::Copy(next, 0, first, 0, 1))?;
+    call(rt, shared, seat, Command::Addr(next))?;
+    call(rt, shared, seat, Command::Poke(0x1000, b'p'))?;
+    call(rt, shared, seat, Command::Peek(0x1000))?;
+    call(rt, shared, seat, Command::Alias(next, first))?;
+    call(rt, shared, seat, Command::Free(first))
 }
 
 /// Makes a call that takes no memory.
-fn call<R: Wait>(rt: &R, shared: &Shared, seat: &mut Seat, command: &Command) -> Result<(), Fault>
-    requires { IsInRange command.now }
+fn call<R: Wait>(rt: &R, shared: &Shared, seat: &mut Seat, command: Command) -> Result<(), Fault>
+    requires { IsInRange command }
 {
-    expect(
-        is_kept(rt, shared, seat, command)?,
-        "a call whose allocation failed",
-    )
+    if is_kept(rt, shared, seat, &command)? {
+        return Ok(());
+    }
+    Err(Fault::Wrong("a call whose allocation failed"))
 }
 
 /// Makes a call, and makes it again where memory was refused.
@@ -95,11 +95,17 @@ fn make<R: Wait>(rt: &R, shared: &Shared, seat: &mut Seat, command: &Command) ->
     if is_kept(rt, shared, seat, command)? {
         return Ok(0);
     }
-    expect(
-        is_kept(rt, shared, seat, command)?,
-        "one allocation was refused twice",
-    )?;
-    Ok(1)
+    make_again(rt, shared, seat, command)
+}
+
+/// Makes a call for which memory was refused once.
+fn make_again<R: Wait>(rt: &R, shared: &Shared, seat: &mut Seat, command: &Command) -> End
+    requires { IsInRange command.now }
+{
+    if is_kept(rt, shared, seat, command)? {
+        return Ok(1);
+    }
+    Err(Fault::Wrong("one allocation was refused twice"))
 }
 
 /// Whether there was memory for a call. The seat keeps it exactly then.

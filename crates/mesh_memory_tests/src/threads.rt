@@ -72,26 +72,35 @@ fn both<'a>(first: &'a Commands, second: &'a Commands) -> [&'a [Command]; 2]
 /// A worker's script: objects, their bytes, every other pair of them freed, and what is read of them after that.
 fn script(alloc: Global, first: u8) -> Result<Commands, AllocError> {
     let mut script = Commands::new(alloc);
-    for k in 0..CELLS {
-        script.push(Command::New(first.wrapping_add(k), 2048, 0))?;
-    }
-    for k in 0..CELLS {
-        let mut bytes = ArrayVec::new();
-        bytes.push(k);
-        script.push(Command::Put(first.wrapping_add(k), 0, bytes))?;
-    }
-    for k in 0..CELLS {
-        script.push(if matches!(k % 4, 0 | 3) {
-            Command::Free(first.wrapping_add(k))
-        } else {
-            Command::Get(first.wrapping_add(k), 0, 1)
-        })?;
-    }
-    for k in 0..CELLS {
-        script.push(Command::Get(first.wrapping_add(k), 0, 1))?;
-    }
-    for k in 0..CELLS {
-        script.push(Command::Addr(first.wrapping_add(k)))?;
+    for turn in 0..TURNS {
+        for k in 0..CELLS {
+            script.push(command(turn, first.wrapping_add(k), k))?;
+        }
     }
     Ok(script)
+}
+
+/// How many commands a script has of each cell.
+const TURNS: u32 = 5;
+
+/// The command of a turn with the k-th cell.
+fn command(turn: u32, cell: u8, k: u8) -> Command
+    ensures { IsInRange result }
+{
+    match turn {
+        0 => Command::New(cell, 2048, 0),
+        1 => put(cell, k),
+        2 if matches!(k % 4, 0 | 3) => Command::Free(cell),
+        2 | 3 => Command::Get(cell, 0, 1),
+        _ => Command::Addr(cell),
+    }
+}
+
+/// A store of one byte.
+fn put(cell: u8, byte: u8) -> Command
+    ensures { IsInRange result }
+{
+    let mut bytes = ArrayVec::new();
+    bytes.push(byte);
+    Command::Put(cell, 0, bytes)
 }
