@@ -1,4 +1,5 @@
 //! Commands and their replies as plain values, which tables of cases hold.
+ghost use Rattle.std.specs.Prelude.{◌≡◌, ◌≤◌};
 ghost use Rattle.model_words.specs.Commands.{IsInRange};
 
 use arrayvec::ArrayVec;
@@ -7,7 +8,7 @@ use model_words::{MAX_BYTES, Refusal};
 use std::process::Abort;
 
 /// A command.
-#[derive(Clone, Copy, Debug)]
+#[derive(Clone, Copy)]
 pub(crate) enum Call {
     // A cell, and the length of its object.
     New(u8, u32),
@@ -52,25 +53,39 @@ pub(crate) fn command_of(rt: &impl Abort, call: Call) -> Command
 {
     match call {
         Call::New(cell, len) => Command::New(cell, len, 0),
-        Call::Put(cell, off, bytes) => {
-            let stored = bytes_of(rt, bytes);
-            assert!(rt; !stored.is_empty(), "of {call:?}");
-            Command::Put(cell, off, stored)
-        },
-        Call::Get(cell, off, len) => {
-            assert!(rt; 1 <= len && len <= 32, "of {call:?}");
-            Command::Get(cell, off, len)
-        },
+        Call::Put(cell, off, bytes) => put(rt, cell, off, bytes),
+        Call::Get(cell, off, len) => Command::Get(cell, off, checked(rt, len)),
         Call::Free(cell) => Command::Free(cell),
         Call::Alias(to, from) => Command::Alias(to, from),
         Call::Copy(to, to_off, from, from_off, len) => {
-            assert!(rt; 1 <= len && len <= 32, "of {call:?}");
-            Command::Copy(to, to_off, from, from_off, len)
+            Command::Copy(to, to_off, from, from_off, checked(rt, len))
         },
         Call::Addr(cell) => Command::Addr(cell),
         Call::Peek(addr) => Command::Peek(addr),
         Call::Poke(addr, byte) => Command::Poke(addr, byte),
     }
+}
+
+/// A number of bytes that a command loads or copies, which is 1 to 32.
+fn checked(rt: &impl Abort, len: u32) -> u32
+    ensures same { result ≡ len }
+    ensures some { 1 ≤ result }
+    ensures most { result ≤ 32 }
+{
+    assert!(rt; 1 <= len && len <= 32, "{len} bytes");
+    len
+}
+
+/// A store of 1 to 32 bytes.
+fn put(rt: &impl Abort, cell: u8, off: u32, bytes: &[u8]) -> Command
+    ensures { IsInRange result }
+{
+    assert!(rt;
+        !bytes.is_empty() && bytes.len() <= MAX_BYTES,
+        "a store of {} bytes",
+        bytes.len()
+    );
+    Command::Put(cell, off, bytes_of(rt, bytes))
 }
 
 /// The reply of an answer.
@@ -86,9 +101,11 @@ pub(crate) fn reply_of(rt: &impl Abort, answer: Answer) -> Reply {
 }
 
 /// At most 32 bytes, as a command stores and a reply loads them.
-fn bytes_of(rt: &impl Abort, bytes: &[u8]) -> ArrayVec<u8, MAX_BYTES> {
+fn bytes_of(rt: &impl Abort, bytes: &[u8]) -> ArrayVec<u8, MAX_BYTES>
+    ensures { result.items ≡ bytes.now }
+{
     let mut kept = ArrayVec::new();
     let extended = kept.try_extend_from_slice(bytes);
-    assert!(rt; extended.is_ok(), "of {bytes:?}");
+    assert!(rt; extended.is_ok(), "more than 32 bytes");
     kept
 }

@@ -14,7 +14,7 @@ const TURNS: u32 = 1_000_000;
 const TURN: u64 = 10;
 
 /// What a test waits for: who comes where.
-#[derive(Clone, Copy, Debug, PartialEq, Eq)]
+#[derive(Clone, Copy, PartialEq, Eq)]
 pub(crate) enum Event {
     // A worker's call, counted from 0, was answered.
     Called(u32, u32),
@@ -59,7 +59,7 @@ impl Mark {
 }
 
 /// Who comes to the first event is held until the others have been; who is the first there, at least for so many turns.
-#[derive(Clone, Copy, Debug)]
+#[derive(Clone, Copy)]
 pub(crate) struct Hold(pub Event, pub &'static [Event], pub u32);
 
 /// A gate that holds threads, and notes where one was held in vain, or where an event came before another that it wants.
@@ -126,6 +126,24 @@ impl<'a, R: Clock> Holding<'a, R> {
         all
     }
 
+    /// Notes an event that came before another one that it wants.
+    fn note_order(&self, event: Event) {
+        for order in self.orders {
+            if order.0 == event && !self.has_been(order.1) {
+                self.missed.store(true, SeqCst);
+            }
+        }
+    }
+
+    /// Holds who came to an event, as the holds at it say.
+    fn hold(&self, event: Event, first: bool) {
+        for Hold(at, until, turns) in self.holds {
+            if *at == event {
+                self.wait_for(until, if first { *turns } else { 0 });
+            }
+        }
+    }
+
     /// Waits for the events, and at least for so many turns.
     fn wait_for(&self, events: &[Event], turns: u32) {
         for turn in 0..TURNS {
@@ -144,15 +162,7 @@ impl<'a, R: Clock> Gate for Holding<'a, R> {
             return;
         };
         let first = self.is_first(event);
-        for order in self.orders {
-            if order.0 == event && !self.has_been(order.1) {
-                self.missed.store(true, SeqCst);
-            }
-        }
-        for Hold(at, until, turns) in self.holds {
-            if *at == event {
-                self.wait_for(until, if first { *turns } else { 0 });
-            }
-        }
+        self.note_order(event);
+        self.hold(event, first);
     }
 }

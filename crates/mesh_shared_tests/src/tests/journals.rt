@@ -1,9 +1,9 @@
 //! The journal of a book, entry by entry.
+ghost use Rattle.model_words.specs.Commands.{IsInRange};
 
 use crate::tests::calls::{Answer, Call, command_of, reply_of};
-use mesh_mutator::{Attempt, Book, Entry, Journal, Reply, reply_again};
+use mesh_mutator::{Attempt, Book, Command, Entry, Journal, Reply, reply_again};
 use model_words::Refusal;
-use std::alloc::AllocError;
 use std::process::Abort;
 
 /// A store of two bytes.
@@ -27,31 +27,49 @@ static ENTRIES: [(Call, Answer); 11] = [
 /// Asserts that a book answers worker 7 so, one command after another, and that its journal's last entry tells each.
 fn check_entries(rt: &impl Abort, book: &mut Book, entries: &[(Call, Answer)]) {
     for (call, answer) in entries {
-        let command = command_of(rt, *call);
-        let reply = reply_of(rt, *answer);
-        let attempt = book.act(7, &command);
-        assert!(rt;
-            attempt == Attempt::Done(reply_again(&reply)),
-            "of {call:?}"
-        );
-        let journal = book.journal();
-        let last = journal.len().checked_sub(1).expect(rt, "an entry");
-        let entry = Entry::of(7, &command, &reply);
-        assert!(rt; journal.entry(last) == entry, "the entry of {call:?}");
+        check_entry(rt, book, &command_of(rt, *call), &reply_of(rt, *answer));
     }
+}
+
+/// Asserts the same of one command.
+fn check_entry(rt: &impl Abort, book: &mut Book, command: &Command, reply: &Reply)
+    requires { IsInRange command.now }
+{
+    let attempt = book.act(7, command);
+    assert!(rt;
+        attempt == Attempt::Done(reply_again(reply)),
+        "of {command:?}"
+    );
+    check_last(rt, book.journal(), command, reply);
+}
+
+/// Asserts that the last entry of a journal tells a command of worker 7 and its reply.
+fn check_last(rt: &impl Abort, journal: &Journal, command: &Command, reply: &Reply) {
+    let last = journal.len().checked_sub(1).expect(rt, "an entry");
+    let entry = Entry::of(7, command, reply);
+    assert!(rt; journal.entry(last) == entry, "the entry of {command:?}");
 }
 
 /// Asserts that the journal is full, and still tells the bytes of its store.
 fn check_store(rt: &impl Abort, journal: &Journal) {
+    check_second(rt, journal, &command_of(rt, PUT));
+}
+
+/// Asserts that the journal is full, and that its second entry tells a store of worker 7.
+fn check_second(rt: &impl Abort, journal: &Journal, put: &Command) {
     assert!(rt; journal.len() == 11, "the journal is full");
-    let entry = Entry::of(7, &command_of(rt, PUT), &Reply::Done);
+    let entry = Entry::of(7, put, &Reply::Done);
     assert!(rt; journal.entry(1) == entry, "a store's bytes stay");
 }
 
 #[test]
-fn the_journal_tells_each_kind_of_entry(rt: HostRuntime) -> Result<(), AllocError> {
-    let mut book = Book::open(rt.alloc(), 1, 11)?;
-    check_entries(&rt, &mut book, &ENTRIES);
-    check_store(&rt, book.journal());
-    Ok(())
+fn the_journal_tells_each_kind_of_entry(rt: HostRuntime) {
+    let mut book = Book::open(rt.alloc(), 1, 11).expect(&rt, "memory");
+    check_book(&rt, &mut book);
+}
+
+/// Asserts what a book answers and what its journal tells.
+fn check_book(rt: &impl Abort, book: &mut Book) {
+    check_entries(rt, book, &ENTRIES);
+    check_store(rt, book.journal());
 }

@@ -138,48 +138,54 @@ fn ran<R: Abort + AllocGlobal + Clock + Threads + Wait + Sync>(
     course: &Course,
     scripts: &[&[Command]],
     calls: Option<u32>,
-) -> Ended
+) -> Seen
     requires some { 1 ≤ length scripts.now }
     requires few { length scripts.now ≤ 64 }
     requires range { All (λ script. All IsInRange script.now) scripts.now }
 {
     let marks = marks_of(rt, course.events);
     let gate = Holding::new(rt, marks.as_slice(), course.holds, course.orders);
-    let ended = ran_past(rt, course.scale, scripts, calls, &gate);
+    let seen = ran_past(rt, course.scale, scripts, calls, &gate);
     assert!(rt; gate.went_well(), "with {calls:?} calls of a mesher");
-    ended
+    seen
 }
 
-/// Runs scripts past a gate on a fresh book.
+/// Asserts that a scale is within its bounds.
+fn check_scale(rt: &impl Abort, scale: Scale)
+    ensures some_pages { 1 ≤ scale.pages }
+    ensures most_pages { scale.pages ≤ 4096 }
+    ensures some_searchers { 1 ≤ scale.searchers }
+    ensures most_searchers { scale.searchers ≤ 16 }
+    ensures some_meshers { 1 ≤ scale.meshers }
+    ensures most_meshers { scale.meshers ≤ 10 }
+    ensures few_entries { scale.room ≤ 65536 }
+{
+    assert!(rt; 1 <= scale.pages && scale.pages <= 4096, "pages");
+    assert!(rt; 1 <= scale.searchers && scale.searchers <= 16, "searchers");
+    assert!(rt; 1 <= scale.meshers && scale.meshers <= 10, "meshers");
+    assert!(rt; scale.room <= 65_536, "room");
+}
+
+/// Runs scripts past a gate on a fresh book, and looks at what it comes to.
 fn ran_past<R: Abort + AllocGlobal + Threads + Wait + Sync, G: Gate + Sync>(
     rt: &R,
     scale: Scale,
     scripts: &[&[Command]],
     calls: Option<u32>,
     gate: &G,
-) -> Ended
+) -> Seen
     requires some { 1 ≤ length scripts.now }
     requires few { length scripts.now ≤ 64 }
     requires range { All (λ script. All IsInRange script.now) scripts.now }
 {
-    let Scale {
-        pages,
-        room,
-        rounds,
-        searchers,
-        meshers,
-    } = scale;
-    assert!(rt; 1 <= pages && pages <= 4096, "{pages} pages");
-    assert!(rt; 1 <= searchers && searchers <= 16, "{searchers} searchers");
-    assert!(rt; 1 <= meshers && meshers <= 10, "{meshers} meshers");
-    assert!(rt; room <= 65_536, "room for {room}");
-    let plan = plan_of(rt, rounds, searchers, meshers);
-    let book = Book::open(rt.alloc(), pages, room).expect(rt, "memory");
+    check_scale(rt, scale);
+    let plan = plan_of(rt, scale.rounds, scale.searchers, scale.meshers);
+    let book = Book::open(rt.alloc(), scale.pages, scale.room).expect(rt, "memory");
     let ended = match calls {
         None => run_threads(rt, rt.alloc(), book, scripts, &plan, gate),
         Some(calls) => run_abandoned(rt, rt.alloc(), book, scripts, &plan, calls, TRIES, gate),
     };
-    ended.expect(rt, "a history")
+    look_at(ended.expect(rt, "a history"))
 }
 
 /// Runs the scripts of a course so, and looks at what it comes to.
@@ -189,11 +195,13 @@ fn played<R: Abort + AllocGlobal + Clock + Threads + Wait + Sync>(
     calls: Option<u32>,
 ) -> Seen {
     let first = script_of(rt, course.first);
-    let Some(parts) = course.second else {
-        return look_at(ran(rt, course, &alone(&first), calls));
-    };
-    let second = script_of(rt, parts);
-    look_at(ran(rt, course, &both(&first, &second), calls))
+    match course.second {
+        None => ran(rt, course, &alone(&first), calls),
+        Some(parts) => {
+            let second = script_of(rt, parts);
+            ran(rt, course, &both(&first, &second), calls)
+        }
+    }
 }
 
 /// How many entries of a history are a worker's.
@@ -271,17 +279,19 @@ struct Seen {
 
 /// Looks at what a run came to, and makes the steps that are left.
 fn look_at(mut ended: Ended) -> Seen {
-    let history = ended.history.as_slice();
-    let entries = (count_of(history, 0), count_of(history, 1));
-    let no_pages = no_pages_count(history);
-    let report = ended.heap.report();
-    let kept = keep_bytes(&ended.heap);
-    let steps_left = all_steps_left(&mut ended.heap);
+    seen_of(ended.history.as_slice(), &mut ended.heap)
+}
+
+/// Looks at a run's history and heap, and makes the steps that are left.
+fn seen_of(history: &[Entry], heap: &mut Heap) -> Seen {
+    let report = heap.report();
+    let kept = keep_bytes(heap);
+    let steps_left = all_steps_left(heap);
     Seen {
-        entries,
-        no_pages,
+        entries: (count_of(history, 0), count_of(history, 1)),
+        no_pages: no_pages_count(history),
         report,
-        keeps_bytes: (kept, keep_bytes(&ended.heap)),
+        keeps_bytes: (kept, keep_bytes(heap)),
         steps_left,
     }
 }

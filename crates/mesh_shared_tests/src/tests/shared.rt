@@ -6,7 +6,7 @@ use crate::tests::calls::{Answer, Call, GROUPS, command_of, reply_of};
 use arrayvec::ArrayVec;
 use mesh_class::{Class, class_of};
 use mesh_mutator::{Attempt, Book, Command, Reply};
-use mesh_shared::{Ended, FinishError, Seat, Shared};
+use mesh_shared::{FinishError, Seat, Shared};
 use mesh_steps::Report;
 use model_words::{Refusal, StepKind};
 use std::alloc::{AllocError, Global};
@@ -19,16 +19,21 @@ use std::thread;
 use std::thread::{Threads, join};
 use std::time::Duration;
 
-/// A book of 16 pages behind a lock, with a seat for each count.
-fn opened(alloc: Global, counts: &[usize]) -> Result<(Shared, Vec<Seat>), AllocError>
+/// A book of so many pages and so many entries behind a lock, with a seat for each count.
+fn opened(
+    rt: &(impl Abort + AllocGlobal),
+    pages: u32,
+    entries: u32,
+    counts: &[usize],
+) -> (Shared, Vec<Seat>)
+    requires some_pages { 1 ≤ pages }
+    requires most { pages ≤ 4096 }
+    requires few_entries { entries ≤ 65536 }
     requires some { 1 ≤ length counts.now }
     requires few { length counts.now ≤ 64 }
 {
-    let book = Book::open(alloc, 16, 64)?;
-    match Shared::open(alloc, book, counts) {
-        Ok(opened) => Ok(opened),
-        Err(_) => Err(AllocError),
-    }
+    let book = Book::open(rt.alloc(), pages, entries).expect(rt, "memory");
+    Shared::open(rt.alloc(), book, counts).expect(rt, "memory")
 }
 
 /// What is done with a book behind a lock and its seats.
@@ -102,11 +107,14 @@ fn used<R: Abort + AllocGlobal + Clock + Threads + Wait + Sync>(
     requires most { pages ≤ 4096 }
     requires few { entries ≤ 65536 }
 {
-    let alloc = rt.alloc();
-    let book = Book::open(alloc, pages, entries).expect(rt, "memory");
-    let (shared, mut seats) = Shared::open(alloc, book, usage.counts()).expect(rt, "memory");
-    usage.of(rt, alloc, &shared, seats.as_mut_slice());
-    let ended = shared.finish(alloc, seats).expect(rt, "a history");
+    let (shared, mut seats) = opened(rt, pages, entries, usage.counts());
+    usage.of(rt, rt.alloc(), &shared, seats.as_mut_slice());
+    finished(rt, shared, seats)
+}
+
+/// Finishes a book.
+fn finished(rt: &(impl Abort + AllocGlobal), shared: Shared, seats: Vec<Seat>) -> Closed {
+    let ended = shared.finish(rt.alloc(), seats).expect(rt, "a history");
     Closed {
         entries: ended.history.len(),
         report: ended.heap.report(),
@@ -169,9 +177,10 @@ fn check(
     answer: Answer,
     name: &str,
 ) {
-    let attempt = shared.call(rt, seat, &command_of(rt, call));
+    let command = command_of(rt, call);
+    let attempt = shared.call(rt, seat, &command);
     let wanted = Attempt::Done(reply_of(rt, answer));
-    assert!(rt; attempt == wanted, "of {call:?}, {name}");
+    assert!(rt; attempt == wanted, "of {command:?}, {name}");
 }
 
 /// Which of two books is asked.
@@ -235,19 +244,50 @@ static MISFITS: [(&str, &[Turn], &[usize], FinishError); 7] = [
 ];
 
 /// The seats of two books in one row of places.
-fn placed(
-    alloc: Global,
-    own: Vec<Seat>,
-    other: Vec<Seat>,
-) -> Result<Vec<Option<Seat>>, AllocError> {
-    let mut places = Vec::new(alloc);
-    for seat in own {
-        places.push(Some(seat))?;
+fn placed(rt: &(impl Abort + AllocGlobal), own: Vec<Seat>, other: Vec<Seat>) -> Vec<Option<Seat>> {
+    let mut places = Vec::new(rt.alloc());
+    add_seats(rt, &mut places, own);
+    add_seats(rt, &mut places, other);
+    places
+}
+
+/// Adds seats to a row of places.
+fn add_seats(rt: &impl Abort, places: &mut Vec<Option<Seat>>, seats: Vec<Seat>) {
+    for seat in seats {
+        places.push(Some(seat)).expect(rt, "memory");
     }
-    for seat in other {
-        places.push(Some(seat))?;
+}
+
+/// Asks what a turn asks.
+fn take_turn(
+    rt: &(impl Abort + Wait),
+    own: &Shared,
+    other: &Shared,
+    places: &mut [Option<Seat>],
+    turn: &Turn,
+    name: &str,
+) {
+    let (asked, place, (call, answer)) = turn;
+    let book = match asked {
+        Asked::Own => own,
+        Asked::Other => other,
+    };
+    let seat = places.get_mut(*place).expect(rt, "a place").as_mut();
+    check(rt, book, seat.expect(rt, "a seat"), *call, *answer, name);
+}
+
+/// Takes the seats of these places.
+fn taken(
+    rt: &(impl Abort + AllocGlobal),
+    places: &mut [Option<Seat>],
+    handed: &[usize],
+) -> Vec<Seat> {
+    let mut seats = Vec::new(rt.alloc());
+    for place in handed {
+        let seat = places.get_mut(*place).expect(rt, "a place").take();
+        seats.push(seat.expect(rt, "a seat")).expect(rt, "memory");
     }
-    Ok(places)
+    seats
 }
 
 /// The fault that is told when these seats are handed in after these turns.
@@ -256,34 +296,29 @@ fn told(
     turns: &[Turn],
     handed: &[usize],
     name: &str,
-) -> Result<FinishError, AllocError> {
-    let alloc = rt.alloc();
-    let (own, own_seats) = opened(alloc, &[4, 4])?;
-    let (other, other_seats) = opened(alloc, &[4, 4, 4])?;
-    let mut places = placed(alloc, own_seats, other_seats)?;
-    for (asked, place, (call, answer)) in turns {
-        let book = match asked {
-            Asked::Own => &own,
-            Asked::Other => &other,
-        };
-        let seat = places.get_mut(*place).expect(rt, "a place").as_mut();
-        check(rt, book, seat.expect(rt, "a seat"), *call, *answer, name);
+) -> FinishError {
+    let (own, own_seats) = opened(rt, 16, 64, &[4, 4]);
+    let (other, other_seats) = opened(rt, 16, 64, &[4, 4, 4]);
+    let mut places = placed(rt, own_seats, other_seats);
+    for turn in turns {
+        take_turn(rt, &own, &other, places.as_mut_slice(), turn, name);
     }
-    let mut seats = Vec::new(alloc);
-    for place in handed {
-        let seat = places.get_mut(*place).expect(rt, "a place").take();
-        seats.push(seat.expect(rt, "a seat"))?;
-    }
-    Ok(own.finish(alloc, seats).err().expect(rt, "a fault"))
+    let seats = taken(rt, places.as_mut_slice(), handed);
+    fault_of(rt, own, seats)
+}
+
+/// The fault that is told when a book is finished with these seats.
+fn fault_of(rt: &(impl Abort + AllocGlobal), shared: Shared, seats: Vec<Seat>) -> FinishError {
+    let ended = shared.finish(rt.alloc(), seats);
+    ended.err().expect(rt, "a fault")
 }
 
 #[test]
-fn seats_that_do_not_fit_are_told(rt: HostRuntime) -> Result<(), AllocError> {
+fn seats_that_do_not_fit_are_told(rt: HostRuntime) {
     for (name, turns, handed, fault) in MISFITS.iter() {
-        let error = told(&rt, turns, handed, name)?;
-        assert!(rt; error == *fault, "of {name}: {error}");
+        let error = told(&rt, turns, handed, name);
+        assert!(&rt; error == *fault, "of {name}: {error}");
     }
-    Ok(())
 }
 
 /// An object, a second name of it, and a read by that.
@@ -314,7 +349,7 @@ fn set_up(rt: &(impl Abort + Wait), shared: &Shared, seat: &mut Seat) -> Class {
 }
 
 /// A call of a mesher.
-#[derive(Clone, Copy, Debug)]
+#[derive(Clone, Copy)]
 enum Meshing {
     // Of a source into a destination.
     Begin(u32, u32),
@@ -322,6 +357,17 @@ enum Meshing {
     Cancel,
     // Of a group.
     Sweep(u32),
+}
+
+impl Meshing {
+    fn name(self) -> &'static str {
+        match self {
+            Meshing::Begin(_, _) => "Begin",
+            Meshing::Step => "Step",
+            Meshing::Cancel => "Cancel",
+            Meshing::Sweep(_) => "Sweep",
+        }
+    }
 }
 
 /// What a mesher's call under the lock is answered: of a step which it was, and steps to come or pages that came free.
@@ -363,7 +409,7 @@ fn play(
 ) {
     for (meshing, kind, count) in calls {
         let answer = meshed(rt, shared, class, *meshing);
-        assert_eq!(rt; answer, Ok((*kind, *count)), "of {meshing:?}");
+        assert_eq!(rt; answer, Ok((*kind, *count)), "of a {}", meshing.name());
     }
 }
 
