@@ -53,10 +53,15 @@ impl Ran {
         status: u8,
         case: N,
     ) {
-        assert_eq!(rt; self.output.as_slice(), output, "{case}");
-        assert_eq!(rt; self.errors.as_slice(), errors.as_bytes(), "{case}");
+        check_text(rt, self.output.as_slice(), output, &case);
+        check_text(rt, self.errors.as_slice(), errors.as_bytes(), &case);
         assert_eq!(rt; self.status, status, "{case}");
     }
+}
+
+/// Asserts that what the run of a case wrote is this.
+fn check_text<N: Display>(rt: &impl Abort, text: &[u8], wanted: &[u8], case: &N) {
+    assert_eq!(rt; text, wanted, "{case}");
 }
 
 /// Devices that read from this source, and write to memory.

@@ -1,239 +1,100 @@
 //! Command lines.
+use crate::tests::{ROW_END, fields};
 use mesh_run::{
     Args, DrawArgs, ExploreArgs, LiveArgs, MeshPair, Output, Printed, Stop, ThreadsArgs, arguments,
     stop_run, unopened_run,
 };
 use std::process::Abort;
 
-/// Command lines that ask for no run, the exit status of each, and how the text that it prints begins.
-static STOPS: [(&str, u8, &str); 17] = [
-    ("meshrun --help", 0, "A modelled heap"),
-    ("meshrun --version", 0, "meshrun 0.1.0\n"),
-    ("meshrun replay --help", 0, "Run a job file's plan"),
-    ("meshrun threads --help", 0, "Run a job file's scripts"),
-    ("meshrun draw --help", 0, "Draw a job file's plan"),
-    ("meshrun live --help", 0, "Answer the lines"),
-    (
-        "meshrun explore --help",
-        0,
-        "Run what a job file's plan leaves",
-    ),
-    ("meshrun check --help", 0, "Judge a recorded history"),
-    ("meshrun", 2, "A modelled heap"),
-    ("meshrun replay", 2, "error: "),
-    ("meshrun draw", 2, "error: "),
-    ("meshrun check", 2, "error: "),
-    ("meshrun explore a.job", 2, "error: "),
-    (
-        "meshrun explore a.job --mesh 1",
-        2,
-        "error: --mesh wants SRC:DST",
-    ),
-    ("meshrun replay a b", 2, "error: "),
-    ("meshrun replay --version", 2, "error: "),
-    ("meshrun report", 2, "error: "),
-];
+/// Command lines that ask for help or for the version, and how the text that each prints begins. A row of a table is one line and what it asks for.
+static TOLD: &str = "\
+meshrun --help|A modelled heap#\
+meshrun --version|meshrun 0.1.0\n#\
+meshrun replay --help|Run a job file's plan#\
+meshrun threads --help|Run a job file's scripts#\
+meshrun draw --help|Draw a job file's plan#\
+meshrun live --help|Answer the lines#\
+meshrun explore --help|Run what a job file's plan leaves#\
+meshrun check --help|Judge a recorded history";
 
-/// Command lines that replay `a.job`, or run its scripts in threads, and what they print.
-static PRINTED: [(&str, Printed); 7] = [
-    ("meshrun replay a.job", Printed::Answers),
-    ("meshrun replay a.job --history", Printed::History),
-    ("meshrun replay --history a.job", Printed::History),
-    (
-        "meshrun threads a.job --probe 2 --rounds 3 --workers 4 --seed 5",
-        Printed::Answers,
-    ),
-    (
-        "meshrun threads a.job --probe 2 --rounds 3 --workers 4 --seed 5 --history",
-        Printed::History,
-    ),
-    (
-        "meshrun threads --history a.job --probe 2 --rounds 3 --workers 4 --seed 5",
-        Printed::History,
-    ),
-    (
-        "meshrun threads --probe=2 --rounds=3 --history --workers=4 --seed=5 --meshers=1 a.job",
-        Printed::History,
-    ),
-];
+/// Command lines that ask for no run and are told so, in such rows too. Their exit status is 2.
+static REFUSED: &str = "\
+meshrun|A modelled heap#\
+meshrun replay|error: #\
+meshrun draw|error: #\
+meshrun check|error: #\
+meshrun explore a.job|error: #\
+meshrun explore a.job --mesh 1|error: --mesh wants SRC:DST#\
+meshrun replay a b|error: #\
+meshrun replay --version|error: #\
+meshrun report|error: ";
+
+/// Command lines that replay `a.job`, or run its scripts in threads, and print its answers.
+static ANSWERED: &str = "\
+meshrun replay a.job#\
+meshrun threads a.job --probe 2 --rounds 3 --workers 4 --seed 5";
+
+/// Command lines that do the same and print its history.
+static RECORDED: &str = "\
+meshrun replay a.job --history#\
+meshrun replay --history a.job#\
+meshrun threads a.job --probe 2 --rounds 3 --workers 4 --seed 5 --history#\
+meshrun threads --history a.job --probe 2 --rounds 3 --workers 4 --seed 5#\
+meshrun threads --probe=2 --rounds=3 --history --workers=4 --seed=5 --meshers=1 a.job";
 
 /// Command lines that judge a history, and the file that each is given.
-static CHECKED: [(&str, &str); 3] = [
-    ("meshrun check a.history", "a.history"),
-    ("meshrun check -", "-"),
-    ("meshrun check replay", "replay"),
-];
+static CHECKED: &str = "\
+meshrun check a.history|a.history#\
+meshrun check -|-#\
+meshrun check replay|replay";
 
 /// Command lines, and the numbers that they ask for on `a.job`: probe, rounds, workers, seed and meshers.
-static NUMBERS: [(&str, &[u64]); 14] = [
-    (
-        "meshrun threads a.job --probe 2 --rounds 3 --workers 4 --seed 5 --meshers 6",
-        &[2, 3, 4, 5, 6],
-    ),
-    (
-        "meshrun threads a.job --probe 2 --rounds 3 --workers 4 --seed 5",
-        &[2, 3, 4, 5, 1],
-    ),
-    (
-        "meshrun threads a.job --probe 0 --rounds 3 --workers 4 --seed 5 --meshers 6",
-        &[0, 3, 4, 5, 6],
-    ),
-    (
-        "meshrun threads a.job --probe 64 --rounds 3 --workers 4 --seed 5 --meshers 6",
-        &[64, 3, 4, 5, 6],
-    ),
-    (
-        "meshrun threads a.job --probe 2 --rounds 0 --workers 4 --seed 5 --meshers 6",
-        &[2, 0, 4, 5, 6],
-    ),
-    (
-        "meshrun threads a.job --probe 2 --rounds 1000 --workers 4 --seed 5 --meshers 6",
-        &[2, 1000, 4, 5, 6],
-    ),
-    (
-        "meshrun threads a.job --probe 2 --rounds 3 --workers 1 --seed 5 --meshers 6",
-        &[2, 3, 1, 5, 6],
-    ),
-    (
-        "meshrun threads a.job --probe 2 --rounds 3 --workers 16 --seed 5 --meshers 6",
-        &[2, 3, 16, 5, 6],
-    ),
-    (
-        "meshrun threads a.job --probe 2 --rounds 3 --workers 4 --seed 0 --meshers 6",
-        &[2, 3, 4, 0, 6],
-    ),
-    (
-        "meshrun threads a.job --probe 2 --rounds 3 --workers 4 --seed 18446744073709551615 --meshers 6",
-        &[2, 3, 4, 18446744073709551615, 6],
-    ),
-    (
-        "meshrun threads a.job --probe 2 --rounds 3 --workers 4 --seed 5 --meshers 1",
-        &[2, 3, 4, 5, 1],
-    ),
-    (
-        "meshrun threads a.job --probe 2 --rounds 3 --workers 4 --seed 5 --meshers 10",
-        &[2, 3, 4, 5, 10],
-    ),
-    (
-        "meshrun threads --meshers=6 --seed=5 a.job --workers=4 --rounds=3 --probe=2",
-        &[2, 3, 4, 5, 6],
-    ),
-    (
-        "meshrun threads a.job --probe +2 --rounds 003 --workers 4 --seed 5 --meshers 6",
-        &[2, 3, 4, 5, 6],
-    ),
-];
+static NUMBERS: &str = "\
+meshrun threads a.job --probe 2 --rounds 3 --workers 4 --seed 5 --meshers 6|2 3 4 5 6#\
+meshrun threads a.job --probe 2 --rounds 3 --workers 4 --seed 5|2 3 4 5 1#\
+meshrun threads a.job --probe 0 --rounds 3 --workers 4 --seed 5 --meshers 6|0 3 4 5 6#\
+meshrun threads a.job --probe 64 --rounds 3 --workers 4 --seed 5 --meshers 6|64 3 4 5 6#\
+meshrun threads a.job --probe 2 --rounds 0 --workers 4 --seed 5 --meshers 6|2 0 4 5 6#\
+meshrun threads a.job --probe 2 --rounds 1000 --workers 4 --seed 5 --meshers 6|2 1000 4 5 6#\
+meshrun threads a.job --probe 2 --rounds 3 --workers 1 --seed 5 --meshers 6|2 3 1 5 6#\
+meshrun threads a.job --probe 2 --rounds 3 --workers 16 --seed 5 --meshers 6|2 3 16 5 6#\
+meshrun threads a.job --probe 2 --rounds 3 --workers 4 --seed 0 --meshers 6|2 3 4 0 6#\
+meshrun threads a.job --probe 2 --rounds 3 --workers 4 --seed 18446744073709551615 --meshers 6|2 3 4 18446744073709551615 6#\
+meshrun threads a.job --probe 2 --rounds 3 --workers 4 --seed 5 --meshers 1|2 3 4 5 1#\
+meshrun threads a.job --probe 2 --rounds 3 --workers 4 --seed 5 --meshers 10|2 3 4 5 10#\
+meshrun threads --meshers=6 --seed=5 a.job --workers=4 --rounds=3 --probe=2|2 3 4 5 6#\
+meshrun threads a.job --probe +2 --rounds 003 --workers 4 --seed 5 --meshers 6|2 3 4 5 6";
 
 /// Command lines, and what they ask for to be drawn of `a.job`: the first line, the last one, and columns.
-static SHOWN: [(&str, [u32; 3]); 8] = [
-    ("meshrun draw a.job", [1, 1048576, 0]),
-    (
-        "meshrun draw a.job --from 12 --to 34 --columns 5",
-        [12, 34, 5],
-    ),
-    ("meshrun draw a.job --from 12", [12, 1048576, 0]),
-    ("meshrun draw a.job --to 34", [1, 34, 0]),
-    ("meshrun draw a.job --columns 5", [1, 1048576, 5]),
-    (
-        "meshrun draw --columns=64 --to=1048576 a.job --from=1048576",
-        [1048576, 1048576, 64],
-    ),
-    ("meshrun draw a.job --from 1 --to 1 --columns 0", [1, 1, 0]),
-    (
-        "meshrun draw a.job --from +34 --to 0012 --columns 5",
-        [34, 12, 5],
-    ),
-];
+static SHOWN: &str = "\
+meshrun draw a.job|1 1048576 0#\
+meshrun draw a.job --from 12 --to 34 --columns 5|12 34 5#\
+meshrun draw a.job --from 12|12 1048576 0#\
+meshrun draw a.job --to 34|1 34 0#\
+meshrun draw a.job --columns 5|1 1048576 5#\
+meshrun draw --columns=64 --to=1048576 a.job --from=1048576|1048576 1048576 64#\
+meshrun draw a.job --from 1 --to 1 --columns 0|1 1 0#\
+meshrun draw a.job --from +34 --to 0012 --columns 5|34 12 5";
 
 /// Command lines, and the sizes of the session that they ask for: pages, entries and workers.
-static SIZES: [(&str, [u32; 3]); 4] = [
-    ("meshrun live", [4096, 65536, 64]),
-    ("meshrun live --pages 1 --history 0 --workers 1", [1, 0, 1]),
-    ("meshrun live --workers=2", [4096, 65536, 2]),
-    (
-        "meshrun live --history=65536 --pages=4096 --workers=64",
-        [4096, 65536, 64],
-    ),
-];
+static SIZES: &str = "\
+meshrun live|4096 65536 64#\
+meshrun live --pages 1 --history 0 --workers 1|1 0 1#\
+meshrun live --workers=2|4096 65536 2#\
+meshrun live --history=65536 --pages=4096 --workers=64|4096 65536 64";
 
-/// Command lines, and what they ask for to be explored of `a.job`: the meshes, their steps before a cancel, the most states, and the outcome that is
-/// printed.
-static EXPLORED: [(&str, &[[u32; 2]], Option<u32>, u32, Option<u32>); 9] = [
-    (
-        "meshrun explore a.job --mesh 1:0",
-        &[[1, 0]],
-        None,
-        100000,
-        None,
-    ),
-    (
-        "meshrun explore --mesh=1:0 a.job --mesh=3:2",
-        &[[1, 0], [3, 2]],
-        None,
-        100000,
-        None,
-    ),
-    (
-        "meshrun explore a.job --mesh 3:2 --cancel 4 --mesh 1:0 --states 5 --witness 6",
-        &[[3, 2], [1, 0]],
-        Some(4),
-        5,
-        Some(6),
-    ),
-    (
-        "meshrun explore a.job --mesh 0:65535 --cancel 0 --states 1 --witness 0",
-        &[[0, 65535]],
-        Some(0),
-        1,
-        Some(0),
-    ),
-    (
-        "meshrun explore a.job --mesh 65535:0 --cancel 1000 --states 10000000 --witness 1000000",
-        &[[65535, 0]],
-        Some(1000),
-        10000000,
-        Some(1000000),
-    ),
-    (
-        "meshrun explore a.job --mesh 1:1 --mesh 1:1",
-        &[[1, 1], [1, 1]],
-        None,
-        100000,
-        None,
-    ),
-    (
-        "meshrun explore a.job --witness +3 --states 0012 --mesh 1:0",
-        &[[1, 0]],
-        None,
-        12,
-        Some(3),
-    ),
-    (
-        "meshrun explore a.job --mesh 1:0 --witness 3",
-        &[[1, 0]],
-        None,
-        100000,
-        Some(3),
-    ),
-    (
-        "meshrun explore a.job --mesh 9:0 --mesh 8:1 --mesh 7:2 --mesh 6:3 --mesh 5:4 --mesh 4:5 --mesh 3:6 --mesh 2:7 --mesh 1:8 --mesh 0:9",
-        &[
-            [9, 0],
-            [8, 1],
-            [7, 2],
-            [6, 3],
-            [5, 4],
-            [4, 5],
-            [3, 6],
-            [2, 7],
-            [1, 8],
-            [0, 9],
-        ],
-        None,
-        100000,
-        None,
-    ),
-];
+/// Command lines, and what they ask for to be explored of `a.job`: the meshes, and behind them their steps before a cancel, the most states, and the
+/// outcome that is printed, `-` where there is none.
+static EXPLORED: &str = "\
+meshrun explore a.job --mesh 1:0|1:0|- 100000 -#\
+meshrun explore --mesh=1:0 a.job --mesh=3:2|1:0 3:2|- 100000 -#\
+meshrun explore a.job --mesh 3:2 --cancel 4 --mesh 1:0 --states 5 --witness 6|3:2 1:0|4 5 6#\
+meshrun explore a.job --mesh 0:65535 --cancel 0 --states 1 --witness 0|0:65535|0 1 0#\
+meshrun explore a.job --mesh 65535:0 --cancel 1000 --states 10000000 --witness 1000000|65535:0|1000 10000000 1000000#\
+meshrun explore a.job --mesh 1:1 --mesh 1:1|1:1 1:1|- 100000 -#\
+meshrun explore a.job --witness +3 --states 0012 --mesh 1:0|1:0|- 12 3#\
+meshrun explore a.job --mesh 1:0 --witness 3|1:0|- 100000 3#\
+meshrun explore a.job --mesh 9:0 --mesh 8:1 --mesh 7:2 --mesh 6:3 --mesh 5:4 --mesh 4:5 --mesh 3:6 --mesh 2:7 --mesh 1:8 --mesh 0:9|9:0 8:1 7:2 6:3 5:4 4:5 3:6 2:7 1:8 0:9|- 100000 -";
 
 /// Command lines with a fault, each of a command that has numbers or a flag, or of `check`.
 static FAULTY: &str = "\
@@ -321,7 +182,7 @@ meshrun check a.history --history\n\
 meshrun check a.history --version";
 
 /// What a command line asks for beside its file.
-#[derive(Clone, Copy, PartialEq, Eq)]
+#[derive(Clone, Copy)]
 enum Asked {
     Replay(Printed),
     Threads(ThreadsArgs, Printed),
@@ -356,23 +217,28 @@ fn stop_at(rt: &(impl Abort + AllocGlobal), line: &str) -> Stop {
     }
 }
 
-#[test]
-fn reads_what_is_printed(rt: HostRuntime) {
-    for (line, printed) in PRINTED.iter() {
-        match read_line(&rt, line, "a.job") {
-            Asked::Replay(read) | Asked::Threads(_, read) => assert!(rt;
-                read == *printed,
-                "{line}"
-            ),
+/// Asserts that command lines on `a.job` ask for this to be printed.
+fn check_printed(rt: &(impl Abort + AllocGlobal), table: &str, printed: Printed) {
+    for line in table.split(ROW_END) {
+        match read_line(rt, line, "a.job") {
+            Asked::Replay(read) | Asked::Threads(_, read) => assert!(rt; read == printed, "{line}"),
             _ => panic!(rt; "another command: {line}"),
         }
     }
 }
 
 #[test]
+fn reads_what_is_printed(rt: HostRuntime) {
+    check_printed(&rt, ANSWERED, Printed::Answers);
+    check_printed(&rt, RECORDED, Printed::History);
+}
+
+#[test]
 fn reads_checks(rt: HostRuntime) {
-    for (line, file) in CHECKED.iter() {
-        assert!(rt; read_line(&rt, line, file) == Asked::Check, "{line}");
+    for row in CHECKED.split(ROW_END) {
+        let (line, file, _) = fields(row);
+        let asked = read_line(&rt, line, file);
+        assert!(rt; matches!(asked, Asked::Check), "{line}");
     }
 }
 
@@ -391,67 +257,113 @@ fn check_stop(rt: &(impl Abort + AllocGlobal), stop: &Stop, status: u8, text: &s
     assert!(rt; other.is_empty(), "{text}");
 }
 
+/// Asserts that command lines stop before a run, with this status and these texts.
+fn check_stops(rt: &(impl Abort + AllocGlobal), table: &str, status: u8) {
+    for row in table.split(ROW_END) {
+        let (line, text, _) = fields(row);
+        assert!(rt; !text.is_empty(), "no text: {line}");
+        check_stop(rt, &stop_at(rt, line), status, text);
+    }
+}
+
 #[test]
 fn stops_at_others(rt: HostRuntime) {
-    for (line, status, text) in STOPS.iter() {
-        check_stop(&rt, &stop_at(&rt, line), *status, text);
-    }
+    check_stops(&rt, TOLD, 0);
+    check_stops(&rt, REFUSED, 2);
+}
+
+/// Asserts that a command line asks for these numbers.
+fn check_numbers(rt: &(impl Abort + AllocGlobal), line: &str, numbers: &str) {
+    let Asked::Threads(args, _) = read_line(rt, line, "a.job") else {
+        panic!(rt; "no threads: {line}");
+    };
+    let ThreadsArgs {
+        probe,
+        rounds,
+        workers,
+        seed,
+        meshers,
+    } = args;
+    let read = format!(in rt.alloc(); "{probe} {rounds} {workers} {seed} {meshers}");
+    assert_eq!(rt; read.expect(rt, "memory").as_str(), numbers, "{line}");
 }
 
 #[test]
 fn reads_numbers(rt: HostRuntime) {
-    for (line, numbers) in NUMBERS.iter() {
-        let Asked::Threads(args, _) = read_line(&rt, line, "a.job") else {
-            panic!(rt; "no threads: {line}");
-        };
-        let counts = [args.probe, args.rounds, args.workers, args.meshers];
-        let [probe, rounds, workers, meshers] = counts.map(u64::from);
-        let read = [probe, rounds, workers, args.seed, meshers];
-        assert!(rt; read.as_slice() == *numbers, "{line}");
+    for row in NUMBERS.split(ROW_END) {
+        let (line, numbers, _) = fields(row);
+        check_numbers(&rt, line, numbers);
     }
+}
+
+/// Asserts that three numbers that a command line asks for are these.
+fn check_three(rt: &(impl Abort + AllocGlobal), line: &str, read: (u32, u32, u32), numbers: &str) {
+    let read = format!(in rt.alloc(); "{} {} {}", read.0, read.1, read.2);
+    assert_eq!(rt; read.expect(rt, "memory").as_str(), numbers, "{line}");
 }
 
 #[test]
 fn reads_what_is_drawn(rt: HostRuntime) {
-    for (line, shown) in SHOWN.iter() {
+    for row in SHOWN.split(ROW_END) {
+        let (line, shown, _) = fields(row);
         let Asked::Draw(args) = read_line(&rt, line, "a.job") else {
             panic!(rt; "no picture: {line}");
         };
-        assert!(rt; [args.from, args.to, args.columns] == *shown, "{line}");
+        check_three(&rt, line, (args.from, args.to, args.columns), shown);
     }
 }
 
-/// Whether the meshes are these, source and destination.
-fn are_meshes(pairs: &[MeshPair], meshes: &[[u32; 2]]) -> bool {
-    pairs.len() == meshes.len()
-        && pairs
-            .iter()
-            .zip(meshes.iter())
-            .all(|(pair, mesh)| [pair.source, pair.destination] == *mesh)
+/// Asserts that the meshes that a command line asks for are these, source and destination.
+fn check_meshes(rt: &(impl Abort + AllocGlobal), line: &str, pairs: &[MeshPair], meshes: &str) {
+    let mut words = meshes.split(' ');
+    for pair in pairs {
+        let read = format!(in rt.alloc(); "{}:{}", pair.source, pair.destination);
+        assert_eq!(rt;
+            Some(read.expect(rt, "memory").as_str()),
+            words.next(),
+            "{line}"
+        );
+    }
+    assert_eq!(rt; words.next(), None, "{line}");
+}
+
+/// A number that may be asked for, as the table writes it.
+fn written(rt: &(impl Abort + AllocGlobal), number: Option<u32>) -> String {
+    let text = match number {
+        Some(number) => format!(in rt.alloc(); "{number}"),
+        None => String::from_str(rt.alloc(), "-"),
+    };
+    text.expect(rt, "memory")
+}
+
+/// Asserts that an exploration has these numbers.
+fn check_explored(rt: &(impl Abort + AllocGlobal), line: &str, args: &ExploreArgs, numbers: &str) {
+    let cancel = written(rt, args.cancel);
+    let witness = written(rt, args.witness);
+    let read = format!(in rt.alloc(); "{} {} {}", cancel.as_str(), args.states, witness.as_str());
+    assert_eq!(rt; read.expect(rt, "memory").as_str(), numbers, "{line}");
 }
 
 #[test]
 fn reads_what_is_explored(rt: HostRuntime) {
-    for (line, meshes, cancel, states, witness) in EXPLORED.iter() {
+    for row in EXPLORED.split(ROW_END) {
+        let (line, meshes, numbers) = fields(row);
         let Asked::Explore(args) = read_line(&rt, line, "a.job") else {
             panic!(rt; "nothing explored: {line}");
         };
-        assert!(rt; are_meshes(args.meshes.as_slice(), meshes), "{line}");
-        let read = (args.cancel, args.states, args.witness);
-        assert!(rt; read == (*cancel, *states, *witness), "{line}");
+        check_meshes(&rt, line, args.meshes.as_slice(), meshes);
+        check_explored(&rt, line, &args, numbers);
     }
 }
 
 #[test]
 fn reads_sizes(rt: HostRuntime) {
-    for (line, sizes) in SIZES.iter() {
+    for row in SIZES.split(ROW_END) {
+        let (line, sizes, _) = fields(row);
         let Asked::Live(args) = read_line(&rt, line, "") else {
             panic!(rt; "no session: {line}");
         };
-        assert!(rt;
-            [args.pages, args.history, args.workers] == *sizes,
-            "{line}"
-        );
+        check_three(&rt, line, (args.pages, args.history, args.workers), sizes);
     }
 }
 

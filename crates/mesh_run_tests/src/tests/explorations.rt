@@ -3,8 +3,8 @@ ghost use Rattle.std.specs.Prelude.{◌≡◌, false};
 
 use crate::tests::devices::SlowSource;
 use crate::tests::{Ran, in_memory};
-use mesh_run::{Args, Input, Source, arguments, explore_run};
-use std::alloc::{AllocError, Global};
+use mesh_run::{Args, ExploreArgs, Input, Source, arguments, explore_run};
+use std::process::Abort;
 
 /// The words of a small exploration, of 64 states and two outcomes.
 static STORE: [&str; 5] = ["meshrun", "explore", "a.job", "--mesh", "1:0"];
@@ -30,57 +30,66 @@ static STOPS: [(&[&str], &str, u8); 5] = [
     (&["--witness", "1000000"], "no such outcome\n", 2),
 ];
 
-/// Runs an exploration with these words, or none where they ask for something else.
-fn explored<I: Source + Drop>(alloc: Global, words: &[&str], input: I) -> Option<Ran>
+/// Runs an exploration with these words.
+fn explored<I: Source + Drop>(rt: &(impl Abort + AllocGlobal), words: &[&str], input: I) -> Ran
     requires { I.has_failed input ≡ false }
 {
-    let Ok(Args::Explore(_, args)) = arguments(alloc, words) else {
-        return None;
-    };
-    let mut devices = in_memory(alloc, input);
-    let status = explore_run(alloc, &args, &mut devices);
-    Some(Ran::of(status, devices))
+    let args = asked(rt, words);
+    let mut devices = in_memory(rt.alloc(), input);
+    let status = explore_run(rt.alloc(), &args, &mut devices);
+    Ran::of(status, devices)
 }
 
-#[test]
-fn prints_an_outcome_as_a_job(rt: HostRuntime) -> Result<(), AllocError> {
-    let words = with(rt.alloc(), &["--witness", "1"])?;
-    let input = SlowSource::new(STORE_FILE.as_bytes(), STORE_FILE.len() + 1);
-    let Some(run) = explored(rt.alloc(), words.as_slice(), input) else {
-        panic!(rt; "nothing explored");
-    };
-    run.check(&rt, SECOND.as_bytes(), "", 0, "the second outcome");
-    Ok(())
-}
-
-#[test]
-fn tells_why_it_stops(rt: HostRuntime) -> Result<(), AllocError> {
-    for (more, line, status) in STOPS.iter() {
-        let words = with(rt.alloc(), more)?;
-        let input = Input::new(STORE_FILE.as_bytes());
-        let Some(run) = explored(rt.alloc(), words.as_slice(), input) else {
-            panic!(rt; "nothing explored: {line}");
-        };
-        run.check(&rt, b"", line, *status, *line);
+/// The exploration that these words ask for.
+fn asked(rt: &(impl Abort + AllocGlobal), words: &[&str]) -> ExploreArgs {
+    match arguments(rt.alloc(), words) {
+        Ok(Args::Explore(_, args)) => args,
+        _ => panic!(rt; "nothing explored"),
     }
-    Ok(())
+}
+
+#[test]
+fn prints_an_outcome_as_a_job(rt: HostRuntime) {
+    let words = with(&rt, &["--witness", "1"]);
+    let input = SlowSource::new(STORE_FILE.as_bytes(), STORE_FILE.len() + 1);
+    let run = explored(&rt, words.as_slice(), input);
+    run.check(&rt, SECOND.as_bytes(), "", 0, "the second outcome");
+}
+
+#[test]
+fn tells_why_it_stops(rt: HostRuntime) {
+    for (more, line, status) in STOPS.iter() {
+        check_stop(&rt, more, line, *status);
+    }
+}
+
+/// Asserts that an exploration with these words more ends with this line and this status.
+fn check_stop(
+    rt: &(impl Abort + AllocGlobal),
+    more: &[&'static str],
+    line: &'static str,
+    status: u8,
+) {
+    let words = with(rt, more);
+    let input = Input::new(STORE_FILE.as_bytes());
+    explored(rt, words.as_slice(), input).check(rt, b"", line, status, line);
 }
 
 #[test]
 fn tells_a_read_that_fails(rt: HostRuntime) {
     for calls in [0, 1, STORE_FILE.len()] {
         let input = SlowSource::new(STORE_FILE.as_bytes(), calls);
-        let Some(run) = explored(rt.alloc(), STORE.as_slice(), input) else {
-            panic!(rt; "nothing explored");
-        };
+        let run = explored(&rt, STORE.as_slice(), input);
         run.check(&rt, b"", "read fault\n", 1, calls);
     }
 }
 
 /// The words of the small exploration with these behind them.
-fn with(alloc: Global, more: &[&'static str]) -> Result<Vec<&'static str>, AllocError> {
-    let mut words = Vec::new(alloc);
-    words.extend_from_slice(STORE.as_slice())?;
-    words.extend_from_slice(more)?;
-    Ok(words)
+fn with(rt: &(impl Abort + AllocGlobal), more: &[&'static str]) -> Vec<&'static str> {
+    let mut words = Vec::new(rt.alloc());
+    words
+        .extend_from_slice(STORE.as_slice())
+        .expect(rt, "memory");
+    words.extend_from_slice(more).expect(rt, "memory");
+    words
 }

@@ -5,8 +5,8 @@ use crate::tests::devices::SlowSource;
 use crate::tests::faults::faulty_files;
 use crate::tests::{ROW_END, Ran, fields, in_memory};
 use mesh_run::{Input, Printed, Source, ThreadsArgs, threads_run};
+use std::process::Abort;
 use std::sync::Wait;
-use std::test::Fail;
 use std::thread::Threads;
 
 /// Two workers of two commands each: together one more than the history has entries.
@@ -96,100 +96,155 @@ fn is_freed(cell: u32) -> bool {
 }
 
 /// Adds a worker's script: objects, their bytes, every other pair of them freed, and what is read of them after that.
-fn add_script(file: &mut String, first: u32) -> Result<(), Fail>
+fn add_script(rt: &impl Abort, file: &mut String, first: u32)
     requires { first ≤ 128 }
 {
     for cell in first..first + CELLS {
-        write!(file, "new {cell} 2048 0\n")?;
+        write!(file, "new {cell} 2048 0\n").expect(rt, "memory");
     }
     for cell in first..first + CELLS {
-        write!(file, "put {cell} 0 {cell:02x}\n")?;
+        write!(file, "put {cell} 0 {cell:02x}\n").expect(rt, "memory");
     }
     for cell in first..first + CELLS {
         if is_freed(cell) {
-            write!(file, "free {cell}\n")?;
+            write!(file, "free {cell}\n").expect(rt, "memory");
         } else {
-            write!(file, "get {cell} 0 1\n")?;
+            write!(file, "get {cell} 0 1\n").expect(rt, "memory");
         }
     }
     for cell in first..first + CELLS {
-        write!(file, "get {cell} 0 1\n")?;
+        write!(file, "get {cell} 0 1\n").expect(rt, "memory");
     }
     for cell in first..first + CELLS {
-        write!(file, "addr {cell}\n")?;
+        write!(file, "addr {cell}\n").expect(rt, "memory");
     }
-    Ok(())
 }
 
 /// Adds the lines of a worker's answers.
-fn add_answers(lines: &mut String, first: u32) -> Result<(), Fail>
+fn add_answers(rt: &impl Abort, lines: &mut String, first: u32)
     requires { first ≤ 128 }
 {
     for _ in 0..CELLS {
-        lines.push_str("object\n")?;
+        lines.push_str("object\n").expect(rt, "memory");
     }
     for _ in 0..CELLS {
-        lines.push_str("done\n")?;
+        lines.push_str("done\n").expect(rt, "memory");
     }
+    add_loads(rt, lines, first, "done\n");
+    add_loads(rt, lines, first, "refused 6 FREED\n");
     for cell in first..first + CELLS {
-        if is_freed(cell) {
-            lines.push_str("done\n")?;
-        } else {
-            write!(lines, "bytes {cell:02x}\n")?;
-        }
-    }
-    for cell in first..first + CELLS {
-        if is_freed(cell) {
-            lines.push_str("refused 6 FREED\n")?;
-        } else {
-            write!(lines, "bytes {cell:02x}\n")?;
-        }
-    }
-    for cell in first..first + CELLS {
-        lines.push_str(if is_freed(cell) {
+        let line = if is_freed(cell) {
             "refused 6 FREED\n"
         } else {
             "at\n"
-        })?;
+        };
+        lines.push_str(line).expect(rt, "memory");
     }
-    Ok(())
 }
 
-#[test]
-fn answers_do_not_depend_on_meshers(rt: HostRuntime) -> Result<(), Fail> {
-    let mut file = String::from_str(rt.alloc(), "mesh 1\npages 64\nhistory 400\nworkers 2\n")?;
-    let mut answers = String::new(rt.alloc());
-    for worker in 0..2 {
-        write!(file, "worker {worker}\n")?;
-        write!(answers, "worker {worker}\n")?;
-        add_script(&mut file, FIRST_CELL[worker])?;
-        add_answers(&mut answers, FIRST_CELL[worker])?;
-    }
-    file.push_str("plan\nend\n")?;
-    answers.push_str("history 400\n")?;
-    for workers in [1, 3, 16] {
-        for meshers in [1, 2, 10] {
-            for seed in [0, 1, u64::MAX] {
-                let args = ThreadsArgs {
-                    probe: workers,
-                    rounds: 3,
-                    workers,
-                    seed,
-                    meshers,
-                };
-                let run = ran(&rt, Input::new(file.as_bytes()), &args, Printed::Answers);
-                assert_eq!(rt;
-                    run.errors.as_slice(),
-                    b"".as_slice(),
-                    "{workers}, {meshers}, {seed}"
-                );
-                assert!(rt;
-                    run.output.as_slice() == answers.as_bytes(),
-                    "{workers}, {meshers}, {seed}"
-                );
-                assert_eq!(rt; run.status, 0);
-            }
+/// Adds the line of a load of each cell's byte, and this one in its place where the cell's object is freed.
+fn add_loads(rt: &impl Abort, lines: &mut String, first: u32, freed: &str)
+    requires { first ≤ 128 }
+{
+    for cell in first..first + CELLS {
+        if is_freed(cell) {
+            lines.push_str(freed).expect(rt, "memory");
+        } else {
+            write!(lines, "bytes {cell:02x}\n").expect(rt, "memory");
         }
     }
-    Ok(())
+}
+
+/// The file of the two workers.
+fn file_of_two(rt: &(impl Abort + AllocGlobal)) -> String {
+    let head = "mesh 1\npages 64\nhistory 400\nworkers 2\n";
+    let mut file = String::from_str(rt.alloc(), head).expect(rt, "memory");
+    for worker in 0..2 {
+        write!(file, "worker {worker}\n").expect(rt, "memory");
+        add_script(rt, &mut file, FIRST_CELL[worker]);
+    }
+    file.push_str("plan\nend\n").expect(rt, "memory");
+    file
+}
+
+/// The lines that they are answered.
+fn answers_of_two(rt: &(impl Abort + AllocGlobal)) -> String {
+    let mut answers = String::new(rt.alloc());
+    for worker in 0..2 {
+        write!(answers, "worker {worker}\n").expect(rt, "memory");
+        add_answers(rt, &mut answers, FIRST_CELL[worker]);
+    }
+    answers.push_str("history 400\n").expect(rt, "memory");
+    answers
+}
+
+/// The numbers of searchers, of meshers, and the seeds with which the two workers' scripts are run.
+static SEARCHERS: [u32; 3] = [1, 3, 16];
+
+static MESHERS: [u32; 3] = [1, 2, 10];
+
+static SEEDS: [u64; 3] = [0, 1, u64::MAX];
+
+#[test]
+fn answers_do_not_depend_on_meshers(rt: HostRuntime) {
+    let file = file_of_two(&rt);
+    let answers = answers_of_two(&rt);
+    for workers in SEARCHERS.iter() {
+        for meshers in MESHERS.iter() {
+            check_seeds(&rt, file.as_str(), answers.as_str(), *workers, *meshers);
+        }
+    }
+}
+
+/// Asserts that a file is answered so with each of the seeds, by so many searchers and meshers.
+fn check_seeds<R: Abort + Threads + Wait + Sync + AllocGlobal>(
+    rt: &R,
+    file: &str,
+    answers: &str,
+    workers: u32,
+    meshers: u32,
+) {
+    assert!(rt; 1 <= workers && workers <= 16, "searchers");
+    assert!(rt; 1 <= meshers && meshers <= 10, "meshers");
+    for seed in SEEDS.iter() {
+        let args = ThreadsArgs {
+            probe: workers,
+            rounds: 3,
+            workers,
+            seed: *seed,
+            meshers,
+        };
+        check_answers(rt, file, answers, &args);
+    }
+}
+
+/// Asserts that a file is answered so.
+fn check_answers<R: Abort + Threads + Wait + Sync + AllocGlobal>(
+    rt: &R,
+    file: &str,
+    answers: &str,
+    args: &ThreadsArgs,
+) {
+    let run = ran(rt, Input::new(file.as_bytes()), args, Printed::Answers);
+    check_run(rt, &run, answers, args);
+}
+
+/// Asserts what a run wrote that was asked for so, and its status.
+fn check_run(rt: &impl Abort, run: &Ran, answers: &str, args: &ThreadsArgs) {
+    let ThreadsArgs {
+        workers,
+        meshers,
+        seed,
+        ..
+    } = *args;
+    assert_eq!(rt;
+        run.errors.as_slice(),
+        b"".as_slice(),
+        "{workers}, {meshers}, {seed}"
+    );
+    assert!(rt;
+        run.output.as_slice() == answers.as_bytes(),
+        "{workers}, {meshers}, {seed}"
+    );
+    assert_eq!(rt; run.status, 0);
 }
