@@ -2,7 +2,7 @@
 ghost use Rattle.std.specs.Prelude.{◌≡◌, ◌<◌, ◌∷◌, [], IfOk};
 ghost use Rattle.mesh_search.specs.Views.{AreNamed, IsCandidate};
 
-use crate::tests::search::has_found;
+use crate::tests::search::{has_found, pair};
 use mesh_bits::Bits;
 use mesh_class::{Class, class_of};
 use mesh_search::{Candidate, ClassView, split_mesh};
@@ -41,6 +41,6 @@ fn an_order_of_numbers_is_searched(rt: HostRuntime) -> Result<(), Fail> {
     let class = class_of(2048).expect(&rt, "a class");
     let view = worked_view(alloc, class)?;
     let found = split_mesh(alloc, &view, &[2, 0, 3, 1], 2)?;
-    assert!(rt; has_found(&found, &[(1, 2), (3, 0)], 4));
+    assert!(rt; has_found(&found, &[pair(1, 2), pair(3, 0)], 4));
     Ok(())
 }

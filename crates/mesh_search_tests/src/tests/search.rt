@@ -9,23 +9,17 @@ pub(crate) static WORKED: [u32; 4] = [0b01, 0b01, 0b10, 0b10];
 /// The words of the worked searches.
 pub(crate) static WORDS: [u64; 3] = [2, 0, 5];
 
-/// Whether a search found these pairs, source first, by so many tries.
-pub(crate) fn has_found(found: &Found, pairs: &[(u32, u32)], probes: u64) -> bool {
-    found.probes == probes && are_pairs(found.pairs.as_slice(), pairs)
+/// Two groups, source first.
+pub(crate) fn pair(source: u32, destination: u32) -> Pair {
+    Pair {
+        source,
+        destination,
+    }
 }
 
-/// Whether pairs are these, source first.
-fn are_pairs(found: &[Pair], pairs: &[(u32, u32)]) -> bool {
-    if found.len() != pairs.len() {
-        return false;
-    }
-    for k in 0..pairs.len() {
-        let pair = &found[k];
-        if pair.source != pairs[k].0 || pair.destination != pairs[k].1 {
-            return false;
-        }
-    }
-    true
+/// Whether a search found these pairs by so many tries.
+pub(crate) fn has_found(found: &Found, pairs: &[Pair], probes: u64) -> bool {
+    found.probes == probes && found.pairs.as_slice() == pairs
 }
 
 #[test]
@@ -66,14 +60,14 @@ fn check_numbers(rt: &impl Abort, view: &ClassView, count: usize) {
     }
 }
 
-/// Asserts what a search of the view of a place, of ten views, finds in so many rounds by these words: pairs, source first, by so many tries.
+/// Asserts what a search of the view of a place, of ten views, finds in so many rounds by these words: pairs, by so many tries.
 fn check(
     rt: &(impl Abort + AllocGlobal),
     views: &[ClassView],
     place: usize,
     words: &[u64],
     t: u32,
-    pairs: &[(u32, u32)],
+    pairs: &[Pair],
     probes: u64,
 ) {
     assert_eq!(rt; views.len(), 10);
@@ -95,19 +89,19 @@ fn worked_pairs_are_found(rt: HostRuntime) {
 fn check_worked(rt: &(impl Abort + AllocGlobal), views: &[ClassView]) {
     check(rt, views, 9, &WORDS, 0, &[], 0);
     check(rt, views, 9, &WORDS, 1, &[], 2);
-    check(rt, views, 9, &WORDS, 2, &[(1, 2), (3, 0)], 4);
-    check(rt, views, 9, &[], 1, &[(2, 0), (3, 1)], 2);
+    check(rt, views, 9, &WORDS, 2, &[pair(1, 2), pair(3, 0)], 4);
+    check(rt, views, 9, &[], 1, &[pair(2, 0), pair(3, 1)], 2);
     check(rt, views, 2, &[9], 3, &[], 0);
 }
 
 #[test]
 fn an_empty_group_is_no_candidate(rt: HostRuntime) {
     let views = views_of(&rt, 2048, &[0b01, 0b01, 0b10, 0b00]);
-    check(&rt, views.as_slice(), 9, &WORDS, 2, &[(0, 2)], 1);
+    check(&rt, views.as_slice(), 9, &WORDS, 2, &[pair(0, 2)], 1);
 }
 
 #[test]
 fn the_group_with_fewer_objects_is_the_source(rt: HostRuntime) {
     let views = views_of(&rt, 1024, &[0b1000, 0b0111]);
-    check(&rt, views.as_slice(), 7, &[], 1, &[(0, 1)], 1);
+    check(&rt, views.as_slice(), 7, &[], 1, &[pair(0, 1)], 1);
 }

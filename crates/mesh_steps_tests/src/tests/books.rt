@@ -3,8 +3,8 @@ ghost use Rattle.std.specs.Prelude.{◌≤◌, IfSome};
 ghost use Rattle.model_words.specs.Commands.{IsInRange};
 
 use crate::tests::calls::{
-    BLOCKED, Call, DONE, NO_MEMORY, Told, UNMADE, freed, left, loaded, made, number, refused,
-    reported, running, stepped,
+    BLOCKED, Call, DONE, NO_MEMORY, Told, UNMADE, freed, left, loaded, made, mesher_answer, number,
+    refused, reported, running, stepped,
 };
 use crate::tests::heaps::{MAX_OBJECTS, class_at};
 use arrayvec::ArrayVec;
@@ -125,16 +125,5 @@ fn replied(reply: &Reply) -> Told {
 
 /// What a mesher's call is answered.
 fn meshed(rt: &impl Abort, book: &mut Book, call: Call) -> Told {
-    match call {
-        Call::Begin(source, destination) => left(book.begin(source, destination)),
-        Call::BeginAlone(source, destination) => left(book.begin_alone(source, destination)),
-        Call::Whole(source, destination) => freed(book.mesh_whole(source, destination)),
-        Call::WholeAlone(source, destination) => freed(book.whole_alone(source, destination)),
-        Call::Sweep(group) => freed(book.sweep(group)),
-        Call::Report => reported(book.report()),
-        Call::Step(size) => stepped(book.step(class_at(rt, size))),
-        Call::Cancel(size) => left(book.cancel(class_at(rt, size))),
-        Call::Running(size) => running(book.running(class_at(rt, size))),
-        _ => UNMADE,
-    }
+    mesher_answer!(rt, book, call)
 }

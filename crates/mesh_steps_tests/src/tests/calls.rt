@@ -3,6 +3,26 @@
 use mesh_steps::{Report, StepDone};
 use model_words::{Refusal, StepKind};
 
+/// What a mesher's call is answered by a heap or by a book, which have these calls by the same names.
+macro_rules! mesher_answer {
+    ($rt:expr, $of:expr, $call:expr) => {
+        match $call {
+            Call::Begin(source, destination) => left($of.begin(source, destination)),
+            Call::BeginAlone(source, destination) => left($of.begin_alone(source, destination)),
+            Call::Whole(source, destination) => freed($of.mesh_whole(source, destination)),
+            Call::WholeAlone(source, destination) => freed($of.whole_alone(source, destination)),
+            Call::Sweep(group) => freed($of.sweep(group)),
+            Call::Report => reported($of.report()),
+            Call::Step(size) => stepped($of.step(class_at($rt, size))),
+            Call::Cancel(size) => left($of.cancel(class_at($rt, size))),
+            Call::Running(size) => running($of.running(class_at($rt, size))),
+            _ => UNMADE,
+        }
+    };
+}
+
+pub(crate) use mesher_answer;
+
 /// A call of a heap. It names an object by its serial, and a class by its size.
 #[derive(Clone, Copy)]
 pub(crate) enum Call {

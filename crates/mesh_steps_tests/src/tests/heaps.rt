@@ -2,8 +2,8 @@
 ghost use Rattle.std.specs.Prelude.{◌≤◌};
 
 use crate::tests::calls::{
-    BLOCKED, Call, DONE, NO_MEMORY, Told, UNMADE, freed, left, loaded, made, number, refused,
-    reported, running, stepped,
+    BLOCKED, Call, DONE, NO_MEMORY, Told, UNMADE, freed, left, loaded, made, mesher_answer, number,
+    refused, reported, running, stepped,
 };
 use arrayvec::ArrayVec;
 use mesh_class::{Class, class_of};
@@ -139,18 +139,7 @@ fn told(stored: Stored) -> Told {
 
 /// What a mesher's call is answered.
 fn meshed(rt: &impl Abort, heap: &mut Heap, call: Call) -> Told {
-    match call {
-        Call::Begin(source, destination) => left(heap.begin(source, destination)),
-        Call::BeginAlone(source, destination) => left(heap.begin_alone(source, destination)),
-        Call::Whole(source, destination) => freed(heap.mesh_whole(source, destination)),
-        Call::WholeAlone(source, destination) => freed(heap.whole_alone(source, destination)),
-        Call::Sweep(group) => freed(heap.sweep(group)),
-        Call::Report => reported(heap.report()),
-        Call::Step(size) => stepped(heap.step(class_at(rt, size))),
-        Call::Cancel(size) => left(heap.cancel(class_at(rt, size))),
-        Call::Running(size) => running(heap.running(class_at(rt, size))),
-        _ => UNMADE,
-    }
+    mesher_answer!(rt, heap, call)
 }
 
 /// The class of a size that is one's.

@@ -1,7 +1,7 @@
 //! The worked searches, over the views that a heap and a book give of themselves.
 use mesh_class::{Class, class_of};
 use mesh_mutator::{Book, Command};
-use mesh_search::{ClassView, Found, Pair, search_one};
+use mesh_search::{ClassView, Pair, search_one};
 use mesh_steps::{Heap, Ref};
 use std::process::Abort;
 
@@ -16,42 +16,26 @@ const LAST: u8 = 7;
 /// The words of the worked searches.
 static WORDS: [u64; 3] = [2, 0, 5];
 
-/// Whether a search found these pairs, source first, by so many tries.
-fn has_found(found: &Found, pairs: &[(u32, u32)], probes: u64) -> bool {
-    found.probes == probes && are_pairs(found.pairs.as_slice(), pairs)
-}
-
-/// Whether pairs are these, source first.
-fn are_pairs(found: &[Pair], pairs: &[(u32, u32)]) -> bool {
-    if found.len() != pairs.len() {
-        return false;
+/// Two groups, source first.
+fn pair(source: u32, destination: u32) -> Pair {
+    Pair {
+        source,
+        destination,
     }
-    for k in 0..pairs.len() {
-        let pair = &found[k];
-        if pair.source != pairs[k].0 || pair.destination != pairs[k].1 {
-            return false;
-        }
-    }
-    true
 }
 
 /// Asserts what a search of a view finds in so many rounds.
-fn check(
-    rt: &(impl Abort + AllocGlobal),
-    view: &ClassView,
-    t: u32,
-    pairs: &[(u32, u32)],
-    probes: u64,
-) {
+fn check(rt: &(impl Abort + AllocGlobal), view: &ClassView, t: u32, pairs: &[Pair], probes: u64) {
     let found = search_one(rt.alloc(), view, &WORDS, t).expect(rt, "memory");
-    assert!(rt; has_found(&found, pairs, probes), "in {t} rounds");
+    assert_eq!(rt; found.probes, probes, "in {t} rounds");
+    assert!(rt; found.pairs.as_slice() == pairs, "in {t} rounds");
 }
 
 /// Asserts what is found in a view of the four groups.
 fn check_four(rt: &(impl Abort + AllocGlobal), view: &ClassView) {
     check(rt, view, 0, &[], 0);
     check(rt, view, 1, &[], 2);
-    check(rt, view, 2, &[(1, 2), (3, 0)], 4);
+    check(rt, view, 2, &[pair(1, 2), pair(3, 0)], 4);
 }
 
 /// The object of a serial: each stands half a page after the one before.
@@ -92,7 +76,7 @@ fn check_heap(rt: &(impl Abort + AllocGlobal), heap: &Heap, class: Class) {
 
 /// Asserts what is found where the last object is freed too.
 fn check_three(rt: &(impl Abort + AllocGlobal), view: &ClassView) {
-    check(rt, view, 2, &[(0, 2)], 1);
+    check(rt, view, 2, &[pair(0, 2)], 1);
 }
 
 /// Asserts what is found in a heap as it is filled, and once the last object is freed too.
