@@ -1,8 +1,9 @@
-use Rattle.mesh_mutator.proofs.CellAnswers.{peek_done, peek_refused}
+use Rattle.std.proofs.Common.{Err, Ok, refl}
+use Rattle.mesh_mutator.proofs.CellAnswers.{peek_looked}
 use Rattle.mesh_mutator.proofs.attempts.peek.Goals as goal
 
 pub returns-in-Ok : goal.returns-in-Ok
-returns-in-Ok c = peek_done c.args.heap.now c.args.roots.now c.args.addr c.in-Ok.byte c.in-Ok.ensures.byte
+returns-in-Ok c = peek_looked c.args.heap.now c.args.roots.now c.args.addr (Ok c.in-Ok.byte) _ c.in-Ok.ensures.byte (refl, refl)
 
 pub returns-in-Err : goal.returns-in-Err
-returns-in-Err c = peek_refused c.args.heap.now c.args.roots.now c.args.addr c.in-Err.refusal c.in-Err.ensures.refused
+returns-in-Err c = peek_looked c.args.heap.now c.args.roots.now c.args.addr (Err c.in-Err.refusal) _ c.in-Err.ensures.refused (refl, refl)
