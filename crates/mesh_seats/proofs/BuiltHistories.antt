@@ -2,13 +2,15 @@
 use Rattle.std.proofs.Common.{◌≡◌, ℕ, zero, suc, ◌+◌, ◌<◌, ◌≤◌, Bool, true, false, List, [], ◌∷◌, ◌++◌, length, nat_eq, is_some, take, drop, slice_index_or, slice_set, ap, subst, refl, sym, ◌∙◌, arith, inl, inr, Option, Some, None, append_assoc, append-nil}
 use Rattle.std.specs.List.{All}
 use Rattle.std.proofs.lemmas.Bool.Decides.{eqb_tells, leb_tells}
-use Rattle.std.proofs.lemmas.List.{get_or-set_same, get_or-set_other, get_or_past, drop-set, length-set}
-use Rattle.std.proofs.Math.Seq.{drop-cons}
+use Rattle.std.proofs.lemmas.List.{get_or-set_same, get_or-set_other, get_or_default, get_or_past, drop-set-lt, length-set, take_all}
+use Rattle.std.proofs.lemmas.List as lists
+use Rattle.std.proofs.Math.Seq.{drop-cons, take-suc-set}
 use Rattle.model_memory.specs.Memory.{Memory, empty_memory}
 use Rattle.model_memory.specs.Plain.{Entry}
 use Rattle.model_memory.specs.Reads.{Kept, all_reads_at, built_from, is_length, left_by, reads_at}
 use Rattle.mesh_seats.specs.Walk.{AreTaken, IsAnswered, IsStepped, IsTakenTo, Walks}
-use Rattle.mesh_seats.proofs.TakenReads.{reads_append, tells}
+use Rattle.model_words.proofs.Tests.{tells}
+use Rattle.mesh_seats.proofs.TakenReads.{reads_append}
 
 -- after the reads: a recorded call where the entry is the worker's own
 abbrev pub Next : Bool → List Kept → (List Kept → Type 0) → Type 0
@@ -29,8 +31,7 @@ record Took (n : ℕ) (m : Memory) (rest left : List Kept) : Type 0 where
 
 took_at : (rests lefts : List (List Kept)) (n v : ℕ) (m : Memory) (before after : List Entry) (j : ℕ) → AreTaken n v m rests lefts before after
     → Took n m (slice_index_or rests j []) (slice_index_or lefts j [])
-took_at [] [] n v m before after zero h = record { taken = []; split = refl; right = λ k d b. absurd (omega (arith, b)) }
-took_at [] [] n v m before after (suc j) h = record { taken = []; split = refl; right = λ k d b. absurd (omega (arith, b)) }
+took_at [] [] n v m before after j h = record { taken = []; split = refl; right = λ k d b. absurd (omega (arith, b)) }
 took_at [] (l ∷ ls) n v m before after j h = absurd h
 took_at (r ∷ rs) [] n v m before after j h = absurd h
 took_at (r ∷ rs) (l ∷ ls) n v m before after zero h = record { taken = h.1.taken; split = h.1.split; right = h.1.right }
@@ -121,18 +122,11 @@ all_none : (ys : List (List Kept)) (k v : ℕ) → ((j w : ℕ) → reads_at k w
 all_none [] k v h = refl
 all_none (y ∷ ys) k v h = rw (h 0 v) (all_none ys k (suc v) (λ j w. h (suc j) w))
 
--- no seat, no call
-nothing_at : (j : ℕ) → slice_index_or {A = List Kept} [] j [] ≡ []
-nothing_at zero = refl
-nothing_at (suc j) = refl
-
-no_reads : (j k w : ℕ) → reads_at k w (slice_index_or [] j []) ≡ []
-no_reads j k w = ap (λ (l : List Kept). reads_at k w l) (nothing_at j)
-
+-- seats with the same reads have the same reads together
 all_same : (xs ys : List (List Kept)) (k v : ℕ) → ((j w : ℕ) → reads_at k w (slice_index_or xs j []) ≡ reads_at k w (slice_index_or ys j []))
     → all_reads_at k v xs ≡ all_reads_at k v ys
-all_same [] ys k v h = sym (all_none ys k v (λ j w. sym (h j w) ∙ no_reads j k w))
-all_same (x ∷ xs) [] k v h = all_none (x ∷ xs) k v (λ j w. h j w ∙ no_reads j k w)
+all_same [] ys k v h = sym (all_none ys k v (λ j w. sym (h j w)))
+all_same (x ∷ xs) [] k v h = all_none (x ∷ xs) k v h
 all_same (x ∷ xs) (y ∷ ys) k v h = let here = h 0 v in let rest = all_same xs ys k (suc v) (λ j w. h (suc j) w) in rw here (rw rest refl)
 
 -- what later reads there are decides what is built
@@ -180,27 +174,9 @@ walks_built (e ∷ es) n m rests before after h =
     ∙ append_assoc before (all_reads_at n 0 rests) (e ∷ built_from (suc n) next es)
     ∙ ap (λ (x : List Entry). before ++ (all_reads_at n 0 rests ++ e ∷ x)) same
 
-drop-set_past : {X : Type 0} (xs : List X) (i : ℕ) (y : X) → drop (suc i) (slice_set xs i y) ≡ drop (suc i) xs
-drop-set_past [] i y = refl
-drop-set_past (x ∷ xs) zero y = refl
-drop-set_past (x ∷ xs) (suc i) y = drop-set_past xs i y
-
-take-set_snoc : {X : Type 0} (xs : List X) (i : ℕ) (y : X) → i < length xs → take (suc i) (slice_set xs i y) ≡ take i xs ++ y ∷ []
-take-set_snoc [] i y h = absurd (omega (arith, h))
-take-set_snoc (x ∷ xs) zero y h = refl
-take-set_snoc {X = X} (x ∷ xs) (suc i) y h = ap (λ (l : List X). x ∷ l) (take-set_snoc xs i y (omega (arith, h)))
-
+-- nothing is left past a list's end
 pub drop_all : {X : Type 0} (xs : List X) (k : ℕ) → length xs ≤ k → drop k xs ≡ []
-drop_all [] zero h = refl
-drop_all [] (suc k) h = refl
-drop_all (x ∷ xs) zero h = absurd (omega (arith, h))
-drop_all (x ∷ xs) (suc k) h = drop_all xs k (omega (arith, h))
-
-take_all : {X : Type 0} (xs : List X) (k : ℕ) → length xs ≤ k → take k xs ≡ xs
-take_all [] zero h = refl
-take_all [] (suc k) h = refl
-take_all (x ∷ xs) zero h = absurd (omega (arith, h))
-take_all {X = X} (x ∷ xs) (suc k) h = ap (λ (l : List X). x ∷ l) (take_all xs k (omega (arith, h)))
+drop_all xs k past = lists.drop_all k xs past
 
 -- the reads of the first `k` seats are taken
 pub record IsTakenUpTo (n k : ℕ) (m : Memory) (rests now : List (List Kept)) (before after : List Entry) : Type 0 where
@@ -223,9 +199,8 @@ taken_up_to_more n k m rests now rest left before mid after below to is taken =
     let both : slice_index_or now k [] ∷ drop (suc k) now ≡ slice_index_or rests k [] ∷ drop (suc k) rests = sym cut_now ∙ to.others ∙ cut in
     let same : slice_index_or now k [] ≡ slice_index_or rests k [] = cc both in
     let after_same : drop (suc k) now ≡ drop (suc k) rests = cc both in
-    let set = drop-set now k left there in
-    let set_more : drop (suc k) (slice_set now k left) ≡ drop (suc k) now = drop-set_past now k left in
-    let front : take (suc k) (slice_set now k left) ≡ take k now ++ left ∷ [] = take-set_snoc now k left there in
+    let set_more : drop (suc k) (slice_set now k left) ≡ drop (suc k) now = drop-set-lt (suc k) now k left (omega arith) in
+    let front : take (suc k) (slice_set now k left) ≡ take k now ++ left ∷ [] = take-suc-set now k left there in
     rw one (record {
       others = set_more ∙ after_same;
       many = length-set now k left ∙ to.many;
@@ -244,14 +219,12 @@ pub taken_up_to_all : (n k : ℕ) (m : Memory) (rests now : List (List Kept)) (b
 taken_up_to_all n k m rests now before after past to =
     let none : drop k rests ≡ [] = drop_all rests k past in
     let last : AreTaken n k m (drop k rests) [] after after = rw none refl in
-    let whole : take k now ++ [] ≡ now = append-nil (take k now) ∙ take_all now k (let x = to.many in omega (arith, past, x)) in
+    let whole : take k now ++ [] ≡ now = append-nil (take k now) ∙ take_all k now (let x = to.many in omega (arith, past, x)) in
     subst (λ (ls : List (List Kept)). AreTaken n 0 m rests ls before after) whole (to.goes_on after [] last)
 
 -- within a list the default has no part
 pub index_any : {X : Type 0} (xs : List X) (i : ℕ) (d e : X) → i < length xs → slice_index_or xs i d ≡ slice_index_or xs i e
-index_any [] i d e h = absurd (omega (arith, h))
-index_any (x ∷ xs) zero d e h = refl
-index_any (x ∷ xs) (suc i) d e h = index_any xs i d e (omega (arith, h))
+index_any xs i d e below = get_or_default xs i d e below
 
 -- the walk so far: whatever it comes to from here, it comes to from the beginning
 abbrev pub ComesTo : Memory → List (List Kept) → List Entry → ℕ → Memory → List (List Kept) → List Entry → Type 0

@@ -12,6 +12,9 @@ use Rattle.model_memory.proofs.WovenCalls.{entry_call}
 use Rattle.mesh_seats.specs.RecordedCalls.{IsRecordedFirst}
 use Rattle.mesh_seats.specs.Seat.{Seat}
 use Rattle.mesh_seats.specs.Settle.{recorded_of}
+use Rattle.mesh_seats.proofs.MadeSeats.{calls_at}
+use Rattle.mesh_seats.proofs.Settled.{recorded_kept}
+use Rattle.mesh_seats.specs.Seat.{calls_of_seats}
 use Rattle.mesh_seats.proofs.BuiltHistories.{drop_all, index_any}
 
 -- the calls compared so far are the same
@@ -146,20 +149,10 @@ pub differ_some : (calls rest : List Kept) (worker : ℕ) (entries : List Entry)
 differ_some calls [] worker entries k place past some same = absurd (some refl)
 differ_some calls (kept ∷ tail) worker entries k place past some same = differ_long calls (kept ∷ tail) tail kept worker entries k place past refl same
 
--- a list without an element
-pub none_of : {X : Type 0} (xs : List X) → length xs ≡ 0 → xs ≡ []
-none_of [] many = refl
-none_of (x ∷ xs) many = absurd (omega (arith, many))
-
--- the entry is the worker's own, or not
-pub is_own : (a b : ℕ) → a ≡ b → nat_eq a b ≡ true
-is_own a b same = elim (eqb_tells a b) [ inl is ↦ is.0 | inr other ↦ absurd (other.1 same) ]
-
+-- the entry is not the worker's own
 pub is_not_own : (a b : ℕ) → (a ≡ b → ⊥) → nat_eq a b ≡ false
 is_not_own a b apart = elim (eqb_tells a b) [ inl is ↦ absurd (apart is.1) | inr other ↦ other.0 ]
 
 -- a seat's recorded calls
 pub recorded_at : (seats : List Seat) (w : ℕ) (d : Seat) → w < length seats → slice_index_or (recorded_of seats) w [] ≡ recorded (slice_index_or seats w d).calls
-recorded_at [] w d below = absurd (omega (arith, below))
-recorded_at (s ∷ ss) zero d below = refl
-recorded_at (s ∷ ss) (suc w) d below = recorded_at ss w d (omega (arith, below))
+recorded_at seats w d below = recorded_kept (calls_of_seats seats) w ∙ ap (λ (l : List Kept). recorded l) (calls_at seats w d below)

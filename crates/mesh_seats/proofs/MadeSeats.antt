@@ -2,7 +2,7 @@
 use Rattle.std.proofs.Common.{◌≡◌, ℕ, zero, suc, ◌+◌, ◌<◌, ◌≤◌, true, List, [], ◌∷◌, ◌++◌, length, take, slice_index, slice_index_or, ap, subst, refl, sym, ◌∙◌, arith, is_some, inl, inr}
 use Rattle.std.proofs.lemmas.Bool.Decides.{eqb_tells, leb_tells}
 use Rattle.std.specs.List.{All}
-use Rattle.std.proofs.lemmas.List.{length-append}
+use Rattle.std.proofs.lemmas.List.{get_or-map, get_or_past, length-append, length-map, map-append, take_more}
 use Rattle.std.proofs.lemmas.List.Elements.{All-append, All-cons}
 use Rattle.std.proofs.lemmas.Option.{slice_get_within, get_or_from_slice_get}
 use Rattle.model_memory.specs.Plain.{Entry}
@@ -25,26 +25,25 @@ kept_more s t kept is below good calls room = record {
       (All-cons IsKept kept [] good (λ k d none. absurd (omega (arith, none)))));
 }
 
+-- as many
+pub calls_many : (seats : List Seat) → length (calls_of_seats seats) ≡ length seats
+calls_many seats = length-map seats (λ seat. seat.calls)
+
+pub numbers_many : (seats : List Seat) → length (numbers_of seats) ≡ length seats
+numbers_many seats = length-map seats (λ seat. seat.number)
+
 -- the calls of one seat
 pub calls_at : (seats : List Seat) (w : ℕ) (d : Seat) → w < length seats → slice_index_or (calls_of_seats seats) w [] ≡ (slice_index_or seats w d).calls
-calls_at [] w d below = absurd (omega (arith, below))
-calls_at (s ∷ ss) zero d below = refl
-calls_at (s ∷ ss) (suc w) d below = calls_at ss w d (omega (arith, below))
+calls_at seats w d below = get_or-map (λ seat. seat.calls) seats w d [] below
 
+-- past the seats there are none
 pub calls_past : (seats : List Seat) (w : ℕ) → length seats ≤ w → slice_index_or (calls_of_seats seats) w [] ≡ []
-calls_past [] zero past = refl
-calls_past [] (suc w) past = refl
-calls_past (s ∷ ss) zero past = absurd (omega (arith, past))
-calls_past (s ∷ ss) (suc w) past = calls_past ss w (omega (arith, past))
+calls_past seats w past = get_or_past (calls_of_seats seats) w [] (let many = calls_many seats in omega (arith, many, past))
 
 -- one seat more
 pub calls_more : (seats : List Seat) (k : ℕ) (d : Seat) → k < length seats → calls_of_seats (take (k + 1) seats) ≡ calls_of_seats (take k seats) ++ (slice_index_or seats k d).calls ∷ []
-calls_more seats k d below = let one : k + 1 ≡ suc k = omega arith in rw one (go seats k below)
-  where
-    go : (ss : List Seat) (i : ℕ) → i < length ss → calls_of_seats (take (suc i) ss) ≡ calls_of_seats (take i ss) ++ (slice_index_or ss i d).calls ∷ []
-    go [] i b = absurd (omega (arith, b))
-    go (s ∷ ss) zero b = refl
-    go (s ∷ ss) (suc i) b = ap (λ (l : List (List Kept)). s.calls ∷ l) (go ss i (omega (arith, b)))
+calls_more seats k d below =
+    ap (λ (ss : List Seat). calls_of_seats ss) (take_more seats k d below) ∙ map-append (λ seat. seat.calls) (take k seats) (slice_index_or seats k d ∷ [])
 
 -- each seat's calls are kept ones
 pub kept_seat : (seats : List Seat) (k : ℕ) (calls : List Kept) → slice_index_or (calls_of_seats seats) k [] ≡ calls → All IsKept calls
@@ -65,15 +64,6 @@ kept_all seats k past before w = elim (leb_tells (suc w) k) [
 pub kept_marked : (calls : List Kept) → All IsKept calls → All is_marked calls
 kept_marked calls kept k d below n sees =
     let good = (kept k d below).0 in let some : is_some (slice_index_or calls k d).seen ≡ true = rw sees refl in sym good ∙ some
-
--- as many
-pub calls_many : (seats : List Seat) → length (calls_of_seats seats) ≡ length seats
-calls_many [] = refl
-calls_many (s ∷ ss) = ap (λ (n : ℕ). suc n) (calls_many ss)
-
-pub numbers_many : (seats : List Seat) → length (numbers_of seats) ≡ length seats
-numbers_many [] = refl
-numbers_many (s ∷ ss) = ap (λ (n : ℕ). suc n) (numbers_many ss)
 
 -- where there are as many seats as the count, and all workers are below it, there is no stranger
 pub no_stranger : (count : ℕ) (numbers : List ℕ) (entries : List Entry) → length numbers ≤ count → All (λ entry. entry.worker < count) entries

@@ -1,6 +1,7 @@
 -- What the checks and the walk have shown at the end.
-use Rattle.std.proofs.Common.{◌≡◌, ℕ, zero, suc, ◌<◌, ◌≤◌, List, [], ◌∷◌, length, slice_index_or, map, ap, subst, refl, sym, ◌∙◌, arith, None}
+use Rattle.std.proofs.Common.{◌≡◌, ℕ, zero, suc, ◌<◌, ◌≤◌, List, [], length, slice_index_or, map, ap, subst, sym, ◌∙◌, arith, None}
 use Rattle.std.specs.List.{All}
+use Rattle.std.proofs.Math.ListN.{get_or-map}
 use Rattle.std.proofs.lemmas.Option.{slice_get_within}
 use Rattle.model_memory.specs.Memory.{Memory, empty_memory}
 use Rattle.model_memory.specs.Plain.{Entry, IsLegal}
@@ -16,10 +17,7 @@ use Rattle.mesh_seats.proofs.BuiltHistories.{walks_built}
 
 -- the recorded calls of a seat
 pub recorded_kept : (calls : List (List Kept)) (w : ℕ) → slice_index_or (map recorded calls) w [] ≡ recorded (kept_by calls w)
-recorded_kept [] zero = refl
-recorded_kept [] (suc w) = refl
-recorded_kept (c ∷ cs) zero = refl
-recorded_kept (c ∷ cs) (suc w) = recorded_kept cs w
+recorded_kept calls w = get_or-map recorded calls w []
 
 -- settled seats have their workers' entries
 pub settled_own : (count : ℕ) (seats : List Seat) (entries : List Entry) → AreSettled count (recorded_of seats) entries → (w : ℕ) → w < count

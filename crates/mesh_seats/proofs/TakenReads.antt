@@ -1,12 +1,14 @@
 -- Reads that the walk takes.
-use Rattle.std.proofs.Common.{◌≡◌, ℕ, suc, ◌+◌, ◌<◌, ◌≤◌, ◌⊎◌, Bool, true, false, List, [], ◌∷◌, ◌++◌, length, ap, subst, refl, sym, ◌∙◌, arith, inl, inr, slice_set, Option, Some, append_assoc, append-nil}
+use Rattle.std.proofs.Common.{◌≡◌, ℕ, suc, ◌+◌, ◌<◌, ◌≤◌, Bool, true, false, List, [], ◌∷◌, ◌++◌, length, ap, subst, refl, sym, ◌∙◌, arith, inl, inr, slice_set, Option, Some, append_assoc, append-nil}
 use Rattle.std.specs.List.{All}
+use Rattle.std.proofs.lemmas.Bool.{eq-eqb}
 use Rattle.std.proofs.lemmas.Bool.Decides.{eqb_tells}
 use Rattle.std.proofs.lemmas.List.Elements.{All-append, All-cons}
 use Rattle.model_memory.specs.Memory.{Memory}
 use Rattle.model_memory.specs.Plain.{Entry}
 use Rattle.model_memory.specs.Reads.{Kept, is_length, reads_at}
 use Rattle.std.proofs.lemmas.List.{get_or-set_same, get_or-set_other}
+use Rattle.model_words.proofs.Tests.{tells}
 use Rattle.mesh_seats.specs.Seat.{IsKept}
 use Rattle.mesh_seats.specs.Walk.{AreLeft, IsAnswered, IsLeft, IsTakenTo, StopsAt, left_of}
 
@@ -14,10 +16,7 @@ use Rattle.mesh_seats.specs.Walk.{AreLeft, IsAnswered, IsLeft, IsTakenTo, StopsA
 pub taken_none : (n worker : ℕ) (m : Memory) (calls : List Kept) (before : List Entry) → IsTakenTo n worker m calls calls before before
 taken_none n worker m calls before = record { taken = []; split = refl; right = λ k d below. absurd (omega (arith, below)); pushed = sym (append-nil before) }
 
-pub tells : (b : Bool) → (b ≡ true) ⊎ (b ≡ false)
-tells true = inl refl
-tells false = inr refl
-
+-- the reads of calls in a row
 pub reads_append : (n worker : ℕ) (xs ys : List Kept) → reads_at n worker (xs ++ ys) ≡ reads_at n worker xs ++ reads_at n worker ys
 reads_append n worker [] ys = refl
 reads_append n worker (x ∷ xs) ys = let rest = reads_append n worker xs ys in elim (tells (is_length n x.seen)) [
@@ -27,7 +26,7 @@ reads_append n worker (x ∷ xs) ys = let rest = reads_append n worker xs ys in 
 
 -- the length is this one
 is_it : (n : ℕ) (s : Option ℕ) → s ≡ Some n → is_length n s ≡ true
-is_it n s h = elim (eqb_tells n n) [ inl same ↦ rw h same.0 | inr other ↦ absurd (other.1 refl) ]
+is_it n s h = rw h (eq-eqb n n refl)
 
 -- one read more is taken
 pub taken_more : (n worker : ℕ) (m : Memory) (calls rest tail : List Kept) (kept : Kept) (before after after' : List Entry) → IsTakenTo n worker m calls rest before after

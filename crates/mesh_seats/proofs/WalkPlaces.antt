@@ -1,6 +1,8 @@
 -- Where the walk stands in the calls of all seats that are looked at, and what was told.
-use Rattle.std.proofs.Common.{◌≡◌, ℕ, zero, suc, ◌+◌, ◌-◌, ◌<◌, ◌≤◌, Bool, true, false, List, [], ◌∷◌, length, nat_eq, take, drop, slice_get, ap, subst, refl, sym, ◌∙◌, arith, inl, inr, Option, Some, None}
+use Rattle.std.proofs.Common.{◌≡◌, ℕ, suc, ◌+◌, ◌-◌, ◌<◌, ◌≤◌, Bool, true, false, List, [], ◌∷◌, length, nat_eq, take, drop, slice_get, ap, subst, refl, sym, ◌∙◌, arith, inl, inr, Option, Some, None}
 use Rattle.std.proofs.lemmas.Bool.Decides.{eqb_tells, leb_tells}
+use Rattle.std.proofs.lemmas.List.{get_or-take, get_or_past, length-take, length-take-le}
+use Rattle.std.proofs.lemmas.Option.{slice_get_within}
 use Rattle.model_memory.specs.Memory.{Memory, empty_memory}
 use Rattle.model_memory.specs.Plain.{Entry}
 use Rattle.model_memory.specs.Reads.{AreRight, IsRight, Kept, ReadDiffers, kept_by, memory_after, recorded}
@@ -33,32 +35,18 @@ looks_first seats entries own = record {
   telling = refl;
 }
 
--- the first of some lists
-left_of_take : (rests : List (List Kept)) (w v : ℕ) → v < w → left_of (take w rests) v ≡ left_of rests v
-left_of_take [] zero v below = absurd (omega (arith, below))
-left_of_take [] (suc w) v below = refl
-left_of_take (r ∷ rs) zero v below = absurd (omega (arith, below))
-left_of_take (r ∷ rs) (suc w) zero below = refl
-left_of_take (r ∷ rs) (suc w) (suc v) below = left_of_take rs w v (omega (arith, below))
-
-length_take_in : (rests : List (List Kept)) (w : ℕ) → w ≤ length rests → length (take w rests) ≡ w
-length_take_in [] zero below = refl
-length_take_in [] (suc w) below = absurd (omega (arith, below))
-length_take_in (r ∷ rs) zero below = refl
-length_take_in (r ∷ rs) (suc w) below = ap (λ (k : ℕ). suc k) (length_take_in rs w (omega (arith, below)))
-
 -- from a seat that was found on no seat is looked at
 pub looks_told : (seats : List (List Kept)) (entries : List Entry) (n w i : ℕ) (rests rests' : List (List Kept)) (told' : Option (ℕ × ℕ)) → w < length rests
     → length rests ≤ length seats → ((v : ℕ) → v < w → Stands entries n v (kept_by seats v) (left_of rests v)) → Wrong entries w (kept_by seats w) i
     → rests' ≡ take w rests → told' ≡ Some (w, i) → Looks seats entries n rests' told'
 looks_told seats entries n w i rests rests' told' inside few stands wrong cut tells =
-    let many : length rests' ≡ w = ap (λ (l : List (List Kept)). length l) cut ∙ length_take_in rests w (omega (arith, inside)) in
+    let many : length rests' ≡ w = ap (λ (l : List (List Kept)). length l) cut ∙ length-take-le w rests (omega (arith, inside)) in
     let below_seats : w < length seats = omega (arith, inside, few) in
     record {
       few = omega (arith, many, below_seats);
       stands = λ v low.
           let lower : v < w = omega (arith, low, many) in
-          let same : left_of rests v ≡ left_of rests' v = sym (left_of_take rests w v lower) ∙ ap (λ (l : List (List Kept)). left_of l v) (sym cut) in
+          let same : left_of rests v ≡ left_of rests' v = sym (get_or-take w rests v [] lower) ∙ ap (λ (l : List (List Kept)). left_of l v) (sym cut) in
           subst (λ (l : List Kept). Stands entries n v (kept_by seats v) l) same (stands v lower);
       telling = subst (λ (t : Option (ℕ × ℕ)). IsToldAt seats entries (length rests') t) (sym tells)
           (subst (λ (k : ℕ). IsToldAt seats entries k (Some (w, i))) (sym many) (refl, below_seats, wrong));
@@ -68,9 +56,9 @@ looks_told seats entries n w i rests rests' told' inside few stands wrong cut te
 stopped_below : (n w : ℕ) (m : Memory) (rests rests' : List (List Kept)) → w ≤ length rests → ((v : ℕ) → v < w → StopsAt n m false (left_of rests v)) → rests' ≡ take w rests
     → AreStopped n m rests'
 stopped_below n w m rests rests' inside stops cut v low =
-    let many : length rests' ≡ w = ap (λ (l : List (List Kept)). length l) cut ∙ length_take_in rests w inside in
+    let many : length rests' ≡ w = ap (λ (l : List (List Kept)). length l) cut ∙ length-take-le w rests inside in
     let lower : v < w = omega (arith, low, many) in
-    let same : left_of rests v ≡ left_of rests' v = sym (left_of_take rests w v lower) ∙ ap (λ (l : List (List Kept)). left_of l v) (sym cut) in
+    let same : left_of rests v ≡ left_of rests' v = sym (get_or-take w rests v [] lower) ∙ ap (λ (l : List (List Kept)). left_of l v) (sym cut) in
     subst (λ (l : List Kept). StopsAt n m false l) same (stops v lower)
 
 -- the reads of one seat that are right here are taken
@@ -164,18 +152,14 @@ looks_last seats entries n m rests rests' (Some w) told told' none end looks sto
     let wrong = wrong_here entries n w (kept_by seats w) (left_of rests w) here i refl
     (left_is_wrong entries n w m (kept_by seats w) (left_of rests w) here none end (stopped w left.0) left.2) in (
       looks_told seats entries n w i rests rests' told' left.0 looks.few (λ v low. looks.stands v (let b = left.0 in omega (arith, low, b))) wrong tells.0 tells.1,
-      λ v. ap (λ (l : List (List Kept)). left_of l v) tells.0 ∙ cut_empty rests w v left.1,
+      λ v. ap (λ (l : List (List Kept)). left_of l v) tells.0 ∙ cut_empty v,
     )
   where
-    cut_empty : (ls : List (List Kept)) (k v : ℕ) → ((u : ℕ) → u < k → left_of ls u ≡ []) → left_of (take k ls) v ≡ []
-    cut_empty [] zero zero empty = refl
-    cut_empty [] zero (suc v) empty = refl
-    cut_empty [] (suc k) zero empty = refl
-    cut_empty [] (suc k) (suc v) empty = refl
-    cut_empty (l ∷ ls) zero zero empty = refl
-    cut_empty (l ∷ ls) zero (suc v) empty = refl
-    cut_empty (l ∷ ls) (suc k) zero empty = empty 0 (omega arith)
-    cut_empty (l ∷ ls) (suc k) (suc v) empty = cut_empty ls k v (λ u low. empty (suc u) (omega (arith, low)))
+    cut_empty : (v : ℕ) → left_of (take w rests) v ≡ []
+    cut_empty v = elim (leb_tells (suc v) w) [
+      | inl low ↦ get_or-take w rests v [] low.1 ∙ left.1 v low.1
+      | inr past ↦ get_or_past (take w rests) v [] (let l = length-take w rests in let p = past.1 in omega (arith, l, p))
+    ]
 
 -- a seat that is looked at to its end is right
 right_below : (seats : List (List Kept)) (entries : List Entry) (n : ℕ) (rests : List (List Kept)) (told : Option (ℕ × ℕ)) → Looks seats entries n rests told
@@ -185,12 +169,10 @@ right_below seats entries n rests told looks empty v low k =
 
 -- beyond the seats there is no call
 none_beyond : (seats : List (List Kept)) (v k : ℕ) (kept : Kept) → length seats ≤ v → slice_get (kept_by seats v) k ≡ Some kept → ⊥
-none_beyond [] zero zero kept past at = cc at
-none_beyond [] zero (suc k) kept past at = cc at
-none_beyond [] (suc v) zero kept past at = cc at
-none_beyond [] (suc v) (suc k) kept past at = cc at
-none_beyond (s ∷ ss) zero k kept past at = omega (arith, past)
-none_beyond (s ∷ ss) (suc v) k kept past at = none_beyond ss v k kept (omega (arith, past)) at
+none_beyond seats v k kept past at =
+    let none : kept_by seats v ≡ [] = get_or_past seats v [] past in
+    let within = slice_get_within (kept_by seats v) k kept at in
+    omega (arith, within, ap (λ (l : List Kept). length l) none)
 
 -- where nothing was told all reads are right
 pub looks_right : (seats : List (List Kept)) (entries : List Entry) (n : ℕ) (rests : List (List Kept)) → Looks seats entries n rests None

@@ -1,6 +1,7 @@
 -- One round of the walk, and its end.
 use Rattle.std.proofs.Common.{◌≡◌, ℕ, zero, suc, ◌+◌, ◌<◌, ◌≤◌, List, [], ◌∷◌, ◌++◌, length, take, drop, slice_index_or, ap, subst, refl, sym, ◌∙◌, arith, Option, Some, None, Result, Ok, Err, IfOk, IfErr, OnOk}
 use Rattle.std.proofs.Math.Seq.{drop-cons, take-append_seam}
+use Rattle.std.proofs.lemmas.List.{length-drop}
 use Rattle.model_memory.specs.Memory.{Memory, empty_memory}
 use Rattle.model_memory.specs.Plain.{Entry}
 use Rattle.model_memory.specs.Reads.{AreRight, Kept, left_by, memory_after}
@@ -16,11 +17,9 @@ written_back {X = X} items new len is same =
     let many : length new ≡ len = omega (arith, is, same) in
     subst (λ (k : ℕ). take k (new ++ drop (length new) items) ≡ new) many (take-append_seam new (drop (length new) items))
 
+-- the elements past a place are those that are left
 drop_many : {X : Type 0} (xs : List X) (n : ℕ) → n ≤ length xs → length xs ≡ n + length (drop n xs)
-drop_many [] zero below = omega arith
-drop_many [] (suc n) below = absurd (omega (arith, below))
-drop_many (x ∷ xs) zero below = omega arith
-drop_many (x ∷ xs) (suc n) below = let rest = drop_many xs n (omega (arith, below)) in omega (arith, rest)
+drop_many xs n below = let l = length-drop n xs in omega (arith, l, below)
 
 -- the memory after one entry more
 after_more : (es : List Entry) (n : ℕ) (e : Entry) (m : Memory) → n < length es → slice_index_or es n e ≡ e

@@ -1,9 +1,11 @@
 use Rattle.std.proofs.Common.{◌≡◌, ◌<◌, ◌≤◌, ◌+◌, ℕ, true, false, length, slice_index_or, refl, sym, ◌∙◌, ap, arith, subst, List, [], ◌∷◌}
+use Rattle.std.proofs.lemmas.Bool.{eq-eqb}
+use Rattle.std.proofs.lemmas.List.{nil_from_length}
 use Rattle.model_memory.specs.Plain.{Entry}
 use Rattle.model_memory.specs.Reads.{Kept, call_of}
 use Rattle.model_memory.proofs.WovenCalls.{entry_call}
 use Rattle.mesh_seats.specs.RecordedCalls.{IsRecordedFirst}
-use Rattle.mesh_seats.proofs.ComparedCalls.{SameSoFar, entry_at, entry_there, no_entry, differ_here, differ_some, differ_short, is_not_own, is_own, none_of, same_first, same_own, same_past}
+use Rattle.mesh_seats.proofs.ComparedCalls.{SameSoFar, entry_at, entry_there, no_entry, differ_here, differ_some, differ_short, is_not_own, same_first, same_own, same_past}
 use Rattle.mesh_seats.proofs.differing.first_difference.Goals.{then-worker+in-Some+else-not-is_of, else-worker}
 use Rattle.mesh_seats.proofs.differing.first_difference.Goals as goal
 
@@ -18,8 +20,8 @@ returns-in_default-clause-differs c =
     let entry : Entry = entry_at c.args.journal.now.entries c.loop-n.n in
     let worker : entry.worker ≡ c.worker.result = sym (c.worker.ensures no_entry) in
     let at : slice_index_or c.args.journal.now.entries c.loop-n.n entry ≡ entry = entry_there c.args.journal.now.entries c.loop-n.n below in
-    let none : c.loop-n.rest.now ≡ [] = none_of c.loop-n.rest.now c.in_default.ensures.cases in
-    differ_short c.args.calls.now c.loop-n.rest.now c.args.worker c.args.journal.now.entries c.loop-n.n c.loop-n.place entry below at (is_own entry.worker c.args.worker (worker ∙ c.if-worker.true)) none
+    let none : c.loop-n.rest.now ≡ [] = nil_from_length c.loop-n.rest.now c.in_default.ensures.cases in
+    differ_short c.args.calls.now c.loop-n.rest.now c.args.worker c.args.journal.now.entries c.loop-n.n c.loop-n.place entry below at (eq-eqb entry.worker c.args.worker (worker ∙ c.if-worker.true)) none
     c.loop-n.invariant
 
 pub returns-then-not-is_of-clause-differs : goal.returns-then-not-is_of-clause-differs
@@ -34,7 +36,7 @@ returns-then-not-is_of-clause-differs c =
     let head : c.loop-n.rest.now ≡ kept ∷ c.in-Some.tail.now = c.in-Some.ensures.cases.0 in
     let differs : call_of kept ≡ entry_call entry → ⊥ = λ same. let clash = c.if-not-is_of.ensures.1 same in cc clash in
     differ_here c.args.calls.now c.loop-n.rest.now c.in-Some.tail.now kept c.args.worker c.args.journal.now.entries c.loop-n.n c.loop-n.place entry below at
-    (is_own entry.worker c.args.worker (worker ∙ c.if-worker.true)) head differs c.loop-n.invariant
+    (eq-eqb entry.worker c.args.worker (worker ∙ c.if-worker.true)) head differs c.loop-n.invariant
 
 pub loop-n-preserved : goal.loop-n-preserved
 loop-n-preserved c =
@@ -51,7 +53,7 @@ loop-n-preserved c =
           let is : call_of kept ≡ entry_call entry = w.if-not-is_of.ensures.0 refl in
           let skipped : IsRecordedFirst w.in-Some.tail.now c.if-worker.rest.now = subst (λ (l : List Kept). IsRecordedFirst w.in-Some.tail.now l) (ap (λ r. r.now) (sym w.rest-is)) w.skip_reads-rest-then-worker.ensures in
           let same = same_own c.args.calls.now c.loop-n.rest.now w.in-Some.tail.now c.if-worker.rest.now kept c.args.worker c.args.journal.now.entries c.loop-n.n c.loop-n.place entry below at
-          (is_own entry.worker c.args.worker (worker ∙ w.if-worker.true)) head is skipped c.loop-n.invariant in
+          (eq-eqb entry.worker c.args.worker (worker ∙ w.if-worker.true)) head is skipped c.loop-n.invariant in
           subst (λ (p : ℕ). SameSoFar c.args.calls.now c.if-worker.rest.now c.args.worker c.args.journal.now.entries (c.loop-n.n + 1) p) (sym w.place-is) same
       | else-worker w ↦
           let entry : Entry = entry_at c.args.journal.now.entries c.loop-n.n in

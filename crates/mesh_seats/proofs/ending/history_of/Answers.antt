@@ -1,4 +1,4 @@
-use Rattle.std.proofs.Common.{ℕ, length, refl, subst, sym}
+use Rattle.std.proofs.Common.{ℕ, refl, subst, sym}
 use Rattle.model_memory.specs.Seats.{AreSettled}
 use Rattle.mesh_seats.specs.Settle.{recorded_of}
 use Rattle.mesh_seats.proofs.Settled.{is_end}
