@@ -1,6 +1,7 @@
 -- An empty group taken out of a page heap.
 use Rattle.std.proofs.Common.{◌≡◌, ℕ, suc, ◌+◌, ◌<◌, true, false, not, nat_eq, nat_lt, count_by, filter, is_some, length, slice_index, slice_index_or, slice_set, List, Option, Some, None, Ok, Err, ap, subst, refl, sym, ◌∙◌, arith, inl, inr}
-use Rattle.std.proofs.lemmas.Bool.Decides.{eqb_tells, leb_tells}
+use Rattle.std.proofs.lemmas.Bool.{eqb-false, eqb-true, lt-ltb}
+use Rattle.std.proofs.lemmas.Bool.Decides.{leb_tells}
 use Rattle.std.proofs.lemmas.List.{get_or-set_other, get_or-set_same, get_or_past}
 use Rattle.std.proofs.lemmas.Option.{slice_get-get_or}
 use Rattle.mesh_arena.specs.Pages.{IsTaken, Pages, free_count}
@@ -44,10 +45,8 @@ module _ (g : PageHeap) (n : ℕ) (a : GroupEntry) (paged : IsPageHeap g.arena g
 
   pub sweeps_filled : a.in_mesh ≡ false → nat_eq (count_by is_some a.slots) 0 ≡ false → sweep (table_in g) n ≡ Err NotEmpty
   sweeps_filled calm filled =
-      let some : nat_lt 0 (count_by is_some a.slots) ≡ true = (elim (eqb_tells (count_by is_some a.slots) 0) [
-        | inl none ↦ absurd (let two : true ≡ false = sym none.0 ∙ filled in cc two)
-        | inr more ↦ elim (leb_tells 1 (count_by is_some a.slots)) [ inl yes_ ↦ yes_.0 | inr no_ ↦ absurd (let m = more.1 in let h = no_.1 in omega (arith, m, h)) ]
-      ]) in
+      let apart = eqb-false (count_by is_some a.slots) 0 filled in
+      let some = lt-ltb 0 (count_by is_some a.slots) (omega (arith, apart)) in
       rw (found, meshing ∙ calm, some) refl
 
   -- the table without it
@@ -56,10 +55,7 @@ module _ (g : PageHeap) (n : ℕ) (a : GroupEntry) (paged : IsPageHeap g.arena g
       → groups_of index ≡ filter (λ x. not (has_number n x)) (groups_of g.index)
       → sweep (table_in g) n ≡ Ok (record { count = pages_of a.class; table = table_with arena index g.next_page g.meshes })
   gives arena index calm empty free spans groups =
-      let none : nat_lt 0 (count_by is_some a.slots) ≡ false = (elim (eqb_tells (count_by is_some a.slots) 0) [
-        | inr more ↦ absurd (let two : false ≡ true = sym more.0 ∙ empty in cc two)
-        | inl zeroth ↦ rw zeroth.1 refl
-      ]) in
+      let none : nat_lt 0 (count_by is_some a.slots) ≡ false = rw (eqb-true (count_by is_some a.slots) 0 empty) refl in
       rw (found, meshing ∙ calm, none, free, spans, groups) refl
 
 -- in a group without an object each slot is empty
@@ -126,10 +122,7 @@ swept g new n a arena map index sound paged there calm empty gives_pages unmaps 
     let after = sweep_sound (table_in g) n x paged.sound told in
     let below = group_below g.index.groups n a there in
     let members = subst (λ (o : Option GroupEntry). 0 < length (members_in o)) (sym there) entry.some_member in
-    let zeroth : count_by is_some a.slots ≡ 0 = (elim (eqb_tells (count_by is_some a.slots) 0) [
-      | inl same ↦ same.1
-      | inr other ↦ absurd (let two : false ≡ true = sym other.0 ∙ empty in cc two)
-    ]) in
+    let zeroth = eqb-true (count_by is_some a.slots) 0 empty in
     let class = ap pages_of (ap class_in there) in
     let both = page_heap_sweep g.arena arena g.map map g.index index g.next_page g.meshes n sound paged
     (record {

@@ -1,8 +1,8 @@
 -- What making and freeing an object leaves of a heap.
-use Rattle.std.proofs.Common.{◌≡◌, ℕ, zero, suc, ◌+◌, ◌-◌, ◌<◌, ◌≤◌, Bool, List, [], Option, Some, None, Result, Ok, Err, IfErr, map, replicate, slice_index, ap, subst, refl, sym, ◌∙◌, arith, ◌⊎◌, inl, inr}
+use Rattle.std.proofs.Common.{◌≡◌, ℕ, ◌+◌, ◌-◌, ◌<◌, ◌≤◌, Bool, List, [], Option, Some, None, Result, Ok, Err, IfErr, map, replicate, ap, subst, refl, sym, ◌∙◌, arith, ◌⊎◌, inl, inr}
 use Rattle.std.specs.Result.{IsErrAnd}
 use Rattle.std.proofs.lemmas.Bool.Decides.{eqb_tells, leb_tells}
-use Rattle.std.proofs.lemmas.List.{length-replicate}
+use Rattle.std.proofs.lemmas.List.{get_or-replicate, length-replicate}
 use Rattle.mesh_arena.specs.Pages.{Pages}
 use Rattle.mesh_layout.proofs.Groups.{entry_in_table}
 use Rattle.mesh_layout.proofs.Meaning.{live_at, record_live}
@@ -120,12 +120,6 @@ freed_is old new object o heap at same first out = record {
   map = out.map;
 }
 
--- each element of a run of zeros is zero
-zeros_at : (n k : ℕ) → slice_index (replicate n 0) k ≡ 0
-zeros_at zero k = refl
-zeros_at (suc n) zero = refl
-zeros_at (suc n) (suc k) = zeros_at n k
-
 -- a new object placed in a slot of its class
 placed_new : (t : Table) (len word serial class : ℕ) (r : Result Placed Refusal) → class_for len ≡ Some class → 1 ≤ len
     → place_in (open_group t class) t class word serial len ≡ r → place_new t len word serial ≡ r
@@ -219,7 +213,7 @@ module _ (old : Heap) (mid new : PageHeap) (class len word span slot addr : ℕ)
       ap (λ (a : ℕ). byte_of (targets_of new.map) (bytes_in new.arena) (a + k)) (sym address_is)
       ∙ ap (λ (m : Entries). byte_of (targets_of m) (bytes_in new.arena) (addr + k)) put.map
       ∙ put.saves.inside k (let long = length-replicate {A = ℕ} len 0 in omega (arith, below, long))
-      ∙ zeros_at len k
+      ∙ get_or-replicate len k 0 0 below
 
   -- the bytes of the other objects stay
   new_keeps : (s x : ℕ) (r : Record) → record_with s (live_records old) ≡ Some r → IsIn r x

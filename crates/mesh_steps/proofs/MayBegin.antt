@@ -1,5 +1,5 @@
 -- Whether a mesh of two groups may begin, told by the index.
-use Rattle.std.proofs.Common.{◌≡◌, ◌≢◌, ℕ, ◌+◌, ◌<◌, ◌≤◌, Bool, true, false, not, map, is_some, length, IsSome, Option, Some, None, Ok, Err, ap, subst, refl, sym, ◌∙◌, arith}
+use Rattle.std.proofs.Common.{◌≡◌, ◌≢◌, ℕ, ◌+◌, ◌<◌, ◌≤◌, Bool, true, false, not, map, is_some, length, IsSome, Option, Some, None, Err, ap, subst, refl, sym, ◌∙◌, arith}
 use Rattle.std.proofs.lemmas.List.{length-map}
 use Rattle.mesh_class.specs.Classes.{pages_of, slots_of}
 use Rattle.mesh_bits.specs.Bits.{are_meshable}

@@ -1,5 +1,5 @@
 -- What a heap means once its page heap was meshed.
-use Rattle.std.proofs.Common.{length, ◌≡◌, ℕ, suc, ◌+◌, ◌-◌, ◌<◌, false, nat_eq, find, slice_index, List, Some, Result, Ok, Err, IfOk, IfErr, IsOk, ap, refl, sym, subst, ◌∙◌, arith}
+use Rattle.std.proofs.Common.{◌≡◌, ℕ, suc, ◌+◌, ◌-◌, ◌<◌, false, nat_eq, find, slice_index, List, Some, Result, Ok, Err, IfOk, IfErr, IsOk, ap, refl, sym, subst, ◌∙◌, arith}
 use Rattle.std.specs.Option.{option_map}
 use Rattle.mesh_class.specs.Classes.{pages_of}
 use Rattle.mesh_layout.proofs.Groups.{IsEntry, table_entry}

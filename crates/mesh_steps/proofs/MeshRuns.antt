@@ -1,6 +1,6 @@
 -- What a running mesh of a page heap needs for its next step, and what the step leaves.
-use Rattle.std.proofs.Common.{◌≡◌, ℕ, ◌+◌, ◌-◌, ◌*◌, ◌<◌, ◌≤◌, true, false, nat_eq, length, position, slice_get, slice_index_or, IsSome, List, Option, Some, None, Ok, Err, ap, subst, refl, sym, ◌∙◌, arith, inl, inr}
-use Rattle.std.proofs.lemmas.Bool.Decides.{eqb_tells}
+use Rattle.std.proofs.Common.{◌≡◌, ℕ, ◌+◌, ◌-◌, ◌*◌, ◌<◌, ◌≤◌, nat_eq, length, position, slice_get, slice_index_or, IsSome, List, Option, Some, None, Ok, Err, ap, subst, refl, sym, ◌∙◌, arith}
+use Rattle.std.proofs.lemmas.Bool.{eqb-true}
 use Rattle.std.proofs.lemmas.Option.{get_or_from_slice_get, slice_get_within}
 use Rattle.mesh_class.specs.Classes.{pages_of, slots_of}
 use Rattle.mesh_layout.specs.Indexes.{class_in, layout_of, members_in}
@@ -49,16 +49,13 @@ running_at : (g : PageHeap) (class place : ℕ) (this : Mesh) → position (λ m
 running_at g class place this at is =
     let first = position_finds (λ mesh. nat_eq mesh.class class) g.meshes place at in
     let same : this ≡ first.this = is ∙ get_or_from_slice_get g.meshes place first.this this first.at in
-    let of_class : this.class ≡ class = ap (λ (m : Mesh). m.class) same ∙ class_told first.this.class class first.passes in (
+    let of_class : this.class ≡ class = ap (λ (m : Mesh). m.class) same ∙ eqb-true first.this.class class first.passes in (
       record {
         at = first.at ∙ ap (λ (m : Mesh). Some m) (sym same);
         found = ap (λ (c : ℕ). mesh_in (table_in g) c) of_class ∙ first.found ∙ ap (λ (m : Mesh). Some m) (sym same);
       },
       of_class,
     )
-  where
-    class_told : (a b : ℕ) → nat_eq a b ≡ true → a ≡ b
-    class_told a b h = elim (eqb_tells a b) [ inl same ↦ same.1 | inr other ↦ absurd (let two : false ≡ true = sym other.0 ∙ h in cc two) ]
 
 -- the same of the page heap that is seen
 running_seen : (inside seen : PageHeap) (class place : ℕ) (this : Mesh) → inside ≡ seen

@@ -4,7 +4,8 @@ use Rattle.std.specs.List.{list_any}
 use Rattle.std.specs.Option.{option_map_or}
 use Rattle.std.proofs.Math.ListN.{get_or-append, length-append}
 use Rattle.std.proofs.Math.Seq.{get_or-append_seam}
-use Rattle.std.proofs.lemmas.Bool.Decides.{eqb_tells, leb_tells}
+use Rattle.std.proofs.lemmas.Bool.{eq-eqb, le-ltb}
+use Rattle.std.proofs.lemmas.Bool.Decides.{leb_tells}
 use Rattle.std.proofs.lemmas.List.{get_or_past}
 use Rattle.std.proofs.lemmas.Option.{get_or_from_slice_get, slice_get-get_or}
 use Rattle.mesh_arena.specs.Pages.{Pages, free_count}
@@ -111,13 +112,7 @@ page_heap_is map next meshes arena arena' index index' same_arena same_index = r
 
 -- there is room for a span where pages and addresses are enough
 pub room_is : (t : Table) (class : ℕ) → pages_of class ≤ t.free_pages → t.next_page + pages_of class ≤ 65536 → room_for_span t class ≡ Ok tt
-room_is t class free last = elim (leb_tells (suc t.free_pages) (pages_of class)) [
-  | inl few ↦ absurd (omega (arith, free, few.1))
-  | inr enough ↦ elim (leb_tells (suc 65536) (t.next_page + pages_of class)) [
-    | inl past ↦ absurd (omega (arith, last, past.1))
-    | inr within ↦ rw (enough.0, within.0) refl
-  ]
-]
+room_is t class free last = rw (le-ltb t.free_pages (pages_of class) free, le-ltb 65536 (t.next_page + pages_of class) last) refl
 
 -- the flags stay where a group in no mesh is added
 pub flags_added : (groups : List (Option GroupEntry)) (class member n : ℕ) (pages : List ℕ)
@@ -251,10 +246,7 @@ record_there index n span k serial len group below of_group at filled =
     let got : slice_get index.spans span ≡ Some (span_at index.spans span) = slice_get-get_or index.spans span no_span below in
     let slot : slice_index_or group.slots k None ≡ Some (record { member = (span_at index.spans span).first; serial = serial; len = len })
     = get_or_from_slice_get group.slots k (Some (record { member = (span_at index.spans span).first; serial = serial; len = len })) None filled in
-    let same : nat_eq (span_at index.spans span).first (span_at index.spans span).first ≡ true = elim (eqb_tells (span_at index.spans span).first (span_at index.spans span).first) [
-      | inl yes_ ↦ yes_.0
-      | inr other ↦ absurd (other.1 refl)
-    ] in
+    let same = eq-eqb (span_at index.spans span).first (span_at index.spans span).first refl in
     rw (got, of_group, at, slot, same) refl
 
 triple : (a b c x y z : ℕ) → ◌≡◌ {A = Option (ℕ × ℕ × ℕ)} (Some (a, b, c)) (Some (x, y, z)) → (a ≡ x) × (b ≡ y) × (c ≡ z)

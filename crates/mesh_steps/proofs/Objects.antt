@@ -1,7 +1,8 @@
 -- What the records of a heap's live objects say of its slots, its bytes and its plain memory.
-use Rattle.std.proofs.Common.{◌≡◌, ℕ, suc, ◌+◌, ◌-◌, ◌<◌, ◌≤◌, Bool, true, false, ◌&&◌, if◌then◌else◌, nat_lt, List, [], ◌∷◌, map, Option, Some, None, IfSome, IsSomeAnd, Result, Ok, Err, length, slice_get, slice_index, slice_range, ap, subst, refl, sym, ◌∙◌, arith, inl, inr}
+use Rattle.std.proofs.Common.{◌≡◌, ℕ, suc, ◌+◌, ◌-◌, ◌<◌, ◌≤◌, Bool, true, false, nat_le, if◌then◌else◌, nat_lt, List, [], ◌∷◌, map, Option, Some, None, IfSome, IsSomeAnd, Ok, Err, length, slice_get, slice_index, slice_range, ap, subst, refl, sym, ◌∙◌, arith, inl, inr}
 use Rattle.std.specs.Option.{option_map}
-use Rattle.std.proofs.lemmas.Bool.Decides.{eqb_tells, leb_tells}
+use Rattle.std.proofs.lemmas.Bool.{eq-eqb, le-leb, le-ltb, leb-true, lt-ltb, ltb-true}
+use Rattle.std.proofs.lemmas.Bool.Decides.{eqb_tells}
 use Rattle.std.proofs.lemmas.List.{get_or-map, length-map}
 use Rattle.std.proofs.lemmas.List.FromFn.{length-map-range_with_len}
 use Rattle.std.proofs.lemmas.Option.{slice_get_within}
@@ -19,11 +20,10 @@ use Rattle.model_heap.proofs.Meanings.{bytes_read, meaning_objects}
 use Rattle.model_heap.proofs.Records.{record_slot, slot_record, tied_below}
 use Rattle.model_memory.specs.Memory.{Object, has_address, object_of}
 use Rattle.model_heap.specs.Places.{Record, object_at, place_of, IsIn, record_in, record_with}
-use Rattle.model_memory.specs.Plain.{Named, ends_outside, holding}
+use Rattle.model_memory.specs.Plain.{ends_outside, holding}
 use Rattle.model_heap.specs.Sound.{IsSound, times_in}
 use Rattle.model_heap.specs.Table.{Group, Slot, group_of, has_number, slot_address}
-use Rattle.model_words.specs.Words.{◌>>=◌, refuse_if}
-use Rattle.model_words.specs.declared.refusals.Refusal.{Refusal}
+use Rattle.model_words.proofs.Tests.{both_hold}
 use Rattle.model_words.specs.declared.refusals.Refusal.TheVariants.{Freed, Outside, Stray}
 use Rattle.mesh_spans.specs.Groups.{first_of, table_group}
 use Rattle.mesh_spans.specs.Index.{GroupEntry, Index, IsIndex, SpanEntry, group_at, span_at}
@@ -172,10 +172,7 @@ object_len h r = length-map-range_with_len (λ x. bytes_in (arena_of h) (place_o
 -- a reference names the object of its serial that stands at its address
 pub reference_names : (h : Heap) (object : Ref) (r : Record) → IsHeap h → record_with object.serial (live_records h) ≡ Some r → r.address ≡ object.addr
     → referred (plain_of h) object ≡ Ok (record { serial = object.serial; object = object_in h r })
-reference_names h object r heap found at = elim (eqb_tells r.address object.addr) [
-  | inl same ↦ rw (live_found h object.serial r heap found, same.0) refl
-  | inr other ↦ absurd (other.1 at)
-]
+reference_names h object r heap found at = rw (live_found h object.serial r heap found, eq-eqb r.address object.addr at) refl
 
 -- a reference is stale where no record of its serial is at its address
 pub reference_stale : (h : Heap) (object : Ref) → IsHeap h
@@ -191,26 +188,20 @@ reference_stale h object heap none = go (object_of (plain_of h) object.serial) r
       | inr other ↦ rw (e, other.0) refl
     ]
 
+-- an address that an object has is in its range
 in_range : (h : Heap) (r : Record) (addr : ℕ) → has_address (object_in h r) addr ≡ true → IsIn r addr
-in_range h r addr has = elim (leb_tells r.address addr) [
-  | inr below ↦ absurd (let two : false ≡ true = subst (λ (b : Bool). both b ≡ true) below.0 has in cc two)
-  | inl from ↦ elim (leb_tells (suc addr) (r.address + length (object_in h r).bytes)) [
-    | inr past ↦ absurd (let two : false ≡ true = subst (λ (b : Bool). b ≡ true) past.0 (subst (λ (b : Bool). both b ≡ true) from.0 has) in cc two)
-    | inl within ↦ (from.1, (let long = object_len h r in let less = within.1 in omega (arith, long, less)))
-  ]
-]
-  where
-    both : Bool → Bool
-    both b = b && nat_lt addr (r.address + length (object_in h r).bytes)
+in_range h r addr has =
+    let both = both_hold (nat_le r.address addr) (nat_lt addr (r.address + length (object_in h r).bytes)) has in
+    let below = ltb-true addr (r.address + length (object_in h r).bytes) both.1 in
+    (leb-true r.address addr both.0, (let long = object_len h r in omega (arith, long, below)))
 
+-- and it has each address of its range
 pub has_in : (h : Heap) (r : Record) (addr : ℕ) → IsIn r addr → has_address (object_in h r) addr ≡ true
-has_in h r addr within = elim (leb_tells r.address addr) [
-  | inr below ↦ absurd (let a = within.0 in let b = below.1 in omega (arith, a, b))
-  | inl from ↦ elim (leb_tells (suc addr) (r.address + length (object_in h r).bytes)) [
-    | inr past ↦ absurd (let long = object_len h r in let a = within.1 in let b = past.1 in omega (arith, a, b, long))
-    | inl less ↦ rw (from.0, less.0) refl
-  ]
-]
+has_in h r addr within =
+    let low = within.0 in
+    let high = within.1 in
+    let long = object_len h r in
+    rw (le-leb r.address addr low, lt-ltb addr (r.address + length (object_in h r).bytes) (omega (arith, high, long))) refl
 
 -- an object begins within its range
 pub begins_in : (h : Heap) (serial addr : ℕ) (r : Record) → IsHeap h → record_with serial (live_records h) ≡ Some r → r.address ≡ addr → IsIn r addr
@@ -310,17 +301,11 @@ held_is h addr o heap at within = record {
 
 -- a part of a live object does not end outside
 pub ends_within : (h : Heap) (r : Record) (off len : ℕ) → off + len ≤ r.len → ends_outside (object_in h r) off len ≡ false
-ends_within h r off len fits = elim (leb_tells (suc (length (object_in h r).bytes)) (off + len)) [
-  | inr no_ ↦ no_.0
-  | inl past ↦ absurd (let long = object_len h r in let more = past.1 in omega (arith, long, more, fits))
-]
+ends_within h r off len fits = le-ltb (length (object_in h r).bytes) (off + len) (let long = object_len h r in omega (arith, long, fits))
 
 -- what is no part of a live object does
 pub ends_past : (h : Heap) (r : Record) (off len : ℕ) → r.len < off + len → ends_outside (object_in h r) off len ≡ true
-ends_past h r off len past = elim (leb_tells (suc (length (object_in h r).bytes)) (off + len)) [
-  | inl yes_ ↦ yes_.0
-  | inr within ↦ absurd (let long = object_len h r in let less = within.1 in omega (arith, long, less, past))
-]
+ends_past h r off len past = lt-ltb (length (object_in h r).bytes) (off + len) (let long = object_len h r in omega (arith, long, past))
 
 -- the bytes of a part of a live object are those of its addresses
 pub part_read : (h : Heap) (r : Record) (off len : ℕ) → off + len ≤ r.len
@@ -341,11 +326,8 @@ read_is h object off len bytes heap live loaded =
 pub read_past : (h : Heap) (object : Ref) (o : Occupied) (off len : ℕ) → IsReferred h object o → o.len < off + len
     → bytes_at (plain_of h) object off len ≡ Err Outside
 read_past h object o off len is past =
-    let r : Record = live_record object.serial object.addr o.len in
-    ap (λ (x : Result Named Refusal). x >>= λ named. refuse_if Outside (ends_outside named.object off len) >>= λ _. Ok (slice_range named.object.bytes off (off + len))) is.named
-    ∙ ap (λ (b : Bool). refuse_if Outside b >>= λ _. Ok (slice_range (object_in h r).bytes off (off + len))) (ends_past h r off len past)
+    rw (is.named, ends_past h (live_record object.serial object.addr o.len) off len past) refl
 
 -- a read through a stale reference
 pub read_stale : (h : Heap) (object : Ref) (off len : ℕ) → referred (plain_of h) object ≡ Err Freed → bytes_at (plain_of h) object off len ≡ Err Freed
-read_stale h object off len stale =
-    ap (λ (x : Result Named Refusal). x >>= λ named. refuse_if Outside (ends_outside named.object off len) >>= λ _. Ok (slice_range named.object.bytes off (off + len))) stale
+read_stale h object off len stale = rw stale refl

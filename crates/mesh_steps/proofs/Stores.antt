@@ -13,10 +13,10 @@ use Rattle.model_heap.proofs.TiedMemories.{stored_tied}
 use Rattle.model_memory.specs.Memory.{Memory}
 use Rattle.model_heap.specs.Mesh.{is_blocked}
 use Rattle.model_heap.specs.Places.{Record, meaning, record_with}
-use Rattle.model_memory.specs.Plain.{Named, ends_outside, holding, stored}
+use Rattle.model_memory.specs.Plain.{Named, holding, stored}
 use Rattle.model_heap.specs.Sound.{IsSound, IsTied}
 use Rattle.model_heap.specs.Table.{Table}
-use Rattle.model_words.specs.Words.{◌>>=◌, refuse_if}
+use Rattle.model_words.specs.Words.{◌>>=◌}
 use Rattle.model_words.specs.declared.refusals.Refusal.{Refusal}
 use Rattle.model_words.specs.declared.refusals.Refusal.TheVariants.{Freed, Outside, Stray}
 use Rattle.mesh_spans.specs.Index.{IsIndex}
@@ -68,12 +68,10 @@ pub stored_in_is : (h : Heap) (serial address off len : ℕ) (bytes : List ℕ) 
     → stored_in h serial address off bytes
     ≡ Ok (stored (plain_of h) (record { serial = serial; object = object_in h (live_record serial address len) }) off bytes)
 stored_in_is h serial address off len bytes heap found fits =
-    ap (λ (x : Result Named Refusal). x >>= λ named. refuse_if Outside (ends_outside named.object off (length bytes)) >>= λ _.
-    Ok (stored (plain_of h) named off bytes))
-    (reference_names h (record { serial = serial; addr = address }) (live_record serial address len) heap found refl)
-    ∙ ap (λ (b : Bool). refuse_if Outside b >>= λ _.
-    Ok (stored (plain_of h) (record { serial = serial; object = object_in h (live_record serial address len) }) off bytes))
-    (ends_within h (live_record serial address len) off (length bytes) fits)
+    rw (
+      reference_names h (record { serial = serial; addr = address }) (live_record serial address len) heap found refl,
+      ends_within h (live_record serial address len) off (length bytes) fits,
+    ) refl
 
 -- the heap after a store is one
 IsHeap_stored : (h : Heap) (arena : Pages) (r : Record) (off : ℕ) (bytes : List ℕ) → IsHeap h → IsIndex (index_of h).spans (index_of h).groups
@@ -95,19 +93,13 @@ IsHeap_stored h arena r off bytes heap index paged found fits may saves =
 
 -- a store through a stale reference
 pub stored_stale : (h : Heap) (object : Ref) (off : ℕ) (bytes : List ℕ) → referred (plain_of h) object ≡ Err Freed → stored_at (plain_of h) object off bytes ≡ Err Freed
-stored_stale h object off bytes stale =
-    ap (λ (x : Result Named Refusal). x >>= λ named. refuse_if Outside (ends_outside named.object off (length bytes)) >>= λ _.
-    Ok (stored (plain_of h) named off bytes)) stale
+stored_stale h object off bytes stale = rw stale refl
 
 -- a store of more than the object that a reference names
 pub stored_past : (h : Heap) (object : Ref) (o : Occupied) (off : ℕ) (bytes : List ℕ) → IsReferred h object o → o.len < off + length bytes
     → stored_at (plain_of h) object off bytes ≡ Err Outside
 stored_past h object o off bytes is past =
-    ap (λ (x : Result Named Refusal). x >>= λ named. refuse_if Outside (ends_outside named.object off (length bytes)) >>= λ _.
-    Ok (stored (plain_of h) named off bytes)) is.named
-    ∙ ap (λ (b : Bool). refuse_if Outside b >>= λ _.
-    Ok (stored (plain_of h) (record { serial = object.serial; object = object_in h (live_record object.serial object.addr o.len) }) off bytes))
-    (ends_past h (live_record object.serial object.addr o.len) off (length bytes) past)
+    rw (is.named, ends_past h (live_record object.serial object.addr o.len) off (length bytes) past) refl
 
 -- a byte stored at an address is stored in the object that holds it
 pub stored_held : (h : Heap) (addr byte : ℕ) (o : Occupied) (i : IsHeld h addr o) → IsHeap h
@@ -131,12 +123,11 @@ read_held h addr byte o i loaded =
 
 -- a byte read at an address of no object
 pub read_stray : (h : Heap) (addr : ℕ) → holding (plain_of h) addr ≡ Err Stray → byte_at_address (plain_of h) addr ≡ Err Stray
-read_stray h addr stray = ap (λ (x : Result Named Refusal). x >>= λ named. Ok (slice_index named.object.bytes (addr - named.object.address))) stray
+read_stray h addr stray = rw stray refl
 
 -- a byte stored at an address of no object
 pub stored_stray : (h : Heap) (addr byte : ℕ) → holding (plain_of h) addr ≡ Err Stray → stored_at_address (plain_of h) addr byte ≡ Err Stray
-stored_stray h addr byte stray =
-    ap (λ (x : Result Named Refusal). x >>= λ named. Ok (stored (plain_of h) named (addr - named.object.address) (byte ∷ []))) stray
+stored_stray h addr byte stray = rw stray refl
 
 -- a store in a live object leaves a heap, and stores in the plain memory
 pub stored_whole : (h : Heap) (g : PageHeap) (serial address off : ℕ) (bytes : List ℕ) → IsHeap h → IsIndex (index_of h).spans (index_of h).groups
