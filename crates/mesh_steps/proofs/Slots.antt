@@ -1,5 +1,5 @@
 -- What an object put into a free slot, and one taken out of its slot, leave of a page heap.
-use Rattle.std.proofs.Common.{◌≡◌, ℕ, ◌+◌, ◌<◌, ◌≤◌, ◌⊎◌, List, Option, Some, None, length, map, replicate, slice_index_or, ap, subst, refl, sym, ◌∙◌, arith, inl, inr}
+use Rattle.std.proofs.Common.{◌≡◌, ℕ, ◌+◌, ◌<◌, ◌≤◌, ◌⊎◌, List, Option, Some, None, length, map, replicate, slice_index_or, slice_set, ap, subst, refl, sym, ◌∙◌, arith, inl, inr}
 use Rattle.std.specs.Option.{option_map}
 use Rattle.std.proofs.lemmas.Bool.Decides.{eqb_tells}
 use Rattle.std.proofs.lemmas.List.{get_or-set_other, get_or-set_same, length-replicate}
@@ -63,21 +63,22 @@ pub record IsOccupied (old new : Index) (span k serial len : ℕ) : Type 0 where
   pub table : groups_of new ≡ map (changed_at (group_number old span) (with_object_in k (put_object old span serial len))) (groups_of old)
   pub closed : (n : ℕ) → is_closed new n ≡ is_closed old n
 
+-- the slots of the group are as they were, with the object put into this one
+put_slots : (old new : Index) (class span k serial len : ℕ) (f : IsFreeSlot old class span k) → IsOccupied old new span k serial len
+    → slots_in (group_at new.groups (group_number old span)) ≡ slice_set f.vacant.group.slots k (Some (put_object old span serial len))
+put_slots old new class span k serial len f is =
+    let n : ℕ = group_number old span in
+    let changed : Option GroupEntry → Option GroupEntry = option_map (with_slot k (Some (put_object old span serial len))) in
+    let there = f.vacant.there in
+    ap (λ (gs : List (Option GroupEntry)). slots_in (group_at gs n)) is.groups
+    ∙ ap slots_in (get_or-set_same old.groups n (changed (group_at old.groups n)) None (group_below old.groups n f.vacant.group there) ∙ ap changed there)
+
 -- the object stands in the slot where it was put
 put_there : (old new : Index) (class span k serial len : ℕ) → IsFreeSlot old class span k → IsOccupied old new span k serial len
     → (layout_of new).slot (group_number old span) k ≡ Some (put_object old span serial len)
 put_there old new class span k serial len f is =
-    let n : ℕ = group_number old span in
-    let slot : Slot = put_object old span serial len in
-    let vacant = f.vacant in
-    let there = vacant.there in
-    let below = group_below old.groups n vacant.group there in
-    let inside : k < length vacant.group.slots = slice_get_within vacant.group.slots k None vacant.free in
-    ap (λ (gs : List (Option GroupEntry)). slice_index_or (slots_in (group_at gs n)) k None) is.groups
-    ∙ ap (λ (o : Option GroupEntry). slice_index_or (slots_in o) k None)
-    (get_or-set_same old.groups n (option_map (with_slot k (Some slot)) (group_at old.groups n)) None below)
-    ∙ ap (λ (o : Option GroupEntry). slice_index_or (slots_in (option_map (with_slot k (Some slot)) o)) k None) there
-    ∙ get_or-set_same vacant.group.slots k (Some slot) None inside
+    ap (λ (slots : List (Option Slot)). slice_index_or slots k None) (put_slots old new class span k serial len f is)
+    ∙ get_or-set_same f.vacant.group.slots k (Some (put_object old span serial len)) None (slice_get_within f.vacant.group.slots k None f.vacant.free)
 
 -- the table with an object that was put
 pub put_table : (g : PageHeap) (index : Index) (span k serial len : ℕ) → IsOccupied g.index index span k serial len
@@ -113,17 +114,16 @@ put_paged g arena index class span k serial len addr p =
     let start : slot_address (first_page g.index span) ((layout_of index).class n) k ≡ addr
     = ap (λ (c : ℕ). slot_address (first_page g.index span) c k) (same ∙ sym vacant.of_class) ∙ sym p.at in
     let covered = free_covered g.index class span k addr len p.before p.free p.at p.fits in
-    let first : (layout_of index).first n 0 ≡ first_page g.index span = alike.first n 0 ∙ sym p.free.first in
+    let from : slot_address ((layout_of index).first n 0) ((layout_of index).class n) k ≡ slot_address (first_page g.index span) ((layout_of index).class n) k
+    = ap (λ (m : ℕ). slot_address m ((layout_of index).class n) k) (alike.first n 0 ∙ sym p.free.first) in
     page_heap_make g.arena arena g.map g.index index g.next_page g.meshes n k 0 (put_object g.index span serial len) (replicate len 0) p.before p.after p.paged
     p.occupied.spans p.occupied.groups p.occupied.closed p.free.calm (subst (λ (t : Table). IsSound t) (sym (put_table g index span k serial len p.occupied)) p.table)
     (put_there g.index index class span k serial len p.free p.occupied) (omega (arith, zeros))
     (record {
       member = subst (λ (m : ℕ). 0 < m) (sym (alike.members n)) covered.member;
       in_range = subst (λ (c : ℕ). k < slots_of c) (sym (alike.class n)) covered.in_range;
-      low = let from : slot_address ((layout_of index).first n 0) ((layout_of index).class n) k ≡ slot_address (first_page g.index span) ((layout_of index).class n) k
-          = ap (λ (m : ℕ). slot_address m ((layout_of index).class n) k) first in omega (arith, from);
-      high = let from : slot_address ((layout_of index).first n 0) ((layout_of index).class n) k ≡ slot_address (first_page g.index span) ((layout_of index).class n) k
-          = ap (λ (m : ℕ). slot_address m ((layout_of index).class n) k) first in omega (arith, from, zeros, p.fits, same);
+      low = omega (arith, from);
+      high = omega (arith, from, zeros, p.fits, same);
     })
     (subst (λ (a : ℕ). Saves g.arena arena g.map a (replicate len 0)) (sym start) p.saves)
 
@@ -132,30 +132,24 @@ put_others : (old new : Index) (class span k serial len : ℕ) → IsFreeSlot ol
     → (layout_of old).slot m j ≡ Some slot → (layout_of new).slot m j ≡ Some slot
 put_others old new class span k serial len f is m j slot filled =
     let n : ℕ = group_number old span in
-    let entry : Option Slot = Some (put_object old span serial len) in
-    ap (λ (gs : List (Option GroupEntry)). slice_index_or (slots_in (group_at gs m)) j None) is.groups ∙ elim (eqb_tells m n) [
-      | inr other ↦ ap (λ (o : Option GroupEntry). slice_index_or (slots_in o) j None)
+    let entry : Option Slot = Some (put_object old span serial len) in elim (eqb_tells m n) [
+      | inr other ↦ ap (λ (gs : List (Option GroupEntry)). slice_index_or (slots_in (group_at gs m)) j None) is.groups
+          ∙ ap (λ (o : Option GroupEntry). slice_index_or (slots_in o) j None)
           (get_or-set_other old.groups n m (option_map (with_slot k entry) (group_at old.groups n)) None other.1) ∙ filled
-      | inl same ↦ subst (λ (x : ℕ). slice_index_or (slots_in (group_at (with_entry old.groups n k entry) x)) j None ≡ Some slot) (sym same.1)
-          (here (subst (λ (x : ℕ). slice_index_or (slots_in (group_at old.groups x)) j None ≡ Some slot) same.1 filled))
+      | inl same ↦ subst (λ (x : ℕ). (layout_of new).slot x j ≡ Some slot) (sym same.1)
+          (ap (λ (slots : List (Option Slot)). slice_index_or slots j None) (put_slots old new class span k serial len f is)
+          ∙ here (subst (λ (x : ℕ). (layout_of old).slot x j ≡ Some slot) same.1 filled))
     ]
   where
-    here : slice_index_or (slots_in (group_at old.groups (group_number old span))) j None ≡ Some slot
-        → slice_index_or (slots_in (group_at (with_entry old.groups (group_number old span) k (Some (put_object old span serial len))) (group_number old span))) j None ≡ Some slot
+    here : (layout_of old).slot (group_number old span) j ≡ Some slot
+        → slice_index_or (slice_set f.vacant.group.slots k (Some (put_object old span serial len))) j None ≡ Some slot
     here filled' =
-        let n : ℕ = group_number old span in
-        let entry : Option Slot = Some (put_object old span serial len) in
-        let vacant = f.vacant in
-        let there = vacant.there in
-        let below = group_below old.groups n vacant.group there in
-        let now : slice_index_or vacant.group.slots j None ≡ Some slot = sym (ap (λ (o : Option GroupEntry). slice_index_or (slots_in o) j None) there) ∙ filled' in
-        ap (λ (o : Option GroupEntry). slice_index_or (slots_in o) j None)
-        (get_or-set_same old.groups n (option_map (with_slot k entry) (group_at old.groups n)) None below)
-        ∙ ap (λ (o : Option GroupEntry). slice_index_or (slots_in (option_map (with_slot k entry) o)) j None) there
-        ∙ elim (eqb_tells j k) [
-          | inr other ↦ get_or-set_other vacant.group.slots k j entry None other.1 ∙ now
-          | inl same ↦ absurd (let none : slice_index_or vacant.group.slots k None ≡ None = get_or_from_slice_get vacant.group.slots k None None vacant.free in
-              let two : ◌≡◌ {A = Option Slot} None (Some slot) = sym none ∙ ap (λ (x : ℕ). slice_index_or vacant.group.slots x None) (sym same.1) ∙ now in cc two)
+        let slots : List (Option Slot) = f.vacant.group.slots in
+        let now : slice_index_or slots j None ≡ Some slot = sym (ap (λ (o : Option GroupEntry). slice_index_or (slots_in o) j None) f.vacant.there) ∙ filled' in
+        elim (eqb_tells j k) [
+          | inr other ↦ get_or-set_other slots k j (Some (put_object old span serial len)) None other.1 ∙ now
+          | inl same ↦ absurd (let none : slice_index_or slots k None ≡ None = get_or_from_slice_get slots k None None f.vacant.free in
+              let two : ◌≡◌ {A = Option Slot} None (Some slot) = sym none ∙ ap (λ (x : ℕ). slice_index_or slots x None) (sym same.1) ∙ now in cc two)
         ]
 
 -- each byte of an object that is outside of the zeros put into a free slot is as it was

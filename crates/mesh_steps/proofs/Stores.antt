@@ -166,6 +166,10 @@ held_back h serial address off bytes heap index paged live blocked =
       same = refl;
     })
 
+-- what is live in the heap that is seen is live in the heap inside
+pub live_inside : (seen own : Heap) (serial address bytes : ℕ) → own ≡ seen → IsLiveFor seen serial address bytes → IsLiveFor own serial address bytes
+live_inside seen own serial address bytes same live = subst (λ (h : Heap). IsLiveFor h serial address bytes) (sym same) live
+
 -- a part of a live object is one of the layout's, and lies within the addresses that there are
 pub live_for_object : (h : Heap) (serial address off count : ℕ) → IsHeap h → IsLiveFor h serial address (off + count)
     → AreInObject (layout_of (index_of h)) (address + off) count

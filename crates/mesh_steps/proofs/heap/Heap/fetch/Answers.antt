@@ -1,27 +1,21 @@
-use Rattle.std.proofs.Common.{◌≡◌, ◌+◌, ℕ, List, [], ◌∷◌, ◌++◌, length, take, drop, refl, sym, ap, subst, ◌∙◌, arith}
+use Rattle.std.proofs.Common.{◌≡◌, ◌+◌, ℕ, List, ◌++◌, length, take, drop, sym, ap, ◌∙◌, arith}
+use Rattle.std.proofs.Math.Seq.{take-append_seam}
 use Rattle.std.proofs.lemmas.Grind.{common_steps}
 use Rattle.mesh_arena.specs.Pages.{run_of, length-run_of}
 use Rattle.mesh_store.specs.Places.{byte_of}
-use Rattle.mesh_steps.specs.Heap.{Heap, IsLiveFor}
 use Rattle.mesh_steps.proofs.Objects.{read_is}
-use Rattle.mesh_steps.proofs.Stores.{live_for_fits, live_for_object}
+use Rattle.mesh_steps.proofs.Stores.{live_for_fits, live_for_object, live_inside}
 use Rattle.mesh_steps.proofs.heap.Heap.fetch.Goals as goal
 
 -- bytes written over as many are all that is there
 overlaid : (xs ys : List ℕ) → length xs ≡ length ys → take (length ys) (xs ++ drop (length xs) ys) ≡ xs
-overlaid [] [] e = refl
-overlaid [] (y ∷ ys) e = absurd (omega (arith, e))
-overlaid (x ∷ xs) [] e = absurd (omega (arith, e))
-overlaid (x ∷ xs) (y ∷ ys) e = ap (λ (zs : List ℕ). x ∷ zs) (overlaid xs ys (omega (arith, e)))
-
--- what is live in the heap that is seen is live in the heap inside
-inside : (seen own : Heap) (serial address bytes : ℕ) → own ≡ seen → IsLiveFor seen serial address bytes → IsLiveFor own serial address bytes
-inside seen own serial address bytes same live = subst (λ (h : Heap). IsLiveFor h serial address bytes) (sym same) live
+overlaid xs ys same =
+    ap (λ (n : ℕ). take n (xs ++ drop (length xs) ys)) (sym same) ∙ take-append_seam xs (drop (length xs) ys)
 
 pub overflow_add-object : goal.overflow_add-object
 overflow_add-object c =
     let fits = live_for_fits (record { pages = c.self.inside.pages; next_serial = c.self.inside.next_serial }) c.args.object.serial c.args.object.addr
-    c.args.off c.args.len c.self.invariant c.sound.ensures.index c.requires.some (inside _ _ c.args.object.serial c.args.object.addr _ c.self.view_is
+    c.args.off c.args.len c.self.invariant c.sound.ensures.index c.requires.some (live_inside _ _ c.args.object.serial c.args.object.addr _ c.self.view_is
     c.requires.live) in
     omega (arith, fits)
 
@@ -29,7 +23,7 @@ pub load-requires-clause-object : goal.load-requires-clause-object
 load-requires-clause-object c =
     let long : length c.as_mut_slice.result.now ≡ c.args.len = grind (arith, common_steps) in
     rw long (live_for_object (record { pages = c.self.inside.pages; next_serial = c.self.inside.next_serial }) c.args.object.serial c.args.object.addr
-    c.args.off c.args.len c.self.invariant (inside _ _ c.args.object.serial c.args.object.addr _ c.self.view_is c.requires.live))
+    c.args.off c.args.len c.self.invariant (live_inside _ _ c.args.object.serial c.args.object.addr _ c.self.view_is c.requires.live))
 
 pub returns-clause-bytes : goal.returns-clause-bytes
 returns-clause-bytes c =
@@ -41,5 +35,5 @@ returns-clause-bytes c =
     = ap (λ (xs : List ℕ). length xs) out
     ∙ length-run_of (byte_of c.self.inside.pages.arena c.self.inside.pages.map) (c.args.object.addr + c.args.off) c.args.len ∙ sym long in
     rw (← c.self.view_is) (read_is (record { pages = c.self.inside.pages; next_serial = c.self.inside.next_serial }) c.args.object c.args.off c.args.len _
-    c.self.invariant (inside _ _ c.args.object.serial c.args.object.addr _ c.self.view_is c.requires.live)
+    c.self.invariant (live_inside _ _ c.args.object.serial c.args.object.addr _ c.self.view_is c.requires.live)
     (overlaid c.load.new.out c.truncate.new.self.items same ∙ out))
