@@ -1,5 +1,5 @@
 -- A seat's recorded calls beside its worker's entries.
-use Rattle.std.proofs.Common.{◌≡◌, ◌≢◌, ℕ, zero, suc, ◌+◌, ◌<◌, ◌≤◌, true, false, List, [], ◌∷◌, ◌++◌, length, nat_eq, drop, slice_get, slice_index_or, ap, subst, refl, sym, ◌∙◌, arith, inl, inr, Some, None, append_assoc}
+use Rattle.std.proofs.Common.{◌≡◌, ◌≢◌, ℕ, zero, suc, ◌+◌, ◌<◌, ◌≤◌, true, false, List, [], ◌∷◌, ◌++◌, length, nat_eq, drop, slice_get, slice_index_or, ap, subst, refl, sym, ◌∙◌, arith, inl, inr, None, append_assoc}
 use Rattle.std.proofs.lemmas.Bool.Decides.{eqb_tells}
 use Rattle.std.proofs.lemmas.List.{length-append}
 use Rattle.std.proofs.Math.Seq.{drop-cons}
@@ -63,16 +63,25 @@ same_past calls rest worker entries k place e below at other same =
       first = same.first;
     })
 
+-- the worker's own entry is the first call that follows of its own
+own_call : (worker : ℕ) (entries : List Entry) (k : ℕ) (e : Entry) → k < length entries → slice_index_or entries k e ≡ e → nat_eq e.worker worker ≡ true
+    → calls_of worker (drop k entries) ≡ entry_call e ∷ calls_of worker (drop (suc k) entries)
+own_call worker entries k e below at own = ap (λ (x : List Entry). calls_of worker x) (cut_at entries k e below at) ∙ rw own refl
+
+-- the first call that is left is recorded
+first_call : (calls rest tail : List Kept) (kept : Kept) (worker : ℕ) (entries : List Entry) (k place : ℕ) → rest ≡ kept ∷ tail
+    → SameSoFar calls rest worker entries k place → recorded rest ≡ call_of kept ∷ recorded tail
+first_call calls rest tail kept worker entries k place head same =
+    let bare = same.first kept tail head in ap (λ (x : List Kept). recorded x) head ∙ rw bare refl
+
 -- its own entry, which is the call
 pub same_own : (calls rest tail rest' : List Kept) (kept : Kept) (worker : ℕ) (entries : List Entry) (k place : ℕ) (e : Entry) → k < length entries
     → slice_index_or entries k e ≡ e → nat_eq e.worker worker ≡ true → rest ≡ kept ∷ tail → call_of kept ≡ entry_call e → IsRecordedFirst tail rest'
     → SameSoFar calls rest worker entries k place → SameSoFar calls rest' worker entries (k + 1) (place + 1)
 same_own calls rest tail rest' kept worker entries k place e below at own head is skipped same =
-    let cut = cut_at entries k e below at in
-    let bare = same.first kept tail head in
-    let on : calls_of worker (drop k entries) ≡ entry_call e ∷ calls_of worker (drop (suc k) entries) = ap (λ (x : List Entry). calls_of worker x) cut ∙ rw own refl in
-    let theirs : recorded rest ≡ entry_call e ∷ recorded rest' =
-    ap (λ (x : List Kept). recorded x) head ∙ rw bare (ap (λ (x : Call). x ∷ recorded tail) is ∙ ap (λ (x : List Call). entry_call e ∷ x) (sym skipped.same)) in
+    let on = own_call worker entries k e below at own in
+    let theirs : recorded rest ≡ entry_call e ∷ recorded rest' = first_call calls rest tail kept worker entries k place head same
+    ∙ ap (λ (x : Call). x ∷ recorded tail) is ∙ ap (λ (x : List Call). entry_call e ∷ x) (sym skipped.same) in
     let one : suc k ≡ k + 1 = omega arith in
     let small = same.small in
     let many = same.many in
@@ -92,40 +101,34 @@ front [] xs ys k below = absurd (omega (arith, below))
 front (d ∷ ds) xs ys zero below = refl
 front (d ∷ ds) xs ys (suc k) below = front ds xs ys k (omega (arith, below))
 
+-- the first that follows them
 seam : (done xs : List Call) → slice_get (done ++ xs) (length done) ≡ slice_get xs 0
 seam [] xs = refl
 seam (d ∷ ds) xs = seam ds xs
 
-differ_seam : (theirs ours done xs ys : List Call) (place : ℕ) → theirs ≡ done ++ xs → ours ≡ done ++ ys → length done ≡ place → slice_get xs 0 ≢ slice_get ys 0
-    → DifferFirstAt theirs ours place
-differ_seam theirs ours done xs ys place is_theirs is_ours many other =
-    rw (is_theirs, is_ours) (subst (λ (k : ℕ). DifferFirstAt (done ++ xs) (done ++ ys) k) many (record {
-      same_before = front done xs ys;
-      other = λ same. other (sym (seam done xs) ∙ same ∙ seam done ys);
+-- what follows of both differs in its first call, and so the two differ there
+differ_next : (calls rest : List Kept) (worker : ℕ) (entries : List Entry) (k place : ℕ) (xs ys : List Call) → recorded rest ≡ xs → calls_of worker (drop k entries) ≡ ys
+    → slice_get xs 0 ≢ slice_get ys 0 → SameSoFar calls rest worker entries k place → DifferFirstAt (recorded calls) (calls_of worker entries) place
+differ_next calls rest worker entries k place xs ys theirs ours other same =
+    rw (same.theirs ∙ ap (λ (l : List Call). same.done ++ l) theirs, same.ours ∙ ap (λ (l : List Call). same.done ++ l) ours)
+    (subst (λ (n : ℕ). DifferFirstAt (same.done ++ xs) (same.done ++ ys) n) same.many (record {
+      same_before = front same.done xs ys;
+      other = λ one. other (sym (seam same.done xs) ∙ one ∙ seam same.done ys);
     }))
 
 -- no call is left for its own entry
 pub differ_short : (calls rest : List Kept) (worker : ℕ) (entries : List Entry) (k place : ℕ) (e : Entry) → k < length entries → slice_index_or entries k e ≡ e
     → nat_eq e.worker worker ≡ true → rest ≡ [] → SameSoFar calls rest worker entries k place → DifferFirstAt (recorded calls) (calls_of worker entries) place
 differ_short calls rest worker entries k place e below at own none same =
-    let cut = cut_at entries k e below at in
-    let on : calls_of worker (drop k entries) ≡ entry_call e ∷ calls_of worker (drop (suc k) entries) = ap (λ (x : List Entry). calls_of worker x) cut ∙ rw own refl in
-    let nothing : recorded rest ≡ [] = ap (λ (x : List Kept). recorded x) none in
-    differ_seam (recorded calls) (calls_of worker entries) same.done (recorded rest) (calls_of worker (drop k entries)) place same.theirs same.ours same.many
-    (λ eq. let clash : None ≡ Some (entry_call e) = ap (λ (x : List Call). slice_get x 0) (sym nothing) ∙ eq ∙ ap (λ (x : List Call). slice_get x 0) on in cc clash)
+    differ_next calls rest worker entries k place [] _ (ap (λ (x : List Kept). recorded x) none) (own_call worker entries k e below at own) (λ clash. cc clash) same
 
 -- the call is not its own entry
 pub differ_here : (calls rest tail : List Kept) (kept : Kept) (worker : ℕ) (entries : List Entry) (k place : ℕ) (e : Entry) → k < length entries → slice_index_or entries k e ≡ e
     → nat_eq e.worker worker ≡ true → rest ≡ kept ∷ tail → (call_of kept ≡ entry_call e → ⊥) → SameSoFar calls rest worker entries k place
     → DifferFirstAt (recorded calls) (calls_of worker entries) place
 differ_here calls rest tail kept worker entries k place e below at own head differs same =
-    let cut = cut_at entries k e below at in
-    let bare = same.first kept tail head in
-    let on : calls_of worker (drop k entries) ≡ entry_call e ∷ calls_of worker (drop (suc k) entries) = ap (λ (x : List Entry). calls_of worker x) cut ∙ rw own refl in
-    let theirs : recorded rest ≡ call_of kept ∷ recorded tail = ap (λ (x : List Kept). recorded x) head ∙ rw bare refl in
-    differ_seam (recorded calls) (calls_of worker entries) same.done (recorded rest) (calls_of worker (drop k entries)) place same.theirs same.ours same.many
-    (λ eq. let both : Some (call_of kept) ≡ Some (entry_call e) = ap (λ (x : List Call). slice_get x 0) (sym theirs) ∙ eq ∙ ap (λ (x : List Call). slice_get x 0) on in
-    let one : call_of kept ≡ entry_call e = cc both in differs one)
+    differ_next calls rest worker entries k place _ _ (first_call calls rest tail kept worker entries k place head same) (own_call worker entries k e below at own)
+    (λ both. let one : call_of kept ≡ entry_call e = cc both in differs one) same
 
 -- after all entries no call is left
 pub same_all : (calls rest : List Kept) (worker : ℕ) (entries : List Entry) (k place : ℕ) → length entries ≤ k → rest ≡ [] → SameSoFar calls rest worker entries k place
@@ -134,20 +137,12 @@ same_all calls rest worker entries k place past none same =
     same.theirs ∙ ap (λ (x : List Kept). same.done ++ recorded x) none ∙ ap (λ (x : List Entry). same.done ++ calls_of worker x) (sym (drop_all entries k past)) ∙ sym same.ours
 
 -- after all entries one is left
-pub differ_long : (calls rest tail : List Kept) (kept : Kept) (worker : ℕ) (entries : List Entry) (k place : ℕ) → length entries ≤ k → rest ≡ kept ∷ tail
-    → SameSoFar calls rest worker entries k place → DifferFirstAt (recorded calls) (calls_of worker entries) place
-differ_long calls rest tail kept worker entries k place past head same =
-    let bare = same.first kept tail head in
-    let nothing : calls_of worker (drop k entries) ≡ [] = ap (λ (x : List Entry). calls_of worker x) (drop_all entries k past) in
-    let theirs : recorded rest ≡ call_of kept ∷ recorded tail = ap (λ (x : List Kept). recorded x) head ∙ rw bare refl in
-    differ_seam (recorded calls) (calls_of worker entries) same.done (recorded rest) (calls_of worker (drop k entries)) place same.theirs same.ours same.many
-    (λ eq. let clash : Some (call_of kept) ≡ None = ap (λ (x : List Call). slice_get x 0) (sym theirs) ∙ eq ∙ ap (λ (x : List Call). slice_get x 0) nothing in cc clash)
-
--- whichever it is
 pub differ_some : (calls rest : List Kept) (worker : ℕ) (entries : List Entry) (k place : ℕ) → length entries ≤ k → (rest ≡ [] → ⊥)
     → SameSoFar calls rest worker entries k place → DifferFirstAt (recorded calls) (calls_of worker entries) place
 differ_some calls [] worker entries k place past some same = absurd (some refl)
-differ_some calls (kept ∷ tail) worker entries k place past some same = differ_long calls (kept ∷ tail) tail kept worker entries k place past refl same
+differ_some calls (kept ∷ tail) worker entries k place past some same =
+    differ_next calls (kept ∷ tail) worker entries k place _ [] (first_call calls (kept ∷ tail) tail kept worker entries k place refl same)
+    (ap (λ (x : List Entry). calls_of worker x) (drop_all entries k past)) (λ clash. cc clash) same
 
 -- the entry is not the worker's own
 pub is_not_own : (a b : ℕ) → (a ≡ b → ⊥) → nat_eq a b ≡ false
