@@ -3,6 +3,7 @@ use Rattle.std.proofs.Common.{◌≡◌, ◌≢◌, ℕ, zero, suc, ◌+◌, ◌
 use Rattle.std.specs.Option.{option_map}
 use Rattle.std.proofs.Math.ListN.{get_or-map}
 use Rattle.std.proofs.lemmas.List.{get_or-set_other, map-set}
+use Rattle.std.proofs.lemmas.Bool.{eq-eqb}
 use Rattle.std.proofs.lemmas.Bool.Decides.{eqb_tells, leb_tells}
 use Rattle.model_heap.proofs.NewLengths.{new_has_length}
 use Rattle.model_heap.proofs.Meanings.{meaning_next}
@@ -50,10 +51,7 @@ named_is h cells cell object rooted at = go (object_of (plain_of h) object.seria
 
     go : (o : Option Object) → object_of (plain_of h) object.serial ≡ o → referred (plain_of h) object ≡ named_by (memory_in h cells) cell
     go None e = rw (e, root) (rw e refl)
-    go (Some live) e = let same = (rooted cell object at).1 live e in elim (eqb_tells live.address object.addr) [
-      | inl yes_ ↦ rw (e, yes_.0, root) (rw e refl)
-      | inr other ↦ absurd (other.1 same)
-    ]
+    go (Some live) e = rw (e, eq-eqb live.address object.addr ((rooted cell object at).1 live e), root) (rw e refl)
 
 -- an empty cell names nothing
 pub named_none : (h : Heap) (cells : Cells) (cell : ℕ) → cell_at cells cell ≡ None → named_by (memory_in h cells) cell ≡ Err Empty
