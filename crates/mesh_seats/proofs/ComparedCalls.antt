@@ -107,8 +107,9 @@ seam [] xs = refl
 seam (d ∷ ds) xs = seam ds xs
 
 -- what follows of both differs in its first call, and so the two differ there
-differ_next : (calls rest : List Kept) (worker : ℕ) (entries : List Entry) (k place : ℕ) (xs ys : List Call) → recorded rest ≡ xs → calls_of worker (drop k entries) ≡ ys
-    → slice_get xs 0 ≢ slice_get ys 0 → SameSoFar calls rest worker entries k place → DifferFirstAt (recorded calls) (calls_of worker entries) place
+differ_next : (calls rest : List Kept) (worker : ℕ) (entries : List Entry) (k place : ℕ) (xs ys : List Call) → recorded rest ≡ xs
+    → calls_of worker (drop k entries) ≡ ys → slice_get xs 0 ≢ slice_get ys 0 → SameSoFar calls rest worker entries k place
+    → DifferFirstAt (recorded calls) (calls_of worker entries) place
 differ_next calls rest worker entries k place xs ys theirs ours other same =
     rw (same.theirs ∙ ap (λ (l : List Call). same.done ++ l) theirs, same.ours ∙ ap (λ (l : List Call). same.done ++ l) ours)
     (subst (λ (n : ℕ). DifferFirstAt (same.done ++ xs) (same.done ++ ys) n) same.many (record {
