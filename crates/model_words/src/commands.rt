@@ -1,6 +1,9 @@
 //! The nine commands of mutators, their replies, and the kinds of step of a mesh.
+ghost use Rattle.std.specs.Prelude.{◌≡◌};
+
 use crate::Refusal;
 use arrayvec::ArrayVec;
+use std::alloc::AllocError;
 
 /// The most bytes that one command stores or loads.
 pub const MAX_BYTES: usize = 32;
@@ -8,7 +11,7 @@ pub const MAX_BYTES: usize = 32;
 /// What a mutator asks of the heap. A cell is one of the 256 root cells, which all workers share.
 ///
 /// An offset counts bytes from the object's start. Of `Put`, `Get` and `Copy` 1 to 32 bytes are stored, loaded or copied.
-#[derive(Clone, Debug, Drop, PartialEq, Eq)]
+#[derive(Debug, Drop, PartialEq, Eq)]
 pub enum Command {
     /// `New(cell, len, word)`: make an object of `len` zero bytes, and store its reference in `cell`. The word picks the slot.
     New(u8, u32, u64),
@@ -31,8 +34,34 @@ pub enum Command {
     Copy(u8, u32, u8, u32, u32),
 }
 
+impl Clone for Command {
+    ghost is_clone = { λ command copy. copy ≡ command };
+
+    ghost is_infallible = { λ command. Unit {0} };
+
+    /// The same command. It takes no memory.
+    fn clone(&self) -> Result<Command, AllocError> {
+        match self {
+            Command::New(cell, len, word) => Ok(Command::New(*cell, *len, *word)),
+            Command::Put(cell, off, bytes) => {
+                let bytes = bytes.clone()?;
+                Ok(Command::Put(*cell, *off, bytes))
+            }
+            Command::Get(cell, off, len) => Ok(Command::Get(*cell, *off, *len)),
+            Command::Free(cell) => Ok(Command::Free(*cell)),
+            Command::Alias(to, from) => Ok(Command::Alias(*to, *from)),
+            Command::Addr(cell) => Ok(Command::Addr(*cell)),
+            Command::Peek(addr) => Ok(Command::Peek(*addr)),
+            Command::Poke(addr, byte) => Ok(Command::Poke(*addr, *byte)),
+            Command::Copy(to, to_off, from, from_off, len) => {
+                Ok(Command::Copy(*to, *to_off, *from, *from_off, *len))
+            }
+        }
+    }
+}
+
 /// What a mutator is answered.
-#[derive(Clone, Debug, Drop, PartialEq, Eq)]
+#[derive(Debug, Drop, PartialEq, Eq)]
 pub enum Reply {
     /// `Object(serial, addr)`: the object was made.
     Object(u32, u32),
@@ -46,6 +75,27 @@ pub enum Reply {
     Byte(u8),
     /// The command was refused and changed nothing.
     Refused(Refusal),
+}
+
+impl Clone for Reply {
+    ghost is_clone = { λ reply copy. copy ≡ reply };
+
+    ghost is_infallible = { λ reply. Unit {0} };
+
+    /// The same reply. It takes no memory.
+    fn clone(&self) -> Result<Reply, AllocError> {
+        match self {
+            Reply::Object(serial, addr) => Ok(Reply::Object(*serial, *addr)),
+            Reply::Done => Ok(Reply::Done),
+            Reply::Bytes(bytes) => {
+                let bytes = bytes.clone()?;
+                Ok(Reply::Bytes(bytes))
+            }
+            Reply::At(addr) => Ok(Reply::At(*addr)),
+            Reply::Byte(byte) => Ok(Reply::Byte(*byte)),
+            Reply::Refused(refusal) => Ok(Reply::Refused(*refusal)),
+        }
+    }
 }
 
 /// The kinds of step of a running mesh, in their order. The order is this project's own choice.
