@@ -306,7 +306,17 @@ fn read_words<'a, S: AsStr>(alloc: Global, words: &'a [S]) -> Result<Args<'a>, E
     ensures passes { IfErr result (λ error. IsAllowedOf (map S.text words.now) (kind_of error)) }
 {
     let mut command = meshrun_command(alloc)?;
-    let matches = matches_of(&mut command, words)?;
+    read_by(&mut command, words)
+}
+
+/// The same, by the program's command.
+fn read_by<'a, S: AsStr>(command: &mut Command<'a>, words: &'a [S]) -> Result<Args<'a>, Error>
+    requires { app_of command.old ≡ meshrun_app }
+    ensures asked { IfOk result (IsAsked (map S.text words.now)) }
+    ensures kinds { IfErr result (λ error. IsSaidOf (map S.text words.now) (kind_of error)) }
+    ensures passes { IfErr result (λ error. IsAllowedOf (map S.text words.now) (kind_of error)) }
+{
+    let matches = matches_of(command, words)?;
     match asked_for(&matches) {
         Some(args) => Ok(args),
         None => Err(command.error(ErrorKind::ValueValidation, UNREAD_MESHES)?),
