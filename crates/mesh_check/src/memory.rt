@@ -22,7 +22,6 @@ use std::collections::{BTreeMap, BTreeSet};
 /// The plain memory of the entries so far.
 ///
 /// Objects have numbers, in the order of their making, and a cell holds the number of one. No live object has an address of another.
-#[derive(Drop)]
 pub struct Tracked {
     /// The live objects by number.
     pub(crate) objects: BTreeMap<u32, Stored>,
@@ -35,6 +34,11 @@ pub struct Tracked {
     /// How many objects were made.
     pub(crate) made: u32,
     alloc: Global,
+}
+
+#[rattlefmt::skip]
+impl Drop for Tracked {
+    fn drop(self) { let Tracked { objects: _, starts: _, roots: _, serials: _, made: _, alloc: _ } = self; }
 }
 
 impl Tracked {

@@ -49,7 +49,6 @@ enum Section {
 }
 
 /// A job that is being read.
-#[derive(Drop)]
 pub(crate) struct Draft {
     alloc: Global,
     section: Section,
@@ -62,6 +61,11 @@ pub(crate) struct Draft {
     /// The script of the section that is being read.
     script: Script,
     plan: Vec<PlanLine>,
+}
+
+#[rattlefmt::skip]
+impl Drop for Draft {
+    fn drop(self) { let Draft { alloc: _, section: _, version: _, pages: _, history: _, workers: _, scripts: _, script: _, plan: _ } = self; }
 }
 
 impl Draft {
@@ -317,12 +321,23 @@ impl Draft {
         requires ended { has_ended (draft_of self).section ≡ true }
         ensures { result ≡ job_of (draft_of self) }
     {
+        let Draft {
+            alloc: _,
+            section: _,
+            version,
+            pages,
+            history,
+            workers: _,
+            scripts,
+            script: _,
+            plan,
+        } = self;
         Job {
-            version: self.version,
-            pages: self.pages,
-            history: self.history,
-            scripts: Scripts::new(self.scripts),
-            plan: Plan::new(self.plan),
+            version,
+            pages,
+            history,
+            scripts: Scripts::new(scripts),
+            plan: Plan::new(plan),
         }
     }
 }

@@ -54,7 +54,6 @@ impl Scripts {
 ///
 /// Its type keeps the limits: 1 to 4,096 pages, a journal of at most 65,536 entries, and a plan that runs only workers that there
 /// are and has the lines of the job's version alone. The limits are this project's own choice.
-#[derive(Drop)]
 pub struct Job {
     /// The version of its file.
     pub version: Version,
@@ -78,4 +77,9 @@ impl Model for Job {
     ghost view = { λ j. record { version = j.version; pages = j.pages; history = j.history; scripts = j.scripts; plan = j.plan } };
 
     ghost invariant = { λ j. IsJob j.version j.pages j.history (length j.scripts) j.plan };
+}
+
+#[rattlefmt::skip]
+impl Drop for Job {
+    fn drop(self) { let Job { version: _, pages: _, history: _, scripts: _, plan: _ } = self; }
 }

@@ -29,7 +29,6 @@ pub fn read_file(alloc: Global, bytes: &[u8]) -> Result<Job, ReadFault>
 }
 
 /// A job file that is being read, piece by piece. Once memory was refused it can't be read on.
-#[derive(Drop)]
 pub struct Reading {
     /// The job as far as its lines were taken.
     draft: Draft,
@@ -39,6 +38,11 @@ pub struct Reading {
     taken: usize,
     /// The file's first fault, once it was found.
     fault: Option<TextFault>,
+}
+
+#[rattlefmt::skip]
+impl Drop for Reading {
+    fn drop(self) { let Reading { draft: _, number: _, taken: _, fault: _ } = self; }
 }
 
 impl Reading {
@@ -142,6 +146,12 @@ impl Reading {
         if !self.draft.has_ended() {
             return Err(ReadFault::Text(self.fault_of_line(FaultKind::Cut)));
         }
-        Ok(self.draft.finish())
+        let Reading {
+            draft,
+            number: _,
+            taken: _,
+            fault: _,
+        } = self;
+        Ok(draft.finish())
     }
 }

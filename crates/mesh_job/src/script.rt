@@ -22,7 +22,6 @@ const MAX_KEPT: usize = 0xffff_ffff;
 ///
 /// Each stores or loads 1 to 32 bytes, where it does at all, so that each may be handed to the heap. A command is kept in 16 bytes, and what it
 /// stores beside it.
-#[derive(Drop)]
 pub struct Script {
     commands: Vec<PackedCommand>,
     /// What they store, each one's bytes behind those of the one before.
@@ -40,6 +39,11 @@ impl Model for Script {
     ghost view = { λ s. map (command_in s.bytes.items) s.commands.items };
 
     ghost invariant = { λ s. IsScript s.bytes.items s.commands.items };
+}
+
+#[rattlefmt::skip]
+impl Drop for Script {
+    fn drop(self) { let Script { commands: _, bytes: _ } = self; }
 }
 
 impl Script {

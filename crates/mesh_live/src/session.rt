@@ -16,12 +16,16 @@ use mesh_text::Turns;
 use std::alloc::{AllocError, Global};
 
 /// A heap that is asked line by line.
-#[derive(Drop)]
 pub struct Session {
     /// A job of the session's sizes, which has no command and no line of a plan.
     pub(crate) job: Job,
     /// The heap, and how far each of the job's scripts was run: all are over.
     pub(crate) turns: Turns,
+}
+
+#[rattlefmt::skip]
+impl Drop for Session {
+    fn drop(self) { let Session { job: _, turns: _ } = self; }
 }
 
 impl Session {

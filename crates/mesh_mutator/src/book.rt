@@ -25,7 +25,6 @@ use std::alloc::{AllocError, Global};
 use std::marker::Model;
 
 /// A heap, its root cells and the journal of all answered commands, in their order of effect.
-#[derive(Drop)]
 pub struct Book {
     heap: Heap,
     roots: Roots,
@@ -42,6 +41,11 @@ impl Model for Book {
     ghost view = { λ b. record { heap = b.heap; cells = b.roots; entries = b.journal.entries; room = b.journal.room } };
 
     ghost invariant = { λ b. IsBook (record { heap = b.heap; cells = b.roots; entries = b.journal.entries; room = b.journal.room }) };
+}
+
+#[rattlefmt::skip]
+impl Drop for Book {
+    fn drop(self) { let Book { heap: _, roots: _, journal: _ } = self; }
 }
 
 impl Book {
@@ -89,7 +93,12 @@ impl Book {
         ensures legal { IsLegal result.2.entries (memory_in result.0 result.1) }
         ensures short { length result.2.entries ≤ 65536 }
     {
-        (self.heap, self.roots, self.journal)
+        let Book {
+            heap,
+            roots,
+            journal,
+        } = self;
+        (heap, roots, journal)
     }
 
     /// What holds of a book at any moment, whatever it was asked before and however mutators and mesher took turns.

@@ -12,7 +12,6 @@ use std::marker::Model;
 ///
 /// An entry is kept in 32 bytes, and the bytes that its command stores and its reply loads stand beside it, one behind another. The room is made
 /// once.
-#[derive(Drop)]
 pub struct Journal {
     entries: Vec<PackedEntry>,
     bytes: Vec<u8>,
@@ -35,6 +34,11 @@ impl Model for Journal {
     ghost invariant = { λ j. All (IsWithin (length j.bytes.items)) j.entries.items
         × (j.room ≤ vec_capacity j.entries) × (64 * j.room ≤ vec_capacity j.bytes)
         × (length j.bytes.items ≤ 64 * length j.entries.items) × (length j.entries.items ≤ j.room) × (j.room ≤ 65536) };
+}
+
+#[rattlefmt::skip]
+impl Drop for Journal {
+    fn drop(self) { let Journal { entries: _, bytes: _, room: _ } = self; }
 }
 
 impl Journal {

@@ -83,7 +83,6 @@ pub struct Counts {
 }
 
 /// What a picture shows of a heap.
-#[derive(Drop)]
 pub struct Frame {
     /// The members of all groups: groups ascending by number, members in their order.
     pub members: Vec<Member>,
@@ -97,4 +96,9 @@ pub struct Frame {
     pub meshes: Vec<RunningMesh>,
     /// How many pages it has.
     pub counts: Counts,
+}
+
+#[rattlefmt::skip]
+impl Drop for Frame {
+    fn drop(self) { let Frame { members: _, leads: _, objects: _, homes: _, meshes: _, counts: _ } = self; }
 }

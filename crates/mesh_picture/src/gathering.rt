@@ -43,7 +43,6 @@ pub(crate) struct Caption {
 }
 
 /// The lines that have come since the last frame, and that frame.
-#[derive(Drop)]
 pub(crate) struct Gathering {
     /// The captions, in their order.
     pub captions: Vec<Caption>,
@@ -54,6 +53,11 @@ pub(crate) struct Gathering {
     /// Whether a frame was shown yet.
     pub begun: bool,
     alloc: Global,
+}
+
+#[rattlefmt::skip]
+impl Drop for Gathering {
+    fn drop(self) { let Gathering { captions: _, hidden: _, last: _, begun: _, alloc: _ } = self; }
 }
 
 impl Gathering {

@@ -33,7 +33,6 @@ pub struct Header {
 }
 
 /// A picture that is being drawn.
-#[derive(Drop)]
 pub struct Picture {
     measured: Measured,
     title: Vec<u8>,
@@ -42,6 +41,11 @@ pub struct Picture {
     row: usize,
     column: u32,
     y: u32,
+}
+
+#[rattlefmt::skip]
+impl Drop for Picture {
+    fn drop(self) { let Picture { measured: _, title: _, header: _, gathering: _, row: _, column: _, y: _ } = self; }
 }
 
 impl Picture {

@@ -26,7 +26,6 @@ use std::marker::Model;
 /// The index of all spans and groups.
 ///
 /// Spans and groups are numbered in the order of their making, and no number is used again.
-#[derive(Drop)]
 pub struct Spans {
     // By number.
     spans: Vec<Extent>,
@@ -44,6 +43,11 @@ impl Model for Spans {
     ghost view = { λ s. record { spans = s.spans.items; groups = s.groups } };
 
     ghost invariant = { λ s. IsIndex s.spans.items s.groups × IsOwned s.spans.items s.groups s.owners };
+}
+
+#[rattlefmt::skip]
+impl Drop for Spans {
+    fn drop(self) { let Spans { spans: _, groups: _, owners: _ } = self; }
 }
 
 impl Spans {

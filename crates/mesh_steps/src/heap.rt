@@ -23,7 +23,6 @@ use std::alloc::{AllocError, Global};
 use std::marker::Model;
 
 /// A heap of objects in slots of spans, over modelled physical pages and a page map.
-#[derive(Drop)]
 pub struct Heap {
     pages: PageHeap,
     // The serial of the next object.
@@ -40,6 +39,11 @@ impl Model for Heap {
     ghost view = { λ h. record { pages = h.pages; next_serial = h.next_serial } };
 
     ghost invariant = { λ h. IsHeap (record { pages = h.pages; next_serial = h.next_serial }) };
+}
+
+#[rattlefmt::skip]
+impl Drop for Heap {
+    fn drop(self) { let Heap { pages: _, next_serial: _ } = self; }
 }
 
 impl Heap {

@@ -38,7 +38,6 @@ const END_OF_VIRTUAL_PAGES: u32 = 65_536;
 static ZEROS: [u8; 2048] = [0; 2048];
 
 /// Physical pages, the page map over them, and the index of the spans that the map is for.
-#[derive(Drop)]
 pub(crate) struct PageHeap {
     // What new spans are made with.
     alloc: Global,
@@ -61,6 +60,11 @@ impl Model for PageHeap {
     ghost view = { λ g. record { arena = g.store.arena; map = g.store.map; index = g.spans; next_page = g.next_page; meshes = g.meshes.items } };
 
     ghost invariant = { λ g. IsPageHeap g.store.arena g.store.map g.spans g.next_page g.meshes.items };
+}
+
+#[rattlefmt::skip]
+impl Drop for PageHeap {
+    fn drop(self) { let PageHeap { alloc: _, store: _, spans: _, next_page: _, meshes: _ } = self; }
 }
 
 impl PageHeap {

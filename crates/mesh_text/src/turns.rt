@@ -16,11 +16,15 @@ use model_words::Command;
 use std::alloc::{AllocError, Global};
 
 /// The heap that a job's workers and its mesher use in turn, and how far each worker has come.
-#[derive(Drop)]
 pub struct Turns {
     pub(crate) book: Book,
     /// For each worker the place of its next command.
     pub(crate) next: Vec<usize>,
+}
+
+#[rattlefmt::skip]
+impl Drop for Turns {
+    fn drop(self) { let Turns { book: _, next: _ } = self; }
 }
 
 impl Turns {
