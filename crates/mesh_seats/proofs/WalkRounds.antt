@@ -1,7 +1,7 @@
 -- One round of the walk, and its end.
-use Rattle.std.proofs.Common.{◌≡◌, ℕ, zero, suc, ◌+◌, ◌<◌, ◌≤◌, List, [], ◌∷◌, ◌++◌, length, take, drop, slice_index_or, ap, subst, refl, sym, ◌∙◌, arith, Option, Some, None, Result, Ok, Err, IfOk, IfErr, OnOk}
+use Rattle.std.proofs.Common.{◌≡◌, ℕ, zero, suc, ◌+◌, ◌<◌, ◌≤◌, List, [], ◌∷◌, ◌++◌, length, take, drop, slice_index_or, ap, subst, refl, sym, ◌∙◌, arith, Option, Some, None, Result, Ok, Err, IfOk, IfErr, IfSome, OnOk}
 use Rattle.std.proofs.Math.Seq.{drop-cons, take-append_seam}
-use Rattle.std.proofs.lemmas.List.{length-drop}
+use Rattle.std.proofs.lemmas.List.{length-drop, length-take}
 use Rattle.model_memory.specs.Memory.{Memory, empty_memory}
 use Rattle.model_memory.specs.Plain.{Entry}
 use Rattle.model_memory.specs.Reads.{AreRight, Kept, left_by, memory_after}
@@ -42,6 +42,37 @@ nothing_told seats (Some w) old new told told' tells none = let clash = sym none
 step_none : (worker : ℕ) (old new : List (List Kept)) (found : Option ℕ) → found ≡ None → worker < length old → IsStep worker old new found → IsStepped worker old new
 step_none worker old new None none below step = step.0 below
 step_none worker old new (Some w) none below step = absurd (cc none)
+
+-- as many of a vector's items as it had are no more than the seats
+pub few_taken : {X : Type 0} (items back : List X) (len most many : ℕ) → len ≡ length items → length items ≤ most → most ≡ many → length (take len back) ≤ many
+few_taken items back len most many ok few same = omega (arith, length-take len back, ok, few, same)
+
+-- nor are those that are left after a seat was told
+pub few_told : (seats items back rests' : List (List Kept)) (found : Option ℕ) (told told' : Option (ℕ × ℕ)) (len most : ℕ) → len ≡ length items → length items ≤ most
+    → Tells seats found (take len back) rests' told told' → length rests' ≤ most
+few_told seats items back rests' None told told' len most ok few tells =
+    omega (arith, ap (λ (l : List (List Kept)). length l) tells.0, few_taken items back len most most ok few refl)
+few_told seats items back rests' (Some w) told told' len most ok few tells =
+    omega (arith, ap (λ (l : List (List Kept)). length l) tells.0, length-take w (take len back), few_taken items back len most most ok few refl)
+
+-- a slice of no more items than the seats, of which there are few
+pub few_seen : {X : Type 0} (items slice : List X) (most many top : ℕ) → slice ≡ items → length items ≤ most → most ≡ many → many < top → length slice < top
+few_seen items slice most many top is few same below = omega (arith, ap (λ (l : List _). length l) is, few, same, below)
+
+-- a seat that was found is one of a vector's items, in whose slice the reads were taken, or the entry's call was
+pub found_left : (n : ℕ) (m : Memory) (slice lefts items : List (List Kept)) (len : ℕ) (wrong : Option ℕ) → slice ≡ items → len ≡ length items → length lefts ≡ length slice
+    → AreLeft n m slice lefts wrong → IfSome wrong (λ w. w < length (take len (lefts ++ drop (length lefts) items)))
+found_left n m slice lefts items len None is ok many left = tt
+found_left n m slice lefts items len (Some w) is ok many left =
+    let same : length slice ≡ length items = ap (λ (l : List (List Kept)). length l) is in
+    subst (λ (l : List (List Kept)). w < length l) (sym (written_back items lefts len ok (many ∙ same))) (omega (arith, many, left.0))
+
+pub found_step : (worker : ℕ) (slice mids items : List (List Kept)) (len : ℕ) (early : Option ℕ) → slice ≡ items → len ≡ length items → length mids ≡ length slice
+    → IsStep worker slice mids early → IfSome early (λ w. w < length (take len (mids ++ drop (length mids) items)))
+found_step worker slice mids items len None is ok many step = tt
+found_step worker slice mids items len (Some w) is ok many step =
+    let same : length slice ≡ length items = ap (λ (l : List (List Kept)). length l) is in
+    subst (λ (l : List (List Kept)). w < length l) (sym (written_back items mids len ok (many ∙ same))) (omega (arith, many, step.below))
 
 -- what holds before each entry
 pub record Goes (seats : List (List Kept)) (entries : List Entry) (n : ℕ) (plain : Memory) (rests : List (List Kept)) (history : List Entry) (told : Option (ℕ × ℕ)) : Type 0 where

@@ -1,10 +1,10 @@
-use Rattle.std.proofs.Common.{rules, ◌≡◌, ◌<◌, [], List, ◌∷◌, ◌++◌, length, sym, ◌∙◌, ap, subst, arith, None, slice_index_or}
+use Rattle.std.proofs.Common.{rules, ◌≡◌, ℕ, ◌<◌, ◌≤◌, [], List, ◌∷◌, ◌++◌, length, sym, ◌∙◌, ap, subst, arith, None, slice_index_or}
 use Rattle.model_memory.specs.Plain.{Entry}
 use Rattle.model_memory.specs.Reads.{Kept}
 use Rattle.mesh_seats.specs.Seat.{calls_of_seats}
 use Rattle.mesh_seats.specs.Walk.{IsFirstLeft, IsStep, Tells}
 use Rattle.mesh_seats.proofs.WalkPlaces.{Looks, looks_first}
-use Rattle.mesh_seats.proofs.WalkRounds.{ended, goes_on, goes_to_end, taken_in, written_back}
+use Rattle.mesh_seats.proofs.WalkRounds.{ended, few_seen, few_taken, few_told, found_left, found_step, goes_on, goes_to_end, taken_in, written_back}
 use Rattle.mesh_seats.proofs.MadeSeats.{calls_many}
 use Rattle.mesh_seats.proofs.BuiltHistories.{comes_first}
 use Rattle.mesh_seats.proofs.walk.weave.Goals as goal
@@ -62,3 +62,42 @@ returns c =
     let out = ended (λ whole. whole.items) seats entries c.loop-n.n c.tell-3.new.rests.items c.take_all-2.new.history.items c.tell-3.new.told c.unless_told.result ends
     c.unless_told.ensures.ok c.unless_told.ensures.fault in
     record { walked = out.0; right = out.1.0; kept = search rules; fault = out.1.1 }
+
+pub tell-requires-clause-as_many : goal.tell-requires-clause-as_many
+tell-requires-clause-as_many c = few_taken c.loop-n.rests.items _ c.loop-n.rests.len _ _ c.loop-n.rests.ok.0 c.loop-n.invariant.looks.few (calls_many c.args.seats.now)
+
+pub tell-requires-in-loop-n-clause-as_many : goal.tell-requires-in-loop-n-clause-as_many
+tell-requires-in-loop-n-clause-as_many c =
+    let few = few_told (calls_of_seats c.args.seats.now) c.loop-n.rests.items _ c.tell.new.rests.items c.in_ok-wrong.wrong c.loop-n.told c.tell.new.told c.loop-n.rests.len _
+    c.loop-n.rests.ok.0 c.loop-n.invariant.looks.few c.tell.ensures in
+    few_taken c.tell.new.rests.items _ c.tell.new.rests.len _ _ c.tell.new.rests.ok.0 few (calls_many c.args.seats.now)
+
+pub tell-requires-2-clause-as_many : goal.tell-requires-2-clause-as_many
+tell-requires-2-clause-as_many c = few_taken c.loop-n.rests.items _ c.loop-n.rests.len _ _ c.loop-n.rests.ok.0 c.loop-n.invariant.looks.few (calls_many c.args.seats.now)
+
+pub tell-requires-3-clause-as_many : goal.tell-requires-3-clause-as_many
+tell-requires-3-clause-as_many c =
+    let few = few_told (calls_of_seats c.args.seats.now) c.loop-n.rests.items _ c.tell-2.new.rests.items c.in_ok-wrong-2.wrong c.loop-n.told c.tell-2.new.told c.loop-n.rests.len _
+    c.loop-n.rests.ok.0 c.loop-n.invariant.looks.few c.tell-2.ensures in
+    subst (λ (n : ℕ). length c.tell-2.new.rests.items ≤ n) (calls_many c.args.seats.now) few
+
+pub take_all-requires : goal.take_all-requires
+take_all-requires c = record { few = few_seen c.loop-n.rests.items c.as_mut_slice.result.now _ _ _ c.as_mut_slice.ensures.value c.loop-n.invariant.looks.few (calls_many c.args.seats.now) c.requires.few }
+
+pub take_all-requires-2 : goal.take_all-requires-2
+take_all-requires-2 c = record { few = few_seen c.loop-n.rests.items c.as_mut_slice-2.result.now _ _ _ c.as_mut_slice-2.ensures.value c.loop-n.invariant.looks.few (calls_many c.args.seats.now) c.requires.few }
+
+pub tell-requires-clause-below : goal.tell-requires-clause-below
+tell-requires-clause-below c =
+    found_left c.loop-n.n c.loop-n.plain c.as_mut_slice.result.now c.take_all.new.rests c.loop-n.rests.items c.loop-n.rests.len c.in_ok-wrong.wrong c.as_mut_slice.ensures.value
+    c.loop-n.rests.ok.0 c.in_ok-wrong.ensures.length c.in_ok-wrong.ensures.left
+
+pub tell-requires-in-loop-n-clause-below : goal.tell-requires-in-loop-n-clause-below
+tell-requires-in-loop-n-clause-below c =
+    found_step c.next.inside.worker c.as_mut_slice-in-loop-n.result.now c.step-early.new.rests c.tell.new.rests.items c.tell.new.rests.len c.step-early.result
+    c.as_mut_slice-in-loop-n.ensures.value c.tell.new.rests.ok.0 c.step-early.ensures.length c.step-early.ensures.step
+
+pub tell-requires-2-clause-below : goal.tell-requires-2-clause-below
+tell-requires-2-clause-below c =
+    found_left c.len.result c.loop-n.plain c.as_mut_slice-2.result.now c.take_all-2.new.rests c.loop-n.rests.items c.loop-n.rests.len c.in_ok-wrong-2.wrong c.as_mut_slice-2.ensures.value
+    c.loop-n.rests.ok.0 c.in_ok-wrong-2.ensures.length c.in_ok-wrong-2.ensures.left
