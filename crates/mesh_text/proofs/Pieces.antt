@@ -1,17 +1,22 @@
 -- A file that is read in pieces.
-use Rattle.std.proofs.Common.{◌≡◌, ℕ, ◌+◌, ◌-◌, ◌≤◌, List, ◌++◌, Option, length, take, drop, ap, append_assoc, sym, subst, ◌∙◌, arith, Ok, inl, inr}
+use Rattle.std.proofs.Common.{◌≡◌, ℕ, ◌+◌, ◌-◌, ◌≤◌, List, [], ◌++◌, Option, length, take, drop, ap, append_assoc, sym, subst, ◌∙◌, arith, Result, Ok, Err, IfErr, IsErrAnd, inl, inr}
 use Rattle.std.proofs.KnownBytes.{Consumes-trans}
-use Rattle.std.proofs.lemmas.List.{drop-take, length-append, length-drop, take-append-drop, take-append-le}
+use Rattle.std.proofs.lemmas.List.{append-nil, drop-take, length-append, length-drop, take-append-drop, take-append-le}
 use Rattle.std.proofs.Math.Seq.{drop-append_seam, take-add, take-append_seam}
 use Rattle.std.proofs.lemmas.List.Edits.{take-paste}
-use Rattle.std.specs.Io.KnownBytes.{Consumes}
+use Rattle.std.specs.Io.KnownBytes.{Consumes, IsAtEnd}
 use Rattle.std.specs.List.{copy_within}
 use Rattle.model_jobs.specs.JobFiles.{read_text}
 use Rattle.model_jobs.specs.Jobs.{Job}
 use Rattle.std.proofs.lemmas.Bool.Decides.{leb_tells}
+use Rattle.mesh_job.specs.Faults.{IsReadFault}
 use Rattle.mesh_job.specs.Taken.{HasTaken}
+use Rattle.mesh_job.specs.declared.faults.ReadFault.{ReadFault}
+use Rattle.mesh_job.specs.declared.faults.ReadFault.TheVariants.{Text as ReadText, Memory as ReadMemory}
 use Rattle.mesh_job.specs.declared.reader.Reading.{Reading}
-use Rattle.mesh_text.specs.Replay.{HasReadInto, HasReadJob, IsHeld}
+use Rattle.mesh_text.specs.Faults.{replay_error_of}
+use Rattle.mesh_text.specs.Replay.{HasReadInto, HasReadJob, HasReadNoJob, IsHeld}
+use Rattle.mesh_text.specs.declared.faults.ReplayError.{ReplayError}
 
 -- what was held behind the bytes that were taken is moved to the front
 moved_front : (buffer : List ℕ) (taken held : ℕ) → taken ≤ held → held ≤ length buffer
@@ -63,6 +68,17 @@ counted_on a b c old new held part all left count more before read len is on = r
       (held_more old held before.text part before.is_held));
 }
 
+-- a call that read nothing, so the input is at its end
+pub read_to_end : (a b c : Option (List ℕ)) (reading : Reading) (held part : List ℕ) (count more : ℕ) → HasCounted a b reading held count → Consumes b c (take more part)
+    → more ≡ 0 → IsAtEnd c → HasReadInto a c reading held
+read_to_end a b c reading held part count more before read none end =
+    let nothing = subst (λ (n : ℕ). Consumes b c (take n part)) none read in
+    record {
+      text = before.text;
+      read = record { taken = subst (Consumes a c) (append-nil before.text) (Consumes-trans a b c before.text [] before.taken nothing); whole = inl end };
+      is_held = before.is_held;
+    }
+
 -- a list of which some elements behind a front were written
 pub front_and_part : (front part behind : List ℕ) (place more : ℕ) → length front ≡ place → more ≤ length part
     → take (place + more) (front ++ (part ++ behind)) ≡ front ++ take more part
@@ -91,3 +107,16 @@ job_read left left' reading held job into is =
       whole = elim into.read.whole [ inl end ↦ end | inr long ↦ absurd (omega (arith, long, not_too_long into.text job read)) ];
       is_job = read;
     }
+
+-- the fault of the text that was read, whose last bytes are in a vector's slice
+pub no_job_read : (left left' : Option (List ℕ)) (reading : Reading) (buffer items slice : List ℕ) (held len : ℕ) (fault : ReadFault) (result : Result Job ReplayError)
+    → slice ≡ take len (buffer ++ drop (length buffer) items) → len ≡ length buffer → HasReadInto left left' reading (take held buffer)
+    → ((text : List ℕ) → HasTaken reading text → IsReadFault (text ++ take held slice) fault) → IsErrAnd result (λ error. error ≡ replay_error_of fault)
+    → IfErr result (HasReadNoJob left left')
+no_job_read left left' reading buffer items slice held len fault (Ok job) is many into faulty gives = tt
+no_job_read left left' reading buffer items slice held len ReadMemory (Err error) is many into faulty gives = subst (HasReadNoJob left left') (sym gives) tt
+no_job_read left left' reading buffer items slice held len (ReadText fault) (Err error) is many into faulty gives =
+    let same : slice ≡ buffer = is ∙ ap (λ (n : ℕ). take n (buffer ++ drop (length buffer) items)) many ∙ take-append_seam buffer (drop (length buffer) items) in
+    let whole = into.is_held.all ∙ ap (λ (bytes : List ℕ). into.is_held.taken ++ take held bytes) (sym same) in
+    subst (HasReadNoJob left left') (sym gives)
+    (record { text = into.text; read = into.read; is_fault = ap read_text whole ∙ faulty into.is_held.taken into.is_held.has_taken })

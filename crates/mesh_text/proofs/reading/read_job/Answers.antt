@@ -1,7 +1,7 @@
 use Rattle.std.proofs.Common.{◌≡◌, List, ℕ, ◌++◌, ap, length, take, drop, rules, subst, sym, ◌∙◌}
 use Rattle.std.proofs.Math.Seq.{take-append_seam}
 use Rattle.mesh_text.specs.Replay.{HasReadInto}
-use Rattle.mesh_text.proofs.Pieces.{job_read}
+use Rattle.mesh_text.proofs.Pieces.{job_read, no_job_read}
 use Rattle.mesh_text.proofs.reading.read_job.Goals as goal
 
 pub returns-clause-job : goal.returns-clause-job
@@ -16,3 +16,10 @@ returns-clause-job g c =
     (sym same) c.in_ok-held.ensures.held in
     job_read (left c.args.input.now) (left c.read_pieces.new.input) c.read_pieces.new.reading (take c.in_ok-held.held c.deref.result.now) c.in_ok-finish.field-0
     into c.in_ok-finish.ensures.ok
+
+pub returns-in_err-finish-clause-none : goal.returns-in_err-finish-clause-none
+returns-in_err-finish-clause-none g c =
+    let left = g.I.Source.remaining in
+    no_job_read (left c.args.input.now) (left c.read_pieces.new.input) c.read_pieces.new.reading c.read_pieces.new.buffer c.in_ok-buffer.buffer.items c.deref.result.now c.in_ok-held.held
+    c.in_ok-buffer.buffer.len c.in_err-finish.field-0.0 c.from_residual-in_err-finish.result c.deref.ensures.value (search rules) c.in_ok-held.ensures.held c.in_err-finish.ensures.fault
+    c.from_residual-in_err-finish.ensures.1
