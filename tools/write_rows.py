@@ -2,7 +2,7 @@
 """Writes the crate mesh_rows, and the tables of mesh_run_tests and mesh_explore_tests, from the files under jobs/rows and jobs/explore.
 
 Each folder there is a subject, and each NAME.job in it a row: NAME.out has the lines that the job is answered, or NAME.err the fault of a file
-that is no job. In mesh_rows a subject becomes a spec file, a function whose clauses are its rows, and that function's proof; in mesh_run_tests
+that is no job. In mesh_rows a subject becomes a spec file, and a function whose clauses are its rows; in mesh_run_tests
 the rows become tables, one a subject. The smaller explorations under jobs/explore become a table of mesh_explore_tests. Run it from the top of the
 repository after a row was added or changed; what it writes is committed.
 """
@@ -39,8 +39,13 @@ KINDS = {
 }
 
 
+# What has to be opened so that a row computes: each is proved by computing it.
+OPENED = ["model_words::specs::Classes::pages_of", "model_words::specs::Classes::slots_of", "crate::specs::Rows::digits"]
+
 ROW = """-- A worked row, written by tools/write_rows.py: a file, and what it is replayed to.
 use Rattle.std.specs.Prelude.{◌≡◌, ℕ, List, Result}
+-- (the proofs of the rows open it, to compute what is written in decimal)
+pub use Rattle.std.specs.Fmt.{digits}
 use Rattle.model_jobs.specs.JobFiles.{replayed}
 use Rattle.model_words.specs.declared.faults.TextFault.{TextFault}
 
@@ -95,25 +100,12 @@ def write_subject(name, rows):
     for row in rows:
         spec += ["", f"abbrev pub {row.stem} : Row", f"{row.stem} = record {{ file = codes {literal(file_text(row))}; answer = {expected(row)} }}"]
     (CRATE / "specs" / f"{camel(name)}.antt").write_text("\n".join(spec) + "\n")
-    write_proof(name, rows)
-
-
-def write_proof(name, rows):
-    """The proof of a subject's function: each row computes."""
-    proof = CRATE / "proofs" / "rows" / name
-    proof.mkdir(parents=True)
-    goals = [f"returns-clause-{row.stem}" for row in rows] if len(rows) > 1 else ["returns"]
-    answers = "\n".join(f"\npub {goal} : goal.{goal}\nunfolding pages_of slots_of digits\n{goal} c = refl" for goal in goals)
-    (proof / "Answers.antt").write_text(
-        "use Rattle.std.proofs.Common.{refl}\n"
-        "use Rattle.std.specs.Fmt.{digits}\n"
-        "use Rattle.model_words.specs.Classes.{pages_of, slots_of}\n"
-        f"use Rattle.mesh_rows.proofs.rows.{name}.Goals as goal\n" + answers + "\n")
 
 
 def write_functions(subjects):
     """A function for each subject, with a clause for each of its rows."""
     lines = ["//! A function for each subject of the worked rows. Written by `tools/write_rows.py`.",
+             f"#![tactic(auto, unfolding({', '.join(OPENED)}))]", "",
              "ghost use Rattle.mesh_rows.specs.Rows.{IsReplayed};"]
     for name, rows in subjects.items():
         lines.append(f"ghost use Rattle.mesh_rows.specs.{camel(name)}.{{{', '.join(row.stem for row in rows)}}};")
@@ -174,7 +166,7 @@ def write_trees():
 
 
 def main():
-    for part in ("src", "specs", "proofs"):
+    for part in ("src", "specs"):
         shutil.rmtree(CRATE / part, ignore_errors=True)
         (CRATE / part).mkdir(parents=True)
     subjects = {folder.name: rows_of(folder) for folder in sorted(ROWS.iterdir()) if folder.is_dir()}

@@ -1,4 +1,6 @@
 //! A function for each subject of the worked rows. Written by `tools/write_rows.py`.
+#![tactic(auto, unfolding(model_words::specs::Classes::pages_of, model_words::specs::Classes::slots_of, crate::specs::Rows::digits))]
+
 ghost use Rattle.mesh_rows.specs.Rows.{IsReplayed};
 ghost use Rattle.mesh_rows.specs.Abandoned.{abandoned_after_00, abandoned_after_01, abandoned_after_02, abandoned_after_03, abandoned_after_04, abandoned_after_05, abandoned_after_06, abandoned_after_07, abandoned_after_08, abandoned_after_09, abandoned_after_10, abandoned_after_11, abandoned_after_12, abandoned_after_13, abandoned_after_14, abandoned_after_15, abandoned_after_16, abandoned_after_17, abandoned_after_18, abandoned_after_19, abandoned_after_20};
 ghost use Rattle.mesh_rows.specs.Cancels.{cancel_after_three_protects, cancel_at_once, cancelled_mesh, zeros_after_cancel};
