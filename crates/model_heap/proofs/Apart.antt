@@ -1,8 +1,8 @@
 -- The slots of a sound table are apart.
-use Rattle.std.proofs.Common.{◌≡◌, ◌≢◌, ℕ, zero, suc, ◌+◌, ◌-◌, ◌*◌, ◌<◌, ◌≤◌, ◌%◌, true, cond, nat_eq, List, [], ◌∷◌, length, find, flat_map, slice_get, slice_index, count_by, IsSome, is_some, ap, subst, refl, sym, ◌∙◌, arith, inl, inr, Option, Some, None, mul-le-mul_right, mod-lt}
+use Rattle.std.proofs.Common.{◌≡◌, ◌≢◌, ℕ, zero, suc, ◌+◌, ◌-◌, ◌*◌, ◌<◌, ◌≤◌, ◌%◌, cond, nat_eq, List, [], ◌∷◌, length, find, flat_map, slice_get, slice_index, count_by, IsSome, is_some, ap, subst, refl, ◌∙◌, arith, inl, inr, Option, Some, None, mul-le-mul_right}
 use Rattle.std.specs.List.{range_with_len}
 use Rattle.std.specs.Option.{option_map_or}
-use Rattle.std.proofs.lemmas.Bool.Decides.{eqb_tells, leb_tells}
+use Rattle.std.proofs.lemmas.Bool.Decides.{nat_tests, leb_tells}
 use Rattle.std.proofs.lemmas.List.Sums.{sum_by-cons}
 use Rattle.std.proofs.lemmas.Option.{slice_get_within}
 use Rattle.model_heap.proofs.GroupLists.{times_in-append, pages_in, find_sound, pages_without}
@@ -24,10 +24,7 @@ row_full : (class : ℕ) (rows : List Row) → AreFull rows → IsSome (find (λ
     → option_map_or (λ r. r.slots) (find (λ r. nat_eq r.size class) rows) 0 * class
     ≡ option_map_or (λ r. r.pages) (find (λ r. nat_eq r.size class) rows) 0 * 4096
 row_full class [] full h = absurd (cc)
-row_full class (r ∷ rows) full h = elim (eqb_tells r.size class) [
-  | inl pass ↦ rw pass.0 (ap (λ (n : ℕ). r.slots * n) (sym pass.1) ∙ full.0)
-  | inr fail ↦ let later : is_some (find (λ r. nat_eq r.size class) rows) ≡ true = rw fail.0 at h in rw fail.0 (row_full class rows full.1 later)
-]
+row_full class (r ∷ rows) full h = grind (arith, nat_tests, row_full class rows full.1)
 
 -- the slots of a class of the table fill its pages
 pub class_full : (class : ℕ) → IsSome (row_of class) → slots_of class * class ≡ pages_of class * 4096
@@ -36,17 +33,12 @@ class_full class h = row_full class table (refl, (refl, (refl, (refl, (refl, (re
 
 -- a slot ends within the pages of its member
 slot_end : (k class : ℕ) → k < slots_of class → IsSome (row_of class) → k * class + class ≤ pages_of class * 4096
-slot_end k class below row = let full = class_full class row in
-    let fits : (k + 1) * class ≤ slots_of class * class = mul-le-mul_right class (omega (arith, below)) in
-    omega (arith, full, fits)
+slot_end k class below row = grind (arith, class_full class row)
 
 -- a page from the first one of a range is in it
 range_in : (w a n : ℕ) → a ≤ w → w < a + n → 1 ≤ times_in w (range_with_len a n)
 range_in w a zero low high = absurd (omega (arith, low, high))
-range_in w a (suc n) low high = elim (eqb_tells a w) [
-  | inl same ↦ rw same.0 (omega arith)
-  | inr other ↦ rw other.0 (let apart = other.1 in let rest = range_in w (a + 1) n (omega (arith, low, apart)) (omega (arith, high)) in omega (arith, rest))
-]
+range_in w a (suc n) low high = grind (arith, range_in w (a + 1) n)
 
 -- the pages of members of so many pages each
 abbrev member_pages : ℕ → List ℕ → List ℕ
@@ -55,29 +47,21 @@ member_pages n members = flat_map (λ p. range_with_len p n) members
 -- a page of a member is one of all
 member_in : (v w n : ℕ) (xs : List ℕ) → 1 ≤ times_in v xs → v ≤ w → w < v + n → 1 ≤ times_in w (member_pages n xs)
 member_in v w n [] there low high = absurd (omega (arith, there))
-member_in v w n (x ∷ xs) there low high = let parts = times_in-append w (range_with_len x n) (member_pages n xs) in elim (eqb_tells x v) [
-  | inl same ↦ let here = range_in w x n (omega (arith, same.1, low)) (omega (arith, same.1, high)) in omega (arith, parts, here)
-  | inr other ↦ let later : 1 ≤ 0 + times_in v xs = rw other.0 at there in let rest = member_in v w n xs (omega (arith, later)) low high in
-      omega (arith, parts, rest)
-]
+member_in v w n (x ∷ xs) there low high =
+    grind (arith, nat_tests, times_in-append w (range_with_len x n) (member_pages n xs), member_pages n xs, range_in w x n, member_in v w n xs)
 
 -- a member that is a page of a lower one is there twice
 member_twice : (v w n : ℕ) (xs : List ℕ) → 1 ≤ times_in v xs → 1 ≤ times_in w xs → v < w → w < v + n → 2 ≤ times_in w (member_pages n xs)
 member_twice v w n [] there there' low high = absurd (omega (arith, there))
-member_twice v w n (x ∷ xs) there there' low high = let parts = times_in-append w (range_with_len x n) (member_pages n xs) in elim (eqb_tells x v) [
-  | inl same ↦ elim (eqb_tells x w) [
-    | inl clash ↦ absurd (omega (arith, same.1, clash.1, low))
-    | inr other ↦ let later : 1 ≤ 0 + times_in w xs = rw other.0 at there' in
-        let here = range_in w x n (omega (arith, same.1, low)) (omega (arith, same.1, high)) in
-        let rest = member_in w w n xs (omega (arith, later)) (omega arith) (omega (arith, low, high)) in omega (arith, parts, here, rest)
-  ]
-  | inr other ↦ let later : 1 ≤ 0 + times_in v xs = rw other.0 at there in elim (eqb_tells x w) [
-    | inl same ↦ let here = range_in w x n (omega (arith, same.1)) (omega (arith, same.1, low, high)) in
-        let rest = member_in v w n xs (omega (arith, later)) (omega (arith, low)) high in omega (arith, parts, here, rest)
-    | inr apart ↦ let later' : 1 ≤ 0 + times_in w xs = rw apart.0 at there' in
-        let rest = member_twice v w n xs (omega (arith, later)) (omega (arith, later')) low high in omega (arith, parts, rest)
-  ]
-]
+member_twice v w n (x ∷ xs) there there' low high = grind (
+  arith,
+  nat_tests,
+  times_in-append w (range_with_len x n) (member_pages n xs),
+  range_in w x n,
+  member_in w w n xs,
+  member_in v w n xs,
+  member_twice v w n xs,
+)
 
 -- a group's pages are among all
 group_in : (t : Table) (w n : ℕ) (g : Group) → IsSound t → group_of t n ≡ Some g → times_in w (virtual_pages g) ≤ pages_in w t.groups
@@ -90,15 +74,16 @@ same_group t m n g h is is' same = one_group t m g h is (ap (λ (k : ℕ). group
 -- a lower member's pages end below a higher member
 members_apart : (t : Table) (m n v w : ℕ) (g h : Group) → IsSound t → group_of t m ≡ Some g → group_of t n ≡ Some h → 1 ≤ times_in v g.members
     → 1 ≤ times_in w h.members → 1 ≤ pages_of h.class → v < w → v + pages_of g.class ≤ w
-members_apart t m n v w g h sound is is' there there' paged low = elim (leb_tells (v + pages_of g.class) w) [
-  | inl apart ↦ apart.1
-  | inr inside ↦ let in_g : 1 ≤ times_in w (virtual_pages g) = member_in v w (pages_of g.class) g.members there (omega (arith, low)) inside.1 in
-      let in_h : 1 ≤ times_in w (virtual_pages h) = member_in w w (pages_of h.class) h.members there' (omega arith) (omega (arith, paged)) in
-      let same : g ≡ h = same_group t m n g h is is' (page_of_one t w m n g h sound is is' in_g in_h) in
-      let own : 1 ≤ times_in w g.members = subst (λ (x : Group). 1 ≤ times_in w x.members) (sym same) there' in
-      let twice : 2 ≤ times_in w (virtual_pages g) = member_twice v w (pages_of g.class) g.members there own low inside.1 in
-      let all = group_in t w m g sound is in let once = sound.pages_once w in absurd (omega (arith, twice, all, once))
-]
+members_apart t m n v w g h sound is is' there there' paged low = grind (
+  arith,
+  nat_tests,
+  member_in v w (pages_of g.class) g.members there,
+  member_in w w (pages_of h.class) h.members there',
+  same_group t m n g h is is',
+  page_of_one t w m n g h sound is is',
+  member_twice v w (pages_of g.class) g.members there,
+  group_in t w m g sound is,
+)
 
 -- a slot of a member of a group of the table
 pub record IsPlace (t : Table) (number k member : ℕ) (g : Group) : Type 0 where
@@ -109,18 +94,19 @@ pub record IsPlace (t : Table) (number k member : ℕ) (g : Group) : Type 0 wher
 -- different slots of sound groups have no address in common
 pub places_apart : (t : Table) (m n j k v w : ℕ) (g h : Group) → IsSound t → IsPlace t m j v g → IsPlace t n k w h → (m ≡ n → j ≢ k)
     → AreApart (slot_address v g.class j) g.class (slot_address w h.class k) h.class
-places_apart t m n j k v w g h sound p q other = elim (leb_tells (suc v) w) [
-  | inl low ↦ let over = members_apart t m n v w g h sound p.is q.is p.there q.there paged' low.1 in inl (omega (arith, over, end))
-  | inr high ↦ elim (leb_tells (suc w) v) [
-    | inl low ↦ let over = members_apart t n m w v h g sound q.is p.is q.there p.there paged low.1 in inr (omega (arith, over, end'))
-    | inr same' ↦ let same : v ≡ w = omega (arith, high.1, same'.1) in
-        let in_g : 1 ≤ times_in v (virtual_pages g) = member_in v v (pages_of g.class) g.members p.there (omega arith) (omega (arith, paged)) in
-        let in_h : 1 ≤ times_in v (virtual_pages h) = member_in w v (pages_of h.class) h.members q.there (omega (arith, same)) (omega (arith, paged', same)) in
-        let number : m ≡ n = page_of_one t v m n g h sound p.is q.is in_g in_h in
-        let class : g.class ≡ h.class = ap (λ (x : Group). x.class) (same_group t m n g h p.is q.is number) in
-        slots_apart v w g.class h.class j k same class (other number)
-  ]
-]
+places_apart t m n j k v w g h sound p q other = grind (
+  arith,
+  nat_tests,
+  members_apart,
+  paged',
+  end,
+  members_apart t n m w v h g sound q.is p.is q.there p.there paged,
+  end',
+  member_in v v (pages_of g.class) g.members p.there,
+  member_in w v (pages_of h.class) h.members q.there,
+  page_of_one t v m n g h sound p.is q.is,
+  slots_apart v w g.class h.class j k,
+)
   where
     sound_g : IsSoundGroup g
     sound_g = find_sound (has_number m) t.groups g p.is sound.groups
@@ -162,12 +148,7 @@ place_used t n k v g sound p =
 pub filled_place : (t : Table) (n k : ℕ) (g : Group) (slot : Slot) → IsSound t → group_of t n ≡ Some g → slice_get g.slots k ≡ Some (Some slot)
     → IsPlace t n k slot.member g
 filled_place t n k g slot sound is filled =
-    let sound_g = find_sound (has_number n) t.groups g is sound.groups in
-    let below = slice_get_within g.slots k (Some slot) filled in let places = sound_g.places in record {
-      is = is;
-      there = (sound_g.objects k slot filled).in_member;
-      within = omega (arith, below, places);
-    }
+    grind (arith, nat_tests, find_sound (has_number n) t.groups g is sound.groups, slice_get_within g.slots k (Some slot) filled)
 
 -- a free slot of a list, counted from a number
 record IsFree (slots : List (Option Slot)) (from k : ℕ) : Type 0 where
@@ -196,9 +177,4 @@ free_count from (Some x ∷ slots) = let rest = free_count (from + 1) slots in
 
 -- the slot that a word picks is free
 pub picked_free : (g : Group) (word : ℕ) → object_count g < length g.slots → slice_get g.slots (picked_slot g word) ≡ Some None
-picked_free g word some =
-    let count = free_count 0 g.slots in
-    let free = free_at g.slots 0 (word % length (free_from 0 g.slots)) (mod-lt word (omega (arith, count, some))) in
-    let is : picked_slot g word ≡ 0 + free.at = free.is in
-    let same : picked_slot g word ≡ free.at = omega (arith, is) in
-    ap (λ (k : ℕ). slice_get g.slots k) same ∙ free.free
+picked_free g word some = grind (arith, nat_tests, free_count 0 g.slots, free_at g.slots 0 (word % length (free_from 0 g.slots)))

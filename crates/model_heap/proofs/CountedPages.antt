@@ -1,27 +1,23 @@
 -- Every transition keeps the count of physical pages.
-use Rattle.std.proofs.Common.{◌≡◌, ◌≢◌, ℕ, suc, ◌+◌, ◌-◌, ◌*◌, ◌≤◌, Bool, true, false, not, min, nat_eq, nat_lt, List, [], ◌∷◌, ◌++◌, length, find, filter, map, sum_by, ap, subst, refl, sym, ◌∙◌, arith, inl, inr, Option, Some, None, Ok}
+use Rattle.std.proofs.Common.{◌≡◌, ◌≢◌, ℕ, suc, ◌+◌, ◌-◌, ◌*◌, ◌≤◌, Bool, true, false, not, min, nat_lt, List, [], ◌∷◌, length, find, filter, map, sum_by, ap, refl, sym, ◌∙◌, arith, inl, inr, Some, Ok}
 use Rattle.std.specs.List.{list_any}
-use Rattle.std.proofs.lemmas.Bool.Decides.{eqb_tells, leb_tells}
+use Rattle.std.proofs.lemmas.Bool.Decides.{nat_tests, eqb_tells, leb_tells}
 use Rattle.std.proofs.lemmas.Bool.{true≢false}
 use Rattle.std.proofs.lemmas.List.Sums.{sum_by-cons, sum_by_push}
 use Rattle.std.proofs.Math.Nat.{mul-le-mul_left}
 use Rattle.model_heap.proofs.NewObjects.{by_place}
-use Rattle.model_words.proofs.Chains.{refuse_if_went}
-use Rattle.model_heap.proofs.MayBegin.{began, meshed}
 use Rattle.model_words.proofs.Tests.{tells}
 use Rattle.model_heap.proofs.GroupLists.{ascend_mapped, changed_number, find_again, find_changed_other, find_more, find_number, find_without_other, first_or_later, without_none}
 use Rattle.model_heap.proofs.MeshLists.{mesh_found, without_fewer, meshes_filtered}
 use Rattle.model_heap.proofs.OneMesh.{at, sum_at, sum_without}
 use Rattle.model_heap.proofs.StepCounts.{merged_keeps}
-use Rattle.model_heap.proofs.TableChanges.{differ, one_group, sweep_went, cancel_went, step_went, found_within}
-use Rattle.model_heap.proofs.WholeMeshes.{free_next}
-use Rattle.model_words.specs.Classes.{pages_of, slots_of}
-use Rattle.model_heap.specs.Mesh.{Stepped, begin, cancel, cancelled, cancelled_at, free_after, is_mesh, kind_after, merged, merged_into, mesh_whole, page_count, step, step_count, stepped, with_progress, without_mesh}
+use Rattle.model_heap.proofs.TableChanges.{one_group, found_within}
+use Rattle.model_words.specs.Classes.{pages_of}
+use Rattle.model_heap.specs.Mesh.{Stepped, begin, cancel, cancelled, cancelled_at, free_after, kind_after, merged, merged_into, mesh_whole, page_count, step, step_count, stepped, with_progress, without_mesh}
 use Rattle.model_heap.specs.PageCounts.{AreCounted, released_by, released_pages, span_pages}
 use Rattle.model_heap.specs.Sound.{AreSoundGroups, AreSoundMeshes, AscendBetween, IsSound, IsWithinSteps, meshes_of}
 use Rattle.model_heap.specs.Table.{Counted, Group, Made, Mesh, Placed, Progress, Slot, Table, Unwinding, changed_at, first_member, fresh_group, group_of, group_without, has_number, is_meshing, mapped_count, picked_slot, place_new, placed_in, sweep, takes_part, with_group, with_object_in, with_span, without_object}
 use Rattle.model_heap.specs.TableLaws.{IsBusyTest}
-use Rattle.model_words.specs.declared.refusals.Refusal.TheVariants.{TooLate}
 
 -- the physical pages of a group
 abbrev pub span_of : Group → ℕ
@@ -48,32 +44,18 @@ span_without n low high (x ∷ xs) g ascend h = elim (first_or_later n low high 
       let rest = span_without n (x.number + 1) high xs g ascend.1 later.1 in omega (arith, new, old, rest))
 ]
 
--- where each mesh has released as much, all have
-same_given : (f g : Mesh → ℕ) (ms : List Mesh) → ((m : Mesh) → f m ≡ g m) → sum_by f ms ≡ sum_by g ms
-same_given f g [] same = refl
-same_given f g (m ∷ ms) same =
-    let rest = same_given f g ms same in let old = sum_by-cons g m ms in let new = sum_by-cons f m ms in let here = same m in omega (arith, rest, old, new, here)
-
 -- a group with other slots is the source of as many released pages
 given_mapped : (progress : Progress) (n : ℕ) (change : Group → Group) (gs : List Group) → ((g : Group) → (change g).number ≡ g.number)
     → ((g : Group) → released_by progress (Some (change g)) ≡ released_by progress (Some g))
     → released_by progress (find (has_number n) (map change gs)) ≡ released_by progress (find (has_number n) gs)
 given_mapped progress n change [] numbers keeps = refl
-given_mapped progress n change (x ∷ xs) numbers keeps = elim (eqb_tells x.number n) [
-  | inl same ↦ let pass : nat_eq (change x).number n ≡ true = rw (numbers x) same.0 in rw (pass, same.0) (keeps x)
-  | inr other ↦ rw (numbers x, other.0) (given_mapped progress n change xs numbers keeps)
-]
+given_mapped progress n change (x ∷ xs) numbers keeps = grind (arith, given_mapped progress n change xs numbers keeps)
 
 -- groups with other slots keep the count
 mapped_counted : (pages : ℕ) (t : Table) (change : Group → Group) → ((g : Group) → (change g).number ≡ g.number)
     → ((g : Group) → (change g).class ≡ g.class) → ((progress : Progress) (g : Group) → released_by progress (Some (change g)) ≡ released_by progress (Some g))
     → AreCounted pages t → AreCounted pages (record t { groups = map change t.groups })
-mapped_counted pages t change numbers classes keeps counted =
-    let u : Table = record t { groups = map change t.groups } in
-    let span : span_pages u ≡ span_pages t = span_mapped change t.groups classes in
-    let released : released_pages u ≡ released_pages t
-    = same_given (given u) (given t) t.meshes (λ m. given_mapped m.progress m.source change t.groups numbers (keeps m.progress)) in
-    omega (arith, span, released, counted)
+mapped_counted pages t change numbers classes keeps counted = grind (arith, span_mapped change t.groups classes, given_mapped)
 
 -- an object taken out leaves what was released
 given_emptied : (serial : ℕ) (progress : Progress) (g : Group) → released_by progress (Some (group_without serial g)) ≡ released_by progress (Some g)
@@ -84,30 +66,19 @@ given_emptied serial (Unwinding q u) g = refl
 pub free_counted : (pages : ℕ) (t : Table) (serial : ℕ) → AreCounted pages t → AreCounted pages (without_object t serial)
 free_counted pages t serial counted = mapped_counted pages t (group_without serial) (λ g. refl) (λ g. refl) (given_emptied serial) counted
 
--- an object put in leaves what was released
-given_put : (n k : ℕ) (slot : Slot) (progress : Progress) (g : Group)
-    → released_by progress (Some (changed_at n (with_object_in k slot) g)) ≡ released_by progress (Some g)
-given_put n k slot (Made d) g = elim (tells (has_number n g)) [ inl pass ↦ rw pass refl | inr fail ↦ rw fail refl ]
-given_put n k slot (Unwinding q u) g = refl
-
 -- a changed group is of the same class
 class_put : (n k : ℕ) (slot : Slot) (g : Group) → (changed_at n (with_object_in k slot) g).class ≡ g.class
 class_put n k slot g = elim (tells (has_number n g)) [ inl pass ↦ rw pass refl | inr fail ↦ rw fail refl ]
 
 -- an object put into a group keeps the count
 put_counted : (pages : ℕ) (t : Table) (n k : ℕ) (slot : Slot) → AreCounted pages t → AreCounted pages (with_group t n (with_object_in k slot))
-put_counted pages t n k slot counted =
-    mapped_counted pages t (changed_at n (with_object_in k slot)) (changed_number n (with_object_in k slot) (λ g. refl)) (class_put n k slot)
-    (given_put n k slot) counted
+put_counted pages t n k slot counted = grind (arith, mapped_counted pages t (changed_at n (with_object_in k slot)), class_put n k slot)
 
 -- a group more is the source of no other released pages, where each source is a group
 given_more : (t u : Table) (ms : List Mesh) → ((n : ℕ) (g : Group) → group_of t n ≡ Some g → group_of u n ≡ Some g) → AreSoundMeshes t ms
     → sum_by (given u) ms ≡ sum_by (given t) ms
 given_more t u [] keeps sound = refl
-given_more t u (m ∷ ms) keeps sound =
-    let rest = given_more t u ms keeps sound.1 in let old = sum_by-cons (given t) m ms in let new = sum_by-cons (given u) m ms in
-    let here : given u m ≡ given t m
-    = ap (released_by m.progress) (keeps m.source sound.0.source sound.0.source_is ∙ sym sound.0.source_is) in omega (arith, rest, old, new, here)
+given_more t u (m ∷ ms) keeps sound = grind (arith, given_more t u ms keeps sound.1, sum_by-cons (given t) m ms, sum_by-cons (given u) m ms)
 
 -- a new span keeps the count
 span_counted : (pages : ℕ) (t : Table) (class : ℕ) → IsSound t → nat_lt t.free_pages (pages_of class) ≡ false → AreCounted pages t
@@ -155,38 +126,20 @@ swept_table t n g = record t { free_pages = t.free_pages + pages_of g.class; gro
 swept_counted : (pages : ℕ) (t : Table) (n : ℕ) (g : Group) → IsSound t → AreCounted pages t → group_of t n ≡ Some g → is_meshing t n ≡ false
     → AreCounted pages (swept_table t n g)
 swept_counted pages t n g sound counted found outside =
-    let span = span_without n 0 t.next_span t.groups g sound.numbers found in
-    let released : released_pages (swept_table t n g) ≡ released_pages t
-    = given_outside t (swept_table t n g) n t.meshes (λ m apart. find_without_other n m t.groups apart) outside in
-    omega (arith, span, released, counted)
+    grind (arith, span_without n 0 t.next_span t.groups g sound.numbers found, given_outside t (swept_table t n g) n t.meshes, find_without_other n)
 
 -- a sweep keeps the count
 pub sweep_counted : (pages : ℕ) (t : Table) (n : ℕ) (x : Counted) → IsSound t → AreCounted pages t → sweep t n ≡ Ok x → AreCounted pages x.table
-sweep_counted pages t n x sound counted h =
-    let went = sweep_went t n x h in
-    subst (λ (y : Counted). AreCounted pages y.table) went.is (swept_counted pages t n went.group sound counted went.found went.idle)
+sweep_counted pages t n x sound counted h = grind (arith, swept_counted pages t n)
 
 -- a sweep answers how many pages come free
 pub sweep_answers : (t : Table) (n : ℕ) (x : Counted) → sweep t n ≡ Ok x → x.table.free_pages ≡ t.free_pages + x.count
-sweep_answers t n x h =
-    let went = sweep_went t n x h in subst (λ (y : Counted). y.table.free_pages ≡ t.free_pages + y.count) went.is refl
-
--- a mesh that has made no step has released nothing
-none_given : (o : Option Group) → released_by (Made 0) o ≡ 0
-none_given None = refl
-none_given (Some a) = omega arith
+sweep_answers t n x h = grind arith
 
 -- a mesh begun keeps the count
 pub begin_counted : (pages : ℕ) (busy : Table → ℕ → Bool) (t : Table) (source destination : ℕ) (x : Counted) → AreCounted pages t
     → begin busy t source destination ≡ Ok x → AreCounted pages x.table
-begin_counted pages busy t source destination x counted h =
-    let made = began busy t source destination x h in
-    let m : Mesh = record { class = made.pair.source.class; source = source; destination = destination; progress = Made 0 } in
-    let u : Table = record t { meshes = t.meshes ++ m ∷ [] } in
-    let more : released_pages u ≡ released_pages t + given t m = sum_by_push (given t) t.meshes m in
-    let none : given t m ≡ 0 = none_given (group_of t source) in
-    let all : AreCounted pages u = omega (arith, more, none, counted) in
-    subst (λ (y : Counted). AreCounted pages y.table) made.is all
+begin_counted pages busy t source destination x counted h = grind (arith, sum_by_push (given t) t.meshes)
 
 -- groups of a class that none of the meshes is of are the sources of no released pages
 given_elsewhere : (t u : Table) (class : ℕ) (ms : List Mesh)
@@ -222,29 +175,15 @@ span_merged t a b source destination sound is two =
     let all = span_mapped (changed_at destination (merged_into a)) t.groups (class_merged destination a) in
     omega (arith, less, all)
 
--- the table after a whole mesh
-abbrev whole_table : Table → Group → ℕ → Table
-whole_table t a destination = record t { free_pages = t.free_pages + pages_of a.class; groups = merged t.groups a destination }
-
 -- a whole mesh keeps the count
 pub whole_counted : (pages : ℕ) (busy : Table → ℕ → Bool) (t : Table) (source destination : ℕ) (x : Counted) → IsBusyTest busy t → IsSound t
     → AreCounted pages t → mesh_whole busy t source destination ≡ Ok x → AreCounted pages x.table
-whole_counted pages busy t source destination x test sound counted h =
-    let made = meshed busy t source destination x h in
-    let may = made.may in
-    let u : Table = whole_table t made.pair.source destination in
-    let span = span_merged t made.pair.source made.pair.destination source destination sound may.source_is (differ source destination may.two) in
-    let released : released_pages u ≡ released_pages t = given_elsewhere t u made.pair.source.class t.meshes
-    (λ n g apart at_n. merged_keeps t made.pair.source made.pair.destination source destination n g may.source_is may.destination_is may.class apart at_n)
-    (test made.pair.source.class may.idle) sound.meshes in
-    let all : AreCounted pages u = omega (arith, span, released, counted) in
-    subst (λ (y : Counted). AreCounted pages y.table) made.is all
+whole_counted pages busy t source destination x test sound counted h = grind (arith, span_merged t, given_elsewhere t, merged_keeps t)
 
 -- a whole mesh answers how many pages come free
 pub whole_answers : (busy : Table → ℕ → Bool) (t : Table) (source destination : ℕ) (x : Counted) → mesh_whole busy t source destination ≡ Ok x
     → x.table.free_pages ≡ t.free_pages + x.count
-whole_answers busy t source destination x h =
-    subst (λ (y : Counted). y.table.free_pages ≡ t.free_pages + y.count) (meshed busy t source destination x h).is refl
+whole_answers busy t source destination x h = grind arith
 
 -- a mesh that was found comes to a progress at which it has released as much
 come_counted : (pages : ℕ) (t : Table) (test : Mesh → Bool) (this : Mesh) (progress : Progress) → IsSound t → AreCounted pages t
@@ -258,48 +197,24 @@ end_counted : (pages : ℕ) (t : Table) (test : Mesh → Bool) (this : Mesh) →
 end_counted pages t test this sound counted found none =
     let all = sum_without t test this (given t) t.meshes found sound.meshes (sound.one_a_class this.class) in omega (arith, all, none, counted)
 
--- a mesh of a source has released the pages that its progress tells
-given_is : (t : Table) (this : Mesh) (a : Group) (progress : Progress) → group_of t this.source ≡ Some a → this.progress ≡ progress
-    → given t this ≡ released_by progress (Some a)
-given_is t this a progress is at_p = rw (is, at_p) refl
-
--- at another progress too
-given_at : (t : Table) (this : Mesh) (a : Group) (progress : Progress) → group_of t this.source ≡ Some a
-    → given t (at this progress) ≡ released_by progress (Some a)
-given_at t this a progress is = rw is refl
-
 -- a mesh cancelled with so many unprotects left keeps the count
 cancelled_at_counted : (pages : ℕ) (t : Table) (test : Mesh → Bool) (this : Mesh) (a : Group) (q : ℕ) → IsSound t → AreCounted pages t
     → find test t.meshes ≡ Some this → group_of t this.source ≡ Some a → given t this ≡ 0 → AreCounted pages (cancelled_at t this a q).table
-cancelled_at_counted pages t test this a q sound counted found is none = elim (eqb_tells q 0) [
-  | inl end ↦ rw end.0 (end_counted pages t test this sound counted found none)
-  | inr more ↦ rw more.0 (come_counted pages t test this (Unwinding q 0) sound counted found (given_at t this a (Unwinding q 0) is ∙ sym none))
-]
+cancelled_at_counted pages t test this a q sound counted found is none =
+    grind (arith, end_counted pages t test this sound counted found none, come_counted pages t test this (Unwinding q 0) sound counted found)
 
 -- a cancel of a mesh at a progress keeps the count
 cancels_counted : (pages : ℕ) (t : Table) (test : Mesh → Bool) (this : Mesh) (a : Group) (progress : Progress) (x : Counted) → IsSound t
     → AreCounted pages t → find test t.meshes ≡ Some this → group_of t this.source ≡ Some a → this.progress ≡ progress
     → cancelled t this a progress ≡ Ok x → AreCounted pages x.table
 cancels_counted pages t test this a (Made d) x sound counted found is at_d h =
-    let in_time = refuse_if_went TooLate (nat_lt (page_count a + slots_of a.class) d) _ x h in
-    let done = in_time.1 in
-    let same : cancelled_at t this a (min d (page_count a)) ≡ x = cc done in
-    let early : d ≤ page_count a + slots_of a.class = elim (leb_tells (suc (page_count a + slots_of a.class)) d) [
-      | inl late ↦ let clash : true ≡ false = sym late.0 ∙ in_time.0 in absurd (true≢false clash)
-      | inr soon ↦ omega (arith, soon.1)
-    ] in
-    let given_d = given_is t this a (Made d) is at_d in
-    let none : given t this ≡ 0 = omega (arith, given_d, early) in
-    subst (λ (y : Counted). AreCounted pages y.table) same (cancelled_at_counted pages t test this a (min d (page_count a)) sound counted found is none)
-cancels_counted pages t test this a (Unwinding q u) x sound counted found is at_u h =
-    let same : record { count = q - u; table = t } ≡ x = cc h in subst (λ (y : Counted). AreCounted pages y.table) same counted
+    grind (arith, cancelled_at_counted pages t test this a (min d (page_count a)) sound counted found is)
+cancels_counted pages t test this a (Unwinding q u) x sound counted found is at_u h = grind arith
 
 -- a cancel keeps the count
 pub cancel_counted : (pages : ℕ) (t : Table) (test : Mesh → Bool) (x : Counted) → IsSound t → AreCounted pages t → cancel t (find test t.meshes) ≡ Ok x
     → AreCounted pages x.table
-cancel_counted pages t test x sound counted h =
-    let went = cancel_went t (find test t.meshes) x h in
-    cancels_counted pages t test went.mesh went.source went.mesh.progress x sound counted went.running went.source_is refl went.is
+cancel_counted pages t test x sound counted h = grind (arith, cancels_counted pages t test)
 
 -- the last step keeps the count
 last_counted : (pages : ℕ) (t : Table) (test : Mesh → Bool) (this : Mesh) (a : Group) (d : ℕ) → IsSound t → AreCounted pages t
@@ -309,58 +224,39 @@ last_counted : (pages : ℕ) (t : Table) (test : Mesh → Bool) (this : Mesh) (a
       meshes = without_mesh t.meshes this;
       groups = merged t.groups a this.destination;
     })
-last_counted pages t test this a d sound counted found is at_d last =
-    let u : Table = record t {
-      free_pages = free_after (kind_after a d) t.free_pages;
-      meshes = without_mesh t.meshes this;
-      groups = merged t.groups a this.destination;
-    } in
-    let mesh = mesh_found t test t.meshes this found sound.meshes in
-    let same : mesh.source ≡ a = one_group t this.source mesh.source a mesh.source_is is in
-    let class : a.class ≡ this.class = ap (λ (g : Group). g.class) (sym same) ∙ mesh.source_class in
-    let once = sound.one_a_class a.class in
-    let fewer = without_fewer a.class test t.meshes this found (sym class) in
-    let span = span_merged t a mesh.destination this.source this.destination sound is (differ this.source this.destination mesh.two) in
-    let elsewhere : released_pages u ≡ sum_by (given t) (without_mesh t.meshes this) = given_elsewhere t u a.class (without_mesh t.meshes this)
-    (λ n g apart at_n. merged_keeps t a mesh.destination this.source this.destination n g is mesh.destination_is (class ∙ sym mesh.destination_class) apart at_n)
-    (omega (arith, once, fewer)) (meshes_filtered t (λ m. not (is_mesh this m)) t.meshes sound.meshes) in
-    let less = sum_without t test this (given t) t.meshes found sound.meshes (sound.one_a_class this.class) in
-    let released = given_is t this a (Made d) is at_d in
-    let free = free_next a d t.free_pages in
-    omega (arith, span, elsewhere, less, released, free, counted, last)
+last_counted pages t test this a d sound counted found is at_d last = grind (
+  arith,
+  nat_tests,
+  mesh_found t test t.meshes this found sound.meshes,
+  one_group,
+  without_fewer a.class test t.meshes this found,
+  span_merged,
+  given_elsewhere t,
+  merged_keeps,
+  meshes_filtered,
+  sum_without,
+)
 
 -- a step that is not the last keeps the count
 next_counted : (pages : ℕ) (t : Table) (test : Mesh → Bool) (this : Mesh) (a : Group) (d : ℕ) → IsSound t → AreCounted pages t
     → find test t.meshes ≡ Some this → group_of t this.source ≡ Some a → this.progress ≡ Made d
     → AreCounted pages (record t { free_pages = free_after (kind_after a d) t.free_pages; meshes = with_progress t.meshes this (Made (d + 1)) })
 next_counted pages t test this a d sound counted found is at_d =
-    let all = sum_at t test this (Made (d + 1)) (given t) t.meshes found sound.meshes (sound.one_a_class this.class) in
-    let old = given_is t this a (Made d) is at_d in
-    let new = given_at t this a (Made (d + 1)) is in
-    let free = free_next a d t.free_pages in
-    omega (arith, all, old, new, free, counted)
+    grind (arith, sum_at t test this (Made (d + 1)) (given t) t.meshes found sound.meshes (sound.one_a_class this.class))
 
 -- a step of a mesh at a progress keeps the count
 stepped_counted : (pages : ℕ) (t : Table) (test : Mesh → Bool) (this : Mesh) (a : Group) (progress : Progress) → IsSound t → AreCounted pages t
     → find test t.meshes ≡ Some this → group_of t this.source ≡ Some a → this.progress ≡ progress → IsWithinSteps a progress
     → AreCounted pages (stepped t this a progress).table
-stepped_counted pages t test this a (Made d) sound counted found is at_d within = elim (leb_tells (step_count a) (d + 1)) [
-  | inl last ↦ rw last.0 (last_counted pages t test this a d sound counted found is at_d (omega (arith, last.1, within)))
-  | inr more ↦ rw more.0 (next_counted pages t test this a d sound counted found is at_d)
-]
+stepped_counted pages t test this a (Made d) sound counted found is at_d within =
+    grind (arith, last_counted pages t test this a d sound counted found is at_d, next_counted pages t test this a d sound counted found is at_d)
 stepped_counted pages t test this a (Unwinding q u) sound counted found is at_u within =
-    let none : given t this ≡ 0 = given_is t this a (Unwinding q u) is at_u in elim (leb_tells q (u + 1)) [
-      | inl last ↦ rw last.0 (end_counted pages t test this sound counted found none)
-      | inr more ↦ rw more.0 (come_counted pages t test this (Unwinding q (u + 1)) sound counted found (given_at t this a (Unwinding q (u + 1)) is ∙ sym none))
-    ]
+    grind (arith, end_counted pages t test this sound counted found, come_counted pages t test this (Unwinding q (u + 1)) sound counted found)
 
 -- a step keeps the count
 pub step_counted : (pages : ℕ) (t : Table) (test : Mesh → Bool) (x : Stepped) → IsSound t → AreCounted pages t → step t (find test t.meshes) ≡ Ok x
     → AreCounted pages x.table
-step_counted pages t test x sound counted h =
-    let went = step_went t (find test t.meshes) x h in
-    subst (λ (y : Stepped). AreCounted pages y.table) went.is (stepped_counted pages t test went.mesh went.source went.mesh.progress sound counted
-    went.running went.source_is refl (found_within t test went.mesh went.source sound went.running went.source_is))
+step_counted pages t test x sound counted h = grind (arith, stepped_counted pages t test, found_within t test)
 
 -- groups have at least as many virtual pages as physical ones
 span_mapped_count : (gs : List Group) → AreSoundGroups gs → sum_by span_of gs ≤ sum_by (λ g. length g.members * pages_of g.class) gs

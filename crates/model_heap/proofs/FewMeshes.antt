@@ -1,6 +1,6 @@
 -- Fewer than ten meshes run before one begins.
-use Rattle.std.proofs.Common.{◌≡◌, ℕ, ◌+◌, ◌<◌, ◌≤◌, if◌then◌else◌, nat_eq, List, [], ◌∷◌, IsSome, length, ap, subst, refl, sym, ◌∙◌, arith, inl, inr}
-use Rattle.std.proofs.lemmas.Bool.Decides.{eqb_tells, nat_tests}
+use Rattle.std.proofs.Common.{◌≡◌, ℕ, ◌+◌, ◌<◌, ◌≤◌, if◌then◌else◌, nat_eq, List, [], ◌∷◌, IsSome, length, subst, refl, arith}
+use Rattle.std.proofs.lemmas.Bool.Decides.{nat_tests}
 use Rattle.model_heap.proofs.GroupPages.{found_sound}
 use Rattle.model_heap.specs.Sound.{AreSoundMeshes, IsSound, IsSoundMesh, meshes_of}
 use Rattle.model_heap.specs.Table.{Mesh, Table, has_number}
@@ -46,7 +46,4 @@ few_meshes t class sound row none =
     omega (arith, all, one, a, b, c, d, e, f, g, h, i, j)
   where
     at : (k : ℕ) → (if nat_eq class k then 1 else 0) + meshes_of k t.meshes ≤ 1
-    at k = elim (eqb_tells class k) [
-      | inl same ↦ rw same.0 (let no : meshes_of k t.meshes ≡ 0 = ap (λ (c : ℕ). meshes_of c t.meshes) (sym same.1) ∙ none in omega (arith, no))
-      | inr other ↦ rw other.0 (let most = sound.one_a_class k in omega (arith, most))
-    ]
+    at k = grind arith

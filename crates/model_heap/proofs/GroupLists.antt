@@ -1,5 +1,5 @@
 -- What a change of one group leaves of a list of groups.
-use Rattle.std.proofs.Common.{◌≡◌, ◌≢◌, ℕ, ◌+◌, ◌<◌, ◌≤◌, Bool, true, false, cond, not, nat_eq, List, [], ◌∷◌, ◌++◌, map, filter, find, ap, subst, refl, sym, ◌∙◌, arith, ◌⊎◌, inl, inr, Option, Some, None, zero-add}
+use Rattle.std.proofs.Common.{◌≡◌, ◌≢◌, ℕ, ◌+◌, ◌<◌, ◌≤◌, Bool, true, false, not, nat_eq, List, [], ◌∷◌, ◌++◌, map, filter, find, refl, sym, arith, ◌⊎◌, inl, inr, Some, None, zero-add}
 use Rattle.std.proofs.lemmas.Bool.Decides.{eqb_tells}
 use Rattle.model_heap.specs.Mesh.{virtual_pages}
 use Rattle.model_heap.specs.Sound.{times_in, all_pages, IsSoundGroup, AreSoundGroups, AscendBetween}
@@ -22,37 +22,23 @@ pages_in-cons v g gs = times_in-append v (virtual_pages g) (all_pages gs)
 -- the group found has the number
 pub find_number : (n : ℕ) (gs : List Group) (g : Group) → find (has_number n) gs ≡ Some g → g.number ≡ n
 find_number n [] g h = cc
-find_number n (x ∷ xs) g h = elim (eqb_tells x.number n) [
-  | inl same ↦ let is : Some x ≡ Some g = rw same.0 at h in let here : x ≡ g = cc in ap (λ (y : Group). y.number) (sym here) ∙ same.1
-  | inr other ↦ let later : find (has_number n) xs ≡ Some g = rw other.0 at h in find_number n xs g later
-]
+find_number n (x ∷ xs) g h = grind (arith, find_number n xs g)
 
 -- the group found passes the test
 pub find_passes : (test : Group → Bool) (gs : List Group) (g : Group) → find test gs ≡ Some g → test g ≡ true
 find_passes test [] g h = cc
-find_passes test (x ∷ xs) g h = elim (tells (test x)) [
-  | inl pass ↦ let is : Some x ≡ Some g = rw pass at h in let here : x ≡ g = cc in ap test (sym here) ∙ pass
-  | inr fail ↦ let later : find test xs ≡ Some g = rw fail at h in find_passes test xs g later
-]
+find_passes test (x ∷ xs) g h = grind (arith, find_passes test xs g)
 
 -- the group found is sound
 pub find_sound : (test : Group → Bool) (gs : List Group) (g : Group) → find test gs ≡ Some g → AreSoundGroups gs → IsSoundGroup g
 find_sound test [] g h sound = absurd (cc)
-find_sound test (x ∷ xs) g h sound = elim (tells (test x)) [
-  | inl pass ↦ let is : Some x ≡ Some g = rw pass at h in let here : x ≡ g = cc in subst (λ (y : Group). IsSoundGroup y) here sound.0
-  | inr fail ↦ let later : find test xs ≡ Some g = rw fail at h in find_sound test xs g later sound.1
-]
+find_sound test (x ∷ xs) g h sound = grind (arith, find_sound test xs g)
 
 -- the number of the group found is within the bounds
 pub find_between : (test : Group → Bool) (low high : ℕ) (gs : List Group) (g : Group) → AscendBetween low gs high → find test gs ≡ Some g
     → (low ≤ g.number) × (g.number < high)
 find_between test low high [] g ascend h = absurd (cc)
-find_between test low high (x ∷ xs) g ascend h = elim (tells (test x)) [
-  | inl pass ↦ let is : Some x ≡ Some g = rw pass at h in let here : x ≡ g = cc in
-      subst (λ (y : Group). (low ≤ y.number) × (y.number < high)) here (ascend.0, (let top = bounds (x.number + 1) high xs ascend.1 in omega (arith, top)))
-  | inr fail ↦ let later : find test xs ≡ Some g = rw fail at h in let within = find_between test (x.number + 1) high xs g ascend.1 later in
-      (omega (arith, within.0, ascend.0), within.1)
-]
+find_between test low high (x ∷ xs) g ascend h = grind (arith, bounds (x.number + 1) high xs ascend.1, find_between test (x.number + 1) high xs g ascend.1)
   where
     bounds : (low high : ℕ) (gs : List Group) → AscendBetween low gs high → low ≤ high
     bounds low high [] h = h
@@ -61,81 +47,50 @@ find_between test low high (x ∷ xs) g ascend h = elim (tells (test x)) [
 -- no group has a number below the first bound
 none_below : (n low high : ℕ) (gs : List Group) → n < low → AscendBetween low gs high → find (has_number n) gs ≡ None
 none_below n low high [] below ascend = refl
-none_below n low high (x ∷ xs) below ascend = elim (eqb_tells x.number n) [
-  | inl same ↦ absurd (omega (arith, same.1, below, ascend.0))
-  | inr other ↦ rw other.0 (none_below n (x.number + 1) high xs (omega (arith, below, ascend.0)) ascend.1)
-]
+none_below n low high (x ∷ xs) below ascend = grind (arith, none_below n (x.number + 1) high xs)
 
 -- the group found is the first one, and no other one has its number, or it is found among the others
 pub first_or_later : (n low high : ℕ) (x : Group) (xs : List Group) (g : Group) → AscendBetween low (x ∷ xs) high → find (has_number n) (x ∷ xs) ≡ Some g
     → ((nat_eq x.number n ≡ true) × (x ≡ g) × (find (has_number n) xs ≡ None)) ⊎ ((nat_eq x.number n ≡ false) × (find (has_number n) xs ≡ Some g))
-first_or_later n low high x xs g ascend h = elim (eqb_tells x.number n) [
-  | inl same ↦ let is : Some x ≡ Some g = rw same.0 at h in let here : x ≡ g = cc in
-      inl (same.0, here, none_below n (x.number + 1) high xs (omega (arith, same.1)) ascend.1)
-  | inr other ↦ let later : find (has_number n) xs ≡ Some g = rw other.0 at h in inr (other.0, later)
-]
+first_or_later n low high x xs g ascend h = grind (arith, none_below n (x.number + 1) high xs)
 
 -- a group found by any test is found by its number
 pub find_again : (test : Group → Bool) (low high : ℕ) (gs : List Group) (g : Group) → AscendBetween low gs high → find test gs ≡ Some g
     → find (has_number g.number) gs ≡ Some g
 find_again test low high [] g ascend h = absurd (cc)
-find_again test low high (x ∷ xs) g ascend h = elim (tells (test x)) [
-  | inl pass ↦ let is : Some x ≡ Some g = rw pass at h in let here : x ≡ g = cc in elim (eqb_tells x.number g.number) [
-    | inl same ↦ rw same.0 is
-    | inr other ↦ absurd (other.1 (ap (λ (y : Group). y.number) here))
-  ]
-  | inr fail ↦ let later : find test xs ≡ Some g = rw fail at h in let within = find_between test (x.number + 1) high xs g ascend.1 later in
-      elim (eqb_tells x.number g.number) [
-        | inl same ↦ absurd (omega (arith, same.1, within.0))
-        | inr other ↦ rw other.0 (find_again test (x.number + 1) high xs g ascend.1 later)
-      ]
-]
+find_again test low high (x ∷ xs) g ascend h =
+    grind (arith, find_between test (x.number + 1) high xs g ascend.1, find_again test (x.number + 1) high xs g ascend.1)
 
 -- where no group has the number, none is changed
 changed_none : (n : ℕ) (change : Group → Group) (gs : List Group) → find (has_number n) gs ≡ None → map (changed_at n change) gs ≡ gs
 changed_none n change [] h = refl
-changed_none n change (x ∷ xs) h = elim (eqb_tells x.number n) [
-  | inl same ↦ let clash : Some x ≡ None = rw same.0 at h in absurd (cc)
-  | inr other ↦ let later : find (has_number n) xs ≡ None = rw other.0 at h in rw other.0 (ap (λ (ys : List Group). x ∷ ys) (changed_none n change xs later))
-]
+changed_none n change (x ∷ xs) h = grind (arith, changed_none n change xs)
 
 -- where no group has the number, none is taken out
 pub without_none : (n : ℕ) (gs : List Group) → find (has_number n) gs ≡ None → filter (λ g. not (has_number n g)) gs ≡ gs
 without_none n [] h = refl
-without_none n (x ∷ xs) h = elim (eqb_tells x.number n) [
-  | inl same ↦ let clash : Some x ≡ None = rw same.0 at h in absurd (cc)
-  | inr other ↦ let later : find (has_number n) xs ≡ None = rw other.0 at h in rw other.0 (ap (λ (ys : List Group). x ∷ ys) (without_none n xs later))
-]
+without_none n (x ∷ xs) h = grind (arith, without_none n xs)
 
 -- a changed group's pages take the place of those it had
 pub pages_changed : (v n low high : ℕ) (change : Group → Group) (gs : List Group) (g : Group) → AscendBetween low gs high → find (has_number n) gs ≡ Some g
     → pages_in v (map (changed_at n change) gs) + times_in v (virtual_pages g) ≡ pages_in v gs + times_in v (virtual_pages (change g))
 pages_changed v n low high change [] g ascend h = absurd (cc)
-pages_changed v n low high change (x ∷ xs) g ascend h = elim (first_or_later n low high x xs g ascend h) [
-  | inl first ↦ rw (first.0, changed_none n change xs first.2, first.1)
-      (let new = pages_in-cons v (change g) xs in let old = pages_in-cons v g xs in omega (arith, new, old))
-  | inr later ↦ rw later.0 (let new = pages_in-cons v x (map (changed_at n change) xs) in let old = pages_in-cons v x xs in
-      let rest = pages_changed v n (x.number + 1) high change xs g ascend.1 later.1 in omega (arith, new, old, rest))
-]
+pages_changed v n low high change (x ∷ xs) g ascend h =
+    grind (arith, first_or_later n low high x xs g ascend h, changed_none, pages_in-cons, pages_changed v n (x.number + 1) high change xs g ascend.1)
 
 -- without a group there are its pages less
 pub pages_without : (v n low high : ℕ) (gs : List Group) (g : Group) → AscendBetween low gs high → find (has_number n) gs ≡ Some g
     → pages_in v (filter (λ x. not (has_number n x)) gs) + times_in v (virtual_pages g) ≡ pages_in v gs
 pages_without v n low high [] g ascend h = absurd (cc)
-pages_without v n low high (x ∷ xs) g ascend h = elim (first_or_later n low high x xs g ascend h) [
-  | inl first ↦ rw (first.0, without_none n xs first.2, first.1) (let old = pages_in-cons v g xs in omega (arith, old))
-  | inr later ↦ rw later.0 (let new = pages_in-cons v x (filter (λ y. not (has_number n y)) xs) in let old = pages_in-cons v x xs in
-      let rest = pages_without v n (x.number + 1) high xs g ascend.1 later.1 in omega (arith, new, old, rest))
-]
+pages_without v n low high (x ∷ xs) g ascend h =
+    grind (arith, first_or_later n low high x xs g ascend h, without_none n xs, pages_in-cons v x, pages_without v n (x.number + 1) high xs g ascend.1)
 
 -- the groups stay sound where the changed one is
 pub groups_changed : (n low high : ℕ) (change : Group → Group) (gs : List Group) (g : Group) → AscendBetween low gs high → find (has_number n) gs ≡ Some g
     → IsSoundGroup (change g) → AreSoundGroups gs → AreSoundGroups (map (changed_at n change) gs)
 groups_changed n low high change [] g ascend h new sound = tt
-groups_changed n low high change (x ∷ xs) g ascend h new sound = elim (first_or_later n low high x xs g ascend h) [
-  | inl first ↦ rw (first.0, changed_none n change xs first.2, first.1) (new, sound.1)
-  | inr later ↦ rw later.0 (sound.0, groups_changed n (x.number + 1) high change xs g ascend.1 later.1 new sound.1)
-]
+groups_changed n low high change (x ∷ xs) g ascend h new sound =
+    grind (arith, first_or_later n low high x xs g ascend h, changed_none n change xs, groups_changed n (x.number + 1) high change xs g ascend.1)
 
 -- each group changed to a sound one
 pub groups_mapped : (change : Group → Group) (gs : List Group) → ((g : Group) → IsSoundGroup g → IsSoundGroup (change g)) → AreSoundGroups gs
@@ -146,10 +101,7 @@ groups_mapped change (x ∷ xs) keeps sound = (keeps x sound.0, groups_mapped ch
 -- some of sound groups are sound
 pub groups_filtered : (test : Group → Bool) (gs : List Group) → AreSoundGroups gs → AreSoundGroups (filter test gs)
 groups_filtered test [] sound = tt
-groups_filtered test (x ∷ xs) sound = elim (tells (test x)) [
-  | inl pass ↦ rw pass (sound.0, groups_filtered test xs sound.1)
-  | inr fail ↦ rw fail (groups_filtered test xs sound.1)
-]
+groups_filtered test (x ∷ xs) sound = grind (arith, groups_filtered test xs sound.1)
 
 -- a sound group more
 pub groups_more : (gs : List Group) (g : Group) → IsSoundGroup g → AreSoundGroups gs → AreSoundGroups (gs ++ g ∷ [])
@@ -165,8 +117,7 @@ pages_mapped change (x ∷ xs) keeps = rw (keeps x, pages_mapped change xs keeps
 -- a new group's pages come to the others
 pub pages_more : (v : ℕ) (gs : List Group) (g : Group) → pages_in v (gs ++ g ∷ []) ≡ pages_in v gs + times_in v (virtual_pages g)
 pages_more v [] g = let one = pages_in-cons v g [] in omega (arith, one)
-pages_more v (x ∷ xs) g = let new = pages_in-cons v x (xs ++ g ∷ []) in let old = pages_in-cons v x xs in let rest = pages_more v xs g in
-    omega (arith, new, old, rest)
+pages_more v (x ∷ xs) g = grind (arith, pages_in-cons v x (xs ++ g ∷ []), pages_in-cons v x xs, pages_more v xs g)
 
 -- a lower first bound
 ascend_lower : (low low' high : ℕ) (gs : List Group) → low' ≤ low → AscendBetween low gs high → AscendBetween low' gs high
@@ -200,13 +151,7 @@ changed_number n change keeps g = elim (tells (has_number n g)) [ inl pass ↦ r
 pub find_changed_other : (n m : ℕ) (change : Group → Group) (gs : List Group) → ((g : Group) → (change g).number ≡ g.number) → m ≢ n
     → find (has_number m) (map (changed_at n change) gs) ≡ find (has_number m) gs
 find_changed_other n m change [] keeps apart = refl
-find_changed_other n m change (x ∷ xs) keeps apart = elim (eqb_tells x.number n) [
-  | inl same ↦ elim (eqb_tells x.number m) [
-    | inl clash ↦ absurd (apart (sym clash.1 ∙ same.1))
-    | inr other ↦ rw (same.0, keeps x, other.0) (find_changed_other n m change xs keeps apart)
-  ]
-  | inr off ↦ rw off.0 (ap (λ (o : Option Group). cond (nat_eq x.number m) (Some x) o) (find_changed_other n m change xs keeps apart))
-]
+find_changed_other n m change (x ∷ xs) keeps apart = grind (arith, find_changed_other n m change xs keeps apart)
 
 -- a group of the number is found where it is first
 pub head_found : (n : ℕ) (y : Group) (ys : List Group) → y.number ≡ n → find (has_number n) (y ∷ ys) ≡ Some y
@@ -216,27 +161,14 @@ head_found n y ys is = elim (eqb_tells y.number n) [ inl same ↦ rw same.0 refl
 pub find_mapped : (n : ℕ) (change : Group → Group) (gs : List Group) (g : Group) → ((g : Group) → (change g).number ≡ g.number)
     → find (has_number n) gs ≡ Some g → find (has_number n) (map change gs) ≡ Some (change g)
 find_mapped n change [] g keeps h = cc
-find_mapped n change (x ∷ xs) g keeps h = elim (eqb_tells x.number n) [
-  | inl same ↦ let is : Some x ≡ Some g = rw same.0 at h in let here : x ≡ g = cc in
-      head_found n (change x) (map change xs) (keeps x ∙ same.1) ∙ ap (λ (y : Group). Some (change y)) here
-  | inr other ↦ let later : find (has_number n) xs ≡ Some g = rw other.0 at h in rw (keeps x, other.0) (find_mapped n change xs g keeps later)
-]
+find_mapped n change (x ∷ xs) g keeps h = grind (arith, find_mapped n change xs g keeps)
 
 -- without one number the group of another is found as before
 pub find_without_other : (n m : ℕ) (gs : List Group) → m ≢ n → find (has_number m) (filter (λ g. not (has_number n g)) gs) ≡ find (has_number m) gs
 find_without_other n m [] apart = refl
-find_without_other n m (x ∷ xs) apart = elim (eqb_tells x.number n) [
-  | inl same ↦ elim (eqb_tells x.number m) [
-    | inl clash ↦ absurd (apart (sym clash.1 ∙ same.1))
-    | inr other ↦ rw (same.0, other.0) (find_without_other n m xs apart)
-  ]
-  | inr off ↦ rw off.0 (ap (λ (o : Option Group). cond (nat_eq x.number m) (Some x) o) (find_without_other n m xs apart))
-]
+find_without_other n m (x ∷ xs) apart = grind (arith, find_without_other n m xs apart)
 
 -- a group found is found in a longer list
 pub find_more : (test : Group → Bool) (gs hs : List Group) (g : Group) → find test gs ≡ Some g → find test (gs ++ hs) ≡ Some g
 find_more test [] hs g h = cc
-find_more test (x ∷ xs) hs g h = elim (tells (test x)) [
-  | inl pass ↦ let is : Some x ≡ Some g = rw pass at h in rw pass is
-  | inr fail ↦ let later : find test xs ≡ Some g = rw fail at h in rw fail (find_more test xs hs g later)
-]
+find_more test (x ∷ xs) hs g h = grind (arith, find_more test xs hs g)

@@ -1,10 +1,9 @@
 -- Meshes have released no more pages than groups have.
-use Rattle.std.proofs.Common.{◌≡◌, ℕ, ◌+◌, ◌≤◌, not, List, [], ◌∷◌, filter, find, sum_by, ap, refl, sym, ◌∙◌, arith, inl, inr, Some}
-use Rattle.std.proofs.lemmas.Bool.Decides.{eqb_tells}
+use Rattle.std.proofs.Common.{◌≡◌, ℕ, ◌≤◌, not, List, [], ◌∷◌, filter, find, sum_by, ap, refl, ◌∙◌, arith, Some}
+use Rattle.std.proofs.lemmas.Bool.Decides.{nat_tests}
 use Rattle.std.proofs.lemmas.List.Sums.{sum_by-cons}
 use Rattle.model_heap.proofs.CountedPages.{given, span_of, span_without}
 use Rattle.model_heap.proofs.GroupLists.{ascend_filtered, find_without_other}
-use Rattle.model_heap.proofs.TableChanges.{one_group}
 use Rattle.model_heap.specs.PageCounts.{AreCounted, released_by, released_pages, span_pages}
 use Rattle.model_heap.specs.Sound.{AreSoundMeshes, AscendBetween, IsSound, IsSoundMesh, IsWithinSteps, meshes_of}
 use Rattle.model_heap.specs.Table.{Group, Made, Mesh, Progress, Table, Unwinding, group_of, has_number}
@@ -28,19 +27,7 @@ few_released (Unwinding q u) a within = omega arith
 others_there : (t : Table) (gs : List Group) (m : Mesh) (ms : List Mesh) → IsSoundMesh t m → AreSoundMeshes t ms → meshes_of m.class ms ≡ 0
     → HaveSources t gs ms → HaveSources t (filter (λ g. not (has_number m.source g)) gs) ms
 others_there t gs m [] sound meshes none have = tt
-others_there t gs m (x ∷ xs) sound meshes none have = elim (eqb_tells x.class m.class) [
-  | inl same ↦ let some : 1 + meshes_of m.class xs ≡ 0 = rw same.0 at none in absurd (omega (arith, some))
-  | inr other ↦ let rest : 0 + meshes_of m.class xs ≡ 0 = rw other.0 at none in (
-    find_without_other m.source x.source gs (λ e. other.1 (class_of e)) ∙ have.0,
-    others_there t gs m xs sound meshes.1 (omega (arith, rest)) have.1,
-  )
-]
-  where
-    class_of : x.source ≡ m.source → x.class ≡ m.class
-    class_of e =
-        let group : meshes.0.source ≡ sound.source
-        = one_group t m.source meshes.0.source sound.source (ap (λ (n : ℕ). group_of t n) (sym e) ∙ meshes.0.source_is) sound.source_is in
-        sym meshes.0.source_class ∙ ap (λ (g : Group). g.class) group ∙ sound.source_class
+others_there t gs m (x ∷ xs) sound meshes none have = grind (arith, nat_tests, find_without_other m.source x.source gs, others_there t gs m xs)
 
 -- meshes have released no more pages than groups have that hold their sources
 few_given : (t : Table) (high : ℕ) (gs : List Group) (ms : List Mesh) → AscendBetween 0 gs high → AreSoundMeshes t ms
@@ -57,13 +44,9 @@ few_given t high gs (m ∷ ms) ascend meshes once have =
     omega (arith, less, rest, few, here, all)
   where
     none : meshes_of m.class ms ≡ 0
-    none = elim (eqb_tells m.class m.class) [
-      | inl same ↦ let one : 1 + meshes_of m.class ms ≤ 1 = rw same.0 at (once m.class) in omega (arith, one)
-      | inr other ↦ absurd (other.1 refl)
-    ]
+    none = grind arith
 
 -- meshes have released no more pages than groups have, and no more are free than there are
 pub free_within : (pages : ℕ) (t : Table) → IsSound t → AreCounted pages t → (released_pages t ≤ span_pages t) × (t.free_pages ≤ pages)
 free_within pages t sound counted =
-    let few : released_pages t ≤ span_pages t = few_given t t.next_span t.groups t.meshes sound.numbers sound.meshes sound.one_a_class (all_sources t t.meshes) in
-    (few, omega (arith, few, counted))
+    grind (arith, few_given t t.next_span t.groups t.meshes sound.numbers sound.meshes sound.one_a_class (all_sources t t.meshes))

@@ -1,13 +1,12 @@
 -- No two live objects have an address in common, so an address has one holder at most.
-use Rattle.std.proofs.Common.{◌≡◌, ◌≢◌, ℕ, zero, suc, ◌+◌, true, false, List, [], ◌∷◌, length, get_or, slice_get, ap, refl, sym, ◌∙◌, arith, inl, inr, Option, Some, None}
+use Rattle.std.proofs.Common.{◌≡◌, ◌≢◌, ℕ, zero, suc, ◌+◌, true, false, List, [], ◌∷◌, length, get_or, ap, refl, ◌∙◌, arith, inl, inr, Option, Some, None}
 use Rattle.model_heap.proofs.Apart.{places_apart, filled_place}
 use Rattle.model_heap.proofs.GroupLists.{find_sound}
 use Rattle.model_heap.proofs.NewApart.{not_had}
 use Rattle.model_memory.proofs.NamedObjects.{in_range}
-use Rattle.model_heap.proofs.TableChanges.{one_group}
 use Rattle.model_memory.specs.Memory.{Memory, Object, are_apart, has_address, holder_from, holder_of, object_of}
 use Rattle.model_heap.specs.Sound.{HasSlot, IsSound, IsSoundSlot, IsTied}
-use Rattle.model_heap.specs.Table.{Group, Slot, Table, group_of, has_number, slot_address}
+use Rattle.model_heap.specs.Table.{Table, has_number, slot_address}
 use Rattle.model_heap.specs.TableLaws.{AreApart}
 
 -- objects in different slots have ranges apart
@@ -25,13 +24,7 @@ slots_apart t i j x y sound at_x at_y apart = elim ranges [
     kept_y = (find_sound (has_number at_y.number) t.groups at_y.group at_y.there sound.groups).objects at_y.k at_y.slot at_y.filled
 
     clash : at_x.number ≡ at_y.number → at_x.k ≢ at_y.k
-    clash number k =
-        let group : at_x.group ≡ at_y.group
-        = one_group t at_y.number at_x.group at_y.group (ap (λ (n : ℕ). group_of t n) (sym number) ∙ at_x.there) at_y.there in
-        let both : Some (Some at_x.slot) ≡ Some (Some at_y.slot)
-        = sym at_x.filled ∙ ap (λ (g : Group). slice_get g.slots at_x.k) group ∙ ap (λ (n : ℕ). slice_get at_y.group.slots n) k ∙ at_y.filled in
-        let slot : at_x.slot ≡ at_y.slot = cc both in
-        apart (sym at_x.serial_is ∙ ap (λ (s : Slot). s.serial) slot ∙ at_y.serial_is)
+    clash number k = grind arith
 
     ranges : AreApart (slot_address at_x.slot.member at_x.group.class at_x.k) at_x.group.class
         (slot_address at_y.slot.member at_y.group.class at_y.k) at_y.group.class
@@ -62,9 +55,7 @@ one_from [] from address k x at has others = absurd (cc)
 one_from (None ∷ objects) from address zero x at has others = absurd (cc)
 one_from (None ∷ objects) from address (suc k) x at has others = let on : from + 1 + k ≡ from + suc k = omega arith in
     one_from objects (from + 1) address k x at has (λ j y is apart. others (suc j) y is (λ e. apart (omega (arith, e)))) ∙ ap Some on
-one_from (Some z ∷ objects) from address zero x at has others = let here : Some z ≡ Some x = at in let same : z ≡ x = cc in
-    let own : has_address z address ≡ true = ap (λ (o : Object). has_address o address) same ∙ has in
-    let on : from ≡ from + 0 = omega arith in rw own (ap Some on)
+one_from (Some z ∷ objects) from address zero x at has others = grind arith
 one_from (Some z ∷ objects) from address (suc k) x at has others =
     let off : has_address z address ≡ false = others 0 z refl (λ e. omega (arith, e)) in let on : from + 1 + k ≡ from + suc k = omega arith in
     rw off (one_from objects (from + 1) address k x at has (λ j y is apart. others (suc j) y is (λ e. apart (omega (arith, e)))) ∙ ap Some on)
@@ -72,9 +63,7 @@ one_from (Some z ∷ objects) from address (suc k) x at has others =
 -- the live object that has an address is the one that holds it
 pub one_holder : (m : Memory) (t : Table) (serial address : ℕ) (object : Object) → IsSound t → IsTied m t → object_of m serial ≡ Some object
     → has_address object address ≡ true → holder_of m address ≡ Some serial
-one_holder m t serial address object sound tied live has = let on : 0 + serial ≡ serial = omega arith in
-    one_from m.objects 0 address serial object live has
-    (λ j y is apart. objects_apart m t serial j object y sound tied live is (λ e. apart (sym e)) address has) ∙ ap Some on
+one_holder m t serial address object sound tied live has = grind (arith, one_from m.objects 0 address serial object live has, objects_apart m t serial)
 
 -- an address that no live object has is held by none
 pub no_holder : (m : Memory) (address : ℕ)

@@ -1,11 +1,11 @@
 -- The mesher leaves the record of each serial.
-use Rattle.std.proofs.Common.{◌≡◌, ℕ, ◌+◌, Bool, true, false, cond, not, List, [], ◌∷◌, ◌++◌, filter, find, count_by, flat_map, is_some, nat_lt, Option, Some, None, Ok, ap, refl, sym, ◌∙◌, arith, inl, inr}
+use Rattle.std.proofs.Common.{◌≡◌, ℕ, ◌+◌, Bool, true, false, cond, not, List, [], ◌∷◌, filter, find, count_by, flat_map, is_some, nat_lt, Option, Some, None, Ok, ap, refl, sym, ◌∙◌, arith, inl, inr}
 use Rattle.std.proofs.lemmas.Bool.Decides.{leb_tells}
 use Rattle.std.proofs.lemmas.List.Sums.{sum_by-cons}
 use Rattle.model_heap.proofs.GroupLists.{first_or_later, without_none}
 use Rattle.model_heap.proofs.SameRecords.{same_records}
-use Rattle.model_heap.proofs.TableChanges.{step_sound, whole_sound, sweep_went, cancel_went}
-use Rattle.model_heap.proofs.TiedTables.{begun_groups, cancelled_groups, step_tied, whole_tied}
+use Rattle.model_heap.proofs.TableChanges.{step_sound, whole_sound, sweep_went}
+use Rattle.model_heap.proofs.TiedTables.{begun_groups, step_tied, whole_tied}
 use Rattle.model_memory.specs.Memory.{Memory}
 use Rattle.model_heap.specs.Mesh.{Stepped, begin, cancel, mesh_whole, step}
 use Rattle.model_heap.specs.Places.{Record, record_with, records_from, records_in, records_of}
@@ -26,15 +26,12 @@ begin_records busy t source destination begun h =
 
 -- a cancel leaves them
 pub cancel_records : (t : Table) (which : Option Mesh) (x : Counted) → cancel t which ≡ Ok x → KeepsRecords t x.table
-cancel_records t which x h =
-    let went = cancel_went t which x h in same_groups t x.table (cancelled_groups t went.mesh went.source went.mesh.progress x went.is)
+cancel_records t which x h = grind arith
 
 -- slots without objects have no records
 no_records : (class from : ℕ) (slots : List (Option Slot)) → count_by is_some slots ≡ 0 → records_from class from slots ≡ []
 no_records class from [] none = refl
-no_records class from (None ∷ slots) none =
-    let all : count_by is_some (None ∷ slots) ≡ 0 + count_by is_some slots = sum_by-cons (λ o. cond (is_some o) 1 0) None slots in
-    no_records class (from + 1) slots (omega (arith, all, none))
+no_records class from (None ∷ slots) none = grind (arith, no_records class (from + 1) slots)
 no_records class from (Some x ∷ slots) none =
     let all : count_by is_some (Some x ∷ slots) ≡ 1 + count_by is_some slots = sum_by-cons (λ o. cond (is_some o) 1 0) (Some x) slots in
     absurd (omega (arith, all, none))
@@ -43,11 +40,8 @@ no_records class from (Some x ∷ slots) none =
 records_without : (n low high : ℕ) (gs : List Group) (g : Group) → AscendBetween low gs high → find (has_number n) gs ≡ Some g → records_in g ≡ []
     → flat_map records_in (filter (λ x. not (has_number n x)) gs) ≡ flat_map records_in gs
 records_without n low high [] g ascend h none = absurd (cc h)
-records_without n low high (x ∷ xs) g ascend h none = elim (first_or_later n low high x xs g ascend h) [
-  | inl first ↦ rw (first.0, without_none n xs first.2)
-      (ap (λ (rs : List Record). rs ++ flat_map records_in xs) (sym none ∙ ap records_in (sym first.1)))
-  | inr later ↦ rw later.0 (ap (λ (rs : List Record). records_in x ++ rs) (records_without n (x.number + 1) high xs g ascend.1 later.1 none))
-]
+records_without n low high (x ∷ xs) g ascend h none =
+    grind (arith, first_or_later n low high x xs g ascend h, without_none n xs, records_without n (x.number + 1) high xs g ascend.1)
 
 -- an empty group has no object
 none_counted : (n : ℕ) → nat_lt 0 n ≡ false → n ≡ 0

@@ -1,16 +1,14 @@
 -- The lowest refusal that holds of a sweep, a step and a cancel.
-use Rattle.std.proofs.Common.{◌≡◌, ℕ, suc, ◌+◌, ◌<◌, ◌≤◌, Bool, true, false, nat_eq, nat_lt, List, [], ◌∷◌, count_by, find, is_some, cond, min, slice_get, ap, subst, refl, sym, ◌∙◌, arith, ◌⊎◌, inl, inr, Option, Some, None, lit≤}
+use Rattle.std.proofs.Common.{◌≡◌, ℕ, suc, ◌+◌, ◌≤◌, Bool, true, false, nat_lt, List, [], ◌∷◌, count_by, find, is_some, cond, min, slice_get, refl, sym, ◌∙◌, arith, ◌⊎◌, Option, Some, None, lit≤}
 use Rattle.std.proofs.lemmas.List.Sums.{sum_by-cons}
-use Rattle.model_words.proofs.Tests.{tells, equal, less, not_less, unequal}
+use Rattle.model_words.proofs.Tests.{less}
 use Rattle.model_heap.proofs.ListPlaces.{any_passes, found_passes, none_found_passes, none_passes}
 use Rattle.model_words.proofs.LowestRefusals.{AreFrom, Told, none_holds, refused_by, told_if, told_ok, told_some}
 use Rattle.model_heap.proofs.MeshLists.{mesh_found}
-use Rattle.model_heap.proofs.RefusedMeshes.{of_group}
-use Rattle.model_heap.proofs.TableChanges.{one_group}
 use Rattle.model_heap.proofs.TiedTables.{filled_counted}
 use Rattle.model_words.specs.Classes.{slots_of}
 use Rattle.model_heap.specs.Mesh.{Stepped, cancel, cancelled, cancelled_at, page_count, step, stepped}
-use Rattle.model_heap.specs.RefusalLaws.{HasNoMesh, HasObject, IsOfMesh, IsTooLate, cancel_holds, step_holds, sweep_holds}
+use Rattle.model_heap.specs.RefusalLaws.{HasNoMesh, IsOfMesh, IsTooLate, cancel_holds, step_holds, sweep_holds}
 use Rattle.model_words.specs.Refusals.{IsRefusedBy}
 use Rattle.model_heap.specs.Sound.{IsSound}
 use Rattle.model_heap.specs.Table.{Counted, Group, Made, Mesh, Progress, Slot, Table, Unwinding, group_of, is_meshing, object_count, sweep, takes_part}
@@ -26,27 +24,17 @@ sweep_from t n low no_group busy not_empty _ h = absurd h
 
 -- the group is of a mesh
 pub of_mesh : (t : Table) (n : ℕ) → is_meshing t n ≡ true → IsOfMesh t n
-of_mesh t n h = let one = any_passes Mesh (takes_part n) t.meshes h in
-    record { i = one.i; mesh = one.x; running = one.there; part = parts one.x one.passes }
+of_mesh t n h = grind (arith, any_passes Mesh (takes_part n) t.meshes h)
   where
     parts : (mesh : Mesh) → takes_part n mesh ≡ true → (mesh.source ≡ n) ⊎ (mesh.destination ≡ n)
-    parts mesh h = elim (tells (nat_eq mesh.source n)) [
-      | inl source ↦ inl (equal mesh.source n source)
-      | inr other ↦ let last : nat_eq mesh.destination n ≡ true = rw other at h in inr (equal mesh.destination n last)
-    ]
+    parts mesh h = grind arith
 
 -- or of none
 pub of_no_mesh : (t : Table) (n : ℕ) → is_meshing t n ≡ false → ¬ IsOfMesh t n
 of_no_mesh t n h one = parts one.mesh (none_passes Mesh (takes_part n) t.meshes h one.i one.mesh one.running) one.part
   where
     parts : (mesh : Mesh) → takes_part n mesh ≡ false → (mesh.source ≡ n) ⊎ (mesh.destination ≡ n) → ⊥
-    parts mesh off part = elim (tells (nat_eq mesh.source n)) [
-      | inl source ↦ let clash : true ≡ false = rw source at off in cc clash
-      | inr other ↦ let last : nat_eq mesh.destination n ≡ false = rw other at off in elim part [
-        | inl is ↦ unequal mesh.source n other is
-        | inr is ↦ unequal mesh.destination n last is
-      ]
-    ]
+    parts mesh off part = grind arith
 
 -- where objects are counted a slot has one
 counted_filled : (slots : List (Option Slot)) → 1 ≤ count_by is_some slots → (k : ℕ) × (slot : Slot) × (slice_get slots k ≡ Some (Some slot))
@@ -72,13 +60,11 @@ sweep_lowest t n = refused_by Counted (sweep_holds t n) (sweep t n)
     (sweep_from t n 18 (λ h. absurd (some h)) (λ h. absurd (of_no_mesh t n free h)) (λ h. absurd (objects g is empty h))))))))
   where
     objects : (g : Group) → group_of t n ≡ Some g → nat_lt 0 (object_count g) ≡ false → ¬ sweep_holds t n NotEmpty
-    objects g is empty h = let one = of_group t n g HasObject is h in
-        let some = filled_counted g.slots one.k one.slot one.filled in not_less 0 (object_count g) empty (omega (arith, some))
+    objects g is empty h = grind (arith, filled_counted g.slots)
 
 -- where a mesh is found some mesh passes
 found_some : (t : Table) (test : Mesh → Bool) (mesh : Mesh) → find test t.meshes ≡ Some mesh → ¬ HasNoMesh t test
-found_some t test mesh found none = let one = found_passes Mesh test t.meshes mesh found in
-    let clash : true ≡ false = sym one.2 ∙ none one.0 mesh one.1 in cc clash
+found_some t test mesh found none = grind (arith, found_passes Mesh test t.meshes mesh found)
 
 -- the refusals of a step are from a number on
 step_from : (t : Table) (test : Mesh → Bool) (low : ℕ) → (step_holds t test NoMesh → low ≤ 15) → AreFrom low (step_holds t test)
@@ -105,18 +91,6 @@ cancel_from t test low no_mesh late NoMesh h = no_mesh h
 cancel_from t test low no_mesh late TooLate h = late h
 cancel_from t test low no_mesh late _ h = absurd h
 
--- what a mesh that is too late has made
-late_made : (t : Table) (test : Mesh → Bool) (mesh : Mesh) (source : Group) → find test t.meshes ≡ Some mesh → group_of t mesh.source ≡ Some source
-    → IsTooLate t test → (made : ℕ) × (mesh.progress ≡ Made made) × (page_count source + slots_of source.class < made)
-late_made t test mesh source found is late =
-    let both : Some late.mesh ≡ Some mesh = sym late.running ∙ found in let same : late.mesh ≡ mesh = cc both in
-    let group : late.source ≡ source
-    = one_group t mesh.source late.source source (ap (λ (m : Mesh). group_of t m.source) (sym same) ∙ late.source_is) is in (
-      late.made,
-      ap (λ (m : Mesh). m.progress) (sym same) ∙ late.made_is,
-      subst (λ (g : Group). page_count g + slots_of g.class < late.made) group late.late,
-    )
-
 -- a cancel of the mesh at its progress
 cancel_at : (t : Table) (test : Mesh → Bool) (mesh : Mesh) (source : Group) (progress : Progress) → find test t.meshes ≡ Some mesh
     → group_of t mesh.source ≡ Some source → mesh.progress ≡ progress → Told Counted (cancel_holds t test) (cancelled t mesh source progress)
@@ -136,16 +110,13 @@ cancel_at t test mesh source (Made d) found is at =
     (cancel_from t test 18 (λ h. absurd (found_some t test mesh found h)) (λ h. absurd (in_time early h)))))
   where
     in_time : nat_lt (page_count source + slots_of source.class) d ≡ false → ¬ IsTooLate t test
-    in_time early late = let one = late_made t test mesh source found is late in
-        let both : Made d ≡ Made one.0 = sym at ∙ one.1 in let same : d ≡ one.0 = cc both in let long = one.2 in
-        not_less (page_count source + slots_of source.class) d early (omega (arith, long, same))
+    in_time early late = grind arith
 cancel_at t test mesh source (Unwinding q u) found is at =
     told_ok Counted (cancel_holds t test) _ (none_holds (cancel_holds t test)
     (cancel_from t test 18 (λ h. absurd (found_some t test mesh found h)) (λ late. absurd (made late))))
   where
     made : ¬ IsTooLate t test
-    made late = let one = late_made t test mesh source found is late in
-        let clash : Unwinding q u ≡ Made one.0 = sym at ∙ one.1 in cc clash
+    made late = grind arith
 
 -- a cancel is refused by the lowest
 pub cancel_lowest : (t : Table) (test : Mesh → Bool) → IsSound t → IsRefusedBy (cancel_holds t test) (cancel t (find test t.meshes))

@@ -1,13 +1,13 @@
 -- What a heap means once a new object is placed in its table.
-use Rattle.std.proofs.Common.{◌≡◌, ◌≢◌, ℕ, zero, suc, ◌+◌, ◌<◌, Bool, cond, nat_eq, List, [], ◌∷◌, ◌++◌, length, map, find, flat_map, replicate, slice_get, slice_set, IsSome, option_map, ap, refl, sym, ◌∙◌, arith, inl, inr, Option, Some, None, Ok, append-nil}
+use Rattle.std.proofs.Common.{◌≡◌, ◌≢◌, ℕ, zero, suc, ◌+◌, ◌<◌, Bool, List, [], ◌∷◌, ◌++◌, length, map, find, flat_map, replicate, slice_get, slice_set, IsSome, option_map, ap, refl, sym, ◌∙◌, arith, inl, inr, Option, Some, None, Ok, append-nil}
 use Rattle.std.specs.List.{range_with_len}
 use Rattle.std.specs.Option.{option_or}
-use Rattle.std.proofs.lemmas.Bool.Decides.{eqb_tells}
+use Rattle.std.proofs.lemmas.Bool.Decides.{nat_tests, eqb_tells}
 use Rattle.std.proofs.lemmas.Grind.{flat_map-append}
 use Rattle.std.proofs.lemmas.List.Folds.{find-append}
 use Rattle.std.proofs.lemmas.List.FromFn.{map-range_with_len_more}
 use Rattle.model_heap.proofs.Apart.{picked_free}
-use Rattle.model_heap.proofs.GroupLists.{ascend_more, head_found}
+use Rattle.model_heap.proofs.GroupLists.{ascend_more}
 use Rattle.model_heap.proofs.Meanings.{made_same, record_same}
 use Rattle.model_heap.proofs.NewObjects.{by_place}
 use Rattle.model_heap.proofs.Records.{found_later}
@@ -23,32 +23,20 @@ use Rattle.model_heap.specs.Table.{Group, Placed, Slot, Table, changed_at, first
 others_put : (s class from : ℕ) (slots : List (Option Slot)) (k : ℕ) (slot : Slot) → slice_get slots k ≡ Some None → slot.serial ≢ s
     → find (has_serial s) (records_from class from (slice_set slots k (Some slot))) ≡ find (has_serial s) (records_from class from slots)
 others_put s class from [] k slot free apart = refl
-others_put s class from (None ∷ slots) zero slot free apart = elim (eqb_tells slot.serial s) [
-  | inl same ↦ absurd (apart same.1)
-  | inr other ↦ rw other.0 refl
-]
+others_put s class from (None ∷ slots) zero slot free apart = grind arith
 others_put s class from (Some x ∷ slots) zero slot free apart = absurd (cc)
 others_put s class from (None ∷ slots) (suc k) slot free apart = others_put s class (from + 1) slots k slot free apart
-others_put s class from (Some x ∷ slots) (suc k) slot free apart =
-    ap (λ (o : Option Record). cond (nat_eq x.serial s) (Some (record_in class from x)) o) (others_put s class (from + 1) slots k slot free apart)
+others_put s class from (Some x ∷ slots) (suc k) slot free apart = grind (arith, nat_tests, others_put s class (from + 1) slots k slot free apart)
 
 -- an object put into a free slot, where no record has its serial, has the slot's record
 one_put : (class from : ℕ) (slots : List (Option Slot)) (k : ℕ) (slot : Slot) → slice_get slots k ≡ Some None
     → find (has_serial slot.serial) (records_from class from slots) ≡ None
     → find (has_serial slot.serial) (records_from class from (slice_set slots k (Some slot))) ≡ Some (record_in class (from + k) slot)
 one_put class from [] k slot free none = absurd (cc)
-one_put class from (None ∷ slots) zero slot free none = let on : from ≡ from + 0 = omega arith in elim (eqb_tells slot.serial slot.serial) [
-  | inl same ↦ rw same.0 (ap (λ (j : ℕ). Some (record_in class j slot)) on)
-  | inr other ↦ absurd (other.1 refl)
-]
+one_put class from (None ∷ slots) zero slot free none = grind arith
 one_put class from (Some x ∷ slots) zero slot free none = absurd (cc)
-one_put class from (None ∷ slots) (suc k) slot free none = let on : from + 1 + k ≡ from + suc k = omega arith in
-    one_put class (from + 1) slots k slot free none ∙ ap (λ (j : ℕ). Some (record_in class j slot)) on
-one_put class from (Some x ∷ slots) (suc k) slot free none = let on : from + 1 + k ≡ from + suc k = omega arith in elim (eqb_tells x.serial slot.serial) [
-  | inl same ↦ let clash : Some (record_in class from x) ≡ None = rw same.0 at none in absurd (cc)
-  | inr other ↦ let later : find (has_serial slot.serial) (records_from class (from + 1) slots) ≡ None = rw other.0 at none in
-      rw other.0 (one_put class (from + 1) slots k slot free later ∙ ap (λ (j : ℕ). Some (record_in class j slot)) on)
-]
+one_put class from (None ∷ slots) (suc k) slot free none = grind (arith, nat_tests, one_put class (from + 1) slots k slot free none)
+one_put class from (Some x ∷ slots) (suc k) slot free none = grind (arith, nat_tests, one_put class (from + 1) slots k slot free)
 
 -- where each of ascending groups has a record as before its change, so have all
 found_kept : (test : Record → Bool) (change : Group → Group) (low high : ℕ) (gs : List Group) → AscendBetween low gs high
@@ -56,12 +44,7 @@ found_kept : (test : Record → Bool) (change : Group → Group) (low high : ℕ
     → find test (flat_map records_in (map change gs)) ≡ find test (flat_map records_in gs)
 found_kept test change low high [] ascend h = refl
 found_kept test change low high (x ∷ xs) ascend h =
-    let rest : List Record = flat_map records_in (map change xs) in
-    find-append test (records_in (change x)) rest
-    ∙ ap (λ (o : Option Record). option_or o (find test rest)) (h x (head_found x.number x xs refl))
-    ∙ ap (λ (o : Option Record). option_or (find test (records_in x)) o)
-    (found_kept test change (x.number + 1) high xs ascend.1 (λ y found. h y (found_later low high x xs y ascend found)))
-    ∙ sym (find-append test (records_in x) (flat_map records_in xs))
+    grind (arith, find-append, found_kept test change (x.number + 1) high xs ascend.1, found_later low high x xs)
 
 -- neither option has a value
 neither_some : (o p : Option Record) → option_or o p ≡ None → (o ≡ None) × (p ≡ None)
@@ -73,22 +56,15 @@ group_put : (n : ℕ) (gs : List Group) (g : Group) (k : ℕ) (slot : Slot) → 
     → find (has_serial slot.serial) (flat_map records_in gs) ≡ None
     → find (has_serial slot.serial) (flat_map records_in (map (changed_at n (with_object_in k slot)) gs)) ≡ Some (record_in g.class k slot)
 group_put n [] g k slot found free none = absurd (cc)
-group_put n (x ∷ xs) g k slot found free none =
-    let rest : List Record = flat_map records_in (map (changed_at n (with_object_in k slot)) xs) in
-    let nones = neither_some (find (has_serial slot.serial) (records_in x)) (find (has_serial slot.serial) (flat_map records_in xs))
-    (sym (find-append (has_serial slot.serial) (records_in x) (flat_map records_in xs)) ∙ none) in
-    elim (eqb_tells x.number n) [
-      | inl same ↦ let is : Some x ≡ Some g = rw same.0 at found in let here : x ≡ g = cc in
-          let on : 0 + k ≡ k = omega arith in
-          rw same.0 (find-append (has_serial slot.serial) (records_in (with_object_in k slot x)) rest
-          ∙ ap (λ (o : Option Record). option_or o (find (has_serial slot.serial) rest))
-          (one_put x.class 0 x.slots k slot (ap (λ (h : Group). slice_get h.slots k) here ∙ free) nones.0)
-          ∙ ap (λ (j : ℕ). Some (record_in x.class j slot)) on ∙ ap (λ (h : Group). Some (record_in h.class k slot)) here)
-      | inr other ↦ let later : find (has_number n) xs ≡ Some g = rw other.0 at found in
-          rw other.0 (find-append (has_serial slot.serial) (records_in x) rest
-          ∙ ap (λ (o : Option Record). option_or o (find (has_serial slot.serial) rest)) nones.0
-          ∙ group_put n xs g k slot later free nones.1)
-    ]
+group_put n (x ∷ xs) g k slot found free none = grind (
+  arith,
+  nat_tests,
+  neither_some (find (has_serial slot.serial) (records_in x)) (find (has_serial slot.serial) (flat_map records_in xs)),
+  find-append (has_serial slot.serial) (records_in (with_object_in k slot x)),
+  one_put x.class 0 x.slots k slot,
+  find-append (has_serial slot.serial) (records_in x),
+  group_put n xs g k slot,
+)
 
 -- the new object's record comes to those that there were
 record HasNewRecord (t : Table) (placed : Placed) (serial len : ℕ) : Type 0 where

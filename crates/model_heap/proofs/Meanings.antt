@@ -11,14 +11,12 @@ use Rattle.model_heap.specs.Places.{Place, Record, Target, byte_of, meaning, obj
 -- the next serial of what a heap means is its own
 pub meaning_next : (next : ℕ) (records : List Record) (targets : ℕ → Target) (bytes : Place → ℕ) (roots : List (Option ℕ))
     → next_serial (meaning next records targets bytes roots) ≡ next
-meaning_next next records targets bytes roots =
-    length-map-range_with_len (λ serial. option_map (object_at targets bytes) (record_with serial records)) 0 next
+meaning_next next records targets bytes roots = grind (arith, length-map-range_with_len)
 
 -- below the next serial, the object of a serial is that of its record
 pub object_below : (next : ℕ) (records : List Record) (targets : ℕ → Target) (bytes : Place → ℕ) (roots : List (Option ℕ)) (serial : ℕ) → serial < next
     → object_of (meaning next records targets bytes roots) serial ≡ option_map (object_at targets bytes) (record_with serial records)
-object_below next records targets bytes roots serial below =
-    get_or-map-range_with_len (λ s. option_map (object_at targets bytes) (record_with s records)) 0 next serial serial None below (omega arith)
+object_below next records targets bytes roots serial below = grind (arith, get_or-map-range_with_len)
 
 -- from the next serial on, there is no object
 pub object_past : (next : ℕ) (records : List Record) (targets : ℕ → Target) (bytes : Place → ℕ) (roots : List (Option ℕ)) (serial : ℕ) → next ≤ serial
@@ -30,11 +28,8 @@ object_past next records targets bytes roots serial past =
 -- the object of a serial is that of its record
 pub meaning_objects : (next : ℕ) (records : List Record) (targets : ℕ → Target) (bytes : Place → ℕ) (roots : List (Option ℕ)) (serial : ℕ)
     → AreBelow next records → object_of (meaning next records targets bytes roots) serial ≡ option_map (object_at targets bytes) (record_with serial records)
-meaning_objects next records targets bytes roots serial all = elim (leb_tells (suc serial) next) [
-  | inl below ↦ object_below next records targets bytes roots serial below.1
-  | inr past ↦ object_past next records targets bytes roots serial (omega (arith, past.1))
-      ∙ sym (ap (option_map (object_at targets bytes)) (all serial (omega (arith, past.1))))
-]
+meaning_objects next records targets bytes roots serial all =
+    grind (arith, object_below next records targets bytes roots serial, object_past next records targets bytes roots serial)
 
 -- an element of a list made from a range of numbers
 made_at : (f : ℕ → ℕ) (a n k : ℕ) → k < n → get_or (map f (range_with_len a n)) k 0 ≡ f (a + k)
@@ -70,15 +65,12 @@ bytes_read targets bytes r off len fits = part_made (byte_of targets bytes) r.ad
 -- what agrees on a range of numbers makes one list of it
 pub made_same : {X : Type 0} (f g : ℕ → X) (a n : ℕ) → ((x : ℕ) → a ≤ x → x < a + n → f x ≡ g x) → map f (range_with_len a n) ≡ map g (range_with_len a n)
 made_same f g a zero h = refl
-made_same f g a (suc n) h = let first : f a ≡ g a = h a (omega arith) (omega arith) in
-    let rest : map f (range_with_len (a + 1) n) ≡ map g (range_with_len (a + 1) n)
-    = made_same f g (a + 1) n (λ x low high. h x (omega (arith, low)) (omega (arith, high))) in cc
+made_same f g a (suc n) h = grind (arith, made_same f g (a + 1) n)
 
 -- an object whose bytes stay is the same
 pub object_same : (targets targets' : ℕ → Target) (bytes bytes' : Place → ℕ) (r : Record)
     → ((x : ℕ) → IsIn r x → byte_of targets' bytes' x ≡ byte_of targets bytes x) → object_at targets' bytes' r ≡ object_at targets bytes r
-object_same targets targets' bytes bytes' r h = ap {B = Object} (λ (bs : List ℕ). record { address = r.address; bytes = bs })
-    (made_same (byte_of targets' bytes') (byte_of targets bytes) r.address r.len (λ x low high. h x (low, high)))
+object_same targets targets' bytes bytes' r h = grind (arith, made_same (byte_of targets' bytes') (byte_of targets bytes) r.address r.len)
 
 -- a record's object, if there is a record, is the same where its bytes stay
 pub record_same : (targets targets' : ℕ → Target) (bytes bytes' : Place → ℕ) (o : Option Record)
@@ -92,11 +84,7 @@ pub means_same : (next : ℕ) (records records' : List Record) (targets targets'
     → ((serial : ℕ) → record_with serial records' ≡ record_with serial records)
     → ((serial x : ℕ) (r : Record) → record_with serial records ≡ Some r → IsIn r x → byte_of targets' bytes' x ≡ byte_of targets bytes x)
     → meaning next records' targets' bytes' roots ≡ meaning next records targets bytes roots
-means_same next records records' targets targets' bytes bytes' roots same kept =
-    ap {B = Memory} (λ (os : List (Option Object)). record { objects = os; roots = roots })
-    (made_same (λ s. option_map (object_at targets' bytes') (record_with s records')) (λ s. option_map (object_at targets bytes) (record_with s records)) 0 next
-    (λ s low high. ap (option_map (object_at targets' bytes')) (same s)
-    ∙ record_same targets targets' bytes bytes' (record_with s records) (λ x r found within. kept s x r found within)))
+means_same next records records' targets targets' bytes bytes' roots same kept = grind (arith, made_same)
 
 -- a list made from a range, where one number makes something else, is the list with that put there
 pub made_with : (f g : ℕ → Option Object) (n s : ℕ) (v : Option Object) → s < n → f s ≡ v → ((i : ℕ) → i ≢ s → f i ≡ g i)
@@ -179,8 +167,7 @@ store_means next records targets bytes bytes' roots r off new below is fits writ
     after = record { address = r.address; bytes = overwritten (object_at targets bytes r).bytes off new }
 
     here : objects_by bytes' r.serial ≡ Some after
-    here = ap (option_map (object_at targets bytes')) is ∙ ap {B = Option Object} (λ (bs : List ℕ). Some (record { address = r.address; bytes = bs }))
-        (overwritten_made (byte_of targets bytes') (byte_of targets bytes) r.address r.len off new fits written kept)
+    here = grind (arith, overwritten_made (byte_of targets bytes') (byte_of targets bytes) r.address r.len off new fits written kept)
 
     there : (i : ℕ) → i ≢ r.serial → objects_by bytes' i ≡ objects_by bytes i
     there i apart = record_same targets targets bytes bytes' (record_with i records) (λ x q found within. others i x q found apart within)

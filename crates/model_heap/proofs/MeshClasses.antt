@@ -1,7 +1,6 @@
 -- At most one mesh runs a class, and it is found by its class.
-use Rattle.std.proofs.Common.{◌≡◌, ℕ, zero, suc, ◌+◌, ◌≤◌, Bool, true, List, [], ◌∷◌, find, slice_get, ap, refl, sym, ◌∙◌, arith, inl, inr, Some}
+use Rattle.std.proofs.Common.{◌≡◌, ℕ, zero, suc, ◌≤◌, Bool, true, List, [], ◌∷◌, find, slice_get, refl, sym, arith, inl, inr, Some}
 use Rattle.std.specs.List.{list_any}
-use Rattle.std.proofs.lemmas.Bool.Decides.{eqb_tells}
 use Rattle.model_words.proofs.Tests.{tells}
 use Rattle.model_heap.specs.MeshLaws.{AtMostOneAClass}
 use Rattle.model_heap.specs.Sound.{IsSound, meshes_of}
@@ -10,19 +9,12 @@ use Rattle.model_heap.specs.Table.{Mesh, Table}
 -- a mesh at a place counts for its class
 counts : (class : ℕ) (ms : List Mesh) (i : ℕ) (x : Mesh) → slice_get ms i ≡ Some x → x.class ≡ class → 1 ≤ meshes_of class ms
 counts class [] i x h is = cc
-counts class (m ∷ ms) zero x h is = let here : m ≡ x = cc h in elim (eqb_tells m.class class) [
-  | inl same ↦ rw same.0 (omega arith)
-  | inr other ↦ absurd (other.1 (ap (λ (y : Mesh). y.class) here ∙ is))
-]
+counts class (m ∷ ms) zero x h is = grind arith
 counts class (m ∷ ms) (suc i) x h is = let rest = counts class ms i x h is in omega (arith, rest)
 
 -- a mesh first and one later are of two classes
 first_apart : (m x y : Mesh) (ms : List Mesh) (j : ℕ) → meshes_of x.class (m ∷ ms) ≤ 1 → m ≡ x → slice_get ms j ≡ Some y → x.class ≡ y.class → ⊥
-first_apart m x y ms j once here h same =
-    let later = counts x.class ms j y h (sym same) in elim (eqb_tells m.class x.class) [
-      | inl is ↦ let one : 1 + meshes_of x.class ms ≤ 1 = rw is.0 at once in omega (arith, one, later)
-      | inr other ↦ other.1 (ap (λ (z : Mesh). z.class) here)
-    ]
+first_apart m x y ms j once here h same = grind (arith, counts x.class ms j y h)
 
 -- two places of meshes of one class are one
 one_place : (ms : List Mesh) (i j : ℕ) (x y : Mesh) → ((class : ℕ) → meshes_of class ms ≤ 1) → slice_get ms i ≡ Some x → slice_get ms j ≡ Some y
@@ -31,20 +23,11 @@ one_place [] i j x y once h h' same = cc
 one_place (m ∷ ms) zero zero x y once h h' same = refl
 one_place (m ∷ ms) zero (suc j) x y once h h' same = absurd (first_apart m x y ms j (once x.class) (cc h) h' same)
 one_place (m ∷ ms) (suc i) zero x y once h h' same = absurd (first_apart m y x ms i (once y.class) (cc h') h (sym same))
-one_place (m ∷ ms) (suc i) (suc j) x y once h h' same =
-    ap suc (one_place ms i j x y (λ class. let all = once class in omega (arith, all)) h h' same)
+one_place (m ∷ ms) (suc i) (suc j) x y once h h' same = grind (arith, one_place ms i j x y)
 
 -- a sound table has at most one mesh a class
 pub one_a_class : (t : Table) → IsSound t → AtMostOneAClass t
 one_a_class t sound i j x y h h' same = one_place t.meshes i j x y sound.one_a_class h h' same
-
--- the mesh found is at a place
-pub found_place : (test : Mesh → Bool) (ms : List Mesh) (this : Mesh) → find test ms ≡ Some this → (i : ℕ) × (slice_get ms i ≡ Some this)
-found_place test [] this h = cc
-found_place test (m ∷ ms) this h = elim (tells (test m)) [
-  | inl pass ↦ (zero, (let is : Some m ≡ Some this = rw pass at h in is))
-  | inr fail ↦ let later : find test ms ≡ Some this = rw fail at h in let rest = found_place test ms this later in (suc rest.0, rest.1)
-]
 
 -- where some mesh passes one is found
 pub some_found : (test : Mesh → Bool) (ms : List Mesh) → list_any test ms ≡ true → (this : Mesh) × (find test ms ≡ Some this)
@@ -57,7 +40,4 @@ some_found test (m ∷ ms) h = elim (tells (test m)) [
 -- where one is found some mesh passes
 pub found_some : (test : Mesh → Bool) (ms : List Mesh) (this : Mesh) → find test ms ≡ Some this → list_any test ms ≡ true
 found_some test [] this h = cc
-found_some test (m ∷ ms) this h = elim (tells (test m)) [
-  | inl pass ↦ rw pass refl
-  | inr fail ↦ let later : find test ms ≡ Some this = rw fail at h in rw fail (found_some test ms this later)
-]
+found_some test (m ∷ ms) this h = grind (arith, found_some test ms this)

@@ -1,8 +1,8 @@
 -- A new object is apart from each object that there is.
-use Rattle.std.proofs.Common.{◌≡◌, ℕ, suc, ◌+◌, ◌<◌, ◌≤◌, false, length, find, slice_get, ap, refl, sym, ◌∙◌, arith, inl, inr, Some, None, Ok}
-use Rattle.std.proofs.lemmas.Bool.Decides.{leb_tells}
+use Rattle.std.proofs.Common.{◌≡◌, ℕ, ◌+◌, ◌<◌, ◌≤◌, false, length, find, slice_get, arith, inl, inr, Some, None, Ok}
+use Rattle.std.proofs.lemmas.Bool.Decides.{nat_tests}
 use Rattle.std.proofs.lemmas.Option.{slice_get_within}
-use Rattle.model_heap.proofs.Apart.{IsPlace, places_apart, place_used, filled_place, picked_free}
+use Rattle.model_heap.proofs.Apart.{places_apart, place_used, filled_place, picked_free}
 use Rattle.model_heap.proofs.GroupLists.{find_again, find_passes, find_sound}
 use Rattle.model_heap.proofs.NewObjects.{first_in, open_gives, by_place}
 use Rattle.model_memory.specs.Memory.{Memory, Object, has_address}
@@ -11,46 +11,34 @@ use Rattle.model_heap.specs.Sound.{IsSound, IsTied}
 use Rattle.model_heap.specs.Table.{Slot, Group, Table, Placed, group_of, has_number, is_open, picked_slot, first_member, slot_address, fresh_group, place_new}
 use Rattle.model_heap.specs.TableLaws.{AreApart}
 
--- shorter ranges of ranges apart are apart
-shorter_apart : (a m b n m' n' : ℕ) → m' ≤ m → n' ≤ n → AreApart a m b n → AreApart a m' b n'
-shorter_apart a m b n m' n' h h' (inl low) = inl (omega (arith, low, h))
-shorter_apart a m b n m' n' h h' (inr high) = inr (omega (arith, high, h'))
-
 -- an object put into an open group is apart from that of another slot
 open_apart : (t : Table) (class word len number k : ℕ) (g h : Group) (slot : Slot) → IsSound t → len ≤ class → find (is_open t class) t.groups ≡ Some g
     → group_of t number ≡ Some h → slice_get h.slots k ≡ Some (Some slot)
     → AreApart (slot_address (first_member g) g.class (picked_slot g word)) len (slot_address slot.member h.class k) slot.len
-open_apart t class word len number k g h slot sound fits found is filled =
-    let open_ = open_gives t class g (find_passes (is_open t class) t.groups g found) in
-    let class_is : g.class ≡ class = open_.class_is in
-    let there : group_of t g.number ≡ Some g = find_again (is_open t class) 0 t.next_span t.groups g sound.numbers found in
-    let sound_g = find_sound (has_number g.number) t.groups g there sound.groups in
-    let free : slice_get g.slots (picked_slot g word) ≡ Some None = picked_free g word open_.some_slot in
-    let below = slice_get_within g.slots (picked_slot g word) None free in
-    let places = sound_g.places in
-    let place : IsPlace t g.number (picked_slot g word) (first_member g) g
-    = record { is = there; there = first_in g.members sound_g.some_member; within = omega (arith, below, places) } in
-    let place' : IsPlace t number k slot.member h = filled_place t number k h slot sound is filled in
-    let short = ((find_sound (has_number number) t.groups h is sound.groups).objects k slot filled).fits in
-    shorter_apart (slot_address (first_member g) g.class (picked_slot g word)) g.class (slot_address slot.member h.class k) h.class len slot.len
-    (omega (arith, fits, class_is)) short
-    (places_apart t g.number number (picked_slot g word) k (first_member g) slot.member g h sound place place' (λ e e'. clash there e e' free))
+open_apart t class word len number k g h slot sound fits found is filled = grind (
+  arith,
+  nat_tests,
+  open_gives,
+  find_passes,
+  find_again,
+  find_sound (has_number g.number) t.groups g,
+  picked_free,
+  slice_get_within,
+  first_in,
+  filled_place,
+  find_sound (has_number number) t.groups h is sound.groups,
+  places_apart t g.number number (picked_slot g word) k (first_member g) slot.member g h sound,
+  clash,
+)
   where
     clash : group_of t g.number ≡ Some g → g.number ≡ number → picked_slot g word ≡ k → slice_get g.slots (picked_slot g word) ≡ Some None → ⊥
-    clash there e e' free =
-        let both : Some g ≡ Some h = sym there ∙ ap (λ (n : ℕ). group_of t n) e ∙ is in
-        let same : g ≡ h = cc both in
-        let two : Some None ≡ Some (Some slot) = sym free ∙ ap (λ (x : Group). slice_get x.slots (picked_slot g word)) same
-        ∙ ap (λ (j : ℕ). slice_get h.slots j) e' ∙ filled in
-        cc two
+    clash there e e' free = grind arith
 
 -- an object in a new span is apart from those that there were
 spanned_apart : (t : Table) (class j len number k : ℕ) (h : Group) (slot : Slot) → IsSound t → group_of t number ≡ Some h
     → slice_get h.slots k ≡ Some (Some slot) → AreApart (slot_address t.next_page class j) len (slot_address slot.member h.class k) slot.len
 spanned_apart t class j len number k h slot sound is filled =
-    let used = place_used t number k slot.member h sound (filled_place t number k h slot sound is filled) in
-    let short = ((find_sound (has_number number) t.groups h is sound.groups).objects k slot filled).fits in
-    inr (omega (arith, used, short))
+    grind (arith, place_used, filled_place t number k h slot sound is filled, find_sound (has_number number) t.groups h is sound.groups)
 
 -- the range of a new object is apart from that of each object of the table
 pub new_apart : (t : Table) (len word serial : ℕ) (placed : Placed) (number k : ℕ) (group : Group) (slot : Slot) → IsSound t
@@ -64,13 +52,7 @@ new_apart t len word serial placed number k h slot sound went is filled =
 -- an address of a range is not one of a range apart
 pub not_had : (object : Object) (a m b n x : ℕ) → AreApart a m b n → object.address ≡ b → length object.bytes ≡ n → a ≤ x → x < a + m
     → has_address object x ≡ false
-not_had object a m b n x apart is long low high = elim (leb_tells object.address x) [
-  | inr below ↦ rw below.0 refl
-  | inl from ↦ rw from.0 (elim (leb_tells (suc x) (object.address + length object.bytes)) [
-    | inr past ↦ past.0
-    | inl within ↦ absurd (clash apart from.1 within.1)
-  ])
-]
+not_had object a m b n x apart is long low high = grind arith
   where
     clash : AreApart a m b n → object.address ≤ x → x < object.address + length object.bytes → ⊥
     clash (inl before) from within = omega (arith, before, from, within, is, low, high)

@@ -1,10 +1,10 @@
 -- A new object keeps a sound table sound.
-use Rattle.std.proofs.Common.{◌≡◌, ℕ, zero, suc, ◌+◌, ◌<◌, ◌≤◌, true, false, not, ◌&&◌, nat_eq, nat_lt, nat_le, List, [], ◌∷◌, ◌++◌, length, map, find, slice_get, slice_set, slice_index, replicate, IsSome, is_some, option_map, ap, subst, refl, sym, ◌∙◌, arith, ◌⊎◌, inl, inr, Option, Some, None, Ok}
+use Rattle.std.proofs.Common.{◌≡◌, ℕ, zero, suc, ◌+◌, ◌<◌, ◌≤◌, true, false, nat_eq, nat_lt, nat_le, List, [], ◌∷◌, ◌++◌, length, map, find, slice_get, slice_set, slice_index, replicate, IsSome, is_some, option_map, subst, refl, ◌∙◌, arith, ◌⊎◌, inl, inr, Option, Some, None, Ok}
 use Rattle.std.specs.List.{list_any, range_with_len}
-use Rattle.std.proofs.lemmas.Bool.Decides.{eqb_tells, leb_tells}
+use Rattle.std.proofs.lemmas.Bool.Decides.{nat_tests, eqb_tells, leb_tells}
 use Rattle.std.proofs.lemmas.List.{length-set, length-replicate}
 use Rattle.model_words.proofs.Chains.{or_refuse_went, went_on, refuse_if_went, refuse_last}
-use Rattle.model_words.proofs.Tests.{tells, both_hold, positive, equal, less, negated}
+use Rattle.model_words.proofs.Tests.{positive}
 use Rattle.model_heap.proofs.GroupLists.{times_in-append, pages_in, find_again, find_passes, find_sound, pages_changed, pages_more, groups_changed, groups_more, ascend_mapped, ascend_more, changed_number, find_changed_other, find_more, find_between, head_found}
 use Rattle.model_heap.proofs.MeshLists.{meshes_kept, meshes_outside}
 use Rattle.model_heap.proofs.TableChanges.{table_sound}
@@ -71,22 +71,12 @@ placed_sound t g word serial len sound found outside some fits =
 -- a page of a range is within it
 range_from : (v a n : ℕ) → 1 ≤ times_in v (range_with_len a n) → (a ≤ v) × (v < a + n)
 range_from v a zero h = absurd (omega (arith, h))
-range_from v a (suc n) h = elim (eqb_tells a v) [
-  | inl same ↦ (omega (arith, same.1), omega (arith, same.1))
-  | inr other ↦ let rest : 1 ≤ 0 + times_in v (range_with_len (a + 1) n) = rw other.0 at h in
-      let within = range_from v (a + 1) n (omega (arith, rest)) in (omega (arith, within.0), omega (arith, within.1))
-]
+range_from v a (suc n) h = grind (arith, range_from v (a + 1) n)
 
 -- each page of a range is there once
 range_once : (v a n : ℕ) → times_in v (range_with_len a n) ≤ 1
 range_once v a zero = omega arith
-range_once v a (suc n) = elim (eqb_tells a v) [
-  | inl same ↦ rw same.0 (elim (leb_tells 1 (times_in v (range_with_len (a + 1) n))) [
-    | inl some ↦ let above = range_from v (a + 1) n some.1 in absurd (omega (arith, above.0, same.1))
-    | inr none ↦ omega (arith, none.1)
-  ])
-  | inr other ↦ rw other.0 (let rest = range_once v (a + 1) n in omega (arith, rest))
-]
+range_once v a (suc n) = grind (arith, nat_tests, range_from v (a + 1) n, range_once v (a + 1) n)
 
 -- the pages of a fresh group are the range of its one member
 fresh_pages : (v number class page : ℕ) → times_in v (virtual_pages (fresh_group number class page)) ≡ times_in v (range_with_len page (pages_of class))
@@ -141,38 +131,31 @@ span_sound t class sound row room =
 -- no group has a number from the second bound on
 pub none_from : (low high n : ℕ) (gs : List Group) → AscendBetween low gs high → high ≤ n → find (has_number n) gs ≡ None
 none_from low high n [] ascend from = refl
-none_from low high n (x ∷ xs) ascend from = elim (eqb_tells x.number n) [
-  | inl same ↦ let is : find (has_number x.number) (x ∷ xs) ≡ Some x = head_found x.number x xs refl in
-      let within = find_between (has_number x.number) low high (x ∷ xs) x ascend is in absurd (omega (arith, within.1, from, same.1))
-  | inr other ↦ rw other.0 (none_from (x.number + 1) high n xs ascend.1 from)
-]
+none_from low high n (x ∷ xs) ascend from =
+    grind (arith, find_between (has_number x.number) low high (x ∷ xs) x ascend, none_from (x.number + 1) high n xs ascend.1 from)
 
 -- the group of a new number is found last
 pub last_found : (n : ℕ) (gs : List Group) (g : Group) → find (has_number n) gs ≡ None → g.number ≡ n → find (has_number n) (gs ++ g ∷ []) ≡ Some g
 last_found n [] g none is = head_found n g [] is
-last_found n (x ∷ xs) g none is = elim (eqb_tells x.number n) [
-  | inl same ↦ let clash : Some x ≡ None = rw same.0 at none in absurd (cc)
-  | inr other ↦ let later : find (has_number n) xs ≡ None = rw other.0 at none in rw other.0 (last_found n xs g later is)
-]
+last_found n (x ∷ xs) g none is = grind (arith, last_found n xs g)
 
 -- a number of no group is in no mesh
 not_meshing : (t : Table) (n : ℕ) (ms : List Mesh) → group_of t n ≡ None → AreSoundMeshes t ms → list_any (takes_part n) ms ≡ false
 not_meshing t n [] none sound = refl
-not_meshing t n (m ∷ ms) none sound = elim (eqb_tells m.source n) [
-  | inl is ↦ let clash : Some sound.0.source ≡ None = sym sound.0.source_is ∙ ap (λ (k : ℕ). group_of t k) is.1 ∙ none in absurd (cc clash)
-  | inr source ↦ elim (eqb_tells m.destination n) [
-    | inl is ↦ let clash : Some sound.0.destination ≡ None = sym sound.0.destination_is ∙ ap (λ (k : ℕ). group_of t k) is.1 ∙ none in absurd (cc clash)
-    | inr destination ↦ rw (source.0, destination.0) (not_meshing t n ms none sound.1)
-  ]
-]
+not_meshing t n (m ∷ ms) none sound = grind (arith, nat_tests, not_meshing t n ms none sound.1)
 
 -- a new object in a new span keeps the table sound
 spanned_sound : (t : Table) (class word serial len : ℕ) → IsSound t → IsSome (row_of class) → t.next_page + pages_of class ≤ 65536 → 1 ≤ len → len ≤ class
     → IsSound (placed_in (with_span t class) (fresh_group t.next_span class t.next_page) word serial len).table
-spanned_sound t class word serial len sound row room some fits =
-    let none : group_of t t.next_span ≡ None = none_from 0 t.next_span t.next_span t.groups sound.numbers (omega arith) in
-    placed_sound (with_span t class) (fresh_group t.next_span class t.next_page) word serial len (span_sound t class sound row room)
-    (last_found t.next_span t.groups (fresh_group t.next_span class t.next_page) none refl) (not_meshing t t.next_span t.meshes none sound.meshes) some fits
+spanned_sound t class word serial len sound row room some fits = grind (
+  arith,
+  nat_tests,
+  none_from 0 t.next_span t.next_span t.groups sound.numbers,
+  placed_sound (with_span t class) (fresh_group t.next_span class t.next_page) word serial len (span_sound t class sound row room),
+  span_sound t class sound row room,
+  last_found t.next_span t.groups (fresh_group t.next_span class t.next_page),
+  not_meshing t t.next_span t.meshes,
+)
 
 -- what holds of an open group
 pub record IsOpen (t : Table) (class : ℕ) (g : Group) : Type 0 where
@@ -182,37 +165,13 @@ pub record IsOpen (t : Table) (class : ℕ) (g : Group) : Type 0 where
 
 -- an open group passes the tests
 pub open_gives : (t : Table) (class : ℕ) (g : Group) → is_open t class g ≡ true → IsOpen t class g
-open_gives t class g h =
-    let parts = both_hold (nat_eq g.class class && not (is_meshing t g.number)) (nat_lt (object_count g) (length g.slots)) h in
-    let first = both_hold (nat_eq g.class class) (not (is_meshing t g.number)) parts.0 in
-    record {
-      class_is = equal g.class class first.0;
-      outside = negated (is_meshing t g.number) first.1;
-      some_slot = less (object_count g) (length g.slots) parts.1;
-    }
-
--- a group that passes the tests is open
-pub gives_open : (t : Table) (class : ℕ) (g : Group) → g.class ≡ class → is_meshing t g.number ≡ false → object_count g < length g.slots
-    → is_open t class g ≡ true
-gives_open t class g class_is outside some = elim (eqb_tells g.class class) [
-  | inr other ↦ absurd (other.1 class_is)
-  | inl same ↦ elim (leb_tells (suc (object_count g)) (length g.slots)) [
-    | inl room ↦ rw (same.0, outside, room.0) refl
-    | inr full ↦ absurd (omega (arith, full.1, some))
-  ]
-]
+open_gives t class g h = grind (arith, nat_tests)
 
 -- of the rows, the first that holds a length is of a class that holds it and is among them
 rows_fit : (len : ℕ) (rows : List Row) (class : ℕ) → option_map (λ r. r.size) (find (λ r. nat_le len r.size) rows) ≡ Some class
     → (len ≤ class) × (is_some (find (λ r. nat_eq r.size class) rows) ≡ true)
 rows_fit len [] class h = absurd (cc)
-rows_fit len (r ∷ rows) class h = elim (leb_tells len r.size) [
-  | inl fits ↦ let is : Some r.size ≡ Some class = rw fits.0 at h in let same : r.size ≡ class = cc is in
-      (omega (arith, fits.1, same), elim (eqb_tells r.size class) [ inl here ↦ rw here.0 refl | inr other ↦ absurd (other.1 same) ])
-  | inr short ↦ let later : option_map (λ r. r.size) (find (λ r. nat_le len r.size) rows) ≡ Some class = rw short.0 at h in
-      let rest = rows_fit len rows class later in
-      (rest.0, elim (tells (nat_eq r.size class)) [ inl here ↦ rw here refl | inr other ↦ rw other rest.1 ])
-]
+rows_fit len (r ∷ rows) class h = grind (arith, nat_tests, rows_fit len rows class)
 
 -- the class of a request holds it, and is in the table
 pub class_fits : (len class : ℕ) → class_for len ≡ Some class → (len ≤ class) × IsSome (row_of class)

@@ -1,19 +1,18 @@
 -- Which group and which slot a new object goes to.
-use Rattle.std.proofs.Common.{◌≡◌, ◌≢◌, ℕ, zero, suc, ◌+◌, ◌<◌, ◌≤◌, ◌%◌, Bool, true, false, cond, not, is_some, List, [], ◌∷◌, ◌++◌, length, find, replicate, slice_get, slice_index, take, ap, subst, refl, sym, ◌∙◌, arith, inl, inr, Option, Some, None, Ok, mod-lt, nat_eq, nat_lt, zero-add}
-use Rattle.std.proofs.lemmas.Bool.Decides.{eqb_tells, leb_tells}
+use Rattle.std.proofs.Common.{◌≡◌, ◌≢◌, ℕ, zero, suc, ◌+◌, ◌<◌, ◌≤◌, ◌%◌, Bool, true, false, cond, not, is_some, List, [], ◌∷◌, ◌++◌, length, find, replicate, slice_get, slice_index, take, ap, subst, refl, sym, ◌∙◌, arith, inl, inr, Option, Some, None, Ok, mod-lt, nat_eq, nat_lt}
+use Rattle.std.proofs.lemmas.Bool.Decides.{nat_tests, eqb_tells}
 use Rattle.std.proofs.lemmas.List.{length-replicate}
 use Rattle.std.proofs.lemmas.List.Sums.{sum_by-cons}
 use Rattle.model_heap.proofs.Apart.{free_count}
 use Rattle.model_words.proofs.Chains.{or_refuse_went, refuse_if_went, went_on}
-use Rattle.model_heap.proofs.GroupLists.{changed_number, find_again, find_changed_other, find_mapped, find_passes, find_sound}
-use Rattle.model_words.proofs.Tests.{tells}
+use Rattle.model_heap.proofs.GroupLists.{find_again, find_changed_other, find_mapped, find_passes, find_sound}
 use Rattle.model_heap.proofs.ListPlaces.{found_passes, none_found_passes}
 use Rattle.model_heap.proofs.NewObjects.{class_fits, last_found, none_from, open_gives}
 use Rattle.model_heap.proofs.TiedNewObjects.{fresh_open}
 use Rattle.model_words.specs.Classes.{class_for, pages_of, slots_of}
 use Rattle.model_heap.specs.NewLaws.{IsPicked, TakesOpen, TakesSpan, free_slots}
 use Rattle.model_heap.specs.Sound.{AscendBetween, IsSound}
-use Rattle.model_heap.specs.Table.{Group, Placed, Slot, Table, changed_at, first_member, free_from, fresh_group, group_of, has_number, is_open, object_count, picked_slot, place_in, place_new, placed_in, room_for_span, slot_address, with_group, with_object_in, with_span}
+use Rattle.model_heap.specs.Table.{Group, Placed, Slot, Table, changed_at, free_from, fresh_group, group_of, has_number, is_open, object_count, picked_slot, place_in, place_new, placed_in, room_for_span, slot_address, with_group, with_object_in, with_span}
 use Rattle.model_words.specs.declared.refusals.Refusal.TheVariants.{NoPages, TooLarge, Zero}
 
 -- one more slot in front
@@ -52,14 +51,7 @@ record IsPickedSlot (slots : List (Option Slot)) (word k : ℕ) : Type 0 where
   below : free_slots (take k slots) ≡ word % free_slots slots
 
 picked_is : (g : Group) (word : ℕ) → object_count g < length g.slots → IsPickedSlot g.slots word (picked_slot g word)
-picked_is g word some =
-    let count = free_count 0 g.slots in
-    let one = free_after g.slots 0 (word % length (free_from 0 g.slots)) (mod-lt word (omega (arith, count, some))) in
-    let is : picked_slot g word ≡ 0 + one.at = one.is in
-    let at : one.at ≡ picked_slot g word = omega (arith, is) in record {
-      free = ap (slice_get g.slots) (sym at) ∙ one.free;
-      below = ap (λ (k : ℕ). free_slots (take k g.slots)) (sym at) ∙ one.below ∙ ap (λ (n : ℕ). word % n) (free_length 0 g.slots);
-    }
+picked_is g word some = grind (arith, nat_tests, free_count 0 g.slots, free_after g.slots 0 (word % length (free_from 0 g.slots)), free_length 0 g.slots)
 
 -- the first of some members
 first_is : (members : List ℕ) → 1 ≤ length members → slice_get members 0 ≡ Some (slice_index members 0)
@@ -69,9 +61,7 @@ first_is (v ∷ members) some = refl
 -- the group of the number is the changed one
 changed_there : (t : Table) (g : Group) (k : ℕ) (slot : Slot) → group_of t g.number ≡ Some g
     → group_of (with_group t g.number (with_object_in k slot)) g.number ≡ Some (with_object_in k slot g)
-changed_there t g k slot there =
-    find_mapped g.number (changed_at g.number (with_object_in k slot)) t.groups g (changed_number g.number (with_object_in k slot) (λ x. refl)) there
-    ∙ ap Some joined
+changed_there t g k slot there = grind (arith, find_mapped g.number (changed_at g.number (with_object_in k slot)) t.groups g)
   where
     joined : changed_at g.number (with_object_in k slot) g ≡ with_object_in k slot g
     joined = elim (eqb_tells g.number g.number) [ inl same ↦ rw same.0 refl | inr other ↦ absurd (other.1 refl) ]
@@ -80,52 +70,36 @@ changed_there t g k slot there =
 placed_picked : (t : Table) (g : Group) (word serial len : ℕ) → group_of t g.number ≡ Some g → 1 ≤ length g.members → object_count g < length g.slots
     → IsPicked g word serial len (placed_in t g word serial len)
 placed_picked t g word serial len there some_member some =
-    let picked = picked_is g word some in record {
-      k = picked_slot g word;
-      member = first_member g;
-      free = picked.free;
-      below = picked.below;
-      first = first_is g.members some_member;
-      address = refl;
-      filled = changed_there t g (picked_slot g word) (record { member = first_member g; serial = serial; len = len }) there;
-    }
+    grind (arith, nat_tests, picked_is g word some, first_is g.members some_member, changed_there t g (picked_slot g word))
 
 -- a group of ascending ones is from the first bound on
 pub at_from : (low high : ℕ) (gs : List Group) (i : ℕ) (g : Group) → AscendBetween low gs high → slice_get gs i ≡ Some g → low ≤ g.number
 at_from low high [] i g ascend at = absurd (cc)
-at_from low high (x ∷ xs) zero g ascend at = let here : Some x ≡ Some g = at in let same : x ≡ g = cc here in
-    let from = ascend.0 in let number : x.number ≡ g.number = ap (λ (y : Group). y.number) same in omega (arith, from, number)
+at_from low high (x ∷ xs) zero g ascend at = grind arith
 at_from low high (x ∷ xs) (suc i) g ascend at = let rest = at_from (x.number + 1) high xs i g ascend.1 at in let from = ascend.0 in omega (arith, rest, from)
 
 -- the group found of ascending ones is the lowest that passes
 found_lowest : (test : Group → Bool) (low high : ℕ) (gs : List Group) (g : Group) (i : ℕ) (other : Group) → AscendBetween low gs high → find test gs ≡ Some g
     → slice_get gs i ≡ Some other → test other ≡ true → g.number ≤ other.number
 found_lowest test low high [] g i other ascend found at passes = absurd (cc)
-found_lowest test low high (x ∷ xs) g zero other ascend found at passes = let here : Some x ≡ Some other = at in let same : x ≡ other = cc here in
-    let pass : test x ≡ true = ap test same ∙ passes in let is : Some x ≡ Some g = rw pass at found in let one : x ≡ g = cc is in
-    let number : g.number ≡ other.number = ap (λ (y : Group). y.number) (sym one ∙ same) in omega (arith, number)
-found_lowest test low high (x ∷ xs) g (suc i) other ascend found at passes = elim (tells (test x)) [
-  | inl pass ↦ let is : Some x ≡ Some g = rw pass at found in let one : x ≡ g = cc is in
-      let number : x.number ≡ g.number = ap (λ (y : Group). y.number) one in
-      let later = at_from (x.number + 1) high xs i other ascend.1 at in omega (arith, number, later)
-  | inr fail ↦ let later : find test xs ≡ Some g = rw fail at found in found_lowest test (x.number + 1) high xs g i other ascend.1 later at passes
-]
+found_lowest test low high (x ∷ xs) g zero other ascend found at passes = grind (arith, nat_tests)
+found_lowest test low high (x ∷ xs) g (suc i) other ascend found at passes =
+    grind (arith, nat_tests, at_from (x.number + 1) high xs i other ascend.1 at, found_lowest test (x.number + 1) high xs g i other ascend.1)
 
 -- a new object in the group that is found
 open_taken : (t : Table) (class word serial len : ℕ) (g : Group) → IsSound t → find (is_open t class) t.groups ≡ Some g
     → TakesOpen t class word serial len (placed_in t g word serial len)
-open_taken t class word serial len g sound found =
-    let passes = find_passes (is_open t class) t.groups g found in
-    let there = find_again (is_open t class) 0 t.next_span t.groups g sound.numbers found in record {
-      group = g;
-      there = there;
-      open_is = passes;
-      lowest = λ i other at open_. found_lowest (is_open t class) 0 t.next_span t.groups g i other sound.numbers found at open_;
-      picked = placed_picked t g word serial len there (find_sound (is_open t class) t.groups g found sound.groups).some_member
-          (open_gives t class g passes).some_slot;
-      others = λ n apart. find_changed_other g.number n
-          (with_object_in (picked_slot g word) (record { member = first_member g; serial = serial; len = len })) t.groups (λ x. refl) apart;
-    }
+open_taken t class word serial len g sound found = grind (
+  arith,
+  nat_tests,
+  find_passes (is_open t class) t.groups g found,
+  find_again (is_open t class) 0 t.next_span t.groups g sound.numbers found,
+  found_lowest (is_open t class) 0 t.next_span t.groups g,
+  placed_picked t g word serial len,
+  find_sound (is_open t class) t.groups g found sound.groups,
+  open_gives t class g,
+  find_changed_other g.number,
+)
 
 -- all slots of a fresh group are free
 fresh_free : (from n i : ℕ) → i < n → slice_index (free_from from (replicate n None)) i ≡ from + i
@@ -140,8 +114,7 @@ fresh_length from (suc n) = let rest = fresh_length (from + 1) n in omega (arith
 -- so the word picks of all
 pub fresh_picked : (number class page word : ℕ) → 1 ≤ slots_of class → picked_slot (fresh_group number class page) word ≡ word % slots_of class
 fresh_picked number class page word some =
-    ap (λ (n : ℕ). slice_index (free_from 0 (replicate (slots_of class) None)) (word % n)) (fresh_length 0 (slots_of class))
-    ∙ fresh_free 0 (slots_of class) (word % slots_of class) (mod-lt word some) ∙ zero-add (word % slots_of class)
+    grind (arith, fresh_length 0 (slots_of class), fresh_free 0 (slots_of class) (word % slots_of class) (mod-lt word some))
 
 -- a new object in a new span
 span_taken : (t : Table) (class word serial len : ℕ) → IsSound t → 1 ≤ slots_of class → pages_of class ≤ t.free_pages
@@ -168,17 +141,11 @@ span_taken t class word serial len sound some paged = record {
 
     other_last : (n : ℕ) (gs : List Group) → n ≢ t.next_span → find (has_number n) (gs ++ fresh ∷ []) ≡ find (has_number n) gs
     other_last n [] apart = elim (eqb_tells t.next_span n) [ inl same ↦ absurd (apart (sym same.1)) | inr other ↦ rw other.0 refl ]
-    other_last n (x ∷ xs) apart = elim (eqb_tells x.number n) [
-      | inl same ↦ rw same.0 refl
-      | inr other ↦ rw other.0 (other_last n xs apart)
-    ]
+    other_last n (x ∷ xs) apart = grind (arith, other_last n xs apart)
 
 -- a number that isn't less is at least the other
 at_least : (a b : ℕ) → nat_lt a b ≡ false → b ≤ a
-at_least a b h = elim (leb_tells (suc a) b) [
-  | inl below ↦ let clash : true ≡ false = rw below.0 at h in absurd (cc clash)
-  | inr past ↦ let high = past.1 in omega (arith, high)
-]
+at_least a b h = grind (arith, nat_tests)
 
 -- what a new object that isn't refused went through
 went_in : (t : Table) (len word serial class : ℕ) (placed : Placed) → class_for len ≡ Some class → place_new t len word serial ≡ Ok placed
@@ -199,8 +166,7 @@ new_takes_open t len word serial class i some placed sound is at open_ h =
     by_found : (o : Option Group) → find (is_open t class) t.groups ≡ o → place_in o t class word serial len ≡ Ok placed
         → TakesOpen t class word serial len placed
     by_found None found went = absurd (let clash : true ≡ false = sym open_ ∙ none_found_passes Group (is_open t class) t.groups found i some at in cc clash)
-    by_found (Some g) found went = let one : placed_in t g word serial len ≡ placed = cc went in
-        subst (λ (x : Placed). TakesOpen t class word serial len x) one (open_taken t class word serial len g sound found)
+    by_found (Some g) found went = grind (arith, open_taken t class word serial len g sound found)
 
 -- where none is, in a new span
 pub new_takes_span : (t : Table) (len word serial class : ℕ) (placed : Placed) → IsSound t → class_for len ≡ Some class
@@ -211,8 +177,7 @@ new_takes_span t len word serial class placed sound is none h =
   where
     by_found : (o : Option Group) → find (is_open t class) t.groups ≡ o → place_in o t class word serial len ≡ Ok placed
         → TakesSpan t class word serial len placed
-    by_found (Some g) found went = let one = found_passes Group (is_open t class) t.groups g found in
-        absurd (let clash : true ≡ false = sym one.2 ∙ none one.0 g one.1 in cc clash)
+    by_found (Some g) found went = grind (arith, found_passes Group (is_open t class) t.groups g found)
     by_found None found went =
         let room = went_on (room_for_span t class) _ placed went in
         let pages = refuse_if_went NoPages (nat_lt t.free_pages (pages_of class)) _ room.value room.is in

@@ -1,13 +1,11 @@
 -- What a change of one mesh leaves of a list of meshes of which no two are of its class.
-use Rattle.std.proofs.Common.{◌≡◌, ◌≢◌, ℕ, ◌+◌, ◌≤◌, Bool, true, false, nat_eq, List, [], ◌∷◌, ◌++◌, cond, find, Option, sum_by, ap, subst, refl, sym, ◌∙◌, arith, ◌⊎◌, inl, inr, Some, None}
-use Rattle.std.proofs.lemmas.Bool.Decides.{eqb_tells}
+use Rattle.std.proofs.Common.{◌≡◌, ◌≢◌, ℕ, ◌+◌, ◌≤◌, Bool, true, false, nat_eq, List, [], ◌∷◌, ◌++◌, find, sum_by, ap, refl, sym, ◌∙◌, arith, ◌⊎◌, inl, inr, Some, None}
+use Rattle.std.proofs.lemmas.Bool.Decides.{nat_tests, eqb_tells}
 use Rattle.std.proofs.lemmas.List.Sums.{sum_by-cons}
-use Rattle.model_words.proofs.Tests.{tells}
-use Rattle.model_heap.proofs.MeshLists.{mesh_found, same_mesh, same_source}
-use Rattle.model_heap.proofs.TableChanges.{one_group}
+use Rattle.model_heap.proofs.MeshLists.{mesh_found}
 use Rattle.model_heap.specs.Mesh.{is_mesh, with_progress, without_mesh}
 use Rattle.model_heap.specs.Sound.{AreSoundMeshes, IsSoundMesh, meshes_of}
-use Rattle.model_heap.specs.Table.{Group, Mesh, Progress, Table, group_of}
+use Rattle.model_heap.specs.Table.{Mesh, Progress, Table}
 
 -- the mesh at another progress
 abbrev pub at : Mesh → Progress → Mesh
@@ -19,122 +17,49 @@ IgnoresProgress test = (m : Mesh) (progress : Progress) → test (at m progress)
 
 -- the same mesh is of the same class
 same_class : (t : Table) (this m : Mesh) → IsSoundMesh t this → IsSoundMesh t m → is_mesh this m ≡ true → m.class ≡ this.class
-same_class t this m sound sound' h =
-    let source : this.source ≡ m.source = same_source this m h in
-    let group : sound.source ≡ sound'.source
-    = one_group t m.source sound.source sound'.source (ap (λ (n : ℕ). group_of t n) (sym source) ∙ sound.source_is) sound'.source_is in
-    sym sound'.source_class ∙ ap (λ (g : Group). g.class) (sym group) ∙ sound.source_class
-
--- a mesh of a class that none of the meshes is of is another one, and the others have none of the class
-other_mesh : (t : Table) (this m : Mesh) (ms : List Mesh) → IsSoundMesh t this → IsSoundMesh t m → meshes_of this.class (m ∷ ms) ≡ 0
-    → (is_mesh this m ≡ false) × (meshes_of this.class ms ≡ 0)
-other_mesh t this m ms sound sound' none = elim (eqb_tells m.class this.class) [
-  | inl same ↦ let some : 1 + meshes_of this.class ms ≡ 0 = rw same.0 at none in absurd (omega (arith, some))
-  | inr other ↦ let rest : 0 + meshes_of this.class ms ≡ 0 = rw other.0 at none in (
-    elim (tells (is_mesh this m)) [
-      | inl clash ↦ absurd (other.1 (same_class t this m sound sound' clash))
-      | inr apart ↦ apart
-    ],
-    omega (arith, rest),
-  )
-]
+same_class t this m sound sound' h = grind arith
 
 -- another progress of a mesh changes no meshes of which none is of its class
 pub none_at : (t : Table) (this : Mesh) (progress : Progress) (ms : List Mesh) → IsSoundMesh t this → AreSoundMeshes t ms → meshes_of this.class ms ≡ 0
     → with_progress ms this progress ≡ ms
 none_at t this progress [] sound meshes none = refl
-none_at t this progress (m ∷ ms) sound meshes none =
-    let other = other_mesh t this m ms sound meshes.0 none in
-    rw other.0 (ap (λ (xs : List Mesh). m ∷ xs) (none_at t this progress ms sound meshes.1 other.1))
+none_at t this progress (m ∷ ms) sound meshes none = grind (arith, none_at t this progress ms sound meshes.1)
 
 -- nor does its end
 pub none_without : (t : Table) (this : Mesh) (ms : List Mesh) → IsSoundMesh t this → AreSoundMeshes t ms → meshes_of this.class ms ≡ 0
     → without_mesh ms this ≡ ms
 none_without t this [] sound meshes none = refl
-none_without t this (m ∷ ms) sound meshes none =
-    let other = other_mesh t this m ms sound meshes.0 none in
-    rw other.0 (ap (λ (xs : List Mesh). m ∷ xs) (none_without t this ms sound meshes.1 other.1))
+none_without t this (m ∷ ms) sound meshes none = grind (arith, none_without t this ms sound meshes.1)
 
 -- what is known of the first of some meshes: it is the one, and none of the others is of its class, or it is another
 first_mesh_or_later : (t : Table) (test : Mesh → Bool) (this m : Mesh) (ms : List Mesh) → find test (m ∷ ms) ≡ Some this → AreSoundMeshes t (m ∷ ms)
     → meshes_of this.class (m ∷ ms) ≤ 1
     → ((m ≡ this) × (meshes_of this.class ms ≡ 0)) ⊎ ((test m ≡ false) × (find test ms ≡ Some this) × (is_mesh this m ≡ false) × (meshes_of this.class ms ≤ 1))
-first_mesh_or_later t test this m ms found sound once = elim (tells (test m)) [
-  | inl pass ↦ let is : Some m ≡ Some this = rw pass at found in let here : m ≡ this = cc is in elim (eqb_tells m.class this.class) [
-    | inl same ↦ let one : 1 + meshes_of this.class ms ≤ 1 = rw same.0 at once in inl (here, omega (arith, one))
-    | inr other ↦ absurd (other.1 (ap (λ (x : Mesh). x.class) here))
-  ]
-  | inr fail ↦ let later : find test ms ≡ Some this = rw fail at found in
-      let this_sound : IsSoundMesh t this = mesh_found t test ms this later sound.1 in
-      let some = counted this ms later in
-      inr (
-        fail,
-        later,
-        elim (tells (is_mesh this m)) [
-          | inl same ↦ absurd (two this_sound same some)
-          | inr apart ↦ apart
-        ],
-        fewer,
-      )
-]
+first_mesh_or_later t test this m ms found sound once = grind (arith, counted this ms, mesh_found t test ms this, same_class t this m)
   where
     counted : (this : Mesh) (ms : List Mesh) → find test ms ≡ Some this → 1 ≤ meshes_of this.class ms
     counted this [] h = cc
-    counted this (x ∷ xs) h = elim (tells (test x)) [
-      | inl pass ↦ let is : Some x ≡ Some this = rw pass at h in let here : x ≡ this = cc is in elim (eqb_tells x.class this.class) [
-        | inl same ↦ rw same.0 (omega arith)
-        | inr other ↦ absurd (other.1 (ap (λ (y : Mesh). y.class) here))
-      ]
-      | inr fail ↦ let rest : find test xs ≡ Some this = rw fail at h in let some = counted this xs rest in omega (arith, some)
-    ]
-
-    fewer : meshes_of this.class ms ≤ 1
-    fewer = omega (arith, once)
-
-    two : IsSoundMesh t this → is_mesh this m ≡ true → 1 ≤ meshes_of this.class ms → ⊥
-    two this_sound same some = elim (eqb_tells m.class this.class) [
-      | inl class ↦ let one : 1 + meshes_of this.class ms ≤ 1 = rw class.0 at once in omega (arith, one, some)
-      | inr other ↦ other.1 (same_class t this m this_sound sound.0 same)
-    ]
+    counted this (x ∷ xs) h = grind (arith, nat_tests, counted this xs)
 
 -- a sum over the meshes changes with the one that comes to another progress
 pub sum_at : (t : Table) (test : Mesh → Bool) (this : Mesh) (progress : Progress) (f : Mesh → ℕ) (ms : List Mesh) → find test ms ≡ Some this
     → AreSoundMeshes t ms → meshes_of this.class ms ≤ 1 → sum_by f (with_progress ms this progress) + f this ≡ sum_by f ms + f (at this progress)
 sum_at t test this progress f [] found sound once = cc
-sum_at t test this progress f (m ∷ ms) found sound once = elim (first_mesh_or_later t test this m ms found sound once) [
-  | inl here ↦
-      let this_sound : IsSoundMesh t this = subst (λ (x : Mesh). IsSoundMesh t x) here.0 sound.0 in
-      rw (here.0, same_mesh this, none_at t this progress ms this_sound sound.1 here.1)
-      (let old = sum_by-cons f this ms in let new = sum_by-cons f (at this progress) ms in omega (arith, old, new))
-  | inr later ↦ let rest = sum_at t test this progress f ms later.1 sound.1 later.3 in
-      rw later.2 (let old = sum_by-cons f m ms in let new = sum_by-cons f m (with_progress ms this progress) in omega (arith, old, new, rest))
-]
+sum_at t test this progress f (m ∷ ms) found sound once =
+    grind (arith, nat_tests, first_mesh_or_later t test this m ms found sound once, none_at t this progress ms, sum_by-cons, sum_at t test this progress f ms)
 
 -- a sum over the meshes without one has its part less
 pub sum_without : (t : Table) (test : Mesh → Bool) (this : Mesh) (f : Mesh → ℕ) (ms : List Mesh) → find test ms ≡ Some this → AreSoundMeshes t ms
     → meshes_of this.class ms ≤ 1 → sum_by f (without_mesh ms this) + f this ≡ sum_by f ms
 sum_without t test this f [] found sound once = cc
-sum_without t test this f (m ∷ ms) found sound once = elim (first_mesh_or_later t test this m ms found sound once) [
-  | inl here ↦
-      let this_sound : IsSoundMesh t this = subst (λ (x : Mesh). IsSoundMesh t x) here.0 sound.0 in
-      rw (here.0, same_mesh this, none_without t this ms this_sound sound.1 here.1) (let old = sum_by-cons f this ms in omega (arith, old))
-  | inr later ↦ let rest = sum_without t test this f ms later.1 sound.1 later.3 in
-      rw later.2 (let old = sum_by-cons f m ms in let new = sum_by-cons f m (without_mesh ms this) in omega (arith, old, new, rest))
-]
+sum_without t test this f (m ∷ ms) found sound once =
+    grind (arith, first_mesh_or_later t test this m ms found sound once, none_without t this ms, sum_without t test this f ms, sum_by-cons)
 
 -- the mesh is found at its other progress
 pub found_at : (test : Mesh → Bool) (this : Mesh) (progress : Progress) (ms : List Mesh) → IgnoresProgress test → find test ms ≡ Some this
     → find test (with_progress ms this progress) ≡ Some (at this progress)
 found_at test this progress [] ignores found = cc
-found_at test this progress (m ∷ ms) ignores found = elim (tells (test m)) [
-  | inl pass ↦ let is : Some m ≡ Some this = rw pass at found in let here : m ≡ this = cc is in
-      rw (here, same_mesh this, ignores this progress, ap test (sym here) ∙ pass) refl
-  | inr fail ↦ let later : find test ms ≡ Some this = rw fail at found in let rest = found_at test this progress ms ignores later in
-      elim (tells (is_mesh this m)) [
-        | inl same ↦ rw (same, ignores m progress, fail) rest
-        | inr other ↦ rw (other, fail) rest
-      ]
-]
+found_at test this progress (m ∷ ms) ignores found = grind (arith, nat_tests, found_at test this progress ms ignores, ignores this progress, ignores m progress)
 
 -- the mesh of a class
 abbrev pub of_class : ℕ → Mesh → Bool
@@ -156,33 +81,17 @@ found_class class (m ∷ ms) this found = elim (eqb_tells m.class class) [
   | inr other ↦ let later : find (of_class class) ms ≡ Some this = rw other.0 at found in found_class class ms this later
 ]
 
--- the mesh that it is isn't of a class that it isn't of
-other_class : (t : Table) (class : ℕ) (this m : Mesh) → IsSoundMesh t this → IsSoundMesh t m → is_mesh this m ≡ true → this.class ≢ class
-    → nat_eq m.class class ≡ false
-other_class t class this m sound sound' same apart = elim (eqb_tells m.class class) [
-  | inl clash ↦ absurd (apart (sym (same_class t this m sound sound' same) ∙ clash.1))
-  | inr other ↦ other.0
-]
-
 -- another progress of a mesh of another class changes no mesh that is found
 pub found_beside : (t : Table) (class : ℕ) (this : Mesh) (progress : Progress) (ms : List Mesh) → IsSoundMesh t this → AreSoundMeshes t ms
     → this.class ≢ class → find (of_class class) (with_progress ms this progress) ≡ find (of_class class) ms
 found_beside t class this progress [] sound meshes apart = refl
-found_beside t class this progress (m ∷ ms) sound meshes apart =
-    let rest = found_beside t class this progress ms sound meshes.1 apart in elim (tells (is_mesh this m)) [
-      | inl same ↦ rw (same, other_class t class this m sound meshes.0 same apart) rest
-      | inr other ↦ rw other (ap (λ (found : Option Mesh). cond (of_class class m) (Some m) found) rest)
-    ]
+found_beside t class this progress (m ∷ ms) sound meshes apart = grind (arith, found_beside t class this progress ms sound meshes.1 apart)
 
 -- nor does its end
 pub found_without : (t : Table) (class : ℕ) (this : Mesh) (ms : List Mesh) → IsSoundMesh t this → AreSoundMeshes t ms
     → this.class ≢ class → find (of_class class) (without_mesh ms this) ≡ find (of_class class) ms
 found_without t class this [] sound meshes apart = refl
-found_without t class this (m ∷ ms) sound meshes apart =
-    let rest = found_without t class this ms sound meshes.1 apart in elim (tells (is_mesh this m)) [
-      | inl same ↦ rw (same, other_class t class this m sound meshes.0 same apart) rest
-      | inr other ↦ rw other (ap (λ (found : Option Mesh). cond (of_class class m) (Some m) found) rest)
-    ]
+found_without t class this (m ∷ ms) sound meshes apart = grind (arith, found_without t class this ms sound meshes.1 apart)
 
 -- a mesh of a class that no mesh was of is found
 pub found_more : (m : Mesh) (ms : List Mesh) → meshes_of m.class ms ≡ 0 → find (of_class m.class) (ms ++ m ∷ []) ≡ Some m

@@ -4,7 +4,6 @@ use Rattle.std.proofs.lemmas.Bool.Decides.{eqb_tells}
 use Rattle.model_heap.proofs.Apart.{places_apart, filled_place}
 use Rattle.model_heap.proofs.GroupLists.{find_sound, head_found}
 use Rattle.model_heap.proofs.Records.{found_later}
-use Rattle.model_heap.proofs.TableChanges.{one_group}
 use Rattle.model_memory.specs.Memory.{Memory, Object, object_of}
 use Rattle.model_heap.specs.Sound.{AscendBetween, IsLiveSlot, IsSound, IsSoundSlot, IsTied}
 use Rattle.model_heap.specs.Table.{Group, Slot, Table, changed_at, emptied_of, group_of, group_without, has_number, slot_address, emptied_at}
@@ -56,13 +55,7 @@ not_apart a c b d (inr high) same some some' = omega (arith, high, same, some')
 one_place : (m : Memory) (t : Table) (n k n' k' : ℕ) (g g' : Group) (s s' : Slot) → IsSound t → IsTied m t → group_of t n ≡ Some g
     → slice_get g.slots k ≡ Some (Some s) → group_of t n' ≡ Some g' → slice_get g'.slots k' ≡ Some (Some s') → s.serial ≡ s'.serial
     → (n ≡ n') × (k ≡ k')
-one_place m t n k n' k' g g' s s' sound tied there filled there' filled' same = elim (eqb_tells n n') [
-  | inl number ↦ elim (eqb_tells k k') [
-    | inl place ↦ (number.1, place.1)
-    | inr other ↦ absurd (apart (λ e. other.1))
-  ]
-  | inr off ↦ absurd (apart (λ e. absurd (off.1 e)))
-]
+one_place m t n k n' k' g g' s s' sound tied there filled there' filled' same = grind (arith, apart)
   where
     live : IsLiveSlot m g.class k s
     live = tied.slots n k g s there filled
@@ -97,12 +90,4 @@ one_slot m t n k group slot sound tied there filled =
     maps_found (changed_at n (emptied_at k)) (group_without slot.serial) 0 t.next_span t.groups sound.numbers same
   where
     same : (h : Group) → group_of t h.number ≡ Some h → changed_at n (emptied_at k) h ≡ group_without slot.serial h
-    same h found = elim (eqb_tells h.number n) [
-      | inl here ↦ let is : h ≡ group = one_group t n h group (ap (λ (x : ℕ). group_of t x) (sym here.1) ∙ found) there in
-          rw here.0 (ap {B = Group} (λ (ss : List (Option Slot)). record h { slots = ss })
-          (emptied_one slot.serial h.slots k slot (ap (λ (x : Group). slice_get x.slots k) is ∙ filled) refl
-          (λ j x at e. (one_place m t n k h.number j group h slot x sound tied there filled found at (sym e)).1)))
-      | inr off ↦ rw off.0 (ap {B = Group} (λ (ss : List (Option Slot)). record h { slots = ss })
-          (sym (emptied_none slot.serial h.slots
-          (λ j x at e. off.1 (sym (one_place m t n k h.number j group h slot x sound tied there filled found at (sym e)).0)))))
-    ]
+    same h found = grind (arith, emptied_one slot.serial h.slots k slot, one_place m t n k h.number, emptied_none slot.serial h.slots)

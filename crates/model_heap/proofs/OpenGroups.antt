@@ -1,16 +1,12 @@
 -- Which groups take new objects.
-use Rattle.std.proofs.Common.{◌≡◌, ◌↔◌, ◌<◌, ℕ, Some, find, length, true, false}
+use Rattle.std.proofs.Common.{arith, ◌≡◌, ◌↔◌, ◌<◌, ℕ, Some, find, length, true, false}
 use Rattle.model_heap.proofs.GroupLists.{find_passes}
-use Rattle.model_heap.proofs.NewObjects.{gives_open, open_gives}
 use Rattle.model_heap.specs.Table.{Group, Table, is_meshing, is_open, object_count}
 
 -- a group is open exactly where it is of the class and in no mesh, and a slot is free
 pub open_tests : (t : Table) (class : ℕ) (g : Group)
     → (is_open t class g ≡ true) ↔ ((g.class ≡ class) × (is_meshing t g.number ≡ false) × (object_count g < length g.slots))
-open_tests t class g = (
-  λ h. let is = open_gives t class g h in (is.class_is, is.outside, is.some_slot),
-  λ h. gives_open t class g h.0 h.1 h.2,
-)
+open_tests t class g = grind arith
 
 -- the group that is found for a new object is open
 pub found_open : (t : Table) (class : ℕ) (g : Group) → find (is_open t class) t.groups ≡ Some g → is_open t class g ≡ true

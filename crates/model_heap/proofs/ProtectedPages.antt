@@ -1,6 +1,6 @@
 -- The formula of the read-only pages is what the steps do to the page map.
-use Rattle.std.proofs.Common.{◌≡◌, ◌≢◌, ℕ, suc, ◌+◌, ◌-◌, ◌*◌, ◌<◌, ◌≤◌, Bool, true, false, if◌then◌else◌, nat_eq, ap, refl, sym, ◌∙◌, arith, ◌⊎◌, inl, inr}
-use Rattle.std.proofs.lemmas.Bool.Decides.{eqb_tells, leb_tells}
+use Rattle.std.proofs.Common.{◌≡◌, ◌≢◌, ℕ, ◌+◌, ◌-◌, ◌*◌, ◌<◌, ◌≤◌, Bool, true, false, if◌then◌else◌, nat_eq, ap, refl, sym, ◌∙◌, arith, ◌⊎◌, inl, inr}
+use Rattle.std.proofs.lemmas.Bool.Decides.{nat_tests, eqb_tells}
 use Rattle.std.proofs.lemmas.Grind.{common_steps}
 use Rattle.model_words.specs.Classes.{slots_of}
 use Rattle.model_heap.specs.EffectLaws.{ArePagesApart, AreProtected}
@@ -29,42 +29,16 @@ next_unprotected mp s d j low high = grind (arith, common_steps)
 next_released : (mp s d j : ℕ) → 3 * mp + s ≤ d → is_protected mp s (Made (d + 1)) j ≡ is_protected mp s (Made d) j
 next_released mp s d j low = grind (arith, common_steps)
 
--- the page that an unprotect of a cancelled mesh lets be written
-next_unwound : (mp s q u j : ℕ) → u < q → is_protected mp s (Unwinding q (u + 1)) j ≡ (if nat_eq j u then false else is_protected mp s (Unwinding q u) j)
-next_unwound mp s q u j below = grind (arith, common_steps)
-
--- the protection of a page after one page's was changed
-protection_at : (targets : ℕ → Target) (v : ℕ) (read_only : Bool) (w : ℕ)
-    → (with_protection targets v read_only w).read_only ≡ (if nat_eq w v then read_only else (targets w).read_only)
-protection_at targets v read_only w = elim (eqb_tells w v) [ inl same ↦ rw same.0 refl | inr other ↦ rw other.0 refl ]
-
 -- another lead changes no protection
 lead_at : (targets : ℕ → Target) (v page w : ℕ) → (with_page targets v page w).read_only ≡ (targets w).read_only
 lead_at targets v page w = elim (eqb_tells w v) [ inl same ↦ rw same.0 refl | inr other ↦ rw other.0 refl ]
-
--- two pages of the source are one where their numbers are
-same_page : (sides : Sides) (i j : ℕ) → ArePagesApart sides → i < page_count sides.source → j < page_count sides.source
-    → nat_eq (source_page sides j) (source_page sides i) ≡ nat_eq j i
-same_page sides i j apart low high = elim (eqb_tells j i) [
-  | inl same ↦ elim (eqb_tells (source_page sides j) (source_page sides i)) [
-    | inl is ↦ is.0 ∙ sym same.0
-    | inr not_is ↦ absurd (not_is.1 (ap (source_page sides) same.1))
-  ]
-  | inr other ↦ elim (eqb_tells (source_page sides j) (source_page sides i)) [
-    | inl is ↦ absurd (other.1 (apart j i high low is.1))
-    | inr not_is ↦ not_is.0 ∙ sym other.0
-  ]
-]
 
 -- pages protected by the formula, of which one is changed, are protected by that change of the formula
 one_changed : (sides : Sides) (progress : Progress) (under : Under) (i : ℕ) (read_only : Bool) → ArePagesApart sides → AreProtected sides progress under
     → i < page_count sides.source → (j : ℕ) → j < page_count sides.source
     → (with_protection under.targets (source_page sides i) read_only (source_page sides j)).read_only
     ≡ (if nat_eq j i then read_only else is_protected (page_count sides.source) (slots_of sides.source.class) progress j)
-one_changed sides progress under i read_only apart are below j high =
-    protection_at under.targets (source_page sides i) read_only (source_page sides j)
-    ∙ ap (λ (b : Bool). if b then read_only else (under.targets (source_page sides j)).read_only) (same_page sides i j apart below high)
-    ∙ ap (λ (b : Bool). if nat_eq j i then read_only else b) (are j high)
+one_changed sides progress under i read_only apart are below j high = grind arith
 
 -- the kind of a step, by how many were made
 pub record IsKind (a : Group) (d : ℕ) (k : StepKind) : Type 0 where
@@ -74,19 +48,7 @@ pub record IsKind (a : Group) (d : ℕ) (k : StepKind) : Type 0 where
 -- the step after d steps is of one of the kinds
 kind_is : (a : Group) (d : ℕ) → (IsKind a d Protect × (d < page_count a)) ⊎ ((IsKind a d Copy × (d < page_count a + slots_of a.class))
     ⊎ ((IsKind a d Remap × (d < 2 * page_count a + slots_of a.class)) ⊎ ((IsKind a d Unprotect × (d < 3 * page_count a + slots_of a.class)) ⊎ IsKind a d Release)))
-kind_is a d = elim (leb_tells (suc d) (page_count a)) [
-  | inl h ↦ inl (record { is = rw h.0 refl; from = omega arith }, h.1)
-  | inr n ↦ inr (elim (leb_tells (suc d) (page_count a + slots_of a.class)) [
-    | inl h ↦ inl (record { is = rw (n.0, h.0) refl; from = omega (arith, n.1) }, h.1)
-    | inr n' ↦ inr (elim (leb_tells (suc d) (2 * page_count a + slots_of a.class)) [
-      | inl h ↦ inl (record { is = rw (n.0, n'.0, h.0) refl; from = omega (arith, n'.1) }, h.1)
-      | inr n'' ↦ inr (elim (leb_tells (suc d) (3 * page_count a + slots_of a.class)) [
-        | inl h ↦ inl (record { is = rw (n.0, n'.0, n''.0, h.0) refl; from = omega (arith, n''.1) }, h.1)
-        | inr n''' ↦ inr (record { is = rw (n.0, n'.0, n''.0, n'''.0) refl; from = omega (arith, n'''.1) })
-      ])
-    ])
-  ])
-]
+kind_is a d = grind (arith, nat_tests)
 
 -- the effect of a step of a kind
 effect_is : (sides : Sides) (d : ℕ) (under : Under) (k : StepKind) → IsKind sides.source d k
@@ -131,34 +93,11 @@ steps_protect sides d under apart are j high =
 -- so does each unprotect of a cancelled mesh
 pub unwinding_protects : (sides : Sides) (q u : ℕ) (under : Under) → ArePagesApart sides → q ≤ page_count sides.source → u < q
     → AreProtected sides (Unwinding q u) under → AreProtected sides (Unwinding q (u + 1)) (step_effect sides (Unwinding q u) under)
-unwinding_protects sides q u under apart few below are j high =
-    one_changed sides (Unwinding q u) under u false apart are (omega (arith, few, below)) j high
-    ∙ sym (next_unwound (page_count sides.source) (slots_of sides.source.class) q u j below)
-
--- a page of another number keeps its protection
-other_kept : (targets : ℕ → Target) (v : ℕ) (read_only : Bool) (w : ℕ) → w ≢ v → (with_protection targets v read_only w).read_only ≡ (targets w).read_only
-other_kept targets v read_only w apart = elim (eqb_tells w v) [ inl same ↦ absurd (apart same.1) | inr other ↦ rw other.0 refl ]
+unwinding_protects sides q u under apart few below are j high = grind arith
 
 -- no step changes the protection of a page that is not the source's
 pub others_keep_protection : (sides : Sides) (progress : Progress) (under : Under) (v : ℕ) → IsWithinSteps sides.source progress
     → ((j : ℕ) → j < page_count sides.source → v ≢ source_page sides j)
     → ((step_effect sides progress under).targets v).read_only ≡ (under.targets v).read_only
-others_keep_protection sides (Made d) under v within other = elim (kind_is sides.source d) [
-  | inl protect ↦ let below = protect.1 in
-      after_kind sides d under Protect v protect.0 ∙ other_kept under.targets (source_page sides (d - 0)) true v (other (d - 0) (omega (arith, below)))
-  | inr rest ↦ elim rest [
-    | inl copy ↦ after_kind sides d under Copy v copy.0
-    | inr rest' ↦ elim rest' [
-      | inl remap ↦ after_kind sides d under Remap v remap.0 ∙ lead_at under.targets _ _ v
-      | inr rest'' ↦ elim rest'' [
-        | inl unprotect ↦ let from = unprotect.0.from in let until = unprotect.1 in
-            after_kind sides d under Unprotect v unprotect.0
-            ∙ other_kept under.targets (source_page sides (d - (2 * page_count sides.source + slots_of sides.source.class))) false v
-            (other (d - (2 * page_count sides.source + slots_of sides.source.class)) (omega (arith, from, until)))
-        | inr release ↦ after_kind sides d under Release v release
-      ]
-    ]
-  ]
-]
-others_keep_protection sides (Unwinding q u) under v within other =
-    other_kept under.targets (source_page sides u) false v (other u (let below = within.0 in let few = within.1 in omega (arith, below, few)))
+others_keep_protection sides (Made d) under v within other = grind arith
+others_keep_protection sides (Unwinding q u) under v within other = grind arith

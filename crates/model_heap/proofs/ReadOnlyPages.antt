@@ -12,26 +12,17 @@ use Rattle.model_heap.specs.Table.{Group, Mesh, Table, group_of}
 -- some element of two lists passes where one of the first or of the second does
 any_append : (test : ℕ → Bool) (xs ys : List ℕ) → list_any test (xs ++ ys) ≡ true → (list_any test xs ≡ true) ⊎ (list_any test ys ≡ true)
 any_append test [] ys h = inr h
-any_append test (x ∷ xs) ys h = elim (tells (test x)) [
-  | inl pass ↦ rw pass (inl refl)
-  | inr fail ↦ let later : list_any test (xs ++ ys) ≡ true = rw fail at h in rw fail (any_append test xs ys later)
-]
+any_append test (x ∷ xs) ys h = grind (arith, any_append test xs ys)
 
 -- some element of a list passes where one of its beginning does
 any_first : (test : ℕ → Bool) (xs ys : List ℕ) → list_any test xs ≡ true → list_any test (xs ++ ys) ≡ true
 any_first test [] ys h = cc
-any_first test (x ∷ xs) ys h = elim (tells (test x)) [
-  | inl pass ↦ rw pass refl
-  | inr fail ↦ let later : list_any test xs ≡ true = rw fail at h in rw fail (any_first test xs ys later)
-]
+any_first test (x ∷ xs) ys h = grind (arith, any_first test xs ys)
 
 -- or of its end
 any_last : (test : ℕ → Bool) (xs ys : List ℕ) → list_any test ys ≡ true → list_any test (xs ++ ys) ≡ true
 any_last test [] ys h = h
-any_last test (x ∷ xs) ys h = elim (tells (test x)) [
-  | inl pass ↦ rw pass refl
-  | inr fail ↦ rw fail (any_last test xs ys h)
-]
+any_last test (x ∷ xs) ys h = grind (arith, any_last test xs ys h)
 
 -- a page told by a test of its number stands in the list, at a number that passes
 told_page : (test : ℕ → Bool) (v k : ℕ) (vs : List ℕ) → list_any (nat_eq v) (pages_where test k vs) ≡ true
@@ -51,35 +42,14 @@ told_page test v k (w ∷ vs) h = elim (tells (test k)) [
 page_told : (test : ℕ → Bool) (v k j : ℕ) (vs : List ℕ) → slice_get vs j ≡ Some v → test (k + j) ≡ true
     → list_any (nat_eq v) (pages_where test k vs) ≡ true
 page_told test v k j [] at pass = cc
-page_told test v k zero (w ∷ vs) at pass =
-    let here : test k ≡ true = ap test (omega arith) ∙ pass in let is : w ≡ v = cc at in elim (eqb_tells v w) [
-      | inl same ↦ rw (here, same.0) refl
-      | inr other ↦ absurd (other.1 (sym is))
-    ]
-page_told test v k (suc j) (w ∷ vs) at pass =
-    let rest = page_told test v (k + 1) j vs at (ap test (omega arith) ∙ pass) in elim (tells (test k)) [
-      | inl here ↦ elim (tells (nat_eq v w)) [
-        | inl same ↦ rw (here, same) refl
-        | inr other ↦ rw (here, other) rest
-      ]
-      | inr fail ↦ rw fail rest
-    ]
+page_told test v k zero (w ∷ vs) at pass = grind arith
+page_told test v k (suc j) (w ∷ vs) at pass = grind (arith, page_told test v (k + 1) j vs at)
 
 -- a page that is read-only by one mesh from this source
 by_source : (t : Table) (v i : ℕ) (mesh : Mesh) (o : Option Group) → slice_get t.meshes i ≡ Some mesh → group_of t mesh.source ≡ o
     → list_any (nat_eq v) (read_only_of o mesh) ≡ true → IsReadOnlyBy t v
 by_source t v i mesh None running is h = cc
-by_source t v i mesh (Some a) running is h =
-    let page = told_page (is_protected (page_count a) (slots_of a.class) mesh.progress) v 0 (virtual_pages a) h in record {
-      i = i;
-      mesh = mesh;
-      source = a;
-      j = page.0;
-      running = running;
-      source_is = is;
-      page = page.1;
-      protected = ap (is_protected (page_count a) (slots_of a.class) mesh.progress) (omega arith) ∙ page.2;
-    }
+by_source t v i mesh (Some a) running is h = grind (arith, told_page (is_protected (page_count a) (slots_of a.class) mesh.progress) v 0 (virtual_pages a) h)
 
 -- a page of all is of one of the meshes
 of_one : (t : Table) (v : ℕ) (ms : List Mesh) → list_any (nat_eq v) (flat_map (λ mesh. read_only_of (group_of t mesh.source) mesh) ms) ≡ true
@@ -96,13 +66,8 @@ of_all : (t : Table) (v i : ℕ) (mesh : Mesh) (ms : List Mesh) → slice_get ms
     → list_any (nat_eq v) (read_only_of (group_of t mesh.source) mesh) ≡ true
     → list_any (nat_eq v) (flat_map (λ mesh. read_only_of (group_of t mesh.source) mesh) ms) ≡ true
 of_all t v i mesh [] at h = cc
-of_all t v zero mesh (m ∷ ms) at h =
-    let here : m ≡ mesh = cc at in
-    any_first (nat_eq v) (read_only_of (group_of t m.source) m) (flat_map (λ mesh. read_only_of (group_of t mesh.source) mesh) ms)
-    (ap (λ (x : Mesh). list_any (nat_eq v) (read_only_of (group_of t x.source) x)) here ∙ h)
-of_all t v (suc i) mesh (m ∷ ms) at h =
-    any_last (nat_eq v) (read_only_of (group_of t m.source) m) (flat_map (λ mesh. read_only_of (group_of t mesh.source) mesh) ms)
-    (of_all t v i mesh ms at h)
+of_all t v zero mesh (m ∷ ms) at h = grind (arith, any_first (nat_eq v) (read_only_of (group_of t m.source) m))
+of_all t v (suc i) mesh (m ∷ ms) at h = grind (arith, any_last (nat_eq v) (read_only_of (group_of t m.source) m), of_all t v i)
 
 -- a read-only page is one by the formula
 pub read_only_is : (t : Table) (v : ℕ) → list_any (nat_eq v) (read_only_pages t) ≡ true → IsReadOnlyBy t v
@@ -110,17 +75,12 @@ read_only_is t v h = let one = of_one t v t.meshes h in by_source t v one.0 one.
 
 -- a page that is one by the formula is read-only
 pub is_read_only : (t : Table) (v : ℕ) → IsReadOnlyBy t v → list_any (nat_eq v) (read_only_pages t) ≡ true
-is_read_only t v by = of_all t v by.i by.mesh t.meshes by.running
-    (ap (λ (o : Option Group). list_any (nat_eq v) (read_only_of o by.mesh)) by.source_is
-    ∙ page_told (is_protected (page_count by.source) (slots_of by.source.class) by.mesh.progress) v 0 by.j (virtual_pages by.source) by.page
-    (ap (is_protected (page_count by.source) (slots_of by.source.class) by.mesh.progress) (omega arith) ∙ by.protected))
+is_read_only t v by = grind (arith, of_all t v by.i by.mesh t.meshes by.running, page_told)
 
 -- a blocked store has an address in a read-only page
 pub blocked_by : (t : Table) (address len : ℕ) → is_blocked t address len ≡ true
     → (x : ℕ) × (address ≤ x) × (x < address + len) × IsReadOnlyBy t (x / 4096)
-blocked_by t address len h =
-    let some = any_gives (λ x. list_any (nat_eq (x / 4096)) (read_only_pages t)) address len h in
-    (some.0, some.1, some.2, read_only_is t (some.0 / 4096) some.3)
+blocked_by t address len h = grind (arith, any_gives, read_only_is t)
 
 -- a store with an address in a read-only page is blocked
 pub by_blocked : (t : Table) (address len x : ℕ) → address ≤ x → x < address + len → IsReadOnlyBy t (x / 4096) → is_blocked t address len ≡ true

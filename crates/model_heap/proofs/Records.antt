@@ -1,13 +1,13 @@
 -- The records of a table are those of its filled slots.
-use Rattle.std.proofs.Common.{◌≡◌, ℕ, suc, ◌+◌, Bool, List, [], ◌∷◌, ◌++◌, length, find, flat_map, slice_get, option_map, ap, refl, sym, ◌∙◌, arith, ◌⊎◌, inl, inr, Option, Some, None}
-use Rattle.std.proofs.lemmas.Bool.Decides.{eqb_tells, leb_tells}
+use Rattle.std.proofs.Common.{◌≡◌, ℕ, suc, ◌+◌, Bool, List, [], ◌∷◌, ◌++◌, find, flat_map, slice_get, option_map, ap, refl, sym, ◌∙◌, arith, ◌⊎◌, inl, inr, Option, Some, None}
+use Rattle.std.proofs.lemmas.Bool.Decides.{nat_tests}
 use Rattle.std.proofs.lemmas.List.FromFn.{length-map-range_with_len}
 use Rattle.model_words.proofs.Tests.{tells}
-use Rattle.model_heap.proofs.GroupLists.{find_between, head_found}
+use Rattle.model_heap.proofs.GroupLists.{find_between}
 use Rattle.model_heap.proofs.Meanings.{object_below, object_past}
 use Rattle.model_heap.specs.MeaningLaws.{IsOfSlot}
 use Rattle.model_memory.specs.Memory.{Object}
-use Rattle.model_heap.specs.Places.{Place, Record, Target, byte_of, has_serial, meaning, object_at, records_from, records_of, AreBelow, record_in, record_with, records_in}
+use Rattle.model_heap.specs.Places.{Place, Record, Target, has_serial, meaning, object_at, records_from, records_of, AreBelow, record_in, record_with, records_in}
 use Rattle.model_heap.specs.Sound.{AscendBetween, IsLiveSlot, IsSound, IsTied}
 use Rattle.model_heap.specs.Table.{Group, Slot, Table, group_of, has_number}
 
@@ -15,18 +15,12 @@ use Rattle.model_heap.specs.Table.{Group, Slot, Table, group_of, has_number}
 found_either : (test : Record → Bool) (xs ys : List Record) (r : Record) → find test (xs ++ ys) ≡ Some r
     → (find test xs ≡ Some r) ⊎ (find test ys ≡ Some r)
 found_either test [] ys r h = inr h
-found_either test (x ∷ xs) ys r h = elim (tells (test x)) [
-  | inl pass ↦ let is : Some x ≡ Some r = rw pass at h in rw pass (inl is)
-  | inr fail ↦ let later : find test (xs ++ ys) ≡ Some r = rw fail at h in rw fail (found_either test xs ys r later)
-]
+found_either test (x ∷ xs) ys r h = grind (arith, nat_tests, found_either test xs ys r)
 
 -- the record found has the serial
 found_serial : (serial : ℕ) (rs : List Record) (r : Record) → find (has_serial serial) rs ≡ Some r → r.serial ≡ serial
 found_serial serial [] r h = cc
-found_serial serial (x ∷ xs) r h = elim (eqb_tells x.serial serial) [
-  | inl same ↦ let is : Some x ≡ Some r = rw same.0 at h in let here : x ≡ r = cc in ap (λ (y : Record). y.serial) (sym here) ∙ same.1
-  | inr other ↦ let later : find (has_serial serial) xs ≡ Some r = rw other.0 at h in found_serial serial xs r later
-]
+found_serial serial (x ∷ xs) r h = grind (arith, nat_tests, found_serial serial xs r)
 
 -- the record is of a filled slot of a list, counted from a number
 record IsOfPlace (class from : ℕ) (slots : List (Option Slot)) (r : Record) : Type 0 where
@@ -63,11 +57,7 @@ place_found test class from (Some x ∷ slots) r h = elim (tells (test (record_i
 -- a group found among later ones is found among all
 pub found_later : (low high : ℕ) (x : Group) (xs : List Group) (g : Group) → AscendBetween low (x ∷ xs) high → find (has_number g.number) xs ≡ Some g
     → find (has_number g.number) (x ∷ xs) ≡ Some g
-found_later low high x xs g ascend h = let within = find_between (has_number g.number) (x.number + 1) high xs g ascend.1 h in
-    elim (eqb_tells x.number g.number) [
-      | inl same ↦ absurd (omega (arith, same.1, within.0))
-      | inr other ↦ rw other.0 h
-    ]
+found_later low high x xs g ascend h = grind (arith, find_between (has_number g.number) (x.number + 1) high xs g ascend.1 h)
 
 -- the record is found in a group that is found
 record IsOfGroup (test : Record → Bool) (gs : List Group) (r : Record) : Type 0 where
@@ -79,14 +69,8 @@ record IsOfGroup (test : Record → Bool) (gs : List Group) (r : Record) : Type 
 group_found : (test : Record → Bool) (low high : ℕ) (gs : List Group) (r : Record) → AscendBetween low gs high → find test (flat_map records_in gs) ≡ Some r
     → IsOfGroup test gs r
 group_found test low high [] r ascend h = absurd (cc)
-group_found test low high (x ∷ xs) r ascend h = elim (found_either test (records_in x) (flat_map records_in xs) r h) [
-  | inl here ↦ record { group = x; there = head_found x.number x xs refl; found = here }
-  | inr later ↦ let rest = group_found test (x.number + 1) high xs r ascend.1 later in record {
-    group = rest.group;
-    there = found_later low high x xs rest.group ascend rest.there;
-    found = rest.found;
-  }
-]
+group_found test low high (x ∷ xs) r ascend h =
+    grind (arith, found_either test (records_in x) (flat_map records_in xs) r h, group_found test (x.number + 1) high xs r ascend.1, found_later low high x xs)
 
 -- each record is that of a filled slot
 pub record_slot : (t : Table) (serial : ℕ) (r : Record) → IsSound t → record_with serial (records_of t) ≡ Some r → (r.serial ≡ serial) × IsOfSlot t r
@@ -116,28 +100,18 @@ has_record : (targets : ℕ → Target) (bytes : Place → ℕ) (o : Option Reco
 has_record targets bytes None x h = absurd (cc h)
 has_record targets bytes (Some r) x h = let is : Some (object_at targets bytes r) ≡ Some x = h in record { value = r; is = refl; object_is = cc is }
 
--- records with the same fields are one
-same_record : (r q : Record) → r.serial ≡ q.serial → r.address ≡ q.address → r.len ≡ q.len → r ≡ q
-same_record r q serial address len =
-    ap {B = Record} (λ (x : ℕ). record { serial = x; address = r.address; len = r.len }) serial
-    ∙ ap {B = Record} (λ (x : ℕ). record { serial = q.serial; address = x; len = r.len }) address
-    ∙ ap {B = Record} (λ (x : ℕ). record { serial = q.serial; address = q.address; len = x }) len
-
 -- the object of a filled slot has the slot's record
 pub slot_record : (next : ℕ) (t : Table) (targets : ℕ → Target) (bytes : Place → ℕ) (roots : List (Option ℕ)) (n k : ℕ) (group : Group) (slot : Slot)
     → IsSound t → IsTied (meaning next (records_of t) targets bytes roots) t → group_of t n ≡ Some group
     → slice_get group.slots k ≡ Some (Some slot) → record_with slot.serial (records_of t) ≡ Some (record_in group.class k slot)
-slot_record next t targets bytes roots n k group slot sound tied there filled = elim (leb_tells (suc slot.serial) next) [
-  | inl below ↦ let has = has_record targets bytes (record_with slot.serial (records_of t)) live.object
-      (sym (object_below next (records_of t) targets bytes roots slot.serial below.1) ∙ live.live) in
-      let long : length (object_at targets bytes has.value).bytes ≡ has.value.len
-      = length-map-range_with_len (byte_of targets bytes) has.value.address has.value.len in
-      has.is ∙ ap Some (same_record has.value (record_in group.class k slot) (found_serial slot.serial (records_of t) has.value has.is)
-      (ap (λ (x : Object). x.address) has.object_is ∙ live.address)
-      (sym long ∙ ap (λ (x : Object). length x.bytes) has.object_is ∙ live.len))
-  | inr past ↦ let clash : None ≡ Some live.object
-      = sym (object_past next (records_of t) targets bytes roots slot.serial (omega (arith, past.1))) ∙ live.live in absurd (cc clash)
-]
+slot_record next t targets bytes roots n k group slot sound tied there filled = grind (
+  arith,
+  has_record targets bytes (record_with slot.serial (records_of t)) live.object,
+  object_below next (records_of t) targets bytes roots slot.serial,
+  length-map-range_with_len,
+  found_serial,
+  object_past next (records_of t) targets bytes roots slot.serial,
+)
   where
     live : IsLiveSlot (meaning next (records_of t) targets bytes roots) group.class k slot
     live = tied.slots n k group slot there filled

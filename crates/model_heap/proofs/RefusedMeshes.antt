@@ -4,7 +4,7 @@ use Rattle.model_words.proofs.LowestRefusals.{AreFrom, Told, passed, refused_by,
 use Rattle.model_heap.proofs.TableChanges.{one_group}
 use Rattle.model_heap.specs.Mesh.{Pair, begin, do_overlap, may_begin, mesh_whole}
 use Rattle.model_words.specs.Refusals.{IsRefusedBy, number_of}
-use Rattle.model_heap.specs.RefusalLaws.{OfBoth, OfGroup, ShareSlot, mesh_holds}
+use Rattle.model_heap.specs.RefusalLaws.{OfBoth, OfGroup, mesh_holds}
 use Rattle.model_heap.specs.Table.{Counted, Group, Slot, Table, group_of}
 use Rattle.model_words.specs.declared.refusals.Refusal.{Refusal}
 use Rattle.model_words.specs.declared.refusals.Refusal.TheVariants.{NoGroup, Same, Class, Busy, Overlap, Members}
@@ -92,8 +92,7 @@ may_told busy t source destination =
         record { a = a; b = b; source_is = is; destination_is = is'; is = record { k = one.0; x = one.1; y = one.2; in_a = one.3; in_b = one.4 } }
 
     apart : (a b : Group) → group_of t source ≡ Some a → group_of t destination ≡ Some b → do_overlap a.slots b.slots ≡ false → ¬ H Overlap
-    apart a b is is' h both = let one = of_both t source destination a b ShareSlot is is' both in
-        share_none a.slots b.slots one.k one.x one.y h one.in_a one.in_b
+    apart a b is is' h both = grind (arith, share_none a.slots b.slots)
 
 -- a `begin` is refused by the lowest
 pub begin_lowest : (busy : Table → ℕ → Bool) (t : Table) (source destination : ℕ)

@@ -1,15 +1,15 @@
 -- The lowest refusal that holds of a new object.
-use Rattle.std.proofs.Common.{◌≡◌, ℕ, ◌+◌, ◌-◌, ◌<◌, ◌≤◌, true, false, nat_eq, nat_lt, find, ap, subst, refl, sym, ◌∙◌, arith, Option, Some, None, lit≤}
+use Rattle.std.proofs.Common.{◌≡◌, ℕ, ◌+◌, ◌-◌, ◌<◌, ◌≤◌, false, nat_eq, nat_lt, find, subst, refl, sym, ◌∙◌, arith, Option, Some, None, lit≤}
 use Rattle.model_words.proofs.ClassSizes.{class_none, class_some}
 use Rattle.model_heap.proofs.ListPlaces.{found_passes, none_found_passes}
-use Rattle.model_words.proofs.LowestRefusals.{AreFrom, Told, none_holds, refused_by, told_if, told_last, told_map, told_ok, told_some}
+use Rattle.model_words.proofs.LowestRefusals.{AreFrom, Told, none_holds, refused_by, told_if, told_last, told_map, told_some}
 use Rattle.model_heap.proofs.NewObjects.{class_fits}
 use Rattle.model_words.proofs.Tests.{equal, less, not_less, unequal}
 use Rattle.model_heap.proofs.TableChanges.{class_paged}
 use Rattle.model_words.specs.Classes.{class_for, pages_of}
 use Rattle.model_heap.specs.RefusalLaws.{HasNoOpen, new_holds}
 use Rattle.model_words.specs.Refusals.{IsRefusedBy}
-use Rattle.model_heap.specs.Table.{Group, Placed, Table, is_open, place_in, place_new, placed_in, room_for_span}
+use Rattle.model_heap.specs.Table.{Group, Placed, Table, is_open, place_in, place_new, room_for_span}
 use Rattle.model_words.specs.declared.refusals.Refusal.TheVariants.{Zero, TooLarge, NoPages, NoAddresses}
 
 -- the refusals of a new object are from a number on
@@ -29,10 +29,7 @@ of_class t len class holds is full =
 -- where an open group is found there is one
 some_open : (t : Table) (len class : ℕ) (g : Group) (holds : ℕ → Type 0) → class_for len ≡ Some class → find (is_open t class) t.groups ≡ Some g
     → ¬ HasNoOpen t len holds
-some_open t len class g holds is found full =
-    let both : Some full.class ≡ Some class = sym full.class_is ∙ is in let same : full.class ≡ class = cc both in
-    let one = found_passes Group (is_open t class) t.groups g found in
-    let clash : true ≡ false = sym one.2 ∙ ap (λ (c : ℕ). is_open t c g) (sym same) ∙ full.none one.0 g one.1 in cc clash
+some_open t len class g holds is found full = grind (arith, found_passes Group (is_open t class) t.groups g found)
 
 -- room for a span of the class of the length is told
 room_told : (t : Table) (len class : ℕ) → class_for len ≡ Some class → find (is_open t class) t.groups ≡ None → ¬ new_holds t len Zero
@@ -63,10 +60,7 @@ room_told t len class is none some few =
 -- a new object of the class of the length is told
 place_told : (t : Table) (len class word serial : ℕ) (o : Option Group) → class_for len ≡ Some class → find (is_open t class) t.groups ≡ o
     → ¬ new_holds t len Zero → ¬ new_holds t len TooLarge → Told Placed (new_holds t len) (place_in o t class word serial len)
-place_told t len class word serial (Some g) is found some few = told_ok Placed (new_holds t len) (placed_in t g word serial len)
-    (none_holds (new_holds t len) (new_from t len 18 (λ h. absurd (some h)) (λ h. absurd (few h))
-    (λ h. absurd (some_open t len class g (λ c. t.free_pages < pages_of c) is found h))
-    (λ h. absurd (some_open t len class g (λ c. 65535 < t.next_page + (pages_of c - 1)) is found h))))
+place_told t len class word serial (Some g) is found some few = grind (arith, some_open t len class g)
 place_told t len class word serial None is found some few =
     told_map (Unit {0}) Placed (new_holds t len) (room_for_span t class) _ (room_told t len class is found some few)
 

@@ -1,58 +1,35 @@
 -- The table's transitions keep a sound table sound.
-use Rattle.std.proofs.Common.{◌≡◌, ◌≢◌, ℕ, zero, suc, ◌+◌, ◌-◌, ◌≤◌, Bool, true, false, not, min, nat_eq, nat_lt, List, [], ◌∷◌, ◌++◌, length, map, filter, find, flat_map, slice_get, IsSome, is_some, ap, subst, refl, sym, ◌∙◌, arith, ◌⊎◌, inl, inr, Option, Some, None, Ok, length-append, zero-add}
+use Rattle.std.proofs.Common.{◌≡◌, ◌≢◌, ℕ, zero, suc, ◌+◌, ◌≤◌, Bool, true, false, not, min, nat_eq, nat_lt, List, [], ◌∷◌, ◌++◌, length, map, filter, find, flat_map, slice_get, IsSome, ap, subst, refl, sym, ◌∙◌, arith, ◌⊎◌, inl, inr, Option, Some, None, Ok, length-append, zero-add}
 use Rattle.std.specs.List.{range_with_len}
 use Rattle.std.specs.Option.{option_map_or}
-use Rattle.std.proofs.lemmas.Bool.Decides.{eqb_tells, leb_tells}
+use Rattle.std.proofs.lemmas.Bool.Decides.{nat_tests, eqb_tells}
 use Rattle.std.proofs.lemmas.List.{length-map}
 use Rattle.model_words.proofs.Chains.{or_refuse_went, refuse_if_went}
-use Rattle.model_heap.proofs.MayBegin.{began, may_begin_sound, meshed}
-use Rattle.model_words.proofs.Tests.{tells}
+use Rattle.model_heap.proofs.MayBegin.{meshed}
 use Rattle.model_heap.proofs.GroupLists.{times_in-append, pages_in, find_number, find_sound, find_again, pages_changed, pages_without, groups_changed, groups_mapped, groups_filtered, pages_mapped, ascend_mapped, ascend_filtered, changed_number, find_changed_other, find_without_other}
 use Rattle.model_heap.proofs.MeshLists.{meshes_kept, meshes_outside, meshes_elsewhere, mesh_found, meshes_filtered, meshes_of-filtered, meshes_of-progress, meshes_progress, without_fewer, meshes_more, meshes_of-more, meshes_emptied, mesh_kept}
 use Rattle.model_words.specs.Classes.{Row, table, row_of, pages_of, slots_of}
-use Rattle.model_heap.specs.Mesh.{Stepped, begin, cancel, cancelled, cancelled_at, is_mesh, mesh_whole, merged, merged_into, page_count, step, step_count, stepped, table_after, table_unwound, united, virtual_pages, with_progress, without_mesh, free_after, kind_after}
+use Rattle.model_heap.specs.Mesh.{Stepped, begin, cancel, cancelled, cancelled_at, mesh_whole, merged, merged_into, page_count, step, stepped, table_after, table_unwound, united, virtual_pages, with_progress, without_mesh, free_after, kind_after}
 use Rattle.model_heap.specs.Sound.{times_in, AreSoundGroups, AscendBetween, AreSoundMeshes, IsSound, IsSoundGroup, IsSoundMesh, IsWithinSteps, meshes_of}
 use Rattle.model_heap.specs.Table.{Slot, Group, Progress, Made, Unwinding, Mesh, Table, Counted, empty_table, group_of, has_number, changed_at, is_meshing, object_count, emptied_of, group_without, without_object, sweep}
 use Rattle.model_heap.specs.TableLaws.{IsBusyTest}
-use Rattle.model_words.specs.declared.refusals.Refusal.TheVariants.{NoGroup, Busy, NotEmpty, NoMesh, TooLate}
+use Rattle.model_words.specs.declared.refusals.Refusal.TheVariants.{NoGroup, Busy, NotEmpty, NoMesh}
 
 -- the table with no span is sound
 pub empty_sound : (pages : ℕ) → IsSound (empty_table pages)
-empty_sound pages = record {
-  some_page = omega arith;
-  few_pages = omega arith;
-  pages_once = λ v. omega arith;
-  pages_used = λ v h. absurd (omega (arith, h));
-  groups = tt;
-  numbers = omega arith;
-  meshes = tt;
-  one_a_class = λ class. omega arith;
-}
+empty_sound pages = grind (arith, nat_tests)
 
 -- a table with no page, number or mesh more is sound where its groups and meshes are
 pub table_sound : (t u : Table) → IsSound t → u.next_page ≡ t.next_page → ((v : ℕ) → pages_in v u.groups ≤ pages_in v t.groups) → AreSoundGroups u.groups
     → AscendBetween 0 u.groups u.next_span → AreSoundMeshes u u.meshes → ((class : ℕ) → meshes_of class u.meshes ≤ meshes_of class t.meshes) → IsSound u
-table_sound t u sound page fewer groups numbers meshes of_class = record {
-  some_page = let some = sound.some_page in omega (arith, page, some);
-  few_pages = let few = sound.few_pages in omega (arith, page, few);
-  pages_once = λ v. let once = sound.pages_once v in let less = fewer v in omega (arith, once, less);
-  pages_used = λ v h. let less = fewer v in let used = sound.pages_used v (omega (arith, h, less)) in
-      (used.0, (let below = used.1 in omega (arith, below, page)));
-  groups = groups;
-  numbers = numbers;
-  meshes = meshes;
-  one_a_class = λ class. let once = sound.one_a_class class in let less = of_class class in omega (arith, once, less);
-}
+table_sound t u sound page fewer groups numbers meshes of_class = grind (arith, nat_tests)
 
 -- a slot that is filled once emptied of an object was filled so before
 pub emptied_kept : (serial : ℕ) (slots : List (Option Slot)) (k : ℕ) (slot : Slot) → slice_get (map (emptied_of serial) slots) k ≡ Some (Some slot)
     → slice_get slots k ≡ Some (Some slot)
 emptied_kept serial [] k slot h = h
 emptied_kept serial (None ∷ slots) zero slot h = h
-emptied_kept serial (Some x ∷ slots) zero slot h = elim (tells (nat_eq x.serial serial)) [
-  | inl same ↦ let clash : Some None ≡ Some (Some slot) = rw same at h in absurd (cc)
-  | inr other ↦ rw other at h
-]
+emptied_kept serial (Some x ∷ slots) zero slot h = grind arith
 emptied_kept serial (x ∷ slots) (suc k) slot h = emptied_kept serial slots k slot h
 
 -- a group without an object is sound
@@ -68,11 +45,8 @@ group_emptied serial g sound = record {
 
 -- an object taken out keeps the table sound
 pub free_sound : (t : Table) (serial : ℕ) → IsSound t → IsSound (without_object t serial)
-free_sound t serial sound = table_sound t (without_object t serial) sound refl
-    (λ v. rw (pages_mapped (group_without serial) t.groups (λ g. refl)) (omega arith))
-    (groups_mapped (group_without serial) t.groups (group_emptied serial) sound.groups)
-    (ascend_mapped 0 t.next_span (group_without serial) t.groups (λ g. refl) sound.numbers)
-    (meshes_emptied t serial t.meshes sound.meshes) (λ class. omega arith)
+free_sound t serial sound =
+    grind (arith, pages_mapped, groups_mapped (group_without serial) t.groups (group_emptied serial) sound.groups, ascend_mapped, meshes_emptied)
 
 -- a group that is in no mesh taken out keeps the table sound
 swept_sound : (t : Table) (n free : ℕ) (g : Group) → IsSound t → group_of t n ≡ Some g → is_meshing t n ≡ false
@@ -118,10 +92,7 @@ ArePaged (r ∷ rows) = (1 ≤ r.pages) × ArePaged rows
 -- a row found among those has a page
 row_paged : (test : Row → Bool) (rows : List Row) → ArePaged rows → IsSome (find test rows) → 1 ≤ option_map_or (λ r. r.pages) (find test rows) 0
 row_paged test [] paged h = absurd (cc)
-row_paged test (r ∷ rows) paged h = elim (tells (test r)) [
-  | inl pass ↦ rw pass paged.0
-  | inr fail ↦ let later : is_some (find test rows) ≡ true = rw fail at h in rw fail (row_paged test rows paged.1 later)
-]
+row_paged test (r ∷ rows) paged h = grind (arith, row_paged test rows paged.1)
 
 -- a class of the table has a page
 pub class_paged : (class : ℕ) → IsSome (row_of class) → 1 ≤ pages_of class
@@ -133,42 +104,16 @@ class_paged class h = row_paged (λ r. nat_eq r.size class) table
 begun_sound : (t : Table) (m : Mesh) → IsSound t → IsSoundMesh t m → meshes_of m.class t.meshes ≡ 0
     → IsSound (record t { meshes = t.meshes ++ m ∷ [] })
 begun_sound t m sound new none =
-    let u : Table = record t { meshes = t.meshes ++ m ∷ [] } in record {
-      some_page = sound.some_page;
-      few_pages = sound.few_pages;
-      pages_once = sound.pages_once;
-      pages_used = sound.pages_used;
-      groups = sound.groups;
-      numbers = sound.numbers;
-      meshes = meshes_more u t.meshes m (mesh_kept t u m new new.source_is new.destination_is) (meshes_kept t u t.meshes (λ n g is. is) sound.meshes);
-      one_a_class = λ class. rw (meshes_of-more class t.meshes m) (elim (eqb_tells m.class class) [
-        | inl same ↦ rw same.0 (let zero' : meshes_of class t.meshes ≡ 0 = subst (λ (c : ℕ). meshes_of c t.meshes ≡ 0) same.1 none in omega (arith, zero'))
-        | inr other ↦ rw other.0 (let once = sound.one_a_class class in omega (arith, once))
-      ]);
-    }
+    grind (arith, meshes_more (record t { meshes = t.meshes ++ m ∷ [] }) t.meshes m, mesh_kept t, meshes_kept t, meshes_of-more)
 
 -- a mesh begun keeps the table sound
 pub begin_sound : (busy : Table → ℕ → Bool) (t : Table) (source destination : ℕ) (begun : Counted) → IsBusyTest busy t → IsSound t
     → begin busy t source destination ≡ Ok begun → IsSound begun.table
-begin_sound busy t source destination begun test sound h =
-    let made = began busy t source destination begun h in
-    let m : Mesh = record { class = made.pair.source.class; source = source; destination = destination; progress = Made 0 } in
-    let paged = class_paged made.pair.source.class (find_sound (has_number source) t.groups made.pair.source made.may.source_is sound.groups).class in
-    subst (λ (x : Counted). IsSound x.table) made.is
-    (begun_sound t m sound (may_begin_sound busy t source destination made.pair (Made 0) made.may (omega (arith, paged)))
-    (test made.pair.source.class made.may.idle))
-
--- other meshes on the same groups, no more of a class, keep the table sound
-meshes_sound : (t : Table) (free : ℕ) (ms : List Mesh) → IsSound t → AreSoundMeshes t ms → ((class : ℕ) → meshes_of class ms ≤ meshes_of class t.meshes)
-    → IsSound (record t { free_pages = free; meshes = ms })
-meshes_sound t free ms sound meshes of_class =
-    let u : Table = record t { free_pages = free; meshes = ms } in
-    table_sound t u sound refl (λ v. omega arith) sound.groups sound.numbers (meshes_kept t u ms (λ n g is. is) meshes) of_class
+begin_sound busy t source destination begun test sound h = grind (arith, nat_tests, class_paged, find_sound (has_number source) t.groups, begun_sound t)
 
 -- a mesh ended keeps the table sound
 ended_sound : (t : Table) (this : Mesh) → IsSound t → IsSound (record t { meshes = without_mesh t.meshes this })
-ended_sound t this sound = meshes_sound t t.free_pages (without_mesh t.meshes this) sound
-    (meshes_filtered t (λ m. not (is_mesh this m)) t.meshes sound.meshes) (λ class. meshes_of-filtered class (λ m. not (is_mesh this m)) t.meshes)
+ended_sound t this sound = grind (arith, meshes_filtered t, meshes_of-filtered)
 
 -- the group of a number is one
 pub one_group : (t : Table) (n : ℕ) (a b : Group) → group_of t n ≡ Some a → group_of t n ≡ Some b → a ≡ b
@@ -177,29 +122,18 @@ one_group t n a b is is' = let same : Some a ≡ Some b = sym is ∙ is' in cc s
 -- a mesh come to a progress within its steps keeps the table sound
 come_sound : (t : Table) (free : ℕ) (this : Mesh) (a : Group) (progress : Progress) → IsSound t → group_of t this.source ≡ Some a → IsWithinSteps a progress
     → IsSound (record t { free_pages = free; meshes = with_progress t.meshes this progress })
-come_sound t free this a progress sound is within = meshes_sound t free (with_progress t.meshes this progress) sound
-    (meshes_progress t this progress t.meshes (λ b is'. subst (λ (g : Group). IsWithinSteps g progress) (one_group t this.source a b is is') within)
-    sound.meshes)
-    (λ class. let same = meshes_of-progress class this progress t.meshes in omega (arith, same))
+come_sound t free this a progress sound is within = grind (arith, meshes_progress t this progress t.meshes, meshes_of-progress)
 
 -- a mesh cancelled with so many unprotects left keeps the table sound
 cancelled_at_sound : (t : Table) (this : Mesh) (a : Group) (q : ℕ) → IsSound t → group_of t this.source ≡ Some a → q ≤ page_count a
     → IsSound (cancelled_at t this a q).table
-cancelled_at_sound t this a q sound is within = elim (eqb_tells q 0) [
-  | inl none ↦ rw none.0 (ended_sound t this sound)
-  | inr some ↦ rw some.0 (come_sound t t.free_pages this a (Unwinding q 0) sound is ((let apart = some.1 in omega (arith, apart)), within))
-]
+cancelled_at_sound t this a q sound is within = grind (arith, ended_sound t this sound, come_sound t t.free_pages this a (Unwinding q 0) sound is)
 
 -- a cancel of a mesh at a progress keeps the table sound
 cancelled_sound : (t : Table) (this : Mesh) (a : Group) (progress : Progress) (x : Counted) → IsSound t → group_of t this.source ≡ Some a
     → cancelled t this a progress ≡ Ok x → IsSound x.table
-cancelled_sound t this a (Made d) x sound is h =
-    let in_time = refuse_if_went TooLate (nat_lt (page_count a + slots_of a.class) d) _ x h in
-    let done = in_time.1 in
-    let same : cancelled_at t this a (min d (page_count a)) ≡ x = cc done in
-    subst (λ (y : Counted). IsSound y.table) same (cancelled_at_sound t this a (min d (page_count a)) sound is (omega arith))
-cancelled_sound t this a (Unwinding q u) x sound is h =
-    let same : record { count = q - u; table = t } ≡ x = cc h in subst (λ (y : Counted). IsSound y.table) same sound
+cancelled_sound t this a (Made d) x sound is h = grind (arith, cancelled_at_sound t this a (min d (page_count a)) sound is)
+cancelled_sound t this a (Unwinding q u) x sound is h = grind arith
 
 -- what a cancel that is not refused went through
 pub record WasCancelled (t : Table) (which : Option Mesh) (x : Counted) : Type 0 where
@@ -226,7 +160,7 @@ cancel_sound t test x sound h =
 united_length : (xs ys : List (Option Slot)) → length xs ≡ length ys → length (united xs ys) ≡ length xs
 united_length [] ys h = sym h
 united_length (x ∷ xs) [] h = refl
-united_length (x ∷ xs) (y ∷ ys) h = let rest = united_length xs ys (omega (arith, h)) in omega (arith, rest)
+united_length (x ∷ xs) (y ∷ ys) h = grind (arith, united_length xs ys)
 
 -- an object of two lists of slots united is of one of them
 pub united_at : (xs ys : List (Option Slot)) (k : ℕ) (slot : Slot) → slice_get (united xs ys) k ≡ Some (Some slot)
@@ -263,19 +197,12 @@ pages_of_both : (v class : ℕ) (xs ys : List ℕ)
     → times_in v (flat_map (λ p. range_with_len p (pages_of class)) (xs ++ ys))
     ≡ times_in v (flat_map (λ p. range_with_len p (pages_of class)) xs) + times_in v (flat_map (λ p. range_with_len p (pages_of class)) ys)
 pages_of_both v class [] ys = sym (zero-add (times_in v (flat_map (λ p. range_with_len p (pages_of class)) ys)))
-pages_of_both v class (x ∷ xs) ys =
-    let rest = pages_of_both v class xs ys in
-    let new = times_in-append v (range_with_len x (pages_of class)) (flat_map (λ p. range_with_len p (pages_of class)) (xs ++ ys)) in
-    let old = times_in-append v (range_with_len x (pages_of class)) (flat_map (λ p. range_with_len p (pages_of class)) xs) in
-    omega (arith, rest, new, old)
+pages_of_both v class (x ∷ xs) ys = grind (arith, pages_of_both v class xs ys, times_in-append v (range_with_len x (pages_of class)))
 
 -- the merged group has the pages of both
 merged_pages : (v : ℕ) (a b : Group) → a.class ≡ b.class
     → times_in v (virtual_pages (merged_into a b)) ≡ times_in v (virtual_pages b) + times_in v (virtual_pages a)
-merged_pages v a b class = subst
-    (λ (c : ℕ). times_in v (virtual_pages (merged_into a b)) ≡ times_in v (virtual_pages b)
-    + times_in v (flat_map (λ p. range_with_len p (pages_of c)) a.members))
-    (sym class) (pages_of_both v b.class b.members a.members)
+merged_pages v a b class = grind (arith, pages_of_both v b.class b.members a.members)
 
 -- two groups merged, whose class no mesh is of any more, keep the table sound
 merged_sound : (t : Table) (free : ℕ) (ms : List Mesh) (a b : Group) (source destination : ℕ) → IsSound t → group_of t source ≡ Some a
@@ -334,34 +261,32 @@ whole_sound busy t source destination whole test sound h =
 last_sound : (t : Table) (free : ℕ) (test : Mesh → Bool) (this : Mesh) (a : Group) → IsSound t → find test t.meshes ≡ Some this
     → group_of t this.source ≡ Some a
     → IsSound (record t { free_pages = free; meshes = without_mesh t.meshes this; groups = merged t.groups a this.destination })
-last_sound t free test this a sound found is =
-    let mesh = mesh_found t test t.meshes this found sound.meshes in
-    let same : mesh.source ≡ a = one_group t this.source mesh.source a mesh.source_is is in
-    let class : a.class ≡ this.class = ap (λ (g : Group). g.class) (sym same) ∙ mesh.source_class in
-    let members : length mesh.source.members ≡ length a.members = ap (λ (g : Group). length g.members) same in
-    let few = mesh.few_members in
-    let once = sound.one_a_class a.class in
-    let fewer = without_fewer a.class test t.meshes this found (sym class) in
-    merged_sound t free (without_mesh t.meshes this) a mesh.destination this.source this.destination sound is mesh.destination_is
-    (differ this.source this.destination mesh.two) (class ∙ sym mesh.destination_class) (omega (arith, few, members))
-    (meshes_filtered t (λ m. not (is_mesh this m)) t.meshes sound.meshes) (omega (arith, once, fewer))
-    (λ c. meshes_of-filtered c (λ m. not (is_mesh this m)) t.meshes)
+last_sound t free test this a sound found is = grind (
+  arith,
+  nat_tests,
+  mesh_found t test t.meshes this found sound.meshes,
+  one_group t this.source,
+  without_fewer a.class test t.meshes this found,
+  merged_sound t free (without_mesh t.meshes this) a,
+  differ this.source this.destination,
+  meshes_filtered t,
+  meshes_of-filtered,
+)
 
 -- a step after d steps keeps the table sound
 after_sound : (t : Table) (test : Mesh → Bool) (this : Mesh) (a : Group) (d : ℕ) → IsSound t → find test t.meshes ≡ Some this → group_of t this.source ≡ Some a
     → IsSound (table_after t this a d)
-after_sound t test this a d sound found is = elim (leb_tells (step_count a) (d + 1)) [
-  | inl last ↦ rw last.0 (last_sound t (free_after (kind_after a d) t.free_pages) test this a sound found is)
-  | inr more ↦ rw more.0 (come_sound t (free_after (kind_after a d) t.free_pages) this a (Made (d + 1)) sound is (omega (arith, more.1)))
-]
+after_sound t test this a d sound found is = grind (
+  arith,
+  nat_tests,
+  last_sound t (free_after (kind_after a d) t.free_pages) test this a sound found is,
+  come_sound t (free_after (kind_after a d) t.free_pages) this a (Made (d + 1)) sound is,
+)
 
 -- an unprotect of a cancelled mesh keeps the table sound
 unwound_sound : (t : Table) (this : Mesh) (a : Group) (q u : ℕ) → IsSound t → group_of t this.source ≡ Some a → q ≤ page_count a
     → IsSound (table_unwound t this q u)
-unwound_sound t this a q u sound is few = elim (leb_tells q (u + 1)) [
-  | inl last ↦ rw last.0 (ended_sound t this sound)
-  | inr more ↦ rw more.0 (come_sound t t.free_pages this a (Unwinding q (u + 1)) sound is (omega (arith, more.1), few))
-]
+unwound_sound t this a q u sound is few = grind (arith, ended_sound t this sound, come_sound t t.free_pages this a (Unwinding q (u + 1)) sound is)
 
 -- a step of a mesh at a progress within its steps keeps the table sound
 stepped_sound : (t : Table) (test : Mesh → Bool) (this : Mesh) (a : Group) (progress : Progress) → IsSound t → find test t.meshes ≡ Some this
@@ -388,14 +313,8 @@ step_went t which x h =
 -- the progress of a mesh of a sound table, found by any test, is within the steps of its source
 pub found_within : (t : Table) (test : Mesh → Bool) (this : Mesh) (a : Group) → IsSound t → find test t.meshes ≡ Some this → group_of t this.source ≡ Some a
     → IsWithinSteps a this.progress
-found_within t test this a sound found is =
-    let old = mesh_found t test t.meshes this found sound.meshes in
-    let same : old.source ≡ a = one_group t this.source old.source a old.source_is is in
-    subst (λ (g : Group). IsWithinSteps g this.progress) same old.within
+found_within t test this a sound found is = grind (arith, nat_tests, mesh_found t test t.meshes this found sound.meshes, one_group t this.source)
 
 -- a step of a mesh found by any test keeps the table sound
 pub step_sound : (t : Table) (test : Mesh → Bool) (x : Stepped) → IsSound t → step t (find test t.meshes) ≡ Ok x → IsSound x.table
-step_sound t test x sound h =
-    let went = step_went t (find test t.meshes) x h in
-    subst (λ (y : Stepped). IsSound y.table) went.is (stepped_sound t test went.mesh went.source went.mesh.progress sound went.running went.source_is
-    (found_within t test went.mesh went.source sound went.running went.source_is))
+step_sound t test x sound h = grind (arith, stepped_sound t test, found_within t test)

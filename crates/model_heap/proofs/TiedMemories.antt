@@ -1,12 +1,12 @@
 -- A command keeps table and memory tied: stores, aliases, frees and new objects.
-use Rattle.std.proofs.Common.{◌≡◌, ◌≢◌, ℕ, zero, suc, ◌+◌, ◌≤◌, true, false, nat_eq, List, [], ◌∷◌, length, map, find, slice_get, ap, refl, sym, ◌∙◌, inl, inr, Option, Some, None}
-use Rattle.std.proofs.lemmas.Bool.Decides.{eqb_tells}
+use Rattle.std.proofs.Common.{arith, ◌≡◌, ◌≢◌, ℕ, zero, suc, ◌+◌, ◌≤◌, List, [], ◌∷◌, length, map, find, slice_get, ap, refl, sym, ◌∙◌, inl, inr, Option, Some, None}
+use Rattle.std.proofs.lemmas.Bool.Decides.{nat_tests, eqb_tells}
 use Rattle.model_heap.proofs.GroupLists.{find_mapped}
 use Rattle.model_heap.proofs.TableChanges.{emptied_kept}
 use Rattle.model_memory.specs.Memory.{Memory, Object, object_of, overwritten, with_object, with_root}
 use Rattle.model_memory.specs.Plain.{Named, stored}
 use Rattle.model_heap.specs.Sound.{HasSlot, IsLiveSlot, IsTied}
-use Rattle.model_heap.specs.Table.{Group, Slot, Table, emptied_of, group_of, group_without, has_number, slot_address, without_object}
+use Rattle.model_heap.specs.Table.{Group, Slot, Table, emptied_of, group_of, group_without, has_number, without_object}
 use Rattle.model_memory.proofs.Objects.{put_there, put_elsewhere, overwritten_length}
 
 -- the object of the serial is live, at the address and of the length
@@ -24,23 +24,9 @@ AreHeld m n = (serial : ℕ) (object : Object) → object_of m serial ≡ Some o
 tied_held : (m n : Memory) (t : Table) → AreHeld m n → AreHeld n m → IsTied m t → IsTied n t
 tied_held m n t held old tied = record {
   slots = λ number k group slot there filled.
-      let live = tied.slots number k group slot there filled in let new = held slot.serial live.object live.live in record {
-        object = new.object;
-        live = new.live;
-        address = new.address_is ∙ live.address;
-        len = new.long ∙ live.len;
-      };
-  objects = λ serial object live. let was = old serial object live in let has = tied.objects serial was.object was.live in record {
-    number = has.number;
-    group = has.group;
-    k = has.k;
-    slot = has.slot;
-    there = has.there;
-    filled = has.filled;
-    serial_is = has.serial_is;
-    address = sym was.address_is ∙ has.address;
-    len = sym was.long ∙ has.len;
-  };
+      let live = tied.slots number k group slot there filled in let new = held slot.serial live.object live.live in
+      record { object = new.object; live = new.live; address = new.address_is ∙ live.address; len = new.long ∙ live.len };
+  objects = λ serial object live. let was = old serial object live in let has = tied.objects serial was.object was.live in grind arith;
 }
 
 -- another serial in a cell keeps table and memory tied
@@ -64,61 +50,23 @@ stored_tied m t named off bytes is fits tied = tied_held m (stored m named off b
     long = overwritten_length named.object.bytes off bytes fits
 
     held : AreHeld m (stored m named off bytes)
-    held serial object live = elim (eqb_tells serial named.serial) [
-      | inl same ↦ let both : Some object ≡ Some named.object = sym live ∙ ap (λ (s : ℕ). object_of m s) same.1 ∙ is in
-          let o : object ≡ named.object = cc both in record {
-            object = new;
-            live = ap (λ (s : ℕ). object_of (stored m named off bytes) s) same.1 ∙ there;
-            address_is = ap (λ (x : Object). x.address) (sym o);
-            long = long ∙ ap (λ (x : Object). length x.bytes) (sym o);
-          }
-      | inr other ↦ record {
-        object = object;
-        live = put_elsewhere m named.serial serial (Some new) other.1 ∙ live;
-        address_is = refl;
-        long = refl;
-      }
-    ]
+    held serial object live = grind (arith, nat_tests, new, there, long, put_elsewhere m named.serial serial (Some new))
 
     old : AreHeld (stored m named off bytes) m
-    old serial object live = elim (eqb_tells serial named.serial) [
-      | inl same ↦ let both : Some object ≡ Some new = sym live ∙ ap (λ (s : ℕ). object_of (stored m named off bytes) s) same.1 ∙ there in
-          let o : object ≡ new = cc both in record {
-            object = named.object;
-            live = ap (λ (s : ℕ). object_of m s) same.1 ∙ is;
-            address_is = ap (λ (x : Object). x.address) (sym o);
-            long = sym long ∙ ap (λ (x : Object). length x.bytes) (sym o);
-          }
-      | inr other ↦ record {
-        object = object;
-        live = sym (put_elsewhere m named.serial serial (Some new) other.1) ∙ live;
-        address_is = refl;
-        long = refl;
-      }
-    ]
+    old serial object live = grind (arith, nat_tests, new, there, long, put_elsewhere m named.serial serial (Some new))
 
 -- a slot emptied of another object stays
 emptied_other : (serial : ℕ) (slots : List (Option Slot)) (k : ℕ) (slot : Slot) → slot.serial ≢ serial → slice_get slots k ≡ Some (Some slot)
     → slice_get (map (emptied_of serial) slots) k ≡ Some (Some slot)
 emptied_other serial [] k slot apart h = h
-emptied_other serial (None ∷ slots) zero slot apart h = h
-emptied_other serial (Some x ∷ slots) zero slot apart h = elim (eqb_tells x.serial serial) [
-  | inl same ↦ let is : Some (Some x) ≡ Some (Some slot) = h in let here : x ≡ slot = cc is in
-      absurd (apart (ap (λ (y : Slot). y.serial) (sym here) ∙ same.1))
-  | inr other ↦ rw other.0 h
-]
+emptied_other serial (x ∷ slots) zero slot apart h = grind (arith, nat_tests)
 emptied_other serial (x ∷ slots) (suc k) slot apart h = emptied_other serial slots k slot apart h
 
 -- no slot holds the object that it was emptied of
 emptied_gone : (serial : ℕ) (slots : List (Option Slot)) (k : ℕ) (slot : Slot) → slice_get (map (emptied_of serial) slots) k ≡ Some (Some slot)
     → slot.serial ≢ serial
 emptied_gone serial [] k slot h e = cc
-emptied_gone serial (None ∷ slots) zero slot h e = cc
-emptied_gone serial (Some x ∷ slots) zero slot h e = elim (eqb_tells x.serial serial) [
-  | inl same ↦ let clash : Some None ≡ Some (Some slot) = rw same.0 at h in cc clash
-  | inr other ↦ let is : Some (Some x) ≡ Some (Some slot) = rw other.0 at h in let here : x ≡ slot = cc is in
-      other.1 (ap (λ (y : Slot). y.serial) here ∙ e)
-]
+emptied_gone serial (x ∷ slots) zero slot h e = grind (arith, nat_tests)
 emptied_gone serial (x ∷ slots) (suc k) slot h e = emptied_gone serial slots k slot h e
 
 -- a group of changed ones was one before the change
@@ -131,14 +79,7 @@ record WasBefore (change : Group → Group) (before : Option Group) (after : Gro
 find_before : (n : ℕ) (change : Group → Group) (gs : List Group) (h : Group) → ((g : Group) → (change g).number ≡ g.number)
     → find (has_number n) (map change gs) ≡ Some h → WasBefore change (find (has_number n) gs) h
 find_before n change [] h keeps found = absurd (cc)
-find_before n change (x ∷ xs) h keeps found = elim (eqb_tells x.number n) [
-  | inl same ↦ let number : nat_eq (change x).number n ≡ true = ap (λ (k : ℕ). nat_eq k n) (keeps x) ∙ same.0 in
-      let is : Some (change x) ≡ Some h = rw number at found in
-      rw same.0 (record { group = x; is = refl; becomes = cc is })
-  | inr other ↦ let number : nat_eq (change x).number n ≡ false = ap (λ (k : ℕ). nat_eq k n) (keeps x) ∙ other.0 in
-      let later : find (has_number n) (map change xs) ≡ Some h = rw number at found in
-      rw other.0 (find_before n change xs h keeps later)
-]
+find_before n change (x ∷ xs) h keeps found = grind (arith, nat_tests, find_before n change xs h keeps)
 
 -- an object freed keeps table and memory tied
 pub free_tied : (m : Memory) (t : Table) (serial : ℕ) (was : Object) → object_of m serial ≡ Some was → IsTied m t
@@ -149,12 +90,11 @@ free_tied m t serial was is tied = record { slots = slots; objects = objects }
         → slice_get group.slots k ≡ Some (Some slot) → IsLiveSlot (with_object m serial None) group.class k slot
     slots number k group slot there filled =
         let before = find_before number (group_without serial) t.groups group (λ g. refl) there in
-        let emptied : slice_get (map (emptied_of serial) before.group.slots) k ≡ Some (Some slot)
-        = ap (λ (g : Group). slice_get g.slots k) before.becomes ∙ filled in
+        let emptied : slice_get (map (emptied_of serial) before.group.slots) k ≡ Some (Some slot) = grind arith in
         let live = tied.slots number k before.group slot before.is (emptied_kept serial before.group.slots k slot emptied) in record {
           object = live.object;
           live = put_elsewhere m serial slot.serial None (emptied_gone serial before.group.slots k slot emptied) ∙ live.live;
-          address = live.address ∙ ap (λ (g : Group). slot_address slot.member g.class k) before.becomes;
+          address = grind arith;
           len = live.len;
         }
 

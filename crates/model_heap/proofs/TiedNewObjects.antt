@@ -1,14 +1,14 @@
 -- A new object keeps table and memory tied: it comes to the slots that were filled.
 use Rattle.std.proofs.Common.{◌≡◌, ◌≢◌, ℕ, zero, suc, ◌*◌, ◌<◌, ◌≤◌, Bool, List, [], ◌∷◌, ◌++◌, length, find, count_by, slice_get, slice_set, replicate, IsSome, is_some, ap, subst, refl, sym, ◌∙◌, arith, ◌⊎◌, inl, inr, Option, Some, None, Ok, length-append}
-use Rattle.std.proofs.lemmas.Bool.Decides.{eqb_tells, leb_tells}
+use Rattle.std.proofs.lemmas.Bool.Decides.{nat_tests, eqb_tells, leb_tells}
 use Rattle.std.proofs.lemmas.List.{get_or_append_left, get_or_push, get_or_past, length-replicate}
 use Rattle.model_heap.proofs.Apart.{class_full, picked_free}
 use Rattle.model_words.proofs.Tests.{tells}
 use Rattle.model_heap.proofs.GroupLists.{find_mapped, find_changed_other, find_more, changed_number}
 use Rattle.model_heap.proofs.NewObjects.{fresh_none, last_found, none_from, by_place}
-use Rattle.model_heap.proofs.TableChanges.{class_paged, one_group}
+use Rattle.model_heap.proofs.TableChanges.{class_paged}
 use Rattle.model_memory.proofs.Objects.{live_below}
-use Rattle.model_heap.proofs.TiedTables.{AreKept, live_slot}
+use Rattle.model_heap.proofs.TiedTables.{AreKept, filled_has, live_slot}
 use Rattle.model_words.specs.Classes.{row_of, slots_of}
 use Rattle.model_memory.specs.Memory.{Memory, Object, next_serial, object_of}
 use Rattle.model_memory.specs.Plain.{made}
@@ -79,40 +79,10 @@ put_more t g k slot is free = record { kept = kept; new = new; old = old }
     new = record { number = g.number; group = with_object_in k slot g; there = there; class_is = refl; filled = put_there g.slots k slot free }
 
     kept : AreKept t u
-    kept c j x was = elim (eqb_tells was.number g.number) [
-      | inl here ↦ let h : was.group ≡ g = one_group t g.number was.group g (ap (λ (n : ℕ). group_of t n) (sym here.1) ∙ was.there) is in record {
-        number = g.number;
-        group = with_object_in k slot g;
-        there = there;
-        class_is = ap (λ (y : Group). y.class) (sym h) ∙ was.class_is;
-        filled = put_keeps g.slots k j slot x free (ap (λ (y : Group). slice_get y.slots j) (sym h) ∙ was.filled);
-      }
-      | inr off ↦ record {
-        number = was.number;
-        group = was.group;
-        there = others was.number off.1 ∙ was.there;
-        class_is = was.class_is;
-        filled = was.filled;
-      }
-    ]
+    kept c j x was = grind (arith, there, others, put_keeps g.slots k j slot x)
 
     old : (c j : ℕ) (x : Slot) → IsFilled u c j x → ((g.class ≡ c) × (k ≡ j) × (slot ≡ x)) ⊎ IsFilled t c j x
-    old c j x now = elim (eqb_tells now.number g.number) [
-      | inl here ↦ let h : now.group ≡ with_object_in k slot g
-          = one_group u g.number now.group (with_object_in k slot g) (ap (λ (n : ℕ). group_of u n) (sym here.1) ∙ now.there) there in
-          let of_class : g.class ≡ c = ap (λ (y : Group). y.class) (sym h) ∙ now.class_is in
-          elim (put_where g.slots k j slot x (ap (λ (y : Group). slice_get y.slots j) (sym h) ∙ now.filled)) [
-            | inl new ↦ inl (of_class, new.0, new.1)
-            | inr was ↦ inr (record { number = g.number; group = g; there = is; class_is = of_class; filled = was })
-          ]
-      | inr off ↦ inr (record {
-        number = now.number;
-        group = now.group;
-        there = sym (others now.number off.1) ∙ now.there;
-        class_is = now.class_is;
-        filled = now.filled;
-      })
-    ]
+    old c j x now = grind (arith, is, there, others, put_where g.slots k j slot x)
 
 -- a group found once one was added is found without it, or is that one
 found_added : (test : Group → Bool) (gs : List Group) (g h : Group) → find test (gs ++ g ∷ []) ≡ Some h → (find test gs ≡ Some h) ⊎ (g ≡ h)
@@ -127,13 +97,7 @@ found_added test (x ∷ xs) g h found = elim (tells (test x)) [
 
 -- a new span keeps what is filled
 span_kept : (t : Table) (class : ℕ) → AreKept t (with_span t class)
-span_kept t class c k slot is = record {
-  number = is.number;
-  group = is.group;
-  there = find_more (has_number is.number) t.groups (fresh_group t.next_span class t.next_page ∷ []) is.group is.there;
-  class_is = is.class_is;
-  filled = is.filled;
-}
+span_kept t class c k slot is = grind (arith, find_more (has_number is.number) t.groups)
 
 -- nothing is filled in a new span
 span_old : (t : Table) (class : ℕ) → AreKept (with_span t class) t
@@ -159,8 +123,7 @@ free_uncounted (suc n) = free_uncounted n
 pub fresh_open : (number class page : ℕ) → IsSome (row_of class)
     → object_count (fresh_group number class page) < length (fresh_group number class page).slots
 fresh_open number class page row =
-    let room = some_slot class row in let places = length-replicate {A = Option Slot} (slots_of class) None in
-    let count = free_uncounted (slots_of class) in omega (arith, room, places, count)
+    grind (arith, nat_tests, some_slot class row, length-replicate {A = Option Slot} (slots_of class) None, free_uncounted (slots_of class))
 
 -- a new object of a class is one filled slot more
 record IsPlaced (t : Table) (placed : Placed) (serial len : ℕ) : Type 0 where
@@ -257,31 +220,16 @@ new_tied m t cell len word placed sound tied h = record { slots = slots; objects
           }
         ]
 
-    -- a filled slot of its serial
-    has_slot : (class k serial : ℕ) (slot : Slot) (o : Object) → IsFilled placed.table class k slot → slot.serial ≡ serial
-        → o.address ≡ slot_address slot.member class k → length o.bytes ≡ slot.len → HasSlot placed.table serial o
-    has_slot class k serial slot o at same address long = record {
-      number = at.number;
-      group = at.group;
-      k = k;
-      slot = slot;
-      there = at.there;
-      filled = at.filled;
-      serial_is = same;
-      address = address ∙ ap (λ (c : ℕ). slot_address slot.member c k) (sym at.class_is);
-      len = long;
-    }
-
     objects : (serial : ℕ) (o : Object) → object_of n serial ≡ Some o → HasSlot placed.table serial o
     objects serial o live = elim (leb_tells (suc serial) (next_serial m)) [
       | inl below ↦ let has = tied.objects serial o (sym (before serial below.1) ∙ live) in
-          has_slot has.group.class has.k serial has.slot o (is.more.kept has.group.class has.k has.slot
+          filled_has placed.table has.group.class has.k serial has.slot o (is.more.kept has.group.class has.k has.slot
           (record { number = has.number; group = has.group; there = has.there; class_is = refl; filled = has.filled })) has.serial_is has.address has.len
       | inr past ↦ elim (eqb_tells serial (next_serial m)) [
         | inl same ↦ let both : Some object ≡ Some o = sym there ∙ ap (λ (s : ℕ). object_of n s) (sym same.1) ∙ live in
             let here : object ≡ o = cc both in
             subst (λ (x : Object). HasSlot placed.table serial x) here
-            (has_slot is.class is.k serial is.slot object is.more.new (is.serial_is ∙ sym same.1) is.address_is (length-replicate len 0 ∙ sym is.long))
+            (filled_has placed.table is.class is.k serial is.slot object is.more.new (is.serial_is ∙ sym same.1) is.address_is (length-replicate len 0 ∙ sym is.long))
         | inr other ↦ let none : object_of n serial ≡ None = get_or_past (m.objects ++ Some object ∷ []) serial None
             (let apart = other.1 in let more = length-append m.objects (Some object ∷ []) in omega (arith, past.1, apart, more)) in
             let clash : Some o ≡ None = sym live ∙ none in absurd (cc clash)

@@ -1,5 +1,6 @@
 -- Slots of two groups joined.
-use Rattle.std.proofs.Common.{◌≡◌, ℕ, zero, suc, ◌<◌, ◌≤◌, List, [], ◌∷◌, Option, Some, None, length, slice_index_or, refl, sym, ◌∙◌, arith}
+use Rattle.std.proofs.lemmas.Bool.Decides.{nat_tests}
+use Rattle.std.proofs.Common.{◌≡◌, ℕ, zero, suc, ◌<◌, ◌≤◌, List, [], ◌∷◌, Option, Some, None, length, slice_index_or, refl, sym, arith}
 use Rattle.std.proofs.lemmas.List.{ext_get_or}
 use Rattle.model_heap.specs.Mesh.{either_slot, united}
 use Rattle.model_heap.specs.Table.{Slot}
@@ -32,5 +33,4 @@ united_long (x ∷ xs) (y ∷ ys) same = let rest = united_long xs ys (omega (ar
 pub united_by_slots : (old new others : List (Option Slot)) → length new ≡ length old → length old ≡ length others
     → ((k : ℕ) → k < length old → slice_index_or new k None ≡ either_slot (slice_index_or old k None) (slice_index_or others k None)) → new ≡ united old others
 united_by_slots old new others long same each =
-    ext_get_or None new (united old others) (long ∙ sym (united_long old others same))
-    (λ k below. each k (omega (arith, below, long)) ∙ sym (united_slot old others k))
+    grind (arith, nat_tests, ext_get_or None new (united old others), united_long old others same, united_slot old others)

@@ -1,6 +1,6 @@
 -- A command answered over a sound table tied to the memory is a plain step, and leaves them sound and tied.
-use Rattle.std.proofs.Common.{◌≡◌, ℕ, ◌+◌, ◌-◌, ◌≤◌, true, false, nat_eq, nat_lt, List, [], ◌∷◌, length, find, slice_index, slice_range, subst, refl, arith, inl, inr, Option, Some, None, Result, Ok, Err}
-use Rattle.std.proofs.lemmas.Bool.Decides.{eqb_tells, leb_tells}
+use Rattle.std.proofs.Common.{◌≡◌, ℕ, ◌≤◌, true, false, nat_eq, nat_lt, List, length, find, subst, refl, arith, inl, inr, Option, Some, None, Result, Ok, Err}
+use Rattle.std.proofs.lemmas.Bool.Decides.{nat_tests, eqb_tells, leb_tells}
 use Rattle.model_words.proofs.Chains.{went_on, refuse_if_went, refuse_if_refused, or_refuse_refused, last_test, first_refused}
 use Rattle.model_heap.proofs.NewApart.{new_vacant}
 use Rattle.model_words.proofs.Tests.{positive}
@@ -8,18 +8,18 @@ use Rattle.model_heap.proofs.NewObjects.{new_sound}
 use Rattle.model_heap.proofs.TableChanges.{free_sound}
 use Rattle.model_heap.proofs.TiedMemories.{free_tied, root_tied, stored_tied}
 use Rattle.model_heap.proofs.TiedNewObjects.{new_tied}
-use Rattle.model_words.specs.Classes.{class_for, pages_of}
+use Rattle.model_words.specs.Classes.{class_for}
 use Rattle.model_jobs.specs.Jobs.{Outcome, answered, new_answered, others_answered, table_freed}
-use Rattle.model_memory.specs.Memory.{Memory, next_serial, with_object, with_root}
-use Rattle.model_memory.specs.Plain.{Follows, IsNewRefusal, Named, PlainStep, copied, ends_outside, holding, named_by, plain, stored}
+use Rattle.model_memory.specs.Memory.{Memory, next_serial}
+use Rattle.model_memory.specs.Plain.{Follows, IsNewRefusal, Named, PlainStep, ends_outside, holding, named_by, plain, stored}
 use Rattle.model_heap.specs.Sound.{IsSound, IsTied}
-use Rattle.model_heap.specs.Table.{Group, Placed, Table, is_open, place_in, place_new, room_for_span, without_object}
+use Rattle.model_heap.specs.Table.{Group, Placed, Table, is_open, place_in, place_new, room_for_span}
 use Rattle.model_words.specs.declared.commands.Command.{Command}
 use Rattle.model_words.specs.declared.commands.Command.TheVariants.{Addr, Alias, Copy as CopyBytes, Free, Get, New, Peek, Poke, Put}
 use Rattle.model_words.specs.declared.commands.Reply.{Reply}
-use Rattle.model_words.specs.declared.commands.Reply.TheVariants.{At, Byte, Bytes, Done}
+use Rattle.model_words.specs.declared.commands.Reply.TheVariants.{At, Done}
 use Rattle.model_words.specs.declared.refusals.Refusal.{Refusal}
-use Rattle.model_words.specs.declared.refusals.Refusal.TheVariants.{NoAddresses, NoPages, Outside, TooLarge, Zero}
+use Rattle.model_words.specs.declared.refusals.Refusal.TheVariants.{Outside, TooLarge, Zero}
 use Rattle.model_words.proofs.ClassSizes.{class_none, class_some}
 use Rattle.model_heap.proofs.NewLengths.{new_length}
 use Rattle.model_memory.proofs.NamedObjects.{named_live, holding_held, within_object, copy_went}
@@ -32,11 +32,7 @@ pub record IsWell (m : Memory) (command : Command) (done : Outcome) : Type 0 whe
 
 -- room for a new span is refused for want of pages or of addresses
 room_refused : (t : Table) (class len : ℕ) (refusal : Refusal) → 1 ≤ len → len ≤ 2048 → room_for_span t class ≡ Err refusal → IsNewRefusal len refusal
-room_refused t class len refusal some few h = elim (refuse_if_refused NoPages (nat_lt t.free_pages (pages_of class)) _ refusal h) [
-  | inl pages ↦ subst (λ (x : Refusal). IsNewRefusal len x) pages.1 (some, few)
-  | inr rest ↦ let addresses = rest.1 in subst (λ (x : Refusal). IsNewRefusal len x)
-      (last_test NoAddresses (nat_lt 65536 (t.next_page + pages_of class)) refusal addresses) (some, few)
-]
+room_refused t class len refusal some few h = grind (arith, nat_tests, refuse_if_refused, last_test)
 
 -- a new object of a class is refused for want of room
 place_refused : (t : Table) (o : Option Group) (class len word serial : ℕ) (refusal : Refusal) → 1 ≤ len → len ≤ 2048
@@ -64,14 +60,16 @@ new_well : (m : Memory) (t : Table) (cell len word : ℕ) (r : Result Placed Ref
     → IsWell m (New cell len word) (new_answered m t (New cell len word) r)
 new_well m t cell len word (Err refusal) sound tied h =
     record { step = (new_refused t len word (next_serial m) refusal h, refl); sound = sound; tied = tied }
-new_well m t cell len word (Ok placed) sound tied h =
-    let long = new_length t len word (next_serial m) placed h in
-    let some : nat_eq len 0 ≡ false = long.some in
-    let few : nat_lt 2048 len ≡ false = within long.few in rw (some, few) (record {
-      step = (positive len long.some, long.few, refl, new_vacant m t len word (next_serial m) placed sound tied h, refl);
-      sound = new_sound t len word (next_serial m) placed sound h;
-      tied = new_tied m t cell len word placed sound tied h;
-    })
+new_well m t cell len word (Ok placed) sound tied h = grind (
+  arith,
+  nat_tests,
+  new_length,
+  within,
+  positive,
+  new_vacant m t len word (next_serial m) placed sound tied h,
+  new_sound t len word (next_serial m) placed sound h,
+  new_tied,
+)
   where
     within : len ≤ 2048 → nat_lt 2048 len ≡ false
     within few = elim (leb_tells 2049 len) [ inl past ↦ absurd (omega (arith, past.1, few)) | inr below ↦ below.0 ]
@@ -117,24 +115,16 @@ put_tied m t cell off bytes x tied h =
 
 -- what a `get` leaves is tied
 get_tied : (m : Memory) (t : Table) (cell off len : ℕ) (x : Reply × Memory) → IsTied m t → plain m 0 (Get cell off len) ≡ Ok x → IsTied x.1 t
-get_tied m t cell off len x tied h =
-    let named = went_on (named_by m cell) _ x h in
-    let inside = refuse_if_went Outside (ends_outside named.value.object off len) _ x named.then in
-    said_tied m t x (Bytes (record { items = slice_range named.value.object.bytes off (off + len) })) tied inside.1
+get_tied m t cell off len x tied h = grind arith
 
 -- what a `free` leaves is tied
 freed_tied : (m : Memory) (t : Table) (cell : ℕ) (x : Reply × Memory) → IsTied m t → plain m 0 (Free cell) ≡ Ok x
     → IsTied x.1 (table_freed t (named_by m cell))
-freed_tied m t cell x tied h =
-    let named = went_on (named_by m cell) _ x h in
-    rw named.is (said_tied (with_object m named.value.serial None) (without_object t named.value.serial) x Done
-    (free_tied m t named.value.serial named.value.object (named_live m cell named.value named.is) tied) named.then)
+freed_tied m t cell x tied h = grind (arith, nat_tests, went_on (named_by m cell) _ x h, said_tied, free_tied m t, named_live m cell, tied)
 
 -- what an `alias` leaves is tied
 alias_tied : (m : Memory) (t : Table) (to from : ℕ) (x : Reply × Memory) → IsTied m t → plain m 0 (Alias to from) ≡ Ok x → IsTied x.1 t
-alias_tied m t to from x tied h =
-    let named = went_on (named_by m from) _ x h in
-    said_tied (with_root m to named.value.serial) t x Done (root_tied m t to named.value.serial tied) named.then
+alias_tied m t to from x tied h = grind (arith, nat_tests, went_on (named_by m from) _ x h, said_tied, root_tied m t to, tied)
 
 -- what an `addr` leaves is tied
 addr_tied : (m : Memory) (t : Table) (cell : ℕ) (x : Reply × Memory) → IsTied m t → plain m 0 (Addr cell) ≡ Ok x → IsTied x.1 t
@@ -142,26 +132,16 @@ addr_tied m t cell x tied h = let named = went_on (named_by m cell) _ x h in sai
 
 -- what a `peek` leaves is tied
 peek_tied : (m : Memory) (t : Table) (place : ℕ) (x : Reply × Memory) → IsTied m t → plain m 0 (Peek place) ≡ Ok x → IsTied x.1 t
-peek_tied m t place x tied h =
-    let named = went_on (holding m place) _ x h in
-    said_tied m t x (Byte (slice_index named.value.object.bytes (place - named.value.object.address))) tied named.then
+peek_tied m t place x tied h = grind (arith, nat_tests, went_on (holding m place) _ x h, said_tied m t x, tied)
 
 -- what a `poke` leaves is tied
 poke_tied : (m : Memory) (t : Table) (place byte : ℕ) (x : Reply × Memory) → IsTied m t → plain m 0 (Poke place byte) ≡ Ok x → IsTied x.1 t
-poke_tied m t place byte x tied h =
-    let named = went_on (holding m place) _ x h in
-    let held = holding_held m place named.value named.is in
-    said_tied (stored m named.value (place - named.value.object.address) (byte ∷ [])) t x Done
-    (stored_tied m t named.value (place - named.value.object.address) (byte ∷ []) held.live
-    (let from = held.from in let below = held.below in omega (arith, from, below)) tied) named.then
+poke_tied m t place byte x tied h = grind (arith, nat_tests, went_on (holding m place) _ x h, holding_held m place, said_tied, stored_tied m t, tied)
 
 -- what a `copy` leaves is tied
 copy_tied : (m : Memory) (t : Table) (to to_off from from_off len : ℕ) (x : Reply × Memory) → IsTied m t
     → plain m 0 (CopyBytes to to_off from from_off len) ≡ Ok x → IsTied x.1 t
-copy_tied m t to to_off from from_off len x tied h =
-    let went = copy_went m to to_off from from_off len x h in
-    said_tied (copied m went.to_named to_off went.from_named from_off len) t x Done
-    (stored_tied m t went.to_named to_off (slice_range went.from_named.object.bytes from_off (from_off + len)) went.to_live went.room tied) went.is
+copy_tied m t to to_off from from_off len x tied h = grind (arith, nat_tests, copy_went m to to_off from from_off len x h, said_tied, stored_tied m t, tied)
 
 -- a command answered is a plain step, and leaves table and memory sound and tied
 pub answered_well : (m : Memory) (t : Table) (command : Command) → IsSound t → IsTied m t → IsWell m command (answered m t command)

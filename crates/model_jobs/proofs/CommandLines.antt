@@ -1,9 +1,9 @@
 -- The lines of commands and of a plan, read back.
-use Rattle.std.proofs.Common.{◌≡◌, ℕ, ◌-◌, ◌*◌, ◌^◌, ◌<◌, ◌≤◌, false, List, [], ◌∷◌, ◌++◌, map, nat_eq, Option, Some, None, Ok, length, ap, refl, sym, ◌∙◌, arith, inl, inr, append-nil, append_assoc, length-append}
+use Rattle.std.proofs.Common.{◌≡◌, ℕ, ◌-◌, ◌*◌, ◌^◌, ◌<◌, ◌≤◌, false, List, [], ◌∷◌, ◌++◌, map, nat_eq, Option, Some, None, Ok, length, ap, refl, sym, arith, append-nil, append_assoc, length-append}
 use Rattle.std.specs.Prelude.{codes, IsSome}
 use Rattle.std.specs.Fmt.{decimal}
 use Rattle.std.specs.List.{All, flat_map}
-use Rattle.std.proofs.lemmas.Bool.Decides.{leb_tells}
+use Rattle.std.proofs.lemmas.Bool.Decides.{nat_tests}
 use Rattle.std.proofs.lemmas.Bool.{lt-leb, ne_eqb, true≢false}
 use Rattle.std.proofs.lemmas.List.{length-map}
 use Rattle.model_words.specs.Classes.{row_of}
@@ -57,8 +57,7 @@ byte_field : (byte : ℕ) → byte ≤ 255 → IsShortField (byte_text byte)
 byte_field byte most = ((byte_within byte most, omega arith), omega arith)
 
 bytes_field : (bytes : List ℕ) → 1 ≤ length bytes → length bytes ≤ 32 → All (λ b. b ≤ 255) bytes → IsShortField (bytes_text bytes)
-bytes_field bytes some most all =
-    let hex = bytes_within bytes (within_from_all 255 bytes all) in ((hex.0, omega (arith, hex.1, some)), omega (arith, hex.1, most))
+bytes_field bytes some most all = grind (arith, nat_tests, bytes_within bytes (within_from_all 255 bytes all), within_from_all 255 bytes all)
 
 -- a command's text is its word and its fields
 pub command_spelt : (command : Command) → command_text command ≡ word_of command ++ flat_map field (fields_of command)
@@ -71,38 +70,17 @@ command_spelt command = simp (append_assoc, append-nil) refl
 command_back : (version : Version) (command : Command) → IsValidCommand version command
     → command_in version (word_of command) (fields_of command) ≡ Ok command
 command_back version (New cell len word) valid =
-    rw (
-      number_back 0 255 cell (omega (arith, valid.0)) (omega arith) valid.0,
-      number_back 0 65535 len (omega (arith, valid.1)) (omega arith) valid.1,
-      number_back 0 18446744073709551615 word (omega (arith, valid.2)) (omega arith) valid.2,
-    ) refl
+    grind (arith, nat_tests, number_back 0 255 cell, number_back 0 65535 len, number_back 0 18446744073709551615 word)
 command_back version (Put cell off bytes) valid =
-    rw (
-      number_back 0 255 cell (omega (arith, valid.0)) (omega arith) valid.0,
-      number_back 0 65535 off (omega (arith, valid.1)) (omega arith) valid.1,
-      bytes_back bytes.items valid.2 valid.3 valid.4,
-    ) refl
-command_back version (Get cell off len) valid =
-    rw (
-      number_back 0 255 cell (omega (arith, valid.0)) (omega arith) valid.0,
-      number_back 0 65535 off (omega (arith, valid.1)) (omega arith) valid.1,
-      number_back 1 32 len (omega (arith, valid.3)) valid.2 valid.3,
-    ) refl
+    grind (arith, nat_tests, number_back 0 255 cell, number_back 0 65535 off, bytes_back bytes.items valid.2 valid.3 valid.4)
+command_back version (Get cell off len) valid = grind (arith, nat_tests, number_back 0 255 cell, number_back 0 65535 off, number_back 1 32 len)
 command_back version (Free cell) valid = rw (number_back 0 255 cell (omega (arith, valid)) (omega arith) valid) refl
-command_back version (Alias to from) valid =
-    rw (number_back 0 255 to (omega (arith, valid.0)) (omega arith) valid.0, number_back 0 255 from (omega (arith, valid.1)) (omega arith) valid.1) refl
+command_back version (Alias to from) valid = grind (arith, nat_tests, number_back 0 255 to, number_back 0 255 from)
 command_back version (Addr cell) valid = rw (number_back 0 255 cell (omega (arith, valid)) (omega arith) valid) refl
 command_back version (Peek address) valid = rw (address_back address valid) refl
 command_back version (Poke address byte) valid = rw (address_back address valid.0, byte_back byte valid.1) refl
 command_back version (CopyBytes to to_off from from_off len) valid =
-    rw (
-      valid.0,
-      number_back 0 255 to (omega (arith, valid.1)) (omega arith) valid.1,
-      number_back 0 65535 to_off (omega (arith, valid.2)) (omega arith) valid.2,
-      number_back 0 255 from (omega (arith, valid.3)) (omega arith) valid.3,
-      number_back 0 65535 from_off (omega (arith, valid.4)) (omega arith) valid.4,
-      number_back 1 32 len (omega (arith, valid.6)) valid.5 valid.6,
-    ) refl
+    grind (arith, nat_tests, number_back 0 255 to, number_back 0 65535 to_off, number_back 0 255 from, number_back 0 65535 from_off, number_back 1 32 len)
 
 -- every part is a short field
 abbrev pub AreShortFields : List (List ℕ) → Type 0
@@ -137,16 +115,8 @@ command_room version (Alias to from) valid = short_room (fields_of (Alias to fro
 command_room version (Addr cell) valid = short_room (fields_of (Addr cell)) (decimal_field cell (omega (arith, valid)), tt) (omega arith)
 command_room version (Peek address) valid = short_room (fields_of (Peek address)) (address_field address, tt) (omega arith)
 command_room version (Poke address byte) valid = short_room (fields_of (Poke address byte)) (address_field address, (byte_field byte valid.1, tt)) (omega arith)
-command_room version (CopyBytes to to_off from from_off len) valid = short_room (fields_of (CopyBytes to to_off from from_off len)) (
-  decimal_field to (omega (arith, valid.1)),
-  (
-    decimal_field to_off (omega (arith, valid.2)),
-    (
-      decimal_field from (omega (arith, valid.3)),
-      (decimal_field from_off (omega (arith, valid.4)), (decimal_field len (omega (arith, valid.6)), tt)),
-    ),
-  ),
-) (omega arith)
+command_room version (CopyBytes to to_off from from_off len) valid =
+    grind (arith, nat_tests, short_room (fields_of (CopyBytes to to_off from from_off len)), fields_of, decimal_field)
 
 -- the word of a command, which begins no other section
 command_word : (command : Command)
@@ -164,9 +134,8 @@ command_word (CopyBytes to to_off from from_off len) = (word_by_test (codes "cop
 -- a command's line goes to the end of the script that is being read
 pub command_taken : (draft : Draft) (worker : ℕ) (command : Command) → draft.section ≡ InScript worker → IsValidCommand draft.version command
     → take_line draft (command_text command) ≡ Ok (record draft { script = draft.script ++ command ∷ [] })
-command_taken draft worker command here valid = let word = command_word command in let fields = command_room draft.version command valid in
-    rw (command_spelt command) (line_taken draft (word_of command) (fields_of command) word.0 fields.0 fields.1
-    ∙ rw (here, word.1, word.2, command_back draft.version command valid) refl)
+command_taken draft worker command here valid =
+    grind (arith, nat_tests, command_word, command_room, command_spelt, line_taken, word_of, fields_of, command_back)
 
 -- a command's line is printable
 pub command_printable : (version : Version) (command : Command) → IsValidCommand version command → AreWithin 32 126 (command_text command)
@@ -222,27 +191,12 @@ above_size size class most above = ne_eqb size class (λ same. omega (arith, sam
 
 -- the size of a class is small
 class_small : (class : ℕ) → IsSome (row_of class) → class < 2 ^ 64
-class_small class some = elim (leb_tells class 2048) [
-  | inl low ↦ omega (arith, low.1)
-  | inr high ↦ absurd (true≢false (sym (rw (
-    above_size 16 class (omega arith) high.1,
-    above_size 32 class (omega arith) high.1,
-    above_size 64 class (omega arith) high.1,
-    above_size 128 class (omega arith) high.1,
-    above_size 256 class (omega arith) high.1,
-    above_size 384 class (omega arith) high.1,
-    above_size 512 class (omega arith) high.1,
-    above_size 1024 class (omega arith) high.1,
-    above_size 1536 class (omega arith) high.1,
-    above_size 2048 class (omega arith) high.1,
-  ) at some)))
-]
+class_small class some = grind (arith, nat_tests, true≢false, above_size)
 
 -- the words' fields are read as the words
 words_back : (words : List ℕ) → AreWithin 0 18446744073709551615 words → words_in (map decimal words) ≡ Ok words
 words_back [] small = refl
-words_back (w ∷ ws) small =
-    rw (number_back 0 18446744073709551615 w (omega (arith, small.1)) (omega arith) small.1, words_back ws small.2) refl
+words_back (w ∷ ws) small = grind (arith, nat_tests, number_back 0 18446744073709551615 w, words_back ws small.2)
 
 -- an option that is some is no refusal
 some_passes : {A : Type 0} (n : ℕ) (o : Option A) → IsSome o → (or_refuse Number o >>= λ x. Ok n) ≡ Ok n
@@ -251,34 +205,20 @@ some_passes n (Some x) some = refl
 
 -- a class is read as its size
 class_back : (class : ℕ) → IsSome (row_of class) → class_in (decimal class) ≡ Ok class
-class_back class some = let small = class_small class some in
-    rw (number_back 0 18446744073709551615 class small (omega arith) (omega (arith, small))) (some_passes class (row_of class) some)
+class_back class some = grind (arith, nat_tests, class_small class some, number_back 0 18446744073709551615 class, some_passes class (row_of class) some)
 
 -- a line's word and fields are read as the line
 line_back : (version : Version) (workers : ℕ) (line : Line) → workers ≤ 64 → IsValidLine version workers line
     → line_in version workers (line_word line) (line_fields line) ≡ Ok line
 line_back version workers (RunWorker worker) few valid = rw (number_back 0 (workers - 1) worker (omega (arith, few, valid)) (omega arith) (omega (arith, valid))) refl
 line_back version workers (PairClass class t words) few valid =
-    rw (
-      lt-leb 33 (length (map decimal words)) (rw (length-map words decimal) (omega (arith, valid.2))),
-      class_back class valid.0,
-      number_back 0 64 t (omega (arith, valid.1)) (omega arith) valid.1,
-      words_back words (within_from_all 18446744073709551615 words valid.3),
-    ) refl
-line_back version workers (BeginMesh source destination) few valid =
-    rw (
-      number_back 0 65535 source (omega (arith, valid.0)) (omega arith) valid.0,
-      number_back 0 65535 destination (omega (arith, valid.1)) (omega arith) valid.1,
-    ) refl
+    grind (arith, nat_tests, lt-leb, length-map, class_back, number_back, words_back, within_from_all)
+line_back version workers (BeginMesh source destination) few valid = grind (arith, nat_tests, number_back 0 65535 source, number_back 0 65535 destination)
 line_back version workers StepMesh few valid = rw valid refl
 line_back version workers CancelMesh few valid = rw valid refl
 line_back version workers (StepClass class) few valid = rw (valid.0, class_back class valid.1) refl
 line_back version workers (CancelClass class) few valid = rw (valid.0, class_back class valid.1) refl
-line_back version workers (WholeMesh source destination) few valid =
-    rw (
-      number_back 0 65535 source (omega (arith, valid.0)) (omega arith) valid.0,
-      number_back 0 65535 destination (omega (arith, valid.1)) (omega arith) valid.1,
-    ) refl
+line_back version workers (WholeMesh source destination) few valid = grind (arith, nat_tests, number_back 0 65535 source, number_back 0 65535 destination)
 line_back version workers (SweepGroup group) few valid = rw (number_back 0 65535 group (omega (arith, valid)) (omega arith) valid) refl
 line_back version workers MakeReport few valid = refl
 
@@ -336,9 +276,7 @@ line_word_fits MakeReport = (word_by_test (codes "report") refl, refl)
 -- a line of the plan goes to the end of the plan
 pub plan_line_taken : (draft : Draft) (line : Line) → draft.section ≡ InPlan → draft.workers ≤ 64 → IsValidLine draft.version draft.workers line
     → take_line draft (line_text line) ≡ Ok (record draft { plan = draft.plan ++ line ∷ [] })
-plan_line_taken draft line here few valid = let word = line_word_fits line in let fields = line_room draft.version draft.workers line few valid in
-    rw (line_spelt line) (line_taken draft (line_word line) (line_fields line) word.0 fields.0 fields.1
-    ∙ rw (here, word.1, line_back draft.version draft.workers line few valid) refl)
+plan_line_taken draft line here few valid = grind (arith, nat_tests, line_word_fits, line_room, line_spelt, line_taken, line_word, line_fields, line_back)
 
 -- a line of the plan is printable
 pub plan_line_printable : (version : Version) (workers : ℕ) (line : Line) → workers ≤ 64 → IsValidLine version workers line → AreWithin 32 126 (line_text line)

@@ -1,5 +1,6 @@
 -- What a field that was read says of its number: the field is the number's spelling, and the number is in its range.
-use Rattle.std.proofs.Common.{◌≡◌, ℕ, suc, ◌+◌, ◌-◌, ◌*◌, ◌/◌, ◌%◌, ◌<◌, ◌≤◌, Bool, true, false, ◌&&◌, not, if◌then◌else◌, nat_eq, nat_le, List, [], ◌∷◌, map, Some, None, Ok, Err, length, refl, sym, subst, arith, inl, inr}
+use Rattle.std.proofs.lemmas.Bool.Decides.{nat_tests}
+use Rattle.std.proofs.Common.{◌≡◌, ℕ, ◌+◌, ◌*◌, ◌/◌, ◌%◌, ◌<◌, ◌≤◌, Bool, true, false, ◌&&◌, not, if◌then◌else◌, nat_eq, nat_le, List, [], ◌∷◌, map, Some, Ok, Err, length, refl, sym, subst, arith, inl, inr}
 use Rattle.std.specs.Prelude.{IsSome, ◌⊎◌}
 use Rattle.std.specs.Fmt.{decimal}
 use Rattle.std.specs.List.{All}
@@ -28,37 +29,26 @@ pub same_by_test : (xs ys : List ℕ) → are_same xs ys ≡ true → xs ≡ ys
 same_by_test [] [] h = refl
 same_by_test [] (y ∷ ys) h = absurd (true≢false (sym h))
 same_by_test (x ∷ xs) [] h = absurd (true≢false (sym h))
-same_by_test (x ∷ xs) (y ∷ ys) h =
-    let parts = and_parts (nat_eq x y) (are_same xs ys) h in rw (equal x y parts.0, same_by_test xs ys parts.1) refl
+same_by_test (x ∷ xs) (y ∷ ys) h = grind (arith, nat_tests, and_parts (nat_eq x y) (are_same xs ys) h, equal x y, same_by_test xs ys)
 
 -- a decimal field that was read is the spelling of its number
 pub number_told : (least most : ℕ) (field : List ℕ) (n : ℕ) → number_in least most field ≡ Ok n → (field ≡ decimal n) × (least ≤ n) × (n ≤ most)
-number_told least most field n h =
-    let passed = let_pass Number (are_same (decimal (decimal_value field)) field && is_between least most (decimal_value field)) (decimal_value field) n h in
-    let parts = and_parts (are_same (decimal (decimal_value field)) field) (is_between least most (decimal_value field)) passed.0 in
-    let ends = between_by_test least most (decimal_value field) parts.1 in
-    subst (λ (v : ℕ). (field ≡ decimal v) × (least ≤ v) × (v ≤ most)) passed.1
-    (sym (same_by_test (decimal (decimal_value field)) field parts.0), ends.0, ends.1)
+number_told least most field n h = grind (arith, nat_tests, let_pass, and_parts, between_by_test, same_by_test (decimal (decimal_value field)) field)
 
 -- an address that was read is the spelling of its number
 pub address_told : (field : List ℕ) (address : ℕ) → address_in field ≡ Ok address → (field ≡ address_text address) × (address ≤ 268435455)
-address_told field address h =
-    let passed = let_pass Number (are_same (address_text (hex_number field)) field && nat_le (hex_number field) 268435455) (hex_number field) address h in
-    let parts = and_parts (are_same (address_text (hex_number field)) field) (nat_le (hex_number field) 268435455) passed.0 in
-    subst (λ (v : ℕ). (field ≡ address_text v) × (v ≤ 268435455)) passed.1
-    (sym (same_by_test (address_text (hex_number field)) field parts.0), leb-true (hex_number field) 268435455 parts.1)
+address_told field address h = grind (
+  arith,
+  nat_tests,
+  let_pass Number (are_same (address_text (hex_number field)) field && nat_le (hex_number field) 268435455) (hex_number field) address h,
+  and_parts,
+  same_by_test (address_text (hex_number field)) field,
+  leb-true,
+)
 
 -- a hexadecimal digit that was read is the spelling of its value
 pub digit_told : (byte v : ℕ) → hex_value byte ≡ Some v → (byte ≡ hex_digit v) × (v < 16)
-digit_told byte v h = elim (if_tells (is_between 48 57 byte) (Some (byte - 48)) (if is_between 97 102 byte then Some (byte - 87) else None) (Some v) h) [
-  | inl low ↦ let ends = between_by_test 48 57 byte low.0 in let is : byte - 48 ≡ v = cc low.1 in
-      rw (le-leb (suc v) 10 (omega (arith, ends.0, ends.1, is))) (omega (arith, ends.0, is), omega (arith, ends.0, ends.1, is))
-  | inr other ↦ elim (if_tells (is_between 97 102 byte) (Some (byte - 87)) None (Some v) other.1) [
-    | inl high ↦ let ends = between_by_test 97 102 byte high.0 in let is : byte - 87 ≡ v = cc high.1 in
-        rw (lt-leb (suc v) 10 (omega (arith, ends.0, ends.1, is))) (omega (arith, ends.0, is), omega (arith, ends.0, ends.1, is))
-    | inr none ↦ absurd (cc none.1)
-  ]
-]
+digit_told byte v h = grind (arith, nat_tests, if_tells, between_by_test, le-leb, lt-leb)
 
 -- two hexadecimal digits that were read are the spelling of their byte
 pub digits_told : (high low byte : ℕ) → byte_from high low ≡ Ok byte
@@ -77,8 +67,7 @@ byte_told field byte h = absurd (cc h)
 
 -- bytes that were read are spelt by their digits
 pub digits_of_bytes_told : (digits bytes : List ℕ) → bytes_from digits ≡ Ok bytes → (digits ≡ bytes_text bytes) × All (λ b. b ≤ 255) bytes
-digits_of_bytes_told [] bytes h = let is : [] ≡ bytes = cc h in
-    subst (λ (bs : List ℕ). ([] ≡ bytes_text bs) × All (λ b. b ≤ 255) bs) is (refl, All-nil (λ b. b ≤ 255))
+digits_of_bytes_told [] bytes h = grind (arith, nat_tests, All-nil)
 digits_of_bytes_told (high ∷ []) bytes h = absurd (cc h)
 digits_of_bytes_told (high ∷ low ∷ digits) bytes h =
     let byte = went_on (byte_from high low) _ bytes h in let later = went_on (bytes_from digits) _ bytes byte.then in
@@ -104,18 +93,12 @@ bytes_told field bytes h =
 
 -- a class that was read is one of the table, and is spelt by its field
 pub class_told : (field : List ℕ) (class : ℕ) → class_in field ≡ Ok class → (field ≡ decimal class) × IsSome (row_of class)
-class_told field class h =
-    let size = went_on (word_in field) _ class h in let row = or_refuse_went Number (row_of size.value) _ class size.then in
-    let is : size.value ≡ class = cc row.then in
-    let told = number_told 0 18446744073709551615 field size.value size.is in
-    let some : IsSome (row_of size.value) = rw row.is refl in
-    subst (λ (c : ℕ). (field ≡ decimal c) × IsSome (row_of c)) is (told.0, some)
+class_told field class h = grind (arith, number_told)
 
 -- words that were read are spelt by their fields
 pub words_told : (fields : List (List ℕ)) (words : List ℕ) → words_in fields ≡ Ok words
     → (fields ≡ map decimal words) × All (λ w. w ≤ 18446744073709551615) words
-words_told [] words h = let is : [] ≡ words = cc h in
-    subst (λ (ws : List ℕ). ([] ≡ map decimal ws) × All (λ w. w ≤ 18446744073709551615) ws) is (refl, All-nil (λ w. w ≤ 18446744073709551615))
+words_told [] words h = grind (arith, nat_tests, All-nil)
 words_told (f ∷ fs) words h =
     let word = went_on (word_in f) _ words h in let later = went_on (words_in fs) _ words word.then in
     let front = number_told 0 18446744073709551615 f word.value word.is in let rest = words_told fs later.value later.is in

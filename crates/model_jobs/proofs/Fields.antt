@@ -1,9 +1,9 @@
 -- The fields of a line, read back.
-use Rattle.std.proofs.Common.{◌≡◌, ℕ, zero, suc, ◌+◌, ◌*◌, ◌/◌, ◌%◌, ◌^◌, ◌<◌, ◌≤◌, true, nat_le, List, [], ◌∷◌, ◌++◌, Some, Ok, length, ap, refl, arith, inl, inr}
+use Rattle.std.proofs.Common.{◌≡◌, ℕ, zero, suc, ◌+◌, ◌*◌, ◌/◌, ◌%◌, ◌^◌, ◌<◌, ◌≤◌, true, nat_le, List, [], ◌∷◌, ◌++◌, Some, Ok, length, refl, arith}
 use Rattle.std.specs.List.{All, fold, list_all}
 use Rattle.std.specs.Fmt.{decimal}
 use Rattle.std.proofs.lemmas.Grind.{common_steps}
-use Rattle.std.proofs.lemmas.Bool.Decides.{leb_tells}
+use Rattle.std.proofs.lemmas.Bool.Decides.{nat_tests}
 use Rattle.std.proofs.lemmas.Bool.{le-leb, lt-leb, leb-true, eq-eqb, and_parts}
 use Rattle.std.proofs.lemmas.Nat.{div_below}
 use Rattle.std.proofs.Math.Nat.{pow-suc}
@@ -34,9 +34,7 @@ between_by_test least most n passes = let parts = and_parts (nat_le least n) (na
 -- the test of each byte tells it
 pub within_by_test : (least most : ℕ) (bytes : List ℕ) → list_all (is_between least most) bytes ≡ true → AreWithin least most bytes
 within_by_test least most [] passes = tt
-within_by_test least most (b ∷ bs) passes =
-    let parts = and_parts (is_between least most b) (list_all (is_between least most) bs) passes in let ends = between_by_test least most b parts.0 in
-    (ends.0, ends.1, within_by_test least most bs parts.1)
+within_by_test least most (b ∷ bs) passes = grind (arith, nat_tests, and_parts, between_by_test, within_by_test least most bs)
 
 -- decimal digits give their number back
 pub value_of_decimal : (n : ℕ) → n < 2 ^ 64 → decimal_value (decimal n) ≡ n
@@ -45,8 +43,7 @@ value_of_decimal = decimal_by_steps (λ n digits. fold with_decimal 0 digits ≡
 
 -- a decimal field is read as its number
 pub number_back : (least most n : ℕ) → n < 2 ^ 64 → least ≤ n → n ≤ most → number_in least most (decimal n) ≡ Ok n
-number_back least most n small low high =
-    rw (value_of_decimal n small, same_bytes (decimal n), le-leb least n low, le-leb n most high) refl
+number_back least most n small low high = grind (arith, nat_tests, value_of_decimal n small, same_bytes (decimal n), le-leb least n low, le-leb n most high)
 
 -- the digits of a number are printable
 pub decimal_within : (n : ℕ) → n < 2 ^ 64 → AreWithin 33 126 (decimal n) × (1 ≤ length (decimal n))
@@ -60,77 +57,39 @@ decimal_short n small = length-decimal-le 20 n (omega arith) (omega arith) small
 
 -- a hexadecimal digit is printable
 pub digit_within : (n : ℕ) → n < 16 → (48 ≤ hex_digit n) × (hex_digit n ≤ 102)
-digit_within n small = elim (leb_tells (suc n) 10) [
-  | inl low ↦ rw low.0 (omega (arith, low.1), omega (arith, low.1))
-  | inr high ↦ rw high.0 (omega (arith, high.1), omega (arith, high.1, small))
-]
+digit_within n small = grind (arith, nat_tests)
 
 -- a hexadecimal digit gives its value back
 pub value_of_digit : (n : ℕ) → n < 16 → hex_value (hex_digit n) ≡ Some n
-value_of_digit n small = elim (leb_tells (suc n) 10) [
-  | inl low ↦ rw (low.0, le-leb 48 (48 + n) (omega arith), le-leb (48 + n) 57 (omega (arith, low.1))) (ap Some (omega arith))
-  | inr high ↦ rw (
-    high.0,
-    le-leb 48 (87 + n) (omega arith),
-    lt-leb (87 + n) 57 (omega (arith, high.1)),
-    le-leb 97 (87 + n) (omega (arith, high.1)),
-    le-leb (87 + n) 102 (omega (arith, small)),
-  ) (ap Some (omega arith))
-]
+value_of_digit n small =
+    grind (arith, nat_tests, le-leb 48 (48 + n), le-leb (48 + n) 57, le-leb 48 (87 + n), lt-leb (87 + n) 57, le-leb 97 (87 + n), le-leb (87 + n) 102)
 
 -- a number with one more hexadecimal digit
 pub with_digit : (n d : ℕ) → d < 16 → with_hex n (hex_digit d) ≡ 16 * n + d
-with_digit n d small = elim (leb_tells (suc d) 10) [
-  | inl low ↦ rw (low.0, le-leb (suc (48 + d)) 97 (omega (arith, low.1))) (omega arith)
-  | inr high ↦ rw (high.0, lt-leb (suc (87 + d)) 97 (omega (arith, high.1))) (omega arith)
-]
+with_digit n d small = grind (arith, nat_tests, le-leb (suc (48 + d)) 97, lt-leb (suc (87 + d)) 97)
 
 -- hexadecimal digits give their number back
 pub value_of_hex : (more n : ℕ) → n < 16 ^ suc more → fold with_hex 0 (hex_from more n) ≡ n
 value_of_hex zero n small = rw (with_digit 0 (n % 16) (omega arith)) (omega arith)
-value_of_hex (suc more) n small = elim (leb_tells (suc n) 16) [
-  | inl low ↦ rw (low.0, with_digit 0 n low.1) (omega arith)
-  | inr high ↦ rw (
-    high.0,
-    fold-append with_hex 0 (hex_from more (n / 16)) (hex_digit (n % 16) ∷ []),
-    value_of_hex more (n / 16) (div_below n 16 (16 ^ suc more) (omega arith) (omega (arith, small, pow-suc 16 (suc more)))),
-    with_digit (n / 16) (n % 16) (omega arith),
-  ) (omega arith)
-]
+value_of_hex (suc more) n small = grind (arith, nat_tests, with_digit, fold-append, value_of_hex more (n / 16), div_below, pow-suc)
 
 -- an address is read as its number
 pub address_back : (address : ℕ) → address ≤ 268435455 → address_in (address_text address) ≡ Ok address
-address_back address most =
-    rw (value_of_hex 7 address (omega (arith, most)), same_bytes (address_text address), le-leb address 268435455 most) refl
+address_back address most = grind (arith, nat_tests, value_of_hex 7 address, same_bytes (address_text address), le-leb address 268435455 most)
 
 -- a number that fits fewer digits is spelt in as many
 pub fewer_digits : (more n : ℕ) → n < 16 ^ suc more → hex_from (suc more) n ≡ hex_from more n
-fewer_digits zero n small =
-    let same : n % 16 ≡ n = omega (arith, small) in rw (le-leb (suc n) 16 (omega (arith, small)), same) refl
-fewer_digits (suc more) n small = elim (leb_tells (suc n) 16) [
-  | inl low ↦ rw low.0 refl
-  | inr high ↦
-      rw (high.0, fewer_digits more (n / 16) (div_below n 16 (16 ^ suc more) (omega arith) (omega (arith, small, pow-suc 16 (suc more))))) refl
-]
+fewer_digits zero n small = grind (arith, nat_tests, le-leb (suc n) 16)
+fewer_digits (suc more) n small = grind (arith, nat_tests, fewer_digits more (n / 16), div_below n 16 (16 ^ suc more), pow-suc 16 (suc more))
 
 -- the digits of an address are printable, and at most so many and one
 pub hex_within : (more n : ℕ) → AreWithin 33 126 (hex_from more n) × (1 ≤ length (hex_from more n)) × (length (hex_from more n) ≤ more + 1)
-hex_within zero n =
-    let digit = digit_within (n % 16) (omega arith) in ((omega (arith, digit.0), omega (arith, digit.1), tt), omega arith, omega arith)
-hex_within (suc more) n = elim (leb_tells (suc n) 16) [
-  | inl low ↦ let digit = digit_within n low.1 in rw low.0 ((omega (arith, digit.0), omega (arith, digit.1), tt), omega arith, omega arith)
-  | inr high ↦ let digit = digit_within (n % 16) (omega arith) in let front = hex_within more (n / 16) in
-      rw high.0 (
-        within_append 33 126 (hex_from more (n / 16)) (hex_digit (n % 16) ∷ []) front.0 (omega (arith, digit.0), omega (arith, digit.1), tt),
-        grind (arith, common_steps, front.1),
-        grind (arith, common_steps, front.2),
-      )
-]
+hex_within zero n = grind (arith, nat_tests, digit_within (n % 16))
+hex_within (suc more) n = grind (arith, within_append, common_steps, hex_within more (n / 16))
 
 -- two hexadecimal digits give their byte back
 pub value_of_byte : (byte : ℕ) → byte ≤ 255 → byte_from (hex_digit (byte / 16)) (hex_digit (byte % 16)) ≡ Ok byte
-value_of_byte byte most =
-    rw (value_of_digit (byte / 16) (omega (arith, most)), value_of_digit (byte % 16) (omega arith)) (ap Ok (omega arith))
+value_of_byte byte most = grind (arith, nat_tests, value_of_digit (byte / 16), value_of_digit (byte % 16))
 
 -- a byte is read as its number
 pub byte_back : (byte : ℕ) → byte ≤ 255 → byte_in (byte_text byte) ≡ Ok byte
@@ -157,9 +116,7 @@ bytes_back bytes some most all =
 
 -- the digits of a byte are printable
 pub byte_within : (byte : ℕ) → byte ≤ 255 → AreWithin 33 126 (byte_text byte)
-byte_within byte most =
-    let high = digit_within (byte / 16) (omega (arith, most)) in let low = digit_within (byte % 16) (omega arith) in
-    (omega (arith, high.0), omega (arith, high.1), (omega (arith, low.0), omega (arith, low.1), tt))
+byte_within byte most = grind (arith, nat_tests, digit_within (byte / 16), digit_within (byte % 16))
 
 -- the digits of bytes are printable, two of each
 pub bytes_within : (bytes : List ℕ) → AreBytes bytes → AreWithin 33 126 (bytes_text bytes) × (length (bytes_text bytes) ≡ 2 * length bytes)

@@ -1,6 +1,6 @@
 -- A job's walk keeps table and memory sound and tied, and its history legal.
-use Rattle.std.proofs.Common.{◌≡◌, ℕ, suc, ◌<◌, Bool, true, false, cond, nat_eq, nat_le, List, [], ◌∷◌, ◌++◌, length, slice_index_or, slice_set, ap, refl, sym, ◌∙◌, arith, inl, inr, Some, None, Result, Ok, Err, append_assoc, append-nil}
-use Rattle.std.proofs.lemmas.Bool.Decides.{eqb_tells, leb_tells}
+use Rattle.std.proofs.Common.{◌≡◌, ℕ, ◌<◌, true, cond, nat_eq, List, [], ◌∷◌, ◌++◌, length, slice_index_or, slice_set, ap, refl, sym, ◌∙◌, arith, inl, inr, Some, None, Result, Ok, Err, append_assoc, append-nil}
+use Rattle.std.proofs.lemmas.Bool.Decides.{nat_tests, eqb_tells}
 use Rattle.std.proofs.lemmas.List.{get_or-set_same, get_or-set_other, get_or_past}
 use Rattle.model_jobs.proofs.AnsweredCommands.{answered_well}
 use Rattle.model_words.proofs.Tests.{tells}
@@ -10,7 +10,7 @@ use Rattle.model_heap.proofs.TableChanges.{begin_sound, cancel_sound, empty_soun
 use Rattle.model_heap.proofs.TiedTables.{begin_tied, cancel_tied, step_tied, sweep_tied, whole_tied}
 use Rattle.model_jobs.specs.JobLaws.{IsRunning}
 use Rattle.model_memory.specs.Seats.{commands_of}
-use Rattle.model_jobs.specs.Jobs.{Answer, Job, Line, Outcome, PagesMeshed, PagesSwept, State, StepsLeft, answer, answered, attempted, is_held_back, counted, later_commands, busy_in, opening, run_next, state_after, step_answered, with_reply, RunWorker, PairClass, BeginMesh, StepMesh, CancelMesh, StepClass, CancelClass, WholeMesh, SweepGroup, MakeReport}
+use Rattle.model_jobs.specs.Jobs.{Answer, Job, Line, Outcome, PagesMeshed, PagesSwept, State, StepsLeft, answer, answered, counted, later_commands, busy_in, opening, run_next, state_after, step_answered, with_reply, RunWorker, PairClass, BeginMesh, StepMesh, CancelMesh, StepClass, CancelClass, WholeMesh, SweepGroup, MakeReport}
 use Rattle.model_memory.specs.Memory.{Object, empty_memory, object_of}
 use Rattle.model_heap.specs.Mesh.{Stepped, begin, cancel, first_mesh, mesh_in, mesh_whole, step}
 use Rattle.model_memory.specs.Plain.{Entry, IsLegal}
@@ -48,20 +48,10 @@ reply_running state worker command running =
           (record { worker = worker; command = command; reply = (answered state.memory state.table command).reply }) running.legal well.step;
     }
 
--- an attempt keeps what the state and the one after the reply have in common
-pub attempt_keeps : (P : State → Type 0) (state : State) (worker : ℕ) (command : Command) (blocked : Bool) (done : Outcome) → P state
-    → P (with_reply state worker command done) → P (attempted state worker command blocked done).state
-attempt_keeps P state worker command true done before after = before
-attempt_keeps P state worker command false done before after = after
-
 -- so does a worker's attempt at the next command, where the journal may be full
 pub run_keeps : (P : State → Type 0) (job : Job) (state : State) (worker : ℕ) (command : Command) (commands : List Command) → P state
     → P (with_reply state worker command (answered state.memory state.table command)) → P (run_next job state worker (command ∷ commands)).state
-run_keeps P job state worker command commands before after = elim (tells (nat_le job.history (length state.entries))) [
-  | inl full ↦ rw full before
-  | inr room ↦ rw room (attempt_keeps P state worker command (is_held_back state.memory state.table command (answered state.memory state.table command).reply)
-      (answered state.memory state.table command) before after)
-]
+run_keeps P job state worker command commands before after = grind arith
 
 -- a worker's attempt keeps it so
 run_running : (job : Job) (state : State) (worker : ℕ) (commands : List Command) → IsRunning state → IsRunning (run_next job state worker commands).state
@@ -135,10 +125,7 @@ history_legal job lines = (lines_running job lines).legal
 commands_more : (worker : ℕ) (entries : List Entry) (entry : Entry)
     → commands_of worker (entries ++ entry ∷ []) ≡ commands_of worker entries ++ cond (nat_eq entry.worker worker) (entry.command ∷ []) []
 commands_more worker [] entry = elim (tells (nat_eq entry.worker worker)) [ inl own ↦ rw own refl | inr other ↦ rw other refl ]
-commands_more worker (first ∷ entries) entry = elim (tells (nat_eq first.worker worker)) [
-  | inl own ↦ rw own (ap (λ (cs : List Command). first.command ∷ cs) (commands_more worker entries entry))
-  | inr other ↦ rw other (commands_more worker entries entry)
-]
+commands_more worker (first ∷ entries) entry = grind (arith, nat_tests, commands_more worker entries entry, entry)
 
 -- the worker's entries, and after them what is left of its script, are this script
 abbrev AreBegun : ℕ → List Command → State → Type 0
@@ -147,11 +134,7 @@ AreBegun worker script state = commands_of worker state.entries ++ slice_index_o
 -- a worker with a command left is one of the scripts'
 script_there : (scripts : List (List Command)) (worker : ℕ) (command : Command) (commands : List Command)
     → slice_index_or scripts worker [] ≡ command ∷ commands → worker < length scripts
-script_there scripts worker command commands h = elim (leb_tells (suc worker) (length scripts)) [
-  | inl below ↦ below.1
-  | inr past ↦ let none : slice_index_or scripts worker [] ≡ [] = get_or_past scripts worker [] (omega (arith, past.1)) in
-      let clash : command ∷ commands ≡ [] = sym h ∙ none in absurd (cc clash)
-]
+script_there scripts worker command commands h = grind (arith, nat_tests, get_or_past scripts worker [])
 
 -- a reply keeps it so
 reply_begun : (state : State) (worker runner : ℕ) (script : List Command) (command : Command) (commands : List Command) (done : Outcome)
@@ -187,9 +170,13 @@ reply_begun state worker runner script command commands done next begun = elim (
 run_begun : (job : Job) (state : State) (worker runner : ℕ) (script commands : List Command) → slice_index_or state.scripts runner [] ≡ commands
     → AreBegun worker script state → AreBegun worker script (run_next job state runner commands).state
 run_begun job state worker runner script [] next begun = begun
-run_begun job state worker runner script (command ∷ commands) next begun =
-    run_keeps (λ s. AreBegun worker script s) job state runner command commands begun
-    (reply_begun state worker runner script command commands (answered state.memory state.table command) next begun)
+run_begun job state worker runner script (command ∷ commands) next begun = grind (
+  arith,
+  nat_tests,
+  run_keeps,
+  AreBegun,
+  reply_begun state worker runner script command commands (answered state.memory state.table command) next begun,
+)
 
 -- a table with a count changes neither entries nor scripts
 counted_begun : (state : State) (worker : ℕ) (script : List Command) (say : ℕ → Answer) (r : Result Counted Refusal) → AreBegun worker script state

@@ -1,4 +1,5 @@
 -- A job's walk keeps the count of physical pages, so its reports add up.
+use Rattle.std.proofs.lemmas.Bool.Decides.{nat_tests}
 use Rattle.std.proofs.Common.{◌≡◌, ℕ, ◌+◌, true, nat_eq, List, [], ◌∷◌, Result, Ok, Err, slice_index_or, refl, arith}
 use Rattle.model_heap.proofs.CountedPages.{begin_counted, cancel_counted, free_counted, new_counted, step_counted, sweep_counted, taken_mapped, whole_counted}
 use Rattle.model_jobs.proofs.JobHistories.{answer_running, busy, lines_keep, opening_running, run_keeps}
@@ -39,8 +40,7 @@ freed_keeps pages t (Ok named) counted = free_counted pages t named.serial count
 -- a command answered keeps it
 answered_counted : (pages : ℕ) (m : Memory) (t : Table) (command : Command) → IsSound t → AreCounted pages t → AreCounted pages (answered m t command).table
 answered_counted pages m t (New cell len word) sound done =
-    new_keeps pages m t (New cell len word) (place_new t len word (next_serial m)) done
-    (λ placed h. new_counted pages t len word (next_serial m) placed sound done h)
+    grind (arith, nat_tests, new_keeps pages m t (New cell len word) (place_new t len word (next_serial m)) done, new_counted pages t len word (next_serial m))
 answered_counted pages m t (Free cell) sound done =
     others_keep_count pages m t (table_freed t (named_by m cell)) (plain m 0 (Free cell)) done (freed_keeps pages t (named_by m cell) done)
 answered_counted pages m t (Put cell off bytes) sound done = others_keep_count pages m t t (plain m 0 (Put cell off bytes)) done done
@@ -79,9 +79,12 @@ step_keeps pages state (Ok x) done keeps = keeps x refl
 answer_counted : (job : Job) (state : State) (line : Line) → IsSound state.table → HasPages job.pages state → HasPages job.pages (answer job state line).state
 answer_counted job state (RunWorker worker) sound done = run_counted job state worker (slice_index_or state.scripts worker []) sound done
 answer_counted job state (PairClass class t words) sound done = done
-answer_counted job state (BeginMesh source destination) sound done =
-    counted_keeps job.pages state StepsLeft (begin (busy_in job.version) state.table source destination) done
-    (λ x h. begin_counted job.pages (busy_in job.version) state.table source destination x done h)
+answer_counted job state (BeginMesh source destination) sound done = grind (
+  arith,
+  nat_tests,
+  counted_keeps job.pages state StepsLeft (begin (busy_in job.version) state.table source destination) done,
+  begin_counted job.pages (busy_in job.version) state.table source destination,
+)
 answer_counted job state StepMesh sound done = step_keeps job.pages state (step state.table (first_mesh state.table)) done
     (λ x h. step_counted job.pages state.table (λ mesh. true) x sound done h)
 answer_counted job state CancelMesh sound done = counted_keeps job.pages state StepsLeft (cancel state.table (first_mesh state.table)) done

@@ -1,20 +1,20 @@
 -- What a line that was taken says: the line is the text of the command, the line of the plan or the header that was read.
-use Rattle.std.proofs.Common.{◌≡◌, ℕ, suc, ◌+◌, ◌-◌, ◌≤◌, true, false, ◌&&◌, not, if◌then◌else◌, nat_eq, nat_lt, List, [], ◌∷◌, ◌++◌, map, Result, Ok, Err, length, ap, refl, sym, subst, ◌∙◌, arith, inl, inr, append-nil}
+use Rattle.std.proofs.Common.{◌≡◌, ℕ, suc, ◌+◌, ◌≤◌, true, false, ◌&&◌, not, if◌then◌else◌, nat_eq, nat_lt, List, [], ◌∷◌, ◌++◌, map, Result, Ok, Err, length, ap, refl, sym, subst, ◌∙◌, arith, inl, inr, append-nil}
 use Rattle.std.specs.Prelude.{codes, IsSome, ◌⊎◌}
 use Rattle.std.specs.Fmt.{decimal}
-use Rattle.std.specs.List.{flat_map, list_all, list_any, slice_split, join_with_byte}
-use Rattle.std.proofs.lemmas.Bool.Decides.{leb_tells}
+use Rattle.std.specs.List.{flat_map, list_all, slice_split, join_with_byte}
+use Rattle.std.proofs.lemmas.Bool.Decides.{nat_tests, leb_tells}
 use Rattle.std.proofs.lemmas.Bool.{and_parts, leb-true, true≢false}
 use Rattle.std.proofs.lemmas.List.{length-map}
 use Rattle.std.proofs.lemmas.List.Splits.{join_with_byte-slice_split}
-use Rattle.model_jobs.specs.JobFiles.{are_same, number_in, address_in, bytes_in, byte_in, cell_in, short_in, word_in, class_in, words_in, one_field, two_fields, three_fields, five_fields, no_field, new_in, put_in, get_in, free_in, alias_in, addr_in, peek_in, poke_in, copy_in, is_second, job_rules, command_in, run_in, pair_in, groups_in, of_groups_in, sweep_in, bare_in, of_class_in, of_mesh_in, line_in, Section, Draft, AtVersion, AtPages, AtHistory, AtWorkers, AtFirstWorker, InScript, InPlan, AtEnd, script_closed, version_of, header_in, take_in, is_printable, is_empty, take_fields, take_line, IsValidLine, IsValidCommand}
-use Rattle.model_jobs.specs.Jobs.{Line, RunWorker, PairClass, BeginMesh, StepMesh, CancelMesh, StepClass, CancelClass, WholeMesh, SweepGroup, MakeReport}
+use Rattle.model_jobs.specs.JobFiles.{are_same, number_in, address_in, bytes_in, byte_in, cell_in, short_in, word_in, class_in, words_in, one_field, two_fields, three_fields, five_fields, no_field, new_in, put_in, get_in, free_in, alias_in, addr_in, peek_in, poke_in, copy_in, is_second, job_rules, command_in, run_in, pair_in, of_groups_in, sweep_in, bare_in, of_class_in, of_mesh_in, line_in, Section, Draft, AtFirstWorker, InScript, InPlan, AtEnd, script_closed, header_in, take_in, is_printable, take_fields, take_line, IsValidLine, IsValidCommand}
+use Rattle.model_jobs.specs.Jobs.{Line, PairClass, BeginMesh, StepMesh, CancelMesh, StepClass, CancelClass, WholeMesh, MakeReport}
 use Rattle.model_jobs.specs.ReaderLaws.{IsHeader, IsNextWorker, IsPlanHead, IsCommandLine, IsEnd, IsPlanLine}
 use Rattle.model_jobs.specs.Texts.{field, number_field, command_text, line_text}
 use Rattle.model_words.proofs.Tests.{equal}
 use Rattle.model_words.specs.Words.{◌>>=◌, refuse_if}
 use Rattle.model_words.specs.declared.commands.Command.{Command}
-use Rattle.model_words.specs.declared.commands.Command.TheVariants.{New, Put, Get, Free, Alias, Addr, Peek, Poke, Copy as CopyBytes}
+use Rattle.model_words.specs.declared.commands.Command.TheVariants.{New, Put, Get, Peek, Poke, Copy as CopyBytes}
 use Rattle.model_words.specs.Classes.{row_of}
 use Rattle.model_words.specs.declared.faults.FaultKind.{FaultKind}
 use Rattle.model_words.specs.declared.faults.FaultKind.TheVariants.{LongLine, Byte, Word}
@@ -37,15 +37,13 @@ two_told fields f h = absurd (cc h)
 
 -- the three fields that there are
 three_told : (fields : List (List ℕ)) (f : List ℕ × List ℕ × List ℕ) → three_fields fields ≡ Ok f → fields ≡ f.0 ∷ f.1 ∷ f.2 ∷ []
-three_told (a ∷ b ∷ c ∷ []) f h =
-    let is : (a, b, c) ≡ f = cc h in subst (λ (g : List ℕ × List ℕ × List ℕ). a ∷ b ∷ c ∷ [] ≡ g.0 ∷ g.1 ∷ g.2 ∷ []) is refl
+three_told (a ∷ b ∷ c ∷ []) f h = grind (arith, nat_tests)
 three_told fields f h = absurd (cc h)
 
 -- the five fields that there are
 five_told : (fields : List (List ℕ)) (f : List ℕ × List ℕ × List ℕ × List ℕ × List ℕ) → five_fields fields ≡ Ok f
     → fields ≡ f.0 ∷ f.1 ∷ f.2 ∷ f.3 ∷ f.4 ∷ []
-five_told (a ∷ b ∷ c ∷ d ∷ e ∷ []) f h = let is : (a, b, c, d, e) ≡ f = cc h in
-    subst (λ (g : List ℕ × List ℕ × List ℕ × List ℕ × List ℕ). a ∷ b ∷ c ∷ d ∷ e ∷ [] ≡ g.0 ∷ g.1 ∷ g.2 ∷ g.3 ∷ g.4 ∷ []) is refl
+five_told (a ∷ b ∷ c ∷ d ∷ e ∷ []) f h = grind (arith, nat_tests)
 five_told fields f h = absurd (cc h)
 
 -- there is no field
@@ -88,23 +86,15 @@ get_told version fields command h =
 
 free_told : (version : Version) (fields : List (List ℕ)) (command : Command) → free_in (job_rules version) fields ≡ Ok command → IsCommand version (codes "free") fields command
 free_told version fields command h =
-    let f = went_on (one_field fields) _ command h in let cell = went_on (cell_in f.value) _ command f.then in
-    let a = number_told 0 255 f.value cell.value cell.is in let is : Free cell.value ≡ command = cc cell.then in
-    subst (λ (x : Command). IsCommand version (codes "free") fields x) is (refl, cc (one_told fields f.value f.is, a.0), a.2)
+    grind (arith, nat_tests, went_on (one_field fields) _ command h, went_on, number_told 0 255, IsCommand version (codes "free") fields, one_told fields)
 
 alias_told : (version : Version) (fields : List (List ℕ)) (command : Command) → alias_in (job_rules version) fields ≡ Ok command → IsCommand version (codes "alias") fields command
 alias_told version fields command h =
-    let f = went_on (two_fields fields) _ command h in let to = went_on (cell_in f.value.0) _ command f.then in
-    let from = went_on (cell_in f.value.1) _ command to.then in
-    let a = number_told 0 255 f.value.0 to.value to.is in let b = number_told 0 255 f.value.1 from.value from.is in
-    let is : Alias to.value from.value ≡ command = cc from.then in
-    subst (λ (x : Command). IsCommand version (codes "alias") fields x) is (refl, cc (two_told fields f.value f.is, a.0, b.0), (a.2, b.2))
+    grind (arith, nat_tests, went_on (two_fields fields) _ command h, went_on, number_told 0 255, IsCommand version (codes "alias") fields, two_told fields)
 
 addr_told : (version : Version) (fields : List (List ℕ)) (command : Command) → addr_in (job_rules version) fields ≡ Ok command → IsCommand version (codes "addr") fields command
 addr_told version fields command h =
-    let f = went_on (one_field fields) _ command h in let cell = went_on (cell_in f.value) _ command f.then in
-    let a = number_told 0 255 f.value cell.value cell.is in let is : Addr cell.value ≡ command = cc cell.then in
-    subst (λ (x : Command). IsCommand version (codes "addr") fields x) is (refl, cc (one_told fields f.value f.is, a.0), a.2)
+    grind (arith, nat_tests, went_on (one_field fields) _ command h, went_on, number_told 0 255, IsCommand version (codes "addr") fields, one_told fields)
 
 peek_told : (version : Version) (fields : List (List ℕ)) (command : Command) → peek_in (job_rules version) fields ≡ Ok command → IsCommand version (codes "peek") fields command
 peek_told version fields command h =
@@ -145,21 +135,21 @@ second_told Two h = refl
 -- the last choice of a command: a copy, in version 2
 copy_chosen : (version : Version) (word : List ℕ) (fields : List (List ℕ)) (command : Command)
     → (if are_same word (codes "copy") && is_second version then copy_in (job_rules version) fields else Err Word) ≡ Ok command → IsCommand version word fields command
-copy_chosen version word fields command h =
-    elim (if_tells (are_same word (codes "copy") && is_second version) (copy_in (job_rules version) fields) (Err Word) (Ok command) h) [
-      | inl both ↦ let parts = and_parts (are_same word (codes "copy")) (is_second version) both.0 in
-          subst (λ (w : List ℕ). IsCommand version w fields command) (sym (same_by_test word (codes "copy") parts.0))
-          (copy_told version fields command (second_told version parts.1) both.1)
-      | inr none ↦ absurd (cc none.1)
-    ]
+copy_chosen version word fields command h = grind (
+  arith,
+  nat_tests,
+  if_tells (are_same word (codes "copy") && is_second version) (copy_in (job_rules version) fields) (Err Word) (Ok command) h,
+  and_parts,
+  IsCommand,
+  same_by_test,
+  copy_told version fields command,
+  second_told,
+)
 
 -- a choice by a line's word: the word is this one and its fields are read, or the later words are tried
 chosen : {A : Type 0} (P : List ℕ → Type 0) (word wanted : List ℕ) (first later : Result A FaultKind) (x : A)
     → (first ≡ Ok x → P wanted) → (later ≡ Ok x → P word) → (if are_same word wanted then first else later) ≡ Ok x → P word
-chosen P word wanted first later x is isn't h = elim (if_tells (are_same word wanted) first later (Ok x) h) [
-  | inl same ↦ subst P (sym (same_by_test word wanted same.0)) (is same.1)
-  | inr other ↦ isn't other.1
-]
+chosen P word wanted first later x is isn't h = grind (arith, same_by_test)
 
 -- a word and fields that are read as a command are its word and its fields
 command_told : (version : Version) (word : List ℕ) (fields : List (List ℕ)) (command : Command) → command_in version word fields ≡ Ok command
@@ -185,10 +175,7 @@ few_by_test most n h = elim (leb_tells (suc most) n) [ inl many ↦ absurd (true
 
 -- what each of the lines of a plan says of its fields
 run_told : (version : Version) (workers : ℕ) (fields : List (List ℕ)) (step : Line) → 1 ≤ workers → run_in workers fields ≡ Ok step → IsStep version workers (codes "run") fields step
-run_told version workers fields step some h =
-    let f = went_on (one_field fields) _ step h in let worker = went_on (number_in 0 (workers - 1) f.value) _ step f.then in
-    let a = number_told 0 (workers - 1) f.value worker.value worker.is in let is : RunWorker worker.value ≡ step = cc worker.then in
-    subst (λ (x : Line). IsStep version workers (codes "run") fields x) is (refl, cc (one_told fields f.value f.is, a.0), omega (arith, a.2, some))
+run_told version workers fields step some h = grind (arith, nat_tests, went_on, number_told, IsStep, one_told)
 
 pair_told : (version : Version) (workers : ℕ) (fields : List (List ℕ)) (step : Line) → pair_in fields ≡ Ok step → IsStep version workers (codes "pair") fields step
 pair_told version workers [] step h = absurd (cc h)
@@ -220,22 +207,11 @@ pair_told version workers (f ∷ g ∷ more) step h =
 groups_told : (version : Version) (workers : ℕ) (line : ℕ → ℕ → Line) (word : List ℕ) (fields : List (List ℕ)) (step : Line)
     → ((source destination : ℕ) → source ≤ 65535 → destination ≤ 65535 → IsStep version workers word (decimal source ∷ decimal destination ∷ []) (line source destination))
     → of_groups_in line fields ≡ Ok step → IsStep version workers word fields step
-groups_told version workers line word fields step each h =
-    let groups = went_on (groups_in fields) _ step h in let f = went_on (two_fields fields) _ groups.value groups.is in
-    let source = went_on (short_in f.value.0) _ groups.value f.then in let destination = went_on (short_in f.value.1) _ groups.value source.then in
-    let a = number_told 0 65535 f.value.0 source.value source.is in let b = number_told 0 65535 f.value.1 destination.value destination.is in
-    let both : (source.value, destination.value) ≡ groups.value = cc destination.then in
-    let is : line source.value destination.value ≡ step = ap (λ (g : ℕ × ℕ). line g.0 g.1) both ∙ cc groups.then in
-    let two : fields ≡ decimal source.value ∷ decimal destination.value ∷ [] = cc (two_told fields f.value f.is, a.0, b.0) in
-    subst (λ (x : Line). IsStep version workers word fields x) is
-    (subst (λ (fs : List (List ℕ)). IsStep version workers word fs (line source.value destination.value)) (sym two)
-    (each source.value destination.value a.2 b.2))
+groups_told version workers line word fields step each h = grind (arith, number_told)
 
 sweep_told : (version : Version) (workers : ℕ) (fields : List (List ℕ)) (step : Line) → sweep_in fields ≡ Ok step → IsStep version workers (codes "sweep") fields step
 sweep_told version workers fields step h =
-    let f = went_on (one_field fields) _ step h in let group = went_on (short_in f.value) _ step f.then in
-    let a = number_told 0 65535 f.value group.value group.is in let is : SweepGroup group.value ≡ step = cc group.then in
-    subst (λ (x : Line). IsStep version workers (codes "sweep") fields x) is (refl, cc (one_told fields f.value f.is, a.0), a.2)
+    grind (arith, nat_tests, went_on (one_field fields) _ step h, went_on, number_told 0 65535, IsStep version workers (codes "sweep") fields, one_told fields)
 
 -- a line without a field
 bare_told : (version : Version) (workers : ℕ) (bare : Line) (fields : List (List ℕ)) (step : Line) → line_fields bare ≡ []
@@ -306,9 +282,7 @@ joined word (f ∷ fs) = rw (joined f fs) refl
 parts_told : (draft : Draft) (parts : List (List ℕ)) (line : List ℕ) (draft' : Draft) → join_with_byte 32 parts ≡ line → take_fields draft parts ≡ Ok draft'
     → Taken draft line draft'
 parts_told draft [] line draft' join h = absurd (cc h)
-parts_told draft (word ∷ fields) line draft' join h =
-    let filled = refuse_if_went Word (list_any is_empty (word ∷ fields)) _ draft' h in
-    record { word = word; fields = fields; is = sym join ∙ joined word fields; read = filled.1 }
+parts_told draft (word ∷ fields) line draft' join h = grind (arith, joined)
 
 -- a line that was taken is its word and its fields
 taken_told : (draft : Draft) (line : List ℕ) (draft' : Draft) → take_line draft line ≡ Ok draft' → Taken draft line draft'
@@ -337,11 +311,7 @@ pub heading_told : (section : Section) (wanted : List ℕ) (least most : ℕ) (a
     → ((word : List ℕ) (fields : List (List ℕ)) → take_in section draft word fields ≡ (header_in wanted least most word fields >>= λ n. Ok (after n)))
     → draft.section ≡ section → take_line draft line ≡ Ok draft' → IsHeader wanted least most after line draft'
 heading_told section wanted least most after draft draft' line reads here h =
-    let taken = taken_told draft line draft' h in
-    let n = went_on (header_in wanted least most taken.word taken.fields) _ draft'
-    (sym (reads taken.word taken.fields) ∙ in_section draft line draft' taken section here) in
-    let told = header_told wanted least most taken.word taken.fields n.value n.is in
-    (n.value, taken.is ∙ told.0, told.1, told.2, cc n.then)
+    grind (arith, nat_tests, taken_told draft line draft' h, went_on, in_section draft line draft', header_told wanted least most)
 
 -- the first worker's head that was taken
 pub first_worker_told : (draft draft' : Draft) (line : List ℕ) → draft.section ≡ AtFirstWorker → take_line draft line ≡ Ok draft'
@@ -369,13 +339,7 @@ next_worker_told draft worker word fields line draft' is test h =
 plan_head_told : (draft : Draft) (worker : ℕ) (word : List ℕ) (fields : List (List ℕ)) (line : List ℕ) (draft' : Draft)
     → line ≡ word ++ flat_map field fields → (are_same word (codes "plan") && nat_eq (worker + 1) draft.workers) ≡ true
     → (no_field fields >>= λ _. Ok (script_closed draft InPlan)) ≡ Ok draft' → IsPlanHead draft worker line draft'
-plan_head_told draft worker word fields line draft' is test h =
-    let parts = and_parts (are_same word (codes "plan")) (nat_eq (worker + 1) draft.workers) test in
-    let none = went_on (no_field fields) _ draft' h in (
-      is ∙ rw (same_by_test word (codes "plan") parts.0, none_told fields none.value none.is) refl,
-      equal (worker + 1) draft.workers parts.1,
-      cc none.then,
-    )
+plan_head_told draft worker word fields line draft' is test h = grind (arith, nat_tests, and_parts, went_on, same_by_test word (codes "plan"), none_told, equal)
 
 -- the word and the fields of a command are its text
 command_joined : (version : Version) (word : List ℕ) (fields : List (List ℕ)) (command : Command) → IsCommand version word fields command
@@ -388,8 +352,7 @@ command_line_told : (draft : Draft) (word : List ℕ) (fields : List (List ℕ))
     → (command_in draft.version word fields >>= λ command. Ok (record draft { script = draft.script ++ command ∷ [] })) ≡ Ok draft'
     → IsCommandLine draft line draft'
 command_line_told draft word fields line draft' is h =
-    let command = went_on (command_in draft.version word fields) _ draft' h in let told = command_told draft.version word fields command.value command.is in
-    (command.value, is ∙ command_joined draft.version word fields command.value told, told.2, cc command.then)
+    grind (arith, nat_tests, went_on (command_in draft.version word fields) _ draft' h, command_told, command_joined draft.version word fields)
 
 -- a line that was taken in a worker's section
 pub script_line_told : (draft draft' : Draft) (worker : ℕ) (line : List ℕ) → draft.section ≡ InScript worker → take_line draft line ≡ Ok draft'
@@ -422,9 +385,13 @@ step_line_told : (draft : Draft) (word : List ℕ) (fields : List (List ℕ)) (l
     → line ≡ word ++ flat_map field fields → 1 ≤ draft.workers
     → (line_in draft.version draft.workers word fields >>= λ step. Ok (record draft { plan = draft.plan ++ step ∷ [] })) ≡ Ok draft'
     → IsPlanLine draft line draft'
-step_line_told draft word fields line draft' is some h =
-    let step = went_on (line_in draft.version draft.workers word fields) _ draft' h in let told = step_told draft.version draft.workers word fields step.value some step.is in
-    (step.value, is ∙ step_joined draft.version draft.workers word fields step.value told, told.2, cc step.then)
+step_line_told draft word fields line draft' is some h = grind (
+  arith,
+  nat_tests,
+  went_on (line_in draft.version draft.workers word fields) _ draft' h,
+  step_told,
+  step_joined draft.version draft.workers word fields,
+)
 
 -- a line that was taken in the plan
 pub plan_line_told : (draft draft' : Draft) (line : List ℕ) → draft.section ≡ InPlan → 1 ≤ draft.workers → take_line draft line ≡ Ok draft'

@@ -1,4 +1,5 @@
 -- The text of a whole job, read back line by line.
+use Rattle.std.proofs.lemmas.Bool.Decides.{nat_tests}
 use Rattle.std.proofs.Common.{◌≡◌, ℕ, suc, ◌+◌, ◌^◌, ◌<◌, ◌≤◌, true, false, List, [], ◌∷◌, ◌++◌, map, Ok, length, subst, refl, sym, ◌∙◌, arith, append-nil, append_assoc}
 use Rattle.std.specs.Prelude.{codes}
 use Rattle.std.specs.Fmt.{decimal}
@@ -128,10 +129,8 @@ read_to_end version pages history scripts plan = record {
 -- the line of a version is taken
 version_taken : (version : Version)
     → take_line blank_draft (codes "mesh" ++ number_field (version_number version)) ≡ Ok (record blank_draft { section = AtPages; version = version })
-version_taken One = header_taken blank_draft (codes "mesh") 1 (word_by_test (codes "mesh") refl) (omega arith)
-    ∙ rw (header_back (codes "mesh") 1 2 1 (omega arith) (omega arith) (omega arith)) refl
-version_taken Two = header_taken blank_draft (codes "mesh") 2 (word_by_test (codes "mesh") refl) (omega arith)
-    ∙ rw (header_back (codes "mesh") 1 2 2 (omega arith) (omega arith) (omega arith)) refl
+version_taken One = grind (arith, nat_tests, header_taken blank_draft (codes "mesh") 1, word_by_test (codes "mesh"), header_back (codes "mesh") 1 2 1)
+version_taken Two = grind (arith, nat_tests, header_taken blank_draft (codes "mesh") 2, word_by_test (codes "mesh"), header_back (codes "mesh") 1 2 2)
 
 -- the lines of a whole job are taken to its end
 whole_read : (version : Version) (pages history : ℕ) (scripts : List (List Command)) (plan : List Line) → 1 ≤ pages → pages ≤ 4096 → history ≤ 65536
@@ -216,23 +215,20 @@ version_small Two = omega arith
 
 -- the lines of a job are printable
 job_printable : (job : Job) → IsValidJob job → AreLines (job_lines job)
-job_printable job valid = (
-  header_printable (codes "mesh") (version_number job.version) (word_by_test (codes "mesh") refl) (version_small job.version),
-  (
-    header_printable (codes "pages") job.pages (word_by_test (codes "pages") refl) (omega (arith, valid.most_pages)),
-    (
-      header_printable (codes "history") job.history (word_by_test (codes "history") refl) (omega (arith, valid.most_history)),
-      (
-        header_printable (codes "workers") (length job.scripts) (word_by_test (codes "workers") refl) (omega (arith, valid.most_workers)),
-        lines_append (sections_from 0 job.scripts) (codes "plan" ∷ (map line_text job.plan ++ codes "end" ∷ []))
-            (sections_printable job.version 0 job.scripts (omega (arith, valid.most_workers)) valid.commands) (
-              within_by_test 32 126 (codes "plan") refl,
-              lines_append (map line_text job.plan) (codes "end" ∷ [])
-                  (plan_printable job.version (length job.scripts) job.plan valid.most_workers valid.lines) (within_by_test 32 126 (codes "end") refl, tt),
-            ),
-      ),
-    ),
-  ),
+job_printable job valid = grind (
+  arith,
+  nat_tests,
+  header_printable (codes "mesh") (version_number job.version),
+  word_by_test,
+  version_small,
+  header_printable (codes "pages") job.pages,
+  header_printable (codes "history") job.history,
+  header_printable (codes "workers") (length job.scripts),
+  lines_append,
+  sections_printable job.version 0 job.scripts,
+  within_by_test,
+  lines_append (map line_text job.plan) (codes "end" ∷ []) (plan_printable job.version (length job.scripts) job.plan valid.most_workers valid.lines),
+  plan_printable,
 )
 
 -- the text of a job is read as the job

@@ -1,9 +1,8 @@
 -- The lowest refusal that holds of a command is replied, and a command is held back only where none holds.
-use Rattle.std.proofs.Common.{◌≡◌, ℕ, ◌≤◌, true, false, nat_eq, nat_lt, ap, refl, arith, ◌↔◌, inl, inr, Result, Ok, Err}
-use Rattle.std.proofs.lemmas.Bool.Decides.{leb_tells}
+use Rattle.std.proofs.Common.{◌≡◌, ℕ, ◌≤◌, true, false, nat_lt, refl, arith, ◌↔◌, inl, inr, Result, Ok, Err}
+use Rattle.std.proofs.lemmas.Bool.Decides.{nat_tests, leb_tells}
 use Rattle.model_heap.proofs.NewLengths.{new_length}
 use Rattle.model_jobs.proofs.AnsweredCommands.{others_follow}
-use Rattle.model_words.proofs.Tests.{tells}
 use Rattle.model_words.proofs.LowestRefusals.{Told, ToldReply, replied_by}
 use Rattle.model_heap.proofs.RefusedObjects.{new_told}
 use Rattle.model_jobs.specs.Jobs.{answered, is_held_back, new_answered, others_answered, table_freed, touches_read_only}
@@ -16,25 +15,16 @@ use Rattle.model_heap.specs.RefusalLaws.{new_holds}
 use Rattle.model_heap.specs.Table.{Placed, Table, place_new}
 use Rattle.model_words.specs.declared.commands.Command.{Command}
 use Rattle.model_words.specs.declared.commands.Command.TheVariants.{Addr, Alias, Copy as CopyBytes, Free, Get, New, Peek, Poke, Put}
-use Rattle.model_words.specs.declared.commands.Reply.{Reply}
-use Rattle.model_words.specs.declared.commands.Reply.TheVariants.{Refused}
 use Rattle.model_words.specs.declared.refusals.Refusal.{Refusal}
 use Rattle.model_memory.proofs.RefusedReplies.{plain_follows}
 
 -- a `new` answered is told where its place is
 new_answer_told : (m : Memory) (t : Table) (cell len word : ℕ) (r : Result Placed Refusal) → place_new t len word (next_serial m) ≡ r
     → Told Placed (new_holds t len) r → ToldReply (new_holds t len) (new_answered m t (New cell len word) r).reply
-new_answer_told m t cell len word (Err e) is (inl done) =
-    absurd (let clash : ◌≡◌ {A = Result Placed Refusal} (Err e) (Ok done.0) = done.1 in cc clash)
-new_answer_told m t cell len word (Err e) is (inr low) =
-    let both : ◌≡◌ {A = Result Placed Refusal} (Err e) (Err low.0) = low.1 in let same : e ≡ low.0 = cc both in
-    inr (low.0, ap {B = Reply} (λ (x : Refusal). Refused x) same, low.2)
-new_answer_told m t cell len word (Ok placed) is (inr low) =
-    absurd (let clash : ◌≡◌ {A = Result Placed Refusal} (Ok placed) (Err low.0) = low.1 in cc clash)
-new_answer_told m t cell len word (Ok placed) is (inl done) =
-    let long = new_length t len word (next_serial m) placed is in
-    let some : nat_eq len 0 ≡ false = long.some in
-    let few : nat_lt 2048 len ≡ false = within long.few in rw (some, few) (inl (refl, done.2))
+new_answer_told m t cell len word (Err e) is (inl done) = grind (arith, nat_tests)
+new_answer_told m t cell len word (Err e) is (inr low) = grind (arith, nat_tests)
+new_answer_told m t cell len word (Ok placed) is (inr low) = grind (arith, nat_tests)
+new_answer_told m t cell len word (Ok placed) is (inl done) = grind (arith, nat_tests, new_length t len word (next_serial m) placed is, within)
   where
     within : len ≤ 2048 → nat_lt 2048 len ≡ false
     within few = elim (leb_tells 2049 len) [ inl past ↦ absurd (omega (arith, past.1, few)) | inr below ↦ below.0 ]
@@ -65,10 +55,7 @@ held_back m t command = (to, from)
   where
     to : is_held_back m t command (answered m t command).reply ≡ true
         → ((refusal : Refusal) → ¬ command_holds m t command refusal) × (touches_read_only m t command ≡ true)
-    to h = elim (tells (is_refusal (answered m t command).reply)) [
-      | inl refused ↦ absurd (let clash : false ≡ true = rw refused at h in cc clash)
-      | inr done ↦ let touches : touches_read_only m t command ≡ true = rw done at h in ((answer_lowest m t command).done.0 done, touches)
-    ]
+    to h = grind (arith, nat_tests, answer_lowest m t command)
 
     from : ((refusal : Refusal) → ¬ command_holds m t command refusal) × (touches_read_only m t command ≡ true)
         → is_held_back m t command (answered m t command).reply ≡ true

@@ -1,7 +1,7 @@
 -- A line cut into its fields again, and a text into its lines.
-use Rattle.std.proofs.Common.{◌≡◌, ℕ, suc, ◌<◌, ◌≤◌, Bool, true, false, ◌&&◌, nat_eq, List, [], ◌∷◌, ◌++◌, length, refl, arith, inl, inr, append-nil, append_assoc, length-append}
+use Rattle.std.proofs.Common.{◌≡◌, ℕ, suc, ◌<◌, ◌≤◌, Bool, true, false, ◌&&◌, nat_eq, List, [], ◌∷◌, ◌++◌, length, refl, arith, append-nil, append_assoc, length-append}
 use Rattle.std.specs.List.{flat_map, list_all, list_any, slice_split}
-use Rattle.std.proofs.lemmas.Bool.Decides.{eqb_tells}
+use Rattle.std.proofs.lemmas.Bool.Decides.{nat_tests}
 use Rattle.std.proofs.lemmas.Bool.{le-leb, lt-leb, eq-eqb, and_parts}
 use Rattle.model_jobs.specs.JobFiles.{Draft, take_in, take_line, is_between, is_printable, is_empty}
 use Rattle.model_jobs.specs.Texts.{field, ended}
@@ -10,19 +10,13 @@ use Rattle.model_jobs.proofs.Fields.{AreWithin, within_append, between_by_test, 
 -- bytes above the one at which a list is cut are one part
 pub whole_part : (c least most : ℕ) (bytes : List ℕ) → c < least → AreWithin least most bytes → slice_split (λ b. nat_eq b c) bytes ≡ bytes ∷ []
 whole_part c least most [] low within = refl
-whole_part c least most (b ∷ bs) low within = elim (eqb_tells b c) [
-  | inl same ↦ absurd (omega (arith, same.1, within.0, low))
-  | inr other ↦ rw (other.0, whole_part c least most bs low within.2) refl
-]
+whole_part c least most (b ∷ bs) low within = grind (arith, nat_tests, whole_part c least most bs low within.2)
 
 -- the first part is the bytes before the one at which the list is cut
 pub first_part : (c least most : ℕ) (bytes rest : List ℕ) → c < least → AreWithin least most bytes
     → slice_split (λ b. nat_eq b c) (bytes ++ c ∷ rest) ≡ bytes ∷ slice_split (λ b. nat_eq b c) rest
 first_part c least most [] rest low within = rw (eq-eqb c c refl) refl
-first_part c least most (b ∷ bs) rest low within = elim (eqb_tells b c) [
-  | inl same ↦ absurd (omega (arith, same.1, within.0, low))
-  | inr other ↦ rw (other.0, first_part c least most bs rest low within.2) refl
-]
+first_part c least most (b ∷ bs) rest low within = grind (arith, nat_tests, first_part c least most bs rest low within.2)
 
 -- a field: some bytes, printable and no spaces
 abbrev pub IsField : List ℕ → Type 0
@@ -38,9 +32,7 @@ is_word bytes = list_all (is_between 33 126) bytes && is_between 1 8 (length byt
 
 -- the test of a word tells it
 pub word_by_test : (bytes : List ℕ) → is_word bytes ≡ true → IsWord bytes
-word_by_test bytes passes =
-    let parts = and_parts (list_all (is_between 33 126) bytes) (is_between 1 8 (length bytes)) passes in
-    let room = between_by_test 1 8 (length bytes) parts.1 in ((within_by_test 33 126 bytes parts.0, room.0), room.1)
+word_by_test bytes passes = grind (arith, nat_tests, and_parts, between_by_test, within_by_test)
 
 -- every part is a field
 abbrev pub AreFields : List (List ℕ) → Type 0

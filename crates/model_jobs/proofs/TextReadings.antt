@@ -1,8 +1,8 @@
 -- What a text that was read says: it is the text of the job that it was read as.
-use Rattle.std.proofs.Common.{◌≡◌, ◌↔◌, ℕ, ◌+◌, ◌≤◌, Bool, true, false, if◌then◌else◌, nat_eq, nat_lt, List, [], ◌∷◌, ◌++◌, map, Result, Ok, Err, length, ap, refl, sym, subst, ◌∙◌, arith, inl, inr, append-nil, append_assoc}
+use Rattle.std.proofs.Common.{◌≡◌, ◌↔◌, ℕ, ◌+◌, ◌≤◌, Bool, true, false, if◌then◌else◌, nat_lt, List, [], ◌∷◌, ◌++◌, map, Result, Ok, Err, length, ap, refl, sym, subst, ◌∙◌, arith, inl, inr, append-nil, append_assoc}
 use Rattle.std.specs.Prelude.{codes}
-use Rattle.std.specs.List.{All, flat_map, slice_split, join_with_byte}
-use Rattle.std.proofs.lemmas.Bool.Decides.{eqb_tells, leb_tells}
+use Rattle.std.specs.List.{All, flat_map, join_with_byte}
+use Rattle.std.proofs.lemmas.Bool.Decides.{nat_tests, leb_tells}
 use Rattle.std.proofs.lemmas.List.Elements.{All-cons, All-nil}
 use Rattle.std.proofs.lemmas.List.Splits.{join_with_byte-slice_split}
 use Rattle.model_jobs.specs.JobFiles.{Section, Draft, AtPages, AtVersion, AtHistory, AtWorkers, AtFirstWorker, InScript, InPlan, AtEnd, blank_draft, script_closed, take_line, version_of, fault_at, has_ended, job_of, or_fault, lines_in, read_text, IsValidLine, IsValidCommand, IsValidJob}
@@ -10,7 +10,6 @@ use Rattle.model_jobs.specs.Jobs.{Line, Job}
 use Rattle.model_jobs.specs.Texts.{number_field, command_text, line_text, ended, sections_from, version_number, job_lines, text}
 use Rattle.model_words.specs.declared.commands.Command.{Command}
 use Rattle.model_words.specs.declared.faults.FaultKind.{FaultKind}
-use Rattle.model_words.specs.declared.faults.FaultKind.TheVariants.{TooLong}
 use Rattle.model_words.specs.declared.versions.Version.{Version}
 use Rattle.model_jobs.proofs.Readings.{job_back}
 use Rattle.model_words.proofs.Chains.{went_on, refuse_if_went}
@@ -316,10 +315,7 @@ from_pages_told version number lines job h =
 
 -- a number from 1 to 2 is that of its version
 version_numbered : (n : ℕ) → 1 ≤ n → n ≤ 2 → n ≡ version_number (version_of n)
-version_numbered n some few = elim (eqb_tells n 2) [
-  | inl two ↦ rw two.1 refl
-  | inr other ↦ rw other.0 (omega (arith, some, few, below n few other.1))
-]
+version_numbered n some few = grind (arith, nat_tests, below n few)
   where
     below : (n : ℕ) → n ≤ 2 → (n ≡ 2 → ⊥) → n ≤ 1
     below n few other = elim (leb_tells n 1) [ inl is ↦ is.1 | inr past ↦ absurd (other (omega (arith, few, past.1))) ]
@@ -344,13 +340,7 @@ lines_told number lines job h =
 
 -- a text that was read is the text of its job, which is in its ranges
 pub text_told : (bytes : List ℕ) (job : Job) → read_text bytes ≡ Ok job → IsValidJob job × (bytes ≡ text job) × (length bytes ≤ 1048576)
-text_told bytes job h =
-    let short = refuse_if_went (fault_at 0 TooLong) (nat_lt 1048576 (length bytes)) _ job h in
-    let told = lines_told 1 (slice_split (λ b. nat_eq b 10) bytes) job short.1 in (
-      told.0,
-      sym (join_with_byte-slice_split 10 bytes) ∙ ap (join_with_byte 10) told.1 ∙ text_joined (job_lines job),
-      few_by_test 1048576 (length bytes) short.0,
-    )
+text_told bytes job h = grind (arith, nat_tests, refuse_if_went, lines_told, join_with_byte-slice_split 10 bytes, text_joined (job_lines job), few_by_test)
 
 -- a text is read as a job exactly where it is the text of that job, in its ranges and short enough
 pub text_exactly : (bytes : List ℕ) (job : Job) → (read_text bytes ≡ Ok job) ↔ (IsValidJob job × (bytes ≡ text job) × (length bytes ≤ 1048576))

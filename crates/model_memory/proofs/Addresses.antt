@@ -1,9 +1,9 @@
 -- What a command leaves of each object: its address and its length, until it is freed.
 use Rattle.std.proofs.Common.{◌≡◌, ℕ, ◌+◌, ◌-◌, ◌<◌, ◌≤◌, List, [], ◌∷◌, ◌++◌, length, slice_range, ap, subst, refl, sym, ◌∙◌, arith, ◌⊎◌, inl, inr, Option, Some, None, Result, Ok, Err, append_assoc, length-append, append-nil, replicate}
-use Rattle.std.proofs.lemmas.Bool.Decides.{eqb_tells}
+use Rattle.std.proofs.lemmas.Bool.Decides.{nat_tests, eqb_tells}
 use Rattle.std.proofs.lemmas.List.{get_or-set_same, get_or-set_other, get_or_append_left, get_or_push, length-replicate, length-set}
 use Rattle.model_memory.proofs.NamedObjects.{holding_held, named_live, within_object, copy_went}
-use Rattle.model_words.proofs.Chains.{or_refuse_went, went_on, refuse_if_went}
+use Rattle.model_words.proofs.Chains.{went_on, refuse_if_went}
 use Rattle.model_memory.proofs.Histories.{Runs_end, Runs_more}
 use Rattle.model_memory.proofs.Objects.{live_below, overwritten_length}
 use Rattle.model_memory.specs.AddressLaws.{Frees, IsAt, IsFreedAfter, IsKeptOrFreed}
@@ -14,7 +14,7 @@ use Rattle.model_words.specs.declared.commands.Command.TheVariants.{Addr, Alias,
 use Rattle.model_words.specs.declared.commands.Reply.{Reply}
 use Rattle.model_words.specs.declared.commands.Reply.TheVariants.{Object as Made, Done, Refused}
 use Rattle.model_words.specs.declared.refusals.Refusal.{Refusal}
-use Rattle.model_words.specs.declared.refusals.Refusal.TheVariants.{Empty, Freed, Outside}
+use Rattle.model_words.specs.declared.refusals.Refusal.TheVariants.{Outside}
 
 -- each object but one keeps its address and its length, serials without an object get none, and the next serial doesn't fall
 record KeepsBut (but : ℕ → Type 0) (m n : Memory) : Type 0 where
@@ -24,12 +24,7 @@ record KeepsBut (but : ℕ → Type 0) (m n : Memory) : Type 0 where
 
 -- a memory keeps what it has
 same_keeps : (but : ℕ → Type 0) (m n : Memory) → n ≡ m → KeepsBut but m n
-same_keeps but m n same = subst (λ (x : Memory). KeepsBut but m x) (sym same)
-    (record { at = λ serial address len is. inl is; gone = λ serial below none. none; up = omega arith })
-
--- a live object is at its own address
-at_own : (m : Memory) (serial : ℕ) (object : Object) → object_of m serial ≡ Some object → IsAt m serial object.address (length object.bytes)
-at_own m serial object live = record { object = object; live = live; address_is = refl; long = refl }
+same_keeps but m n same = grind (arith, nat_tests)
 
 -- two objects of one serial are one
 one_object : (m : Memory) (serial : ℕ) (x y : Object) → object_of m serial ≡ Some x → object_of m serial ≡ Some y → x ≡ y
@@ -69,11 +64,7 @@ put_keeps but m serial was new live how = record {
 
 -- another serial in a cell
 root_keeps : (but : ℕ → Type 0) (m : Memory) (cell serial : ℕ) → KeepsBut but m (with_root m cell serial)
-root_keeps but m cell serial = record {
-  at = λ s address len is. inl (record { object = is.object; live = is.live; address_is = is.address_is; long = is.long });
-  gone = λ s below none. none;
-  up = omega arith;
-}
+root_keeps but m cell serial = grind arith
 
 -- bytes stored within a live object
 stored_keeps : (but : ℕ → Type 0) (m : Memory) (named : Named) (off : ℕ) (bytes : List ℕ) → object_of m named.serial ≡ Some named.object
@@ -115,12 +106,7 @@ left_keeps but m k n reply x h is keeps = subst (λ (y : Memory). KeepsBut but m
 
 -- the cell that names an object holds its serial
 named_root : (m : Memory) (cell : ℕ) (named : Named) → named_by m cell ≡ Ok named → root_of m cell ≡ Some named.serial
-named_root m cell named h =
-    let serial = or_refuse_went Empty (root_of m cell) _ named h in
-    let object = or_refuse_went Freed (object_of m serial.value) _ named serial.then in
-    let done = object.then in
-    let is : record { serial = serial.value; object = object.value } ≡ named = cc done in
-    serial.is ∙ ap (λ (y : Named). Some y.serial) is
+named_root m cell named h = grind arith
 
 -- a command leaves each object but the one that it frees
 step_keeps : (m : Memory) (command : Command) (reply : Reply) (n : Memory) → PlainStep m command reply n
@@ -200,26 +186,18 @@ freed_stays m n command reply serial step below none = (step_keeps m command rep
 -- what is freed was made
 freed_below : (m n : Memory) (command : Command) (reply : Reply) (serial : ℕ) → PlainStep m command reply n → Frees m serial command reply n
     → serial < next_serial m
-freed_below m n command reply serial step frees =
-    let free = subst (λ (c : Command). PlainStep m c reply n) frees.command_is step in
-    by_result (plain m 0 (Free frees.cell)) refl (subst (λ (r : Reply). PlainStep m (Free frees.cell) r n) frees.done free)
+freed_below m n command reply serial step frees = grind (arith, nat_tests, by_result (plain m 0 (Free frees.cell)))
   where
     by_result : (r : Result (Reply × Memory) Refusal) → plain m 0 (Free frees.cell) ≡ r → Follows r m Done n → serial < next_serial m
     by_result (Err refusal) is h = let clash : Done ≡ Refused refusal = h.0 in absurd (cc clash)
-    by_result (Ok x) is h =
-        let named = went_on (named_by m frees.cell) _ x is in
-        let both : Some named.value.serial ≡ Some serial = sym (named_root m frees.cell named.value named.is) ∙ frees.named in
-        let same : named.value.serial ≡ serial = cc both in
-        let below = live_below m named.value.serial named.value.object (named_live m frees.cell named.value named.is) in
-        omega (arith, same, below)
+    by_result (Ok x) is h = grind (arith, nat_tests, went_on (named_by m frees.cell) _ x is, named_root m frees.cell, live_below m, named_live m frees.cell)
 
 -- a serial that was made and isn't live is not after more entries
 gone_on : (m n : Memory) (entries : List Entry) (serial : ℕ) → Runs m entries n → serial < next_serial m → object_of m serial ≡ None
     → object_of n serial ≡ None
 gone_on m n [] serial run below none = ap (λ (x : Memory). object_of x serial) run ∙ none
 gone_on m n (entry ∷ entries) serial run below none =
-    let keeps = step_keeps m entry.command entry.reply run.0 run.1 in let up = keeps.up in
-    gone_on run.0 n entries serial run.2 (omega (arith, below, up)) (keeps.gone serial below none)
+    grind (arith, nat_tests, step_keeps m entry.command entry.reply run.0 run.1, gone_on run.0 n entries serial run.2)
 
 -- a run of entries is one of the first of them, and then one of the others
 pub run_apart : (m n : Memory) (xs ys : List Entry) → Runs m (xs ++ ys) n → (k : Memory) × Runs m xs k × Runs k ys n

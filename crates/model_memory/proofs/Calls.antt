@@ -1,6 +1,6 @@
 -- Two calls are one or not.
-use Rattle.std.proofs.Common.{◌≡◌, ◌≢◌, ℕ, List, [], ◌∷◌, ap, refl, sym, ◌∙◌, ◌⊎◌, inl, inr}
-use Rattle.std.proofs.lemmas.Bool.Decides.{eqb_tells}
+use Rattle.std.proofs.Common.{arith, ◌≡◌, ◌≢◌, ℕ, List, [], ◌∷◌, ap, refl, sym, ◌∙◌, ◌⊎◌, inl, inr}
+use Rattle.std.proofs.lemmas.Bool.Decides.{nat_tests}
 use Rattle.model_memory.specs.Codes.{command_back, command_numbers, command_of, reply_back, reply_numbers, reply_of}
 use Rattle.model_memory.specs.Seats.{Call}
 use Rattle.model_words.specs.declared.commands.Command.{Command}
@@ -11,13 +11,7 @@ same_numbers : (xs ys : List ℕ) → (xs ≡ ys) ⊎ (xs ≢ ys)
 same_numbers [] [] = inl refl
 same_numbers [] (y ∷ ys) = inr (λ e. cc e)
 same_numbers (x ∷ xs) [] = inr (λ e. cc e)
-same_numbers (x ∷ xs) (y ∷ ys) = elim (eqb_tells x y) [
-  | inr other ↦ inr (λ e. other.1 (cc e))
-  | inl first ↦ elim (same_numbers xs ys) [
-    | inl rest ↦ inl (cc (first.1, rest))
-    | inr other ↦ inr (λ e. other (cc e))
-  ]
-]
+same_numbers (x ∷ xs) (y ∷ ys) = grind (arith, nat_tests, same_numbers xs ys)
 
 -- two commands are one or not
 same_command : (x y : Command) → (x ≡ y) ⊎ (x ≢ y)
@@ -39,17 +33,8 @@ call command reply = record { command = command; reply = reply }
 
 -- two calls are one where their commands and replies are
 call_of : (x y : Call) → x.command ≡ y.command → x.reply ≡ y.reply → x ≡ y
-call_of x y command reply =
-    let first : call x.command x.reply ≡ call y.command x.reply = ap (λ (z : Command). call z x.reply) command in
-    let second : call y.command x.reply ≡ call y.command y.reply = ap (λ (z : Reply). call y.command z) reply in
-    first ∙ second
+call_of x y command reply = grind (arith, nat_tests, call x.command x.reply, call y.command x.reply, call, call y.command y.reply, call y.command)
 
 -- two calls are one or not
 pub same_call : (x y : Call) → (x ≡ y) ⊎ (x ≢ y)
-same_call x y = elim (same_command x.command y.command) [
-  | inr other ↦ inr (λ e. other (ap (λ (call : Call). call.command) e))
-  | inl command ↦ elim (same_reply x.reply y.reply) [
-    | inr other ↦ inr (λ e. other (ap (λ (call : Call). call.reply) e))
-    | inl reply ↦ inl (call_of x y command reply)
-  ]
-]
+same_call x y = grind (arith, nat_tests, same_command x.command y.command, call, same_reply x.reply y.reply, call_of x y)

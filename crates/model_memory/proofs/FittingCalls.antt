@@ -1,13 +1,13 @@
 -- Where all reads of a seat are in their places, its calls fit.
-use Rattle.std.proofs.Common.{◌≡◌, ℕ, zero, suc, ◌<◌, ◌≤◌, Bool, true, false, ◌||◌, List, [], ◌∷◌, ◌++◌, length, nat_eq, nat_lt, nat_le, take, drop, slice_get, ap, subst, refl, sym, ◌∙◌, arith, inl, inr, Some, append_assoc}
+use Rattle.std.proofs.Common.{◌≡◌, ℕ, zero, suc, ◌<◌, ◌≤◌, Bool, true, false, ◌||◌, List, [], ◌∷◌, ◌++◌, length, nat_lt, nat_le, take, drop, slice_get, ap, subst, refl, sym, ◌∙◌, arith, inl, inr, Some, append_assoc}
 use Rattle.std.specs.List.{list_any}
-use Rattle.std.proofs.lemmas.Bool.Decides.{leb_tells}
+use Rattle.std.proofs.lemmas.Bool.Decides.{nat_tests, leb_tells}
 use Rattle.std.proofs.Math.Seq.{take-append_seam}
 use Rattle.std.proofs.lemmas.List.{length-append}
 use Rattle.model_memory.specs.Plain.{Entry}
 use Rattle.model_memory.specs.Seats.{Call, calls_of}
 use Rattle.model_memory.specs.Reads.{Kept, call_of, is_out_of_place, is_passed, lengths_seen, places_from, recorded}
-use Rattle.model_memory.proofs.WovenCalls.{AfterFirst, Fits, first_or, looks, tells}
+use Rattle.model_memory.proofs.WovenCalls.{AfterFirst, Fits, first_or, looks}
 
 -- the parts of a disjunction that fails
 or_false : (a b : Bool) → (a || b) ≡ false → (a ≡ false) × (b ≡ false)
@@ -47,17 +47,11 @@ drop_none (y ∷ ys) (suc i) h = let rest = drop_none ys i h in omega (arith, re
 
 pub recorded_append : (xs ys : List Kept) → recorded (xs ++ ys) ≡ recorded xs ++ recorded ys
 recorded_append [] ys = refl
-recorded_append (x ∷ xs) ys = let rest = recorded_append xs ys in elim (looks x.seen) [
-  | inl bare ↦ rw bare (ap (λ (calls : List Call). call_of x ∷ calls) rest)
-  | inr some ↦ rw some.1 rest
-]
+recorded_append (x ∷ xs) ys = grind (arith, nat_tests, recorded_append xs ys, looks x.seen)
 
 pub seen_append : (xs ys : List Kept) → lengths_seen (xs ++ ys) ≡ lengths_seen xs ++ lengths_seen ys
 seen_append [] ys = refl
-seen_append (x ∷ xs) ys = let rest = seen_append xs ys in elim (looks x.seen) [
-  | inl bare ↦ rw bare rest
-  | inr some ↦ rw some.1 (ap (λ (ns : List ℕ). some.0 ∷ ns) rest)
-]
+seen_append (x ∷ xs) ys = grind (arith, nat_tests, seen_append xs ys, looks x.seen)
 
 -- what a read in its place meets
 pub record InPlace (places : List ℕ) (total : ℕ) (before : List Kept) (n : ℕ) : Type 0 where
@@ -67,15 +61,7 @@ pub record InPlace (places : List ℕ) (total : ℕ) (before : List Kept) (n : �
   pub inside : nat_lt total n ≡ false
 
 parts_of : (places : List ℕ) (total : ℕ) (before : List Kept) (n : ℕ) → is_out_of_place places total before n ≡ false → InPlace places total before n
-parts_of places total before n h =
-    let a = list_any (λ m. nat_lt n m) (lengths_seen before) in
-    let b = list_any (λ place. nat_le n place) (take (length (recorded before)) places) in
-    let c = is_passed (slice_get places (length (recorded before))) n in
-    let d = nat_lt total n in
-    let three = or_false (a || b || c) d h in
-    let two = or_false (a || b) c three.0 in
-    let one = or_false a b two.0 in
-    record { seen = one.0; after = one.1; next = two.1; inside = three.1 }
+parts_of places total before n h = grind arith
 
 not_less : (m n : ℕ) → nat_lt n m ≡ false → m ≤ n
 not_less m n h = elim (leb_tells (suc n) m) [ inl below ↦ let clash : true ≡ false = sym below.0 ∙ h in absurd (cc clash) | inr above ↦ omega (arith, above.1) ]
@@ -87,9 +73,7 @@ not_most m n h = elim (leb_tells n m) [ inl below ↦ let clash : true ≡ false
 before_next : (places : List ℕ) (total : ℕ) (before : List Kept) (n : ℕ) (ps : List ℕ) → drop (length (recorded before)) places ≡ ps → InPlace places total before n
     → n ≤ first_or total ps
 before_next places total before n [] at fine = not_less n total fine.inside
-before_next places total before n (p ∷ ps) at fine =
-    let there = drop_at places (length (recorded before)) p ps at in
-    let not_passed : nat_lt p n ≡ false = rw there.0 at fine.next in not_less n p not_passed
+before_next places total before n (p ∷ ps) at fine = grind (arith, nat_tests, drop_at places (length (recorded before)) p ps at, not_less n p)
 
 -- the calls after some fit, where each read is in its place
 pub fits_after : (places : List ℕ) (total : ℕ) (rest before : List Kept) (low : ℕ) (ps : List ℕ) → drop (length (recorded before)) places ≡ ps
@@ -146,7 +130,4 @@ fits_after places total (c ∷ cs) before low ps at enough above right =
 -- a worker has as many places as entries
 pub places_as_calls : (entries : List Entry) (k w : ℕ) → length (calls_of w entries) ≡ length (places_from k w entries)
 places_as_calls [] k w = refl
-places_as_calls (e ∷ es) k w = let rest = places_as_calls es (suc k) w in elim (tells (nat_eq e.worker w)) [
-  | inl own ↦ rw own (ap (λ (n : ℕ). suc n) rest)
-  | inr other ↦ rw other rest
-]
+places_as_calls (e ∷ es) k w = grind (arith, nat_tests, places_as_calls es (suc k) w)

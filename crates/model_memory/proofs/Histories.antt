@@ -1,4 +1,5 @@
 -- Histories as runs of the plain memory.
+use Rattle.std.proofs.lemmas.Bool.Decides.{nat_tests}
 use Rattle.std.proofs.Common.{◌≡◌, List, [], ◌∷◌, ◌++◌, refl, sym, ◌∙◌, subst, arith}
 use Rattle.std.proofs.lemmas.Grind.{common_steps}
 use Rattle.model_memory.specs.Memory.{Memory}
@@ -20,5 +21,4 @@ determined m command reply n n' step step' = grind (arith, common_steps)
 pub Runs_end : (m : Memory) (entries : List Entry) (k n : Memory) → Runs m entries k → Runs m entries n → k ≡ n
 Runs_end m [] k n run run' = run ∙ sym run'
 Runs_end m (first ∷ entries) k n run run' =
-    let same : run'.0 ≡ run.0 = determined m first.command first.reply run'.0 run.0 run'.1 run.1 in
-    Runs_end run.0 entries k n run.2 (subst (λ (x : Memory). Runs x entries n) same run'.2)
+    grind (arith, nat_tests, determined m first.command first.reply run'.0 run.0 run'.1 run.1, Runs_end run.0 entries k n run.2)

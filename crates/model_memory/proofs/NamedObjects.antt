@@ -1,25 +1,20 @@
 -- The live objects that cells and addresses name.
-use Rattle.std.proofs.Common.{◌≡◌, ℕ, suc, ◌+◌, ◌<◌, ◌≤◌, Bool, true, false, ◌||◌, nat_lt, nat_le, List, [], ◌∷◌, length, slice_index_or, slice_range, ap, subst, refl, sym, ◌∙◌, arith, inl, inr, Option, Some, None, Ok, Result}
-use Rattle.std.proofs.lemmas.Bool.Decides.{leb_tells}
+use Rattle.std.proofs.Common.{◌≡◌, ℕ, suc, ◌+◌, ◌<◌, ◌≤◌, Bool, true, false, ◌||◌, nat_le, List, [], ◌∷◌, length, slice_index_or, slice_range, ap, subst, refl, sym, ◌∙◌, arith, inl, inr, Option, Some, None, Ok, Result}
+use Rattle.std.proofs.lemmas.Bool.Decides.{nat_tests, leb_tells}
 use Rattle.std.proofs.lemmas.List.{length-take, length-drop}
 use Rattle.model_words.proofs.Chains.{or_refuse_went, went_on, refuse_if_went}
 use Rattle.model_words.proofs.Tests.{tells, both_hold}
-use Rattle.model_memory.specs.Memory.{Memory, Object, has_address, holder_from, holder_of, object_of, root_of}
+use Rattle.model_memory.specs.Memory.{Memory, Object, has_address, holder_from, holder_of, object_of}
 use Rattle.model_memory.specs.Plain.{Named, both_named, ends_outside, holding, named_by, copied, plain}
 use Rattle.model_words.specs.declared.commands.Command.TheVariants.{Copy as CopyBytes}
 use Rattle.model_words.specs.declared.commands.Reply.{Reply}
 use Rattle.model_words.specs.declared.commands.Reply.TheVariants.{Done}
 use Rattle.model_words.specs.declared.refusals.Refusal.{Refusal}
-use Rattle.model_words.specs.declared.refusals.Refusal.TheVariants.{Empty, Freed, Stray, Outside}
+use Rattle.model_words.specs.declared.refusals.Refusal.TheVariants.{Stray, Outside}
 
 -- the object that a cell names is live
 pub named_live : (m : Memory) (cell : ℕ) (named : Named) → named_by m cell ≡ Ok named → object_of m named.serial ≡ Some named.object
-named_live m cell named h =
-    let serial = or_refuse_went Empty (root_of m cell) _ named h in
-    let object = or_refuse_went Freed (object_of m serial.value) _ named serial.then in
-    let done = object.then in
-    let is : record { serial = serial.value; object = object.value } ≡ named = cc done in
-    subst (λ (x : Named). object_of m x.serial ≡ Some x.object) is object.is
+named_live m cell named h = grind arith
 
 -- the object of a list, counted from a number, that has the address
 pub record IsHolder (objects : List (Option Object)) (from serial address : ℕ) : Type 0 where
@@ -52,9 +47,7 @@ pub record IsHeld (m : Memory) (named : Named) (address : ℕ) : Type 0 where
 -- an address that an object has is in its range
 pub in_range : (object : Object) (address : ℕ) → has_address object address ≡ true
     → (object.address ≤ address) × (address < object.address + length object.bytes)
-in_range object address h =
-    let parts = both_hold (nat_le object.address address) (nat_lt address (object.address + length object.bytes)) h in
-    (least object.address address parts.0, least (suc address) (object.address + length object.bytes) parts.1)
+in_range object address h = grind (arith, nat_tests, both_hold, least)
   where
     least : (a b : ℕ) → nat_le a b ≡ true → a ≤ b
     least a b h = elim (leb_tells a b) [ inl below ↦ below.1 | inr past ↦ let clash : false ≡ true = rw past.0 at h in absurd (cc clash) ]
@@ -75,20 +68,12 @@ holding_held m address named h =
 
 -- a range that does not end outside is within the object
 pub within_object : (object : Object) (off len : ℕ) → ends_outside object off len ≡ false → off + len ≤ length object.bytes
-within_object object off len h = elim (leb_tells (suc (length object.bytes)) (off + len)) [
-  | inl past ↦ let clash : true ≡ false = rw past.0 at h in absurd (cc clash)
-  | inr within ↦ omega (arith, within.1)
-]
+within_object object off len h = grind (arith, nat_tests)
 
 -- the first of the two objects that cells name is live
 pub both_live : (m : Memory) (to from : ℕ) (pair : Named × Named) → both_named m to from ≡ Ok pair
     → (object_of m pair.0.serial ≡ Some pair.0.object) × (object_of m pair.1.serial ≡ Some pair.1.object)
-both_live m to from pair h =
-    let s = or_refuse_went Empty (root_of m to) _ pair h in let u = or_refuse_went Empty (root_of m from) _ pair s.then in
-    let a = or_refuse_went Freed (object_of m s.value) _ pair u.then in let b = or_refuse_went Freed (object_of m u.value) _ pair a.then in
-    let done = b.then in
-    let is : (record { serial = s.value; object = a.value }, record { serial = u.value; object = b.value }) ≡ pair = cc done in
-    subst (λ (x : Named × Named). (object_of m x.0.serial ≡ Some x.0.object) × (object_of m x.1.serial ≡ Some x.1.object)) is (a.is, b.is)
+both_live m to from pair h = grind arith
 
 -- neither of two tests holds
 pub neither_holds : (a b : Bool) → (a || b) ≡ false → (a ≡ false) × (b ≡ false)

@@ -1,16 +1,12 @@
 -- What a change of one object leaves of a memory.
-use Rattle.std.proofs.Common.{◌≡◌, ◌≢◌, ℕ, suc, ◌+◌, ◌<◌, ◌≤◌, List, length, sym, ◌∙◌, arith, inl, inr, Option, Some, None, length-append}
-use Rattle.std.proofs.lemmas.Bool.Decides.{leb_tells}
+use Rattle.std.proofs.Common.{◌≡◌, ◌≢◌, ℕ, ◌+◌, ◌<◌, ◌≤◌, List, length, arith, Option, Some, None, length-append}
+use Rattle.std.proofs.lemmas.Bool.Decides.{nat_tests}
 use Rattle.std.proofs.lemmas.List.{get_or-set_same, get_or-set_other, get_or_past, length-take, length-drop}
 use Rattle.model_memory.specs.Memory.{Memory, Object, next_serial, object_of, overwritten, with_object}
 
 -- a serial with a live object is below the next one
 pub live_below : (m : Memory) (serial : ℕ) (object : Object) → object_of m serial ≡ Some object → serial < next_serial m
-live_below m serial object live = elim (leb_tells (suc serial) (length m.objects)) [
-  | inl below ↦ below.1
-  | inr past ↦ let none : object_of m serial ≡ None = get_or_past m.objects serial None (omega (arith, past.1)) in
-      let clash : Some object ≡ None = sym live ∙ none in absurd (cc clash)
-]
+live_below m serial object live = grind (arith, nat_tests, get_or_past m.objects serial None)
 
 -- the object of the serial is the one put there
 pub put_there : (m : Memory) (serial : ℕ) (was : Object) (object : Option Object) → object_of m serial ≡ Some was

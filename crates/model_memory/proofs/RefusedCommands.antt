@@ -1,5 +1,6 @@
 -- The lowest refusal that holds of a command.
-use Rattle.std.proofs.Common.{◌≡◌, ℕ, ◌+◌, ◌-◌, ◌<◌, ◌≤◌, true, false, ◌||◌, nat_eq, nat_lt, List, [], ◌∷◌, length, slice_index, slice_index_or, slice_range, suc, zero, ap, subst, sym, ◌∙◌, arith, ◌⊎◌, inl, inr, Option, Some, None, Result, Ok, lit≤}
+use Rattle.std.proofs.lemmas.Bool.Decides.{nat_tests}
+use Rattle.std.proofs.Common.{◌≡◌, ℕ, ◌+◌, ◌-◌, ◌≤◌, true, false, ◌||◌, nat_eq, nat_lt, List, [], ◌∷◌, length, slice_index, slice_index_or, slice_range, suc, zero, sym, ◌∙◌, arith, ◌⊎◌, inl, inr, Option, Some, None, Result, Ok, lit≤}
 use Rattle.model_memory.proofs.NamedObjects.{IsHolder, holder_has, neither_holds}
 use Rattle.model_words.proofs.Tests.{tells, equal, less, not_less, unequal}
 use Rattle.model_words.proofs.LowestRefusals.{AreFrom, Told, none_holds, refused_by, told_if, told_ok, told_then}
@@ -25,17 +26,12 @@ not_empty m cell serial named none = let clash : Some serial ≡ None = sym name
 
 -- a cell whose object is live names nothing that was freed
 not_freed : (m : Memory) (cell serial : ℕ) (object : Object) → root_of m cell ≡ Some serial → object_of m serial ≡ Some object → ¬ NamesFreed m cell
-not_freed m cell serial object named live freed =
-    let both : Some freed.serial ≡ Some serial = sym freed.named ∙ named in let same : freed.serial ≡ serial = cc both in
-    let clash : Some object ≡ None = sym live ∙ ap (object_of m) (sym same) ∙ freed.gone in cc clash
+not_freed m cell serial object named live freed = grind (arith, nat_tests)
 
 -- a range within the object doesn't end past it
 not_past : (m : Memory) (cell off len serial : ℕ) (object : Object) → root_of m cell ≡ Some serial → object_of m serial ≡ Some object
     → ends_outside object off len ≡ false → ¬ EndsPast m cell off len
-not_past m cell off len serial object named live inside past =
-    let both : Some past.serial ≡ Some serial = sym past.named ∙ named in let same : past.serial ≡ serial = cc both in
-    let objects : Some past.object ≡ Some object = sym past.live ∙ ap (object_of m) same ∙ live in let one : past.object ≡ object = cc objects in
-    not_less (length object.bytes) (off + len) inside (subst (λ (o : Object). length o.bytes < off + len) one past.past)
+not_past m cell off len serial object named live inside past = grind (arith, nat_tests, not_less (length object.bytes) (off + len) inside, inside)
 
 -- a range that ends outside ends past the object
 is_past : (m : Memory) (cell off len serial : ℕ) (object : Object) → root_of m cell ≡ Some serial → object_of m serial ≡ Some object
@@ -147,14 +143,8 @@ none_held : (objects : List (Option Object)) (from address k : ℕ) (x : Object)
 none_held [] from address k x h at = absurd (cc)
 none_held (None ∷ objects) from address zero x h at = absurd (cc)
 none_held (None ∷ objects) from address (suc k) x h at = none_held objects (from + 1) address k x h at
-none_held (Some y ∷ objects) from address zero x h at = let here : Some y ≡ Some x = at in let same : y ≡ x = cc here in elim (tells (has_address y address)) [
-  | inl pass ↦ absurd (let clash : Some from ≡ None = rw pass at h in cc clash)
-  | inr fail ↦ ap (λ (o : Object). has_address o address) (sym same) ∙ fail
-]
-none_held (Some y ∷ objects) from address (suc k) x h at = elim (tells (has_address y address)) [
-  | inl pass ↦ absurd (let clash : Some from ≡ None = rw pass at h in cc clash)
-  | inr fail ↦ let later : holder_from (from + 1) objects address ≡ None = rw fail at h in none_held objects (from + 1) address k x later at
-]
+none_held (Some y ∷ objects) from address zero x h at = grind (arith, nat_tests)
+none_held (Some y ∷ objects) from address (suc k) x h at = grind (arith, nat_tests, none_held objects (from + 1) address k x)
 
 -- the refusals of a call on an address are from a number on
 address_from : (m : Memory) (address low : ℕ) → (address_holds m address Stray → low ≤ 8) → AreFrom low (address_holds m address)
@@ -176,8 +166,7 @@ address_told m address said =
     holder serial held = holder_has m.objects 0 serial address held
 
     holder_live : (serial : ℕ) (held : holder_of m address ≡ Some serial) → object_of m serial ≡ Some (holder serial held).object
-    holder_live serial held = let is = (holder serial held).is in let at : serial ≡ (holder serial held).at = omega (arith, is) in
-        ap (object_of m) at ∙ (holder serial held).live
+    holder_live serial held = grind (arith, nat_tests, holder serial held)
 
 -- the refusals of a length are from a number on
 pub length_from : (len low : ℕ) → (length_holds len Zero → low ≤ 1) → (length_holds len TooLarge → low ≤ 2) → AreFrom low (length_holds len)

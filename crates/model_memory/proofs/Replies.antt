@@ -1,6 +1,6 @@
 -- How far memory and command determine a reply.
-use Rattle.std.proofs.Common.{◌≡◌, ℕ, ◌<◌, ◌≤◌, true, false, ◌&&◌, nat_le, Result, Ok, Err, refl, sym, ◌∙◌, arith, ◌⊎◌, inl, inr}
-use Rattle.std.proofs.lemmas.Bool.Decides.{leb_tells}
+use Rattle.std.proofs.Common.{◌≡◌, ℕ, ◌<◌, ◌≤◌, false, ◌&&◌, nat_le, Result, Ok, Err, refl, sym, ◌∙◌, arith, ◌⊎◌, inl, inr}
+use Rattle.std.proofs.lemmas.Bool.Decides.{nat_tests}
 use Rattle.model_memory.specs.Memory.{Memory}
 use Rattle.model_memory.specs.Plain.{Follows, IsNewRefusal, PlainStep, plain}
 use Rattle.model_memory.specs.StepLaws.{asks_for_room}
@@ -18,13 +18,7 @@ one_follows (Err e) m n n' reply reply' h h' = h.0 ∙ sym h'.0
 
 -- a length that may have room is between the bounds
 pub not_between : (len : ℕ) → (nat_le 1 len && nat_le len 2048) ≡ false → 1 ≤ len → len ≤ 2048 → ⊥
-not_between len h low high = elim (leb_tells 1 len) [
-  | inl some ↦ elim (leb_tells len 2048) [
-    | inl few ↦ let clash : true ≡ false = rw (some.0, few.0) at h in cc clash
-    | inr many ↦ absurd (omega (arith, many.1, high))
-  ]
-  | inr none ↦ absurd (omega (arith, none.1, low))
-]
+not_between len h low high = grind (arith, nat_tests)
 
 -- a length without room is refused for being none, or too large
 pub refused_by_length : (len : ℕ) (refusal : Refusal) → (nat_le 1 len && nat_le len 2048) ≡ false → IsNewRefusal len refusal
@@ -40,16 +34,8 @@ one_new : (m : Memory) (cell len word : ℕ) (reply reply' : Reply) (n n' : Memo
     → PlainStep m (New cell len word) reply n → PlainStep m (New cell len word) reply' n' → reply ≡ reply'
 one_new m cell len word (Made serial address) reply' n n' h step step' = absurd (not_between len h step.0 step.1)
 one_new m cell len word (Refused refusal) (Made serial address) n n' h step step' = absurd (not_between len h step'.0 step'.1)
-one_new m cell len word (Refused refusal) (Refused refusal') n n' h step step' = elim (refused_by_length len refusal h step.0) [
-  | inl none ↦ elim (refused_by_length len refusal' h step'.0) [
-    | inl none' ↦ cc (none.1, none'.1)
-    | inr many ↦ absurd (omega (arith, none.0, many.0))
-  ]
-  | inr many ↦ elim (refused_by_length len refusal' h step'.0) [
-    | inl none ↦ absurd (omega (arith, none.0, many.0))
-    | inr many' ↦ cc (many.1, many'.1)
-  ]
-]
+one_new m cell len word (Refused refusal) (Refused refusal') n n' h step step' =
+    grind (arith, nat_tests, refused_by_length len refusal h step.0, refused_by_length len refusal' h step'.0)
 one_new m cell len word (Refused refusal) _ n n' h step step' = absurd step'
 one_new m cell len word _ reply' n n' h step step' = absurd step
 

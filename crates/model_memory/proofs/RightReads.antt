@@ -1,28 +1,16 @@
 -- Reads that answer what the plain memory answers keep a history legal, and leave its end.
-use Rattle.std.proofs.Common.{◌≡◌, ℕ, suc, ◌+◌, ◌<◌, ◌≤◌, true, false, List, [], ◌∷◌, ◌++◌, length, take, slice_get, slice_index_or, ap, subst, refl, sym, ◌∙◌, arith, inl, inr, Option, Some, None, Result, Ok, Err}
+use Rattle.std.proofs.Common.{◌≡◌, ℕ, suc, ◌+◌, ◌<◌, ◌≤◌, true, List, [], ◌∷◌, ◌++◌, length, take, slice_get, slice_index_or, subst, refl, sym, arith, inl, inr, Option, Some, None}
 use Rattle.std.specs.List.{All}
 use Rattle.std.proofs.lemmas.List.Elements.{All-append, All-cons}
-use Rattle.std.proofs.lemmas.Bool.Decides.{eqb_tells}
+use Rattle.std.proofs.lemmas.Bool.Decides.{nat_tests}
 use Rattle.std.proofs.lemmas.Grind.{common_steps}
 use Rattle.model_memory.specs.Memory.{Memory}
-use Rattle.model_memory.specs.Plain.{Entry, Follows, Named, PlainStep, Runs}
-use Rattle.model_words.specs.Words.{◌>>=◌}
+use Rattle.model_memory.specs.Plain.{Entry, PlainStep, Runs}
 use Rattle.model_words.specs.declared.commands.Command.{Command}
-use Rattle.model_words.specs.declared.commands.Command.TheVariants.{New, Put, Get, Free, Alias, Addr, Peek, Poke, Copy}
+use Rattle.model_words.specs.declared.commands.Command.TheVariants.{Get, Addr, Peek}
 use Rattle.model_words.specs.declared.commands.Reply.{Reply}
-use Rattle.model_words.specs.declared.refusals.Refusal.{Refusal}
-use Rattle.model_memory.specs.Reads.{Kept, all_reads_at, built_from, is_length, is_read, kept_by, left_by, memory_after, read_reply, reads_at, reply_in}
+use Rattle.model_memory.specs.Reads.{Kept, all_reads_at, built_from, is_length, is_read, kept_by, left_by, memory_after, read_reply, reads_at}
 use Rattle.model_memory.proofs.WovenCalls.{tells}
-
--- an answer that leaves the memory
-same_after : (m : Memory) (r : Result Named Refusal) (f : Named → Result Reply Refusal)
-    → Follows (r >>= λ named. (f named >>= λ reply. Ok (reply, m))) m (reply_in (r >>= λ named. (f named >>= λ reply. Ok (reply, m)))) m
-same_after m (Err e) f = (refl, refl)
-same_after m (Ok named) f = by (f named)
-  where
-    by : (x : Result Reply Refusal) → Follows (x >>= λ reply. Ok (reply, m)) m (reply_in (x >>= λ reply. Ok (reply, m))) m
-    by (Err e) = (refl, refl)
-    by (Ok reply) = (refl, refl)
 
 -- a read leaves the memory
 pub read_stays : (m : Memory) (command : Command) → is_read command ≡ true → PlainStep m command (read_reply m command) m
@@ -47,10 +35,7 @@ Stay n m cs = (i : ℕ) (kept : Kept) → slice_get cs i ≡ Some kept → kept.
 -- a length that is the one
 is_this : (n : ℕ) (s : Option ℕ) → is_length n s ≡ true → s ≡ Some n
 is_this n None h = cc
-is_this n (Some k) h = elim (eqb_tells k n) [
-  | inl same ↦ ap (λ (x : ℕ). Some x) same.1
-  | inr other ↦ let clash : false ≡ true = sym other.0 ∙ h in absurd (cc clash)
-]
+is_this n (Some k) h = grind (arith, nat_tests)
 
 reads_run : (n w : ℕ) (m : Memory) (cs : List Kept) → Stay n m cs → Runs m (reads_at n w cs) m
 reads_run n w m [] stay = refl
@@ -86,10 +71,7 @@ built_runs (e ∷ es) k m end seats run stay =
 -- the reads have their seats' numbers
 reads_known : (n w count : ℕ) (cs : List Kept) → w < count → All (λ entry. entry.worker < count) (reads_at n w cs)
 reads_known n w count [] h = λ k d below. absurd (omega (arith, below))
-reads_known n w count (c ∷ cs) h = let rest = reads_known n w count cs h in elim (tells (is_length n c.seen)) [
-  | inl hit ↦ rw hit (All-cons (λ (entry : Entry). entry.worker < count) (record { worker = w; command = c.command; reply = c.reply }) (reads_at n w cs) h rest)
-  | inr miss ↦ rw miss rest
-]
+reads_known n w count (c ∷ cs) h = grind (arith, nat_tests, reads_known n w count cs h, All-cons)
 
 all_known : (n w count : ℕ) (seats : List (List Kept)) → w + length seats ≤ count → All (λ entry. entry.worker < count) (all_reads_at n w seats)
 all_known n w count [] h = λ k d below. absurd (omega (arith, below))

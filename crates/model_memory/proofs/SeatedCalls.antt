@@ -1,23 +1,16 @@
 -- Which seat is missing, and where calls first differ.
-use Rattle.std.proofs.Common.{◌≡◌, ◌≢◌, ℕ, zero, suc, ◌+◌, ◌<◌, ◌≤◌, ◌⊎◌, Bool, true, false, not, ◌||◌, List, [], ◌∷◌, length, map, nat_eq, nat_lt, nat_le, find, slice_get, ap, subst, refl, sym, ◌∙◌, arith, inl, inr, Option, Some, None}
-use Rattle.std.proofs.lemmas.Bool.Decides.{eqb_tells, leb_tells}
+use Rattle.std.proofs.Common.{◌≡◌, ◌≢◌, ℕ, zero, suc, ◌+◌, ◌<◌, ◌≤◌, ◌⊎◌, Bool, true, false, not, ◌||◌, List, [], ◌∷◌, length, map, nat_lt, nat_le, find, slice_get, ap, refl, sym, ◌∙◌, arith, inl, inr, Option, Some, None}
+use Rattle.std.proofs.lemmas.Bool.Decides.{nat_tests, eqb_tells, leb_tells}
 use Rattle.std.specs.List.{list_any, range_with_len}
 use Rattle.model_memory.proofs.FirstPlaces.{told_once, neither_below}
 use Rattle.model_memory.specs.Seats.{commands_of, Call, DifferFirstAt, SeatDiffers, calls_of, has_seat, has_stranger, is_number, missing_or, missing_seat}
 use Rattle.model_memory.specs.Plain.{Entry}
 use Rattle.model_memory.specs.SeatLaws.{AreSeatedBelow, HasStranger, IsLeastUnseated, IsCountWithStranger}
-use Rattle.model_words.proofs.Tests.{tells}
 
 -- where no number of a range passes the test, each fails it
 none_passes : (test : ℕ → Bool) (a n k : ℕ) → find test (range_with_len a n) ≡ None → a ≤ k → k < a + n → test k ≡ false
 none_passes test a zero k h low high = absurd (omega (arith, low, high))
-none_passes test a (suc n) k h low high = elim (tells (test a)) [
-  | inl pass ↦ let found : Some a ≡ None = rw pass at h in absurd (cc found)
-  | inr fail ↦ let later : find test (range_with_len (a + 1) n) ≡ None = rw fail at h in elim (leb_tells (suc a) k) [
-    | inl above ↦ none_passes test (a + 1) n k later (omega (arith, above.1)) (omega (arith, high))
-    | inr not_above ↦ let same : a ≡ k = omega (arith, low, not_above.1) in subst (λ (x : ℕ). test x ≡ false) same fail
-  ]
-]
+none_passes test a (suc n) k h low high = grind (arith, nat_tests, none_passes test (a + 1) n k)
 
 -- where nothing is missing there is no misplaced seat, and no stranger
 none_missing : (count : ℕ) (strangers : Bool) (misplaced : Option ℕ) → missing_or count strangers misplaced ≡ None
@@ -34,10 +27,7 @@ clash false h _ = cc
 -- a number that passes is this one
 its_number : (k : ℕ) (x : Option ℕ) → not (is_number k x) ≡ false → x ≡ Some k
 its_number k None h = cc
-its_number k (Some number) h = elim (eqb_tells number k) [
-  | inl same ↦ ap Some same.1
-  | inr other ↦ absurd (clash (is_number k (Some number)) h other.0)
-]
+its_number k (Some number) h = grind (arith, nat_tests, clash (is_number k (Some number)) h)
 
 -- where nothing is missing each place has its own seat, and there is no stranger
 pub all_seated : (count : ℕ) (numbers : List ℕ) (entries : List Entry) → missing_seat count numbers entries ≡ None
@@ -50,36 +40,18 @@ all_seated count numbers entries h =
 range_found : (test : ℕ → Bool) (a n k : ℕ) → find test (range_with_len a n) ≡ Some k
     → (k < a + n) × (test k ≡ true) × ((j : ℕ) → a ≤ j → j < k → test j ≡ false)
 range_found test a zero k h = cc
-range_found test a (suc n) k h = elim (tells (test a)) [
-  | inl pass ↦ let found : Some a ≡ Some k = rw pass at h in let here : a ≡ k = cc found in
-      (omega (arith, here), ap test (sym here) ∙ pass, λ j low high. absurd (omega (arith, low, high, here)))
-  | inr fail ↦ let later : find test (range_with_len (a + 1) n) ≡ Some k = rw fail at h in
-      let rest = range_found test (a + 1) n k later in (
-        omega (arith, rest.0),
-        rest.1,
-        λ j low high. elim (leb_tells (suc a) j) [
-          | inl above ↦ rest.2 j (omega (arith, above.1)) high
-          | inr not_above ↦ let same : a ≡ j = omega (arith, low, not_above.1) in subst (λ (x : ℕ). test x ≡ false) same fail
-        ],
-      )
-]
+range_found test a (suc n) k h = grind (arith, nat_tests, range_found test (a + 1) n k)
 
 -- a range is found to have the first number of it that passes
 found_in_range : (test : ℕ → Bool) (a n k : ℕ) → a ≤ k → k < a + n → test k ≡ true → ((j : ℕ) → a ≤ j → j < k → test j ≡ false)
     → find test (range_with_len a n) ≡ Some k
 found_in_range test a zero k low high pass before = absurd (omega (arith, low, high))
-found_in_range test a (suc n) k low high pass before = elim (leb_tells (suc a) k) [
-  | inl above ↦ rw (before a (omega arith) above.1)
-      (found_in_range test (a + 1) n k (omega (arith, above.1)) (omega (arith, high)) pass (λ j low' high'. before j (omega (arith, low')) high'))
-  | inr not_above ↦ let same : a ≡ k = omega (arith, low, not_above.1) in
-      rw (ap test same ∙ pass) (ap Some same)
-]
+found_in_range test a (suc n) k low high pass before = grind (arith, nat_tests, found_in_range test (a + 1) n k)
 
 -- a range has no number that passes where each fails
 none_in_range : (test : ℕ → Bool) (a n : ℕ) → ((j : ℕ) → a ≤ j → j < a + n → test j ≡ false) → find test (range_with_len a n) ≡ None
 none_in_range test a zero fails = refl
-none_in_range test a (suc n) fails =
-    rw (fails a (omega arith) (omega arith)) (none_in_range test (a + 1) n (λ j low high. fails j (omega (arith, low)) (omega (arith, high))))
+none_in_range test a (suc n) fails = grind (arith, nat_tests, none_in_range test (a + 1) n)
 
 -- a seat with its own number passes, and no other does
 seat_passes : (k : ℕ) (x : Option ℕ) → x ≡ Some k → not (is_number k x) ≡ false
@@ -109,28 +81,16 @@ stranger_found count (entry ∷ entries) h = elim (leb_tells count entry.worker)
 stranger_any : (count i : ℕ) (entry : Entry) (entries : List Entry) → slice_get entries i ≡ Some entry → count ≤ entry.worker
     → list_any (λ entry. nat_le count entry.worker) entries ≡ true
 stranger_any count i entry [] h above = cc
-stranger_any count zero entry (e ∷ entries) h above = let same : e ≡ entry = cc h in elim (leb_tells count e.worker) [
-  | inl pass ↦ rw pass.0 refl
-  | inr fail ↦ let worker : e.worker ≡ entry.worker = ap (λ (x : Entry). x.worker) same in absurd (omega (arith, fail.1, above, worker))
-]
-stranger_any count (suc i) entry (e ∷ entries) h above = elim (tells (nat_le count e.worker)) [
-  | inl pass ↦ rw pass refl
-  | inr fail ↦ rw fail (stranger_any count i entry entries h above)
-]
+stranger_any count zero entry (e ∷ entries) h above = grind (arith, nat_tests)
+stranger_any count (suc i) entry (e ∷ entries) h above = grind (arith, nat_tests, stranger_any count i entry entries h above)
 
 -- the test of a stranger finds one
 has_one : (count : ℕ) (numbers : List ℕ) (entries : List Entry) → has_stranger count numbers entries ≡ true → HasStranger count numbers entries
-has_one count numbers entries h = elim (leb_tells (suc count) (length numbers)) [
-  | inl more ↦ inl more.1
-  | inr few ↦ let entry : list_any (λ entry. nat_le count entry.worker) entries ≡ true = rw few.0 at h in inr (stranger_found count entries entry)
-]
+has_one count numbers entries h = grind (arith, nat_tests, stranger_found count entries)
 
 -- where there is a stranger the test holds
 one_told : (count : ℕ) (numbers : List ℕ) (entries : List Entry) → HasStranger count numbers entries → has_stranger count numbers entries ≡ true
-one_told count numbers entries (inl more) = elim (leb_tells (suc count) (length numbers)) [
-  | inl is ↦ rw is.0 refl
-  | inr not_more ↦ absurd (omega (arith, not_more.1, more))
-]
+one_told count numbers entries (inl more) = grind (arith, nat_tests)
 one_told count numbers entries (inr entry) = rw (stranger_any count entry.0 entry.1 entries entry.2 entry.3) (either_true (nat_lt count (length numbers)))
   where
     either_true : (b : Bool) → (b || true) ≡ true
@@ -160,8 +120,7 @@ missing_least count numbers entries w h =
 
 -- no seat is misplaced where each place has its own
 none_misplaced : (count : ℕ) (numbers : List ℕ) → AreSeatedBelow numbers count → find (λ k. not (has_seat numbers k)) (range_with_len 0 count) ≡ None
-none_misplaced count numbers seated =
-    none_in_range (λ k. not (has_seat numbers k)) 0 count (λ j low high. seat_passes j (slice_get numbers j) (seated j (omega (arith, high))))
+none_misplaced count numbers seated = grind (arith, nat_tests, none_in_range, seat_passes)
 
 -- the least place without its own seat is missing, and so is the count where there is a stranger
 pub least_missing : (count : ℕ) (numbers : List ℕ) (entries : List Entry) (w : ℕ)
@@ -175,10 +134,7 @@ least_missing count numbers entries w (inr stranger) =
 -- no seat is missing where each place has its own and there is no stranger
 pub seated_none : (count : ℕ) (numbers : List ℕ) (entries : List Entry) → AreSeatedBelow numbers count → (HasStranger count numbers entries → ⊥)
     → missing_seat count numbers entries ≡ None
-seated_none count numbers entries seated none = rw (none_misplaced count numbers seated) (elim (tells (has_stranger count numbers entries)) [
-  | inl some ↦ absurd (none (has_one count numbers entries some))
-  | inr no_one ↦ rw no_one refl
-])
+seated_none count numbers entries seated none = grind (arith, nat_tests, none_misplaced count numbers seated, has_one count numbers entries)
 
 -- where the test of a stranger does not hold there is none
 pub no_stranger : (count : ℕ) (numbers : List ℕ) (entries : List Entry) → has_stranger count numbers entries ≡ false → HasStranger count numbers entries → ⊥
@@ -186,20 +142,14 @@ no_stranger count numbers entries h some = let is = one_told count numbers entri
 
 -- two lists of calls have one first difference
 pub one_difference : (theirs ours : List Call) (i j : ℕ) → DifferFirstAt theirs ours i → DifferFirstAt theirs ours j → i ≡ j
-one_difference theirs ours i j at_i at_j =
-    neither_below i j (λ below. at_i.other (at_j.same_before i below)) (λ above. at_j.other (at_i.same_before j above))
+one_difference theirs ours i j at_i at_j = grind (arith, nat_tests, neither_below i j)
 
 -- seats differ from the entries first at one call of one seat
 pub differ_once : (seats : List (List Call)) (entries : List Entry) (w i v j : ℕ) → SeatDiffers seats entries w i → SeatDiffers seats entries v j
     → (w ≡ v) × (i ≡ j)
-differ_once seats entries = told_once (SeatDiffers seats entries)
-    (λ w i v j at_w at_v above. at_v.first.other (ap (λ (calls : List Call). slice_get calls j) (at_w.same_below v above)))
-    (λ w i j at_i at_j above. at_j.first.other (at_i.first.same_before j above))
+differ_once seats entries = grind (arith, nat_tests, told_once (SeatDiffers seats entries))
 
 -- the calls of a worker's entries have the worker's commands
 pub calls_commands : (worker : ℕ) (entries : List Entry) → map (λ call. call.command) (calls_of worker entries) ≡ commands_of worker entries
 calls_commands worker [] = refl
-calls_commands worker (entry ∷ entries) = let rest = calls_commands worker entries in elim (tells (nat_eq entry.worker worker)) [
-  | inl same ↦ rw same (ap (λ commands. entry.command ∷ commands) rest)
-  | inr other ↦ rw other rest
-]
+calls_commands worker (entry ∷ entries) = grind (arith, nat_tests, calls_commands worker entries)

@@ -1,6 +1,6 @@
 -- Seats are settled, or one differs.
-use Rattle.std.proofs.Common.{◌≡◌, ◌≢◌, ℕ, zero, suc, ◌<◌, List, [], ◌∷◌, slice_get, slice_index_or, ap, refl, subst, arith, ◌⊎◌, inl, inr, Some}
-use Rattle.std.proofs.lemmas.Bool.Decides.{leb_tells}
+use Rattle.std.proofs.Common.{◌≡◌, ◌≢◌, ℕ, zero, suc, ◌<◌, List, [], ◌∷◌, slice_get, slice_index_or, ap, refl, arith, ◌⊎◌, inl, inr, Some}
+use Rattle.std.proofs.lemmas.Bool.Decides.{nat_tests}
 use Rattle.model_memory.proofs.Calls.{same_call}
 use Rattle.model_memory.specs.Plain.{Entry}
 use Rattle.model_memory.specs.SeatLaws.{SomeDiffers}
@@ -26,25 +26,10 @@ pub first_difference : (theirs ours : List Call) → (theirs ≡ ours) ⊎ ((i :
 first_difference [] [] = inl refl
 first_difference [] (y ∷ ys) = inr (0, first_differ [] (y ∷ ys) (λ e. cc e))
 first_difference (x ∷ xs) [] = inr (0, first_differ (x ∷ xs) [] (λ e. cc e))
-first_difference (x ∷ xs) (y ∷ ys) = elim (same_call x y) [
-  | inr other ↦ inr (0, first_differ (x ∷ xs) (y ∷ ys) (λ e. other (cc e)))
-  | inl same ↦ elim (first_difference xs ys) [
-    | inl rest ↦ inl (cc (same, rest))
-    | inr later ↦ inr (suc later.0, later_differ x y xs ys later.0 same later.1)
-  ]
-]
+first_difference (x ∷ xs) (y ∷ ys) = grind (arith, nat_tests, same_call x y, first_differ (x ∷ xs) (y ∷ ys), first_difference xs ys, later_differ x y xs ys)
 
 -- all seats are settled, or one differs
 pub settle_or_differ : (count : ℕ) (seats : List (List Call)) (entries : List Entry) → AreSettled count seats entries ⊎ SomeDiffers count seats entries
 settle_or_differ zero seats entries = inl (λ w below. absurd (omega (arith, below)))
-settle_or_differ (suc n) seats entries = elim (settle_or_differ n seats entries) [
-  | inr some ↦ let below = some.below in inr (record { w = some.w; i = some.i; below = omega (arith, below); differs = some.differs })
-  | inl settled ↦ elim (first_difference (slice_index_or seats n []) (calls_of n entries)) [
-    | inr some ↦ inr (record { w = n; i = some.0; below = omega arith; differs = record { same_below = settled; first = some.1 } })
-    | inl same ↦ inl (λ w below. elim (leb_tells (suc w) n) [
-      | inl lower ↦ settled w lower.1
-      | inr not_lower ↦ let last : n ≡ w = omega (arith, below, not_lower.1) in
-          subst (λ (v : ℕ). slice_index_or seats v [] ≡ calls_of v entries) last same
-    ])
-  ]
-]
+settle_or_differ (suc n) seats entries =
+    grind (arith, nat_tests, settle_or_differ n seats entries, first_difference (slice_index_or seats n []) (calls_of n entries))

@@ -1,16 +1,16 @@
 -- At most one read is told, and few objects are made.
-use Rattle.std.proofs.Common.{◌≡◌, ℕ, suc, ◌+◌, ◌≤◌, List, [], ◌∷◌, length, refl, arith, Result, Ok, Err, Some, ◌||◌, replicate}
+use Rattle.std.proofs.lemmas.Bool.Decides.{nat_tests}
+use Rattle.std.proofs.Common.{◌≡◌, ℕ, suc, ◌+◌, ◌≤◌, List, [], ◌∷◌, length, refl, arith, Result, Ok, Err}
 use Rattle.std.proofs.lemmas.List.{length-append, length-set}
 use Rattle.model_memory.proofs.FirstPlaces.{told_once}
 use Rattle.model_memory.specs.Memory.{Memory, next_serial}
-use Rattle.model_memory.specs.Plain.{Entry, both_named, ends_outside, holding, named_by}
+use Rattle.model_memory.specs.Plain.{Entry, holding, named_by}
 use Rattle.model_memory.specs.Reads.{Kept, ReadDiffers, left_by, made_by, memory_after, memory_or}
-use Rattle.model_words.specs.Words.{◌>>=◌, refuse_if}
+use Rattle.model_words.specs.Words.{◌>>=◌}
 use Rattle.model_words.specs.declared.commands.Command.{Command}
 use Rattle.model_words.specs.declared.commands.Command.TheVariants.{New, Put, Get, Free, Alias, Addr, Peek, Poke, Copy}
-use Rattle.model_words.specs.declared.commands.Reply.TheVariants.{Object as Made, Done, Bytes, At, Byte, Refused}
+use Rattle.model_words.specs.declared.commands.Reply.TheVariants.{Object as Made, Done}
 use Rattle.model_words.specs.declared.refusals.Refusal.{Refusal}
-use Rattle.model_words.specs.declared.refusals.Refusal.TheVariants.{Outside}
 use Rattle.model_words.specs.declared.commands.Reply.{Reply}
 
 -- at most one read is told
@@ -27,41 +27,24 @@ same_many m (Err refusal) f goes = refl
 
 -- a reply to a `new` tells of one object or none
 made_many : (m : Memory) (cell len : ℕ) (reply : Reply) → next_serial (made_by m cell len reply) ≤ suc (next_serial m)
-made_many m cell len (Made serial address) =
-    let l = length-append m.objects (Some (record { address = address; bytes = replicate len 0 }) ∷ []) in omega (arith, l)
+made_many m cell len (Made serial address) = grind (arith, nat_tests, length-append m.objects)
 made_many m cell len Done = omega arith
 made_many m cell len reply = omega arith
 
 -- an answered command makes at most one object
 pub one_made : (m : Memory) (command : Command) (reply : Reply) → next_serial (left_by m command reply) ≤ suc (next_serial m)
 one_made m (New cell len word) reply = made_many m cell len reply
-one_made m (Put cell off bytes) reply =
-    let same : next_serial (left_by m (Put cell off bytes) reply) ≡ next_serial m =
-    same_many m (named_by m cell) _ (λ named. same_many m (refuse_if Outside (ends_outside named.object off (length bytes.items))) _ (λ _. length-set m.objects named.serial _)) in
-    omega (arith, same)
-one_made m (Get cell off len) reply =
-    let same : next_serial (left_by m (Get cell off len) reply) ≡ next_serial m =
-    same_many m (named_by m cell) _ (λ named. same_many m (refuse_if Outside (ends_outside named.object off len)) _ (λ _. refl)) in
-    omega (arith, same)
-one_made m (Free cell) reply =
-    let same : next_serial (left_by m (Free cell) reply) ≡ next_serial m = same_many m (named_by m cell) _ (λ named. length-set m.objects named.serial _) in
-    omega (arith, same)
+one_made m (Put cell off bytes) reply = grind (arith, length-set)
+one_made m (Get cell off len) reply = grind arith
+one_made m (Free cell) reply = grind (arith, length-set)
 one_made m (Alias to from) reply =
     let same : next_serial (left_by m (Alias to from) reply) ≡ next_serial m = same_many m (named_by m from) _ (λ named. refl) in omega (arith, same)
 one_made m (Addr cell) reply =
     let same : next_serial (left_by m (Addr cell) reply) ≡ next_serial m = same_many m (named_by m cell) _ (λ named. refl) in omega (arith, same)
 one_made m (Peek place) reply =
     let same : next_serial (left_by m (Peek place) reply) ≡ next_serial m = same_many m (holding m place) _ (λ named. refl) in omega (arith, same)
-one_made m (Poke place byte) reply =
-    let same : next_serial (left_by m (Poke place byte) reply) ≡ next_serial m =
-    same_many m (holding m place) _ (λ named. length-set m.objects named.serial _) in
-    omega (arith, same)
-one_made m (Copy to to_off from from_off len) reply =
-    let same : next_serial (left_by m (Copy to to_off from from_off len) reply) ≡ next_serial m =
-    same_many m (both_named m to from) _ (λ pair.
-    same_many m (refuse_if Outside (ends_outside pair.0.object to_off len || ends_outside pair.1.object from_off len)) _
-    (λ _. length-set m.objects pair.0.serial _)) in
-    omega (arith, same)
+one_made m (Poke place byte) reply = grind (arith, length-set)
+one_made m (Copy to to_off from from_off len) reply = grind (arith, length-set)
 
 -- as many commands make at most as many
 pub few_made : (entries : List Entry) (m : Memory) → next_serial (memory_after m entries) ≤ next_serial m + length entries

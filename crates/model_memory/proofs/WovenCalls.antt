@@ -1,6 +1,6 @@
 -- A seat's calls, in their order, are its worker's entries of the history that is built.
 use Rattle.std.proofs.Common.{◌≡◌, ℕ, zero, suc, ◌+◌, ◌<◌, ◌≤◌, ◌⊎◌, Bool, true, false, List, [], ◌∷◌, ◌++◌, map, length, nat_eq, slice_index_or, ap, subst, refl, sym, ◌∙◌, arith, inl, inr, Option, Some, None, if◌then◌else◌, append-nil}
-use Rattle.std.proofs.lemmas.Bool.Decides.{eqb_tells}
+use Rattle.std.proofs.lemmas.Bool.Decides.{nat_tests, eqb_tells}
 use Rattle.model_memory.specs.Plain.{Entry}
 use Rattle.model_memory.specs.Seats.{Call, calls_of}
 use Rattle.model_memory.specs.Reads.{Kept, all_reads_at, built_from, call_of, is_length, places_from, reads_at, recorded}
@@ -66,10 +66,7 @@ kept_take k c cs h = elim (eqb_tells k k) [ inl same ↦ let yes : is_length k c
 -- a call that saw an earlier length, or none, has no part in what comes later
 skip : (es : List Entry) (k w : ℕ) (c : Kept) (cs : List Kept) → ((n : ℕ) → c.seen ≡ Some n → n < k) → weave k w es (c ∷ cs) ≡ weave k w es cs
 skip [] k w c cs h = kept_skip k c cs (λ n is same. let below = h n is in absurd (omega (arith, below, same)))
-skip (e ∷ es) k w c cs h =
-    let here = kept_skip k c cs (λ n is same. let below = h n is in absurd (omega (arith, below, same))) in
-    let later = skip es (suc k) w c cs (λ n is. let below = h n is in omega (arith, below)) in
-    rw here (rw later refl)
+skip (e ∷ es) k w c cs h = grind (arith, nat_tests, kept_skip k c cs, skip es (suc k) w c cs)
 
 -- all places are at least `k`
 abbrev pub AtLeast : ℕ → List ℕ → Type 0
@@ -82,10 +79,7 @@ at_least_less k (p ∷ ps) h = (omega (arith, h.0), at_least_less k ps h.1)
 
 pub places_least : (es : List Entry) (k w : ℕ) → AtLeast k (places_from k w es)
 places_least [] k w = tt
-places_least (e ∷ es) k w = let rest = at_least_less k (places_from (suc k) w es) (places_least es (suc k) w) in elim (tells (nat_eq e.worker w)) [
-  | inl own ↦ rw own (omega arith, rest)
-  | inr other ↦ rw other rest
-]
+places_least (e ∷ es) k w = grind (arith, at_least_less, places_least es (suc k) w)
 
 by_places : (k total : ℕ) (cs : List Kept) → ((p : ℕ) (ps : List ℕ) → AtLeast k (p ∷ ps) → Fits (suc p) ps total cs → kept_at k cs ≡ [])
     → (ps : List ℕ) → AtLeast k ps → AfterFirst ps (λ l rest. Fits l rest total cs) → kept_at k cs ≡ []
@@ -95,28 +89,13 @@ by_places k total cs goes (p ∷ ps) least after = goes p ps least after
 -- where the calls fit after `k`, no read saw `k`
 none_at : (cs : List Kept) (k low : ℕ) (places : List ℕ) (total : ℕ) → k < low → AtLeast k places → Fits low places total cs → kept_at k cs ≡ []
 none_at [] k low places total above least fits = refl
-none_at (c ∷ cs) k low places total above least fits = elim (looks c.seen) [
-  | inl none ↦
-      let after : AfterFirst places (λ l ps. Fits l ps total cs) = rw none at fits in
-      kept_skip k c cs (λ n is same. let clash : None ≡ Some n = sym none ∙ is in absurd (cc clash)) ∙ by_places k total cs (λ p ps l a. none_at cs k (suc p) ps total (omega (arith, l.0)) l.1 a) places least after
-  | inr some ↦
-      let parts : (low ≤ some.0) × (some.0 ≤ first_or total places) × Fits some.0 places total cs = rw some.1 at fits in
-      kept_skip k c cs (λ n is same. let eq : Some some.0 ≡ Some n = sym some.1 ∙ is in let n_is : some.0 ≡ n = cc eq in absurd (omega (arith, n_is, same, parts.0, above)))
-      ∙ none_at cs k some.0 places total (omega (arith, parts.0, above)) least parts.2
-]
+none_at (c ∷ cs) k low places total above least fits =
+    grind (arith, nat_tests, looks c.seen, AfterFirst places, Fits, kept_skip k c cs, by_places k total cs, none_at cs k, first_or total places)
 
 -- at the journal's end only reads that saw it whole are left
 weave_end : (rest : List Kept) (k low total : ℕ) → k ≤ low → total ≡ k → recorded rest ≡ [] → Fits low [] total rest → kept_at k rest ≡ map call_of rest
 weave_end [] k low total h is none fits = refl
-weave_end (c ∷ cs) k low total h is none fits = elim (looks c.seen) [
-  | inl bare ↦ let after : AfterFirst [] (λ l ps. Fits l ps total cs) = rw bare at fits in absurd after
-  | inr some ↦
-      let parts : (low ≤ some.0) × (some.0 ≤ total) × Fits some.0 [] total cs = rw some.1 at fits in
-      let same : some.0 ≡ k = omega (arith, parts.0, parts.1, h, is) in
-      let rest_none : recorded cs ≡ [] = rw some.1 at none in
-      let later = weave_end cs k some.0 total (omega (arith, same)) is rest_none parts.2 in
-      kept_take k c cs (some.1 ∙ ap (λ (n : ℕ). Some n) same) ∙ ap (λ (calls : List Call). call_of c ∷ calls) later
-]
+weave_end (c ∷ cs) k low total h is none fits = grind (arith, nat_tests, looks c.seen, AfterFirst [], Fits, weave_end cs k, kept_take k c cs)
 
 -- what holds of the rest of a journal
 abbrev Woven : List Entry → ℕ → ℕ → ℕ → Type 0
@@ -181,39 +160,22 @@ weave_fits (e ∷ es) k w total is rest low h same fits =
 -- the calls of two parts
 pub calls_append : (w : ℕ) (xs ys : List Entry) → calls_of w (xs ++ ys) ≡ calls_of w xs ++ calls_of w ys
 calls_append w [] ys = refl
-calls_append w (x ∷ xs) ys = let rest = calls_append w xs ys in elim (tells (nat_eq x.worker w)) [
-  | inl own ↦ rw own (ap (λ (calls : List Call). entry_call x ∷ calls) rest)
-  | inr other ↦ rw other rest
-]
+calls_append w (x ∷ xs) ys = grind (arith, nat_tests, calls_append w xs ys, tells (nat_eq x.worker w), entry_call x)
 
 -- the reads of the worker
 own_reads : (n w : ℕ) (cs : List Kept) → calls_of w (reads_at n w cs) ≡ kept_at n cs
 own_reads n w [] = refl
-own_reads n w (c ∷ cs) = let rest = own_reads n w cs in elim (tells (is_length n c.seen)) [
-  | inl hit ↦ elim (eqb_tells w w) [
-    | inl same ↦ rw hit (rw same.0 (ap (λ (calls : List Call). call_of c ∷ calls) rest))
-    | inr other ↦ absurd (other.1 refl)
-  ]
-  | inr miss ↦ rw miss rest
-]
+own_reads n w (c ∷ cs) = grind (arith, nat_tests, own_reads n w cs, tells (is_length n c.seen))
 
 -- those of another one
 other_reads : (n v w : ℕ) (cs : List Kept) → (v ≡ w → ⊥) → calls_of w (reads_at n v cs) ≡ []
 other_reads n v w [] h = refl
-other_reads n v w (c ∷ cs) h = let rest = other_reads n v w cs h in elim (tells (is_length n c.seen)) [
-  | inl hit ↦ elim (eqb_tells v w) [
-    | inl same ↦ absurd (h same.1)
-    | inr other ↦ rw hit (rw other.0 rest)
-  ]
-  | inr miss ↦ rw miss rest
-]
+other_reads n v w (c ∷ cs) h = grind (arith, nat_tests, other_reads n v w cs h, tells (is_length n c.seen))
 
 later_seats : (seats : List (List Kept)) (n v w : ℕ) → w < v → calls_of w (all_reads_at n v seats) ≡ []
 later_seats [] n v w h = refl
 later_seats (cs ∷ seats) n v w h =
-    let here = other_reads n v w cs (λ same. absurd (omega (arith, h, same))) in
-    let rest = later_seats seats n (suc v) w (omega (arith, h)) in
-    calls_append w (reads_at n v cs) (all_reads_at n (suc v) seats) ∙ rw here rest
+    grind (arith, nat_tests, other_reads n v w cs, later_seats seats n (suc v) w, calls_append w (reads_at n v cs) (all_reads_at n (suc v) seats))
 
 -- the reads of all seats, seen by one worker
 all_own : (seats : List (List Kept)) (n v w j : ℕ) → w ≡ v + j → calls_of w (all_reads_at n v seats) ≡ kept_at n (slice_index_or seats j [])
@@ -225,17 +187,9 @@ all_own (cs ∷ seats) n v w zero is =
     let rest = later_seats seats n (suc v) w (omega (arith, is)) in
     calls_append w (reads_at n v cs) (all_reads_at n (suc v) seats) ∙ rw here (rw rest (append-nil (kept_at n cs)))
 all_own (cs ∷ seats) n v w (suc j) is =
-    let here = other_reads n v w cs (λ same. absurd (omega (arith, is, same))) in
-    let rest = all_own seats n (suc v) w j (omega (arith, is)) in
-    calls_append w (reads_at n v cs) (all_reads_at n (suc v) seats) ∙ rw here rest
+    grind (arith, nat_tests, other_reads n v w cs, all_own seats n (suc v) w j, calls_append w (reads_at n v cs) (all_reads_at n (suc v) seats))
 
 -- a worker's entries of the history that is built
 pub built_woven : (es : List Entry) (k w : ℕ) (seats : List (List Kept)) → calls_of w (built_from k seats es) ≡ weave k w es (slice_index_or seats w [])
 built_woven [] k w seats = all_own seats k 0 w w (omega arith)
-built_woven (e ∷ es) k w seats =
-    let here = all_own seats k 0 w w (omega arith) in
-    let rest = built_woven es (suc k) w seats in
-    calls_append w (all_reads_at k 0 seats) (e ∷ built_from (suc k) seats es) ∙ rw here (elim (tells (nat_eq e.worker w)) [
-      | inl own ↦ rw own (rw rest refl)
-      | inr other ↦ rw other (rw rest refl)
-    ])
+built_woven (e ∷ es) k w seats = grind (arith, nat_tests, all_own, built_woven es (suc k) w seats, calls_append, tells)

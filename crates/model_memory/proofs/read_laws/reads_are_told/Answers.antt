@@ -9,16 +9,10 @@ returns-clause-strange c = record {
 }
 
 pub returns-clause-recorded : goal.returns-clause-recorded
-returns-clause-recorded c = record {
-  same_below = λ v below. absurd (omega (arith, below));
-  first = record { same_before = λ k below. absurd (omega (arith, below)); other = λ same. absurd (cc same) };
-}
+returns-clause-recorded c = grind arith
 
 pub returns-clause-entry : goal.returns-clause-entry
-returns-clause-entry c = record {
-  same_below = λ v below. absurd (omega (arith, below));
-  first = record { same_before = λ k below. absurd (omega (arith, below)); other = λ same. absurd (cc same) };
-}
+returns-clause-entry c = grind arith
 
 pub returns-clause-three : goal.returns-clause-three
 returns-clause-three c = (refl, refl, refl)
