@@ -1,18 +1,17 @@
 -- The page heap's invariant as a mesh begins, and why none begins.
-use Rattle.std.proofs.Common.{◌≡◌, ℕ, ◌+◌, ◌<◌, Bool, true, false, ◌||◌, nat_eq, List, [], ◌∷◌, ◌++◌, length, slice_index_or, Option, Some, None, Result, Ok, IsSome, ap, subst, refl, sym, ◌∙◌, arith, inl, inr}
+use Rattle.std.proofs.Common.{◌≡◌, ℕ, ◌+◌, Bool, true, false, ◌||◌, nat_eq, List, [], ◌∷◌, ◌++◌, slice_index_or, Option, Some, None, Ok, IsSome, ap, refl, sym, ◌∙◌, arith}
 use Rattle.std.specs.Option.{option_map}
-use Rattle.std.proofs.lemmas.Bool.Decides.{nat_tests, eqb_tells, leb_tells}
-use Rattle.std.proofs.lemmas.List.{get_or-set_other, get_or-set_same, get_or_past}
+use Rattle.std.proofs.lemmas.Bool.Decides.{nat_tests}
 use Rattle.mesh_arena.specs.Pages.{Pages}
 use Rattle.model_heap.specs.Mesh.{Pair, begin, may_begin, step_count}
-use Rattle.model_heap.specs.Table.{Counted, Made, Mesh, Slot, Table}
+use Rattle.model_heap.specs.Table.{Made, Mesh, Slot, Table}
 use Rattle.model_heap.specs.TableLaws.{IsBusyTest}
-use Rattle.model_words.specs.declared.refusals.Refusal.{Refusal}
 use Rattle.model_heap.proofs.TableChanges.{begin_sound}
 use Rattle.mesh_pagemap.specs.Entries.{Entries}
 use Rattle.mesh_spans.specs.Changes.{with_flag, with_mesh}
 use Rattle.mesh_spans.specs.Groups.{groups_of, is_closed}
 use Rattle.mesh_spans.specs.Index.{GroupEntry, Index, group_at}
+use Rattle.mesh_spans.proofs.FlagLemmas.{each_changed}
 use Rattle.mesh_layout.specs.Indexes.{class_in, members_in, pages_in, slots_in, table_with}
 use Rattle.mesh_layout.specs.PageHeap.{IsPageHeap}
 use Rattle.mesh_layout.proofs.Changes.{SameGroups}
@@ -27,27 +26,12 @@ pub record Flags (old new : Index) (n : ℕ) (closed : Bool) : Type 0 where
 -- what is told of a group without its flag stays
 pub flag_kept : {X : Type 0} (f : Option GroupEntry → X) → ((o : Option GroupEntry) (b : Bool) → f (option_map (with_mesh b) o) ≡ f o) → (old new : Index) (n : ℕ)
     (closed : Bool) → Flags old new n closed → (m : ℕ) → f (group_at new.groups m) ≡ f (group_at old.groups m)
-flag_kept f blind old new n closed is m =
-    ap (λ (gs : List (Option GroupEntry)). f (group_at gs m)) is.groups ∙ elim (eqb_tells m n) [
-      | inr other ↦ ap f (get_or-set_other old.groups n m (option_map (with_mesh closed) (group_at old.groups n)) None other.1)
-      | inl same ↦ subst (λ (k : ℕ). f (group_at (with_flag old.groups n closed) k) ≡ f (group_at old.groups k)) (sym same.1)
-          (ap f (get_or-set_same old.groups n (option_map (with_mesh closed) (group_at old.groups n)) None below) ∙ blind (group_at old.groups n) closed)
-    ]
-  where
-    below : n < length old.groups
-    below = elim (leb_tells (length old.groups) n) [
-      | inr less ↦ less.1
-      | inl past ↦ absurd (let none = get_or_past old.groups n None past.1 in let no : IsSome {T = GroupEntry} None = subst (λ (o : Option GroupEntry). IsSome o) none is.there in cc no)
-    ]
+flag_kept f blind old new n closed is m = ap (λ (gs : List (Option GroupEntry)). f (group_at gs m)) is.groups
+    ∙ each_changed (λ o o'. f o' ≡ f o) old.groups n (with_mesh closed) (λ o. refl) (λ o. blind o closed) m
 
 -- so its class, members and pages do
 pub flag_same : (old new : Index) (n : ℕ) (closed : Bool) → Flags old new n closed → SameGroups old new
-flag_same old new n closed is = record {
-  class = flag_kept class_in (λ o b. elim o as (λ o. class_in (option_map (with_mesh b) o) ≡ class_in o) [ None ↦ refl | Some g ↦ refl ]) old new n closed is;
-  members = flag_kept members_in (λ o b. elim o as (λ o. members_in (option_map (with_mesh b) o) ≡ members_in o) [ None ↦ refl | Some g ↦ refl ]) old new n closed is;
-  pages = flag_kept pages_in (λ o b. elim o as (λ o. pages_in (option_map (with_mesh b) o) ≡ pages_in o) [ None ↦ refl | Some g ↦ refl ]) old new n closed is;
-  spans = is.spans;
-}
+flag_same old new n closed is = grind (arith, flag_kept class_in, flag_kept members_in, flag_kept pages_in)
 
 -- and its slots
 pub flag_slots : (old new : Index) (n : ℕ) (closed : Bool) → Flags old new n closed → (m : ℕ) → slots_in (group_at new.groups m) ≡ slots_in (group_at old.groups m)
@@ -56,12 +40,7 @@ flag_slots old new n closed is =
 
 -- and so they do over two such changes
 pub same_twice : (a b c : Index) → SameGroups a b → SameGroups b c → SameGroups a c
-same_twice a b c one two = record {
-  class = λ n. two.class n ∙ one.class n;
-  members = λ n. two.members n ∙ one.members n;
-  pages = λ n. two.pages n ∙ one.pages n;
-  spans = two.spans ∙ one.spans;
-}
+same_twice a b c one two = grind arith
 
 -- what a mesh that may begin makes of a table
 begin_gives : (busy : Table → ℕ → Bool) (t : Table) (s d : ℕ) (pair : Pair) → may_begin busy t s d ≡ Ok pair → begin busy t s d ≡ Ok (record {
@@ -90,10 +69,8 @@ pub page_heap_begins : (busy : Table → ℕ → Bool) (arena : Pages) (m : Entr
 page_heap_begins busy arena m old new next ms pair s d left paged test may closes count =
     let t : Table = table_with arena old next ms in
     let this : Mesh = record { class = pair.source.class; source = s; destination = d; progress = Made 0 } in
-    let table : record t { meshes = ms ++ this ∷ [] } ≡ table_with arena new next (ms ++ this ∷ []) = rw (closes.groups, closes.same.spans) refl in
     let begun : begin busy t s d ≡ Ok (record { count = left; table = table_with arena new next (ms ++ this ∷ []) })
-    = begin_gives busy t s d pair may ∙ same_counted (step_count pair.source) left (record t { meshes = ms ++ this ∷ [] })
-    (table_with arena new next (ms ++ this ∷ [])) count table in
+    = begin_gives busy t s d pair may ∙ (rw (count, closes.groups, closes.same.spans) refl) in
     record {
       paged = page_heap_begin arena m old new next ms this paged closes.same
           (λ n k slot filled. sym (ap (λ (xs : List (Option Slot)). slice_index_or xs k None) (closes.slots n)) ∙ filled)
@@ -102,10 +79,6 @@ page_heap_begins busy arena m old new next ms pair s d left paged test may close
       begun = begun;
     }
   where
-    same_counted : (a b : ℕ) (t u : Table) → a ≡ b → t ≡ u
-        → ◌≡◌ {A = Result Counted Refusal} (Ok (record { count = a; table = t })) (Ok (record { count = b; table = u }))
-    same_counted a b t u count table = rw (count, table) refl
-
     either : (s d n : ℕ) (c : Bool) → (nat_eq n d || (nat_eq n s || c)) ≡ (c || (nat_eq s n || nat_eq d n))
     either s d n true = grind (arith, nat_tests)
     either s d n false = grind (arith, nat_tests)

@@ -1,6 +1,5 @@
 pub mod Beginnings
 pub mod Changes
-pub mod Covered
 pub mod Ends
 pub mod Flags
 pub mod Groups

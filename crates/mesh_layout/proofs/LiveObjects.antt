@@ -1,8 +1,8 @@
 -- What always holds of live objects, their places and pages, and of stores.
-use Rattle.std.proofs.lemmas.Bool.{cases_Bool}
-use Rattle.std.proofs.Common.{◌≡◌, ◌≢◌, ℕ, zero, suc, ◌+◌, ◌-◌, ◌/◌, ◌<◌, ◌≤◌, Bool, true, false, nat_eq, List, Some, ap, refl, sym, ◌∙◌, arith, inl, inr}
+use Rattle.std.proofs.Common.{zero, suc, Bool, ◌+◌, ◌<◌, ◌≤◌, ◌≡◌, ◌≢◌, ℕ, ◌-◌, ◌/◌, true, false, nat_eq, List, Some, ap, refl, sym, ◌∙◌, arith}
 use Rattle.std.specs.List.{list_any, range_with_len}
-use Rattle.std.proofs.lemmas.Bool.Decides.{eqb_tells}
+use Rattle.std.proofs.lemmas.List.Folds.{list_any_at}
+use Rattle.std.proofs.lemmas.List.FromFn.{get_or-range_with_len, length-range_with_len}
 use Rattle.mesh_arena.specs.Pages.{Pages, IsTaken}
 use Rattle.model_heap.specs.Mesh.{is_blocked, read_only_pages}
 use Rattle.model_heap.specs.Places.{Place, Record, place_of, records_of, IsIn, record_with}
@@ -12,10 +12,10 @@ use Rattle.mesh_spans.specs.Index.{Index, IsIndex}
 use Rattle.mesh_store.specs.Places.{IsBlocked, IsOpen}
 use Rattle.mesh_layout.specs.PageHeap.{IsPageHeap, targets_of}
 use Rattle.mesh_layout.specs.Indexes.{layout_of, table_with}
-use Rattle.mesh_layout.specs.Layout.{IsByteAt, IsCovered, IsLaidOut, IsOrderly, Layout, Stage}
+use Rattle.mesh_layout.specs.Layout.{IsCovered, IsLaidOut, IsOrderly, Layout, Stage}
 use Rattle.mesh_layout.specs.Meshes.{stage_of}
 use Rattle.mesh_layout.proofs.PageHeapSteps.{page_heap_orderly}
-use Rattle.mesh_layout.proofs.Homes.{byte_page, live_taken, one_place}
+use Rattle.mesh_layout.proofs.Homes.{byte_page, covered_byte, live_taken, one_place}
 use Rattle.mesh_layout.proofs.Meaning.{live_at, record_live}
 use Rattle.mesh_layout.proofs.ReadOnly.{read_only_is}
 use Rattle.mesh_layout.proofs.Stores.{calm_writable}
@@ -38,13 +38,12 @@ module _ (arena : Pages) (m : Entries) (index : Index) (next : ℕ) (ms : List M
   pub page_taken : (serial x : ℕ) (r : Record) → record_with serial (records_of (table_with arena index next ms)) ≡ Some r → IsIn r x
       → IsTaken arena (page_of m (x / 4096))
   page_taken serial x r found within =
-      let a = record_live index (table_with arena index next ms) serial r paged.sound refl found in
-      (live_taken (layout_of index) (stage_of (layout_of index) ms) m arena a.n a.k (x - r.address) x a.slot
-      (page_heap_orderly arena m index next ms sound paged) paged.laid_out (live_at index r x a within)).1
+      let a = record_live _ _ _ _ paged.sound refl found in
+      (live_taken _ _ _ _ a.n a.k _ _ a.slot (page_heap_orderly _ _ _ _ _ sound paged) paged.laid_out (live_at _ r _ a within)).1
 
   -- the read-only pages are those of the meshes
   pub read_only : (v : ℕ) → is_read_only m v ≡ list_any (nat_eq v) (read_only_pages (table_with arena index next ms))
-  read_only v = read_only_is index ms (table_with arena index next ms) sound paged.sound refl refl m arena paged.laid_out v
+  read_only v = read_only_is index (table_with arena index next ms) sound paged.sound refl m arena paged.laid_out v
 
   any_false : (test : ℕ → Bool) (a n : ℕ) → ((x : ℕ) → a ≤ x → x < a + n → test x ≡ false) → list_any test (range_with_len a n) ≡ false
   any_false test a zero none = refl
@@ -52,14 +51,8 @@ module _ (arena : Pages) (m : Entries) (index : Index) (next : ℕ) (ms : List M
       (any_false test (a + 1) n (λ x low high. none x (omega (arith, low)) (omega (arith, high))))
 
   any_true : (test : ℕ → Bool) (a n x : ℕ) → a ≤ x → x < a + n → test x ≡ true → list_any test (range_with_len a n) ≡ true
-  any_true test a zero x low high pass = absurd (omega (arith, low, high))
-  any_true test a (suc n) x low high pass = elim (cases_Bool (test a)) [
-    | inl here ↦ rw here refl
-    | inr no_ ↦ elim (eqb_tells a x) [
-      | inl same ↦ absurd (let two : false ≡ true = sym no_ ∙ ap test same.1 ∙ pass in cc two)
-      | inr other ↦ rw no_ (let o = other.1 in any_true test (a + 1) n x (omega (arith, low, o)) (omega (arith, high)) pass)
-    ]
-  ]
+  any_true test a n x low high pass = list_any_at test (range_with_len a n) (x - a) 0 (omega (arith, length-range_with_len a n, low, high))
+      (ap test (let at : a + (x - a) ≡ x = omega (arith, low) in get_or-range_with_len a n (x - a) 0 (omega (arith, low, high)) ∙ at) ∙ pass)
 
   -- a store that touches no read-only page is not blocked in the table's sense
   pub open_is : (addr len : ℕ) → IsOpen m addr len → is_blocked (table_with arena index next ms) addr len ≡ false
@@ -67,23 +60,13 @@ module _ (arena : Pages) (m : Entries) (index : Index) (next : ℕ) (ms : List M
       (λ x low high. sym (read_only (x / 4096)) ∙ may.each x low high)
 
   pub blocked_is : (addr len : ℕ) → IsBlocked m addr len → is_blocked (table_with arena index next ms) addr len ≡ true
-  blocked_is addr len blocked = any_true (λ x. list_any (nat_eq (x / 4096)) (read_only_pages (table_with arena index next ms))) addr len blocked.address
-      blocked.from blocked.below (sym (read_only (blocked.address / 4096)) ∙ blocked.read_only)
+  blocked_is addr len blocked = any_true _ _ _ _ blocked.from blocked.below (sym (read_only _) ∙ blocked.read_only)
 
 -- no address in a slot of a group that is no source is in a read-only page
 pub calm_open : (l : Layout) (f : ℕ → Stage) (m : Entries) (arena : Pages) (n place k addr len : ℕ) → IsOrderly l f → IsLaidOut l f m arena → (f n).into ≡ n
     → IsCovered l n place k addr len → IsOpen m addr len
 calm_open l f m arena n place k addr len orderly laid calm covered = record {
   each = λ x low high.
-      let o : ℕ = x - slot_address (l.first n place) (l.class n) k in
-      let a = covered.low in
-      let b = covered.high in
-      let byte : IsByteAt l n place k o x = record {
-        member = covered.member;
-        below = covered.in_range;
-        within = omega (arith, a, b, low, high);
-        at = omega (arith, a, low);
-      } in
-      let has = byte_page l f n place k o x orderly byte in
+      let has = byte_page l f n place k (x - slot_address (l.first n place) (l.class n) k) x orderly (covered_byte l n place k addr len x covered low high) in
       calm_writable l f m arena n has.i (x / 4096) orderly laid calm has.page;
 }

@@ -1,5 +1,5 @@
 -- Two outcomes of one step of a mesh are the same.
-use Rattle.std.proofs.Common.{◌≡◌, ℕ, Bool, true, false, not, List, Some, ap, refl, subst, sym, ◌∙◌}
+use Rattle.std.proofs.Common.{◌≡◌, ℕ, Bool, true, false, not, List, ap, refl, subst, sym, ◌∙◌}
 use Rattle.mesh_arena.specs.Pages.{Pages, is_taken}
 use Rattle.mesh_layout.specs.EffectLaws.{AreSame}
 use Rattle.mesh_layout.specs.Effects.{AreSides, HasEffect, IsUnder, under_of}
@@ -18,8 +18,7 @@ sides_by_parts x y source from into =
 -- a mesh has one source and one destination
 same_sides : (index : Index) (mesh : Mesh) (x y : Sides) → AreSides index mesh x → AreSides index mesh y → x ≡ y
 same_sides index mesh x y these those =
-    let found : Some x.source ≡ Some y.source = sym these.source ∙ those.source in
-    sides_by_parts x y (cc found) (these.from ∙ sym those.from) (these.into ∙ sym those.into)
+    sides_by_parts x y (cc (sym these.source ∙ those.source)) (these.from ∙ sym those.from) (these.into ∙ sym those.into)
 
 -- two truth values with the same contrary are one
 same_not : (a b : Bool) → not a ≡ not b → a ≡ b

@@ -1,11 +1,11 @@
 -- The page heap's invariant as meshes are cancelled and unwound.
-use Rattle.std.proofs.Common.{◌≡◌, ◌≢◌, ℕ, suc, ◌+◌, ◌-◌, ◌*◌, ◌<◌, ◌≤◌, Bool, true, false, min, nat_le, nat_lt, find, List, slice_index_or, Option, Some, None, Ok, Err, ap, subst, refl, sym, ◌∙◌, arith, inl, inr}
-use Rattle.std.proofs.lemmas.Bool.Decides.{eqb_tells, leb_tells}
+use Rattle.std.proofs.Common.{◌≡◌, ◌≢◌, ℕ, ◌+◌, ◌-◌, ◌<◌, ◌≤◌, Bool, false, min, find, List, slice_index_or, Option, Some, None, Ok, Err, ap, refl, sym, ◌∙◌, arith}
+use Rattle.std.specs.List.{list_any}
+use Rattle.std.proofs.lemmas.Bool.{le-leb, le-ltb, lt-leb, ne_eqb}
 use Rattle.mesh_arena.specs.Pages.{Pages}
 use Rattle.mesh_class.specs.Classes.{slots_of}
 use Rattle.model_heap.specs.Mesh.{cancel, cancelled, page_count, step, table_unwound, with_progress, without_mesh}
-use Rattle.model_heap.specs.Sound.{IsWithinSteps}
-use Rattle.model_heap.specs.Table.{Group, Made, Mesh, Progress, Slot, Table, Unwinding, group_of}
+use Rattle.model_heap.specs.Table.{Group, Made, Mesh, Progress, Slot, Table, Unwinding, group_of, takes_part}
 use Rattle.model_words.specs.declared.commands.StepKind.TheVariants.{Unprotect}
 use Rattle.model_words.specs.declared.refusals.Refusal.TheVariants.{TooLate}
 use Rattle.model_heap.proofs.TableChanges.{cancel_sound, step_sound}
@@ -14,15 +14,16 @@ use Rattle.mesh_spans.specs.Groups.{groups_of, is_closed, table_group}
 use Rattle.mesh_spans.specs.Index.{Index, IsIndex, group_at}
 use Rattle.mesh_layout.specs.Indexes.{class_in, layout_of, slots_in, table_with}
 use Rattle.mesh_layout.specs.Layout.{IsPageOf, Layout, Stage, page_total, virtual_page}
-use Rattle.mesh_layout.specs.Meshes.{mesh_from, stage_at, stage_of, stage_with}
+use Rattle.mesh_layout.specs.Meshes.{mesh_from, stage_at, stage_with}
 use Rattle.mesh_layout.specs.PageHeap.{IsPageHeap}
 use Rattle.mesh_layout.proofs.Changes.{SameGroups}
 use Rattle.mesh_layout.proofs.Ends.{page_heap_ended, unwind_last}
 use Rattle.mesh_layout.proofs.Flags.{flags_progress}
-use Rattle.mesh_layout.proofs.MadeSteps.{Ends, GoesOn, HasSides, has_sides, moved_paged, pages_counted, same_step, some_pages}
+use Rattle.mesh_layout.proofs.MadeSteps.{Ends, GoesOn, HasSides, has_sides, moved_paged, pages_counted, some_pages}
 use Rattle.mesh_layout.proofs.MapSteps.{protects_all}
 use Rattle.mesh_layout.proofs.MeshList.{from_found}
 use Rattle.mesh_layout.proofs.PageHeapSteps.{page_heap_orderly}
+use Rattle.mesh_layout.proofs.Stages.{begin_stage}
 use Rattle.mesh_layout.proofs.Whole.{cancel_step, end_step, unwind_step}
 
 -- the index with the two groups of a mesh opened again
@@ -50,12 +51,7 @@ module _ (arena : Pages) (m m' : Entries) (index : Index) (next : ℕ) (ms : Lis
 
   -- the page to be unprotected is one of the source
   unwound_page : IsPageOf (layout_of index) this.source u (virtual_page (layout_of index) this.source u)
-  unwound_page =
-      let total = pages_counted index this.source sides.a sides.source in
-      let within = subst (λ (p : Progress). IsWithinSteps (table_group index.spans this.source sides.a) p) at sides.within in
-      let below = within.0 in
-      let few = within.1 in
-      record { within = omega (arith, below, few, total); at = refl }
+  unwound_page = grind (arith, sides, pages_counted)
 
   -- the table's step
   unwinds : step (table_with arena index next ms) (find test ms)
@@ -67,15 +63,13 @@ module _ (arena : Pages) (m m' : Entries) (index : Index) (next : ℕ) (ms : Lis
   unwind_goes left left_is some =
       let l : Layout = layout_of index in
       let t : Table = table_with arena index next ms in
-      let more : nat_le q (u + 1) ≡ false = (elim (leb_tells q (u + 1)) [ inr no_ ↦ no_.0 | inl past ↦ absurd (let h = past.1 in omega (arith, h, left_is, some)) ]) in
-      let table : table_unwound t this q u ≡ table_with arena index next (with_progress ms this (Unwinding q (u + 1))) = rw more refl in
-      let stepped = unwinds ∙ same_step Unprotect Unprotect (q - (u + 1)) left (table_unwound t this q u)
-      (table_with arena index next (with_progress ms this (Unwinding q (u + 1)))) refl (omega (arith, left_is)) table in
-      let both = unwind_step l ms this m arena (page_heap_orderly arena m index next ms sound paged) paged.laid_out own m' q u (virtual_page l this.source u) at
-      unwound_page protects in
+      let table : table_unwound t this q u ≡ table_with arena index next (with_progress ms this (Unwinding q (u + 1))) = rw (lt-leb q (u + 1) (omega (arith, left_is, some))) refl in
+      let count : q - (u + 1) ≡ left = omega (arith, left_is) in
+      let stepped : step t (find test ms) ≡ Ok (record { kind = Unprotect; left = left; table = table_with arena index next (with_progress ms this (Unwinding q (u + 1))) })
+      = unwinds ∙ (rw (table, count) refl) in
+      let both = unwind_step _ _ this _ _ (page_heap_orderly arena m index next ms sound paged) paged.laid_out own _ _ _ _ at unwound_page protects in
       record {
-        paged = moved_paged arena arena m m' index next ms test this (Unwinding q (u + 1)) left Unprotect paged
-            (protects_all m m' (virtual_page l this.source u) false protects) both.0 stepped;
+        paged = moved_paged _ _ _ _ _ _ _ _ this _ _ _ paged (protects_all _ _ _ false protects) both.0 stepped;
         kept = both.1;
         stepped = stepped;
       }
@@ -83,20 +77,18 @@ module _ (arena : Pages) (m m' : Entries) (index : Index) (next : ℕ) (ms : Lis
   -- the last one
   pub unwind_ends : (new : Index) → u + 1 ≡ q → Reopens index new this → Ends arena arena m m' index new next ms test this Unprotect
   unwind_ends new last reopens =
-      let l : Layout = layout_of index in
       let t : Table = table_with arena index next ms in
-      let v : ℕ = virtual_page l this.source u in
-      let ends : nat_le q (u + 1) ≡ true = (elim (leb_tells q (u + 1)) [ inl yes_ ↦ yes_.0 | inr no_ ↦ absurd (let h = no_.1 in omega (arith, h, last)) ]) in
-      let table : table_unwound t this q u ≡ table_with arena new next (without_mesh ms this) = rw (ends, reopens.groups, reopens.same.spans) refl in
-      let stepped = unwinds ∙ same_step Unprotect Unprotect (q - (u + 1)) 0 (table_unwound t this q u) (table_with arena new next (without_mesh ms this)) refl
-      (omega (arith, last)) table in
-      let both = unwind_last l t ms this m m' arena q u v paged.sound refl (page_heap_orderly arena m index next ms sound paged) paged.laid_out own at last
-      unwound_page protects in
+      let v : ℕ = virtual_page (layout_of index) this.source u in
+      let table : table_unwound t this q u ≡ table_with arena new next (without_mesh ms this) = rw (le-leb q (u + 1) (omega (arith, last)), reopens.groups, reopens.same.spans) refl in
+      let count : q - (u + 1) ≡ 0 = omega (arith, last) in
+      let stepped : step t (find test ms) ≡ Ok (record { kind = Unprotect; left = 0; table = table_with arena new next (without_mesh ms this) })
+      = unwinds ∙ (rw (table, count) refl) in
+      let both = unwind_last _ _ _ _ _ _ _ _ _ paged.sound (page_heap_orderly _ _ _ _ _ sound paged) paged.laid_out own at last unwound_page protects in
       record {
-        paged = page_heap_ended arena m m' index new next ms test this paged found reopens.same
+        paged = page_heap_ended _ _ _ _ _ _ _ _ _ paged found reopens.same
             (λ n k slot filled. sym (ap (λ (xs : List (Option Slot)). slice_index_or xs k None) (reopens.slots n)) ∙ filled)
-            reopens.closed reopens.closed_source reopens.closed_destination (protects_all m m' v false protects) both.0
-            (step_sound t test (record { kind = Unprotect; left = 0; table = table_with arena new next (without_mesh ms this) }) paged.sound stepped);
+            reopens.closed reopens.closed_source reopens.closed_destination (protects_all _ _ _ false protects) both.0
+            (step_sound _ _ _ paged.sound stepped);
         kept = both.1;
         stepped = stepped;
       }
@@ -114,20 +106,13 @@ unwinding_cancelled ms t test this g q u found source at = cancel_gives t ms tes
 -- a cancel before the first remap
 cancelled_early : (t : Table) (this : Mesh) (g : Group) (d q : ℕ) → d ≤ page_count g + slots_of g.class → min d (page_count g) ≡ q → q ≢ 0
     → cancelled t this g (Made d) ≡ Ok (record { count = q; table = record t { meshes = with_progress t.meshes this (Unwinding q 0) } })
-cancelled_early t this g d q early is some = elim (leb_tells (suc (page_count g + slots_of g.class)) d) [
-  | inl past ↦ absurd (let h = past.1 in omega (arith, h, early))
-  | inr no_ ↦ elim (eqb_tells q 0) [ inl none ↦ absurd (some none.1) | inr more ↦ rw (no_.0, is, more.0) refl ]
-]
+cancelled_early t this g d q early is some = rw (le-ltb (page_count g + slots_of g.class) d early, is, ne_eqb q 0 some) refl
 
 -- the same where no page was protected
 cancelled_none : (t : Table) (this : Mesh) (g : Group) (d : ℕ) → d ≡ 0
     → cancelled t this g (Made d) ≡ Ok (record { count = 0; table = record t { meshes = without_mesh t.meshes this } })
 cancelled_none t this g d none =
-    let least : min d (page_count g) ≡ 0 = omega (arith, none) in
-    elim (leb_tells (suc (page_count g + slots_of g.class)) d) [
-      | inl past ↦ absurd (let h = past.1 in omega (arith, h, none))
-      | inr no_ ↦ rw (no_.0, least) refl
-    ]
+    let least : min d (page_count g) ≡ 0 = omega (arith, none) in rw (le-ltb (page_count g + slots_of g.class) d (omega (arith, none)), least) refl
 
 -- what a cancel that leaves its mesh running comes to
 pub record Holds (arena : Pages) (m : Entries) (index : Index) (next : ℕ) (ms : List Mesh) (test : Mesh → Bool) (this : Mesh) (progress : Progress) (count : ℕ) : Type 0 where
@@ -156,15 +141,7 @@ module _ (arena : Pages) (m : Entries) (index : Index) (next : ℕ) (ms : List M
   -- after the first remap it is refused
   pub cancel_late : page_total (layout_of index) this.source + slots_of ((layout_of index).class this.source) < d
       → cancel (table_with arena index next ms) (find test ms) ≡ Err TooLate
-  cancel_late late =
-      let total = pages_counted index this.source there.a there.source in
-      let s = ap slots_of (ap class_in there.source) in
-      let past : nat_lt (page_count (table_group index.spans this.source there.a) + slots_of there.a.class) d ≡ true
-      = (elim (leb_tells (suc (page_count (table_group index.spans this.source there.a) + slots_of there.a.class)) d) [
-        | inl yes_ ↦ yes_.0
-        | inr no_ ↦ absurd (let h = no_.1 in omega (arith, h, late, total, s))
-      ]) in
-      cancels ∙ (rw past refl)
+  cancel_late late = grind (arith, pages_counted, there)
 
   -- before it, once a page was protected, the mesh is unwound
   pub cancel_holds : 0 < d → d ≤ page_total (layout_of index) this.source + slots_of ((layout_of index).class this.source)
@@ -178,18 +155,10 @@ module _ (arena : Pages) (m : Entries) (index : Index) (next : ℕ) (ms : List M
       let q : ℕ = min d (page_total l this.source) in
       let pages = (some_pages index this.source there.a sound there.source).0 in
       let gives = cancels ∙ cancelled_early t this g d q (omega (arith, early, total, s)) (ap (min d) total) (λ none. omega (arith, none, some, pages)) in
-      record {
-        paged = record {
-          some = paged.some;
-          most = paged.most;
-          unused = paged.unused;
-          fresh = paged.fresh;
-          laid_out = cancel_step l ms this m arena (page_heap_orderly arena m index next ms sound paged) paged.laid_out mine d at early;
-          flags = λ n. paged.flags n ∙ sym (flags_progress ms this (Unwinding q 0) n);
-          sound = cancel_sound t test (record { count = q; table = table_with arena index next (with_progress ms this (Unwinding q 0)) }) paged.sound gives;
-        };
-        cancelled = gives;
-      }
+      let laid_out = cancel_step l ms this m arena (page_heap_orderly arena m index next ms sound paged) paged.laid_out mine d at early in
+      let flags : (n : ℕ) → is_closed index n ≡ list_any (takes_part n) (with_progress ms this (Unwinding q 0))
+      = λ n. paged.flags n ∙ sym (flags_progress ms this (Unwinding q 0) n) in
+      let whole = cancel_sound t test (record { count = q; table = table_with arena index next (with_progress ms this (Unwinding q 0)) }) paged.sound gives in assumption
 
   -- and where none was it ends
   pub cancel_stops : (new : Index) → d ≡ 0 → Reopens index new this → Stops arena m index new next ms test this
@@ -197,8 +166,8 @@ module _ (arena : Pages) (m : Entries) (index : Index) (next : ℕ) (ms : List M
       let l : Layout = layout_of index in
       let t : Table = table_with arena index next ms in
       let g : Group = table_group index.spans this.source there.a in
-      let now : stage_of l ms this.source ≡ stage_at (page_total l this.source) (slots_of (l.class this.source)) this.destination (Made 0)
-      = ap (stage_with l this.source) mine ∙ ap (stage_at (page_total l this.source) (slots_of (l.class this.source)) this.destination) (at ∙ ap Made none) in
+      let now = ap (stage_with l this.source) mine ∙ ap (stage_at (page_total l this.source) (slots_of (l.class this.source)) this.destination) (at ∙ ap Made none)
+      ∙ begin_stage (page_total l this.source) (slots_of (l.class this.source)) this.destination in
       let table : record t { meshes = without_mesh ms this } ≡ table_with arena new next (without_mesh ms this) = rw (reopens.groups, reopens.same.spans) refl in
       let gives = cancels ∙ cancelled_none t this g d none ∙ ap (λ (x : Table). Ok (record { count = 0; table = x })) table in
       record {
@@ -206,11 +175,7 @@ module _ (arena : Pages) (m : Entries) (index : Index) (next : ℕ) (ms : List M
             (λ n k slot filled. sym (ap (λ (xs : List (Option Slot)). slice_index_or xs k None) (reopens.slots n)) ∙ filled)
             reopens.closed reopens.closed_source reopens.closed_destination (λ v. refl)
             (end_step l ms this m arena (page_heap_orderly arena m index next ms sound paged) paged.laid_out mine t paged.sound.meshes paged.sound.one_a_class
-            (let to : (stage_of l ms this.source).locked_to ≡ min 0 (page_total l this.source) = ap (λ (c : Stage). c.locked_to) now in omega (arith, to))
-            (let to : (stage_of l ms this.source).remapped ≡ min (0 - (page_total l this.source + slots_of (l.class this.source))) (page_total l this.source)
-            = ap (λ (c : Stage). c.remapped) now in omega (arith, to))
-            (let to : (stage_of l ms this.source).released ≡ 0 - (3 * page_total l this.source + slots_of (l.class this.source))
-            = ap (λ (c : Stage). c.released) now in omega (arith, to)))
+            (omega (arith, ap (λ (c : Stage). c.locked_to) now)) (ap (λ (c : Stage). c.remapped) now) (ap (λ (c : Stage). c.released) now))
             (cancel_sound t test (record { count = 0; table = table_with arena new next (without_mesh ms this) }) paged.sound gives);
         cancelled = gives;
       }

@@ -1,8 +1,7 @@
 -- What groups count, as one of them changes.
-use Rattle.std.proofs.Common.{◌≡◌, ℕ, suc, ◌+◌, ◌-◌, ◌*◌, ◌<◌, ◌≤◌, if◌then◌else◌, count_by, false, List, [], ◌∷◌, ◌++◌, Option, Some, None, is_some, length, replicate, slice_index_or, slice_set, ap, refl, ◌∙◌, arith}
+use Rattle.std.proofs.Common.{◌≡◌, ℕ, suc, ◌+◌, ◌-◌, ◌*◌, ◌<◌, ◌≤◌, if◌then◌else◌, count_by, false, List, [], ◌∷◌, ◌++◌, Option, Some, None, is_some, length, replicate, slice_index_or, slice_set, refl, arith}
 use Rattle.std.specs.Prelude.{sum_by}
-use Rattle.std.proofs.Math.Nat.{mul-le-mul_right}
-use Rattle.std.proofs.lemmas.List.{get_or_default, length-map}
+use Rattle.std.proofs.lemmas.List.{length-map}
 use Rattle.std.proofs.lemmas.List.Folds.{sum_by-replicate}
 use Rattle.std.proofs.lemmas.List.Sums.{count_by-le-length, get_or-le-sum_by, sum_by-cons, sum_by-set, sum_by_push}
 use Rattle.mesh_class.specs.Classes.{pages_of}
@@ -10,17 +9,13 @@ use Rattle.model_heap.specs.Mesh.{do_overlap, page_count, united}
 use Rattle.model_heap.specs.Table.{Group, Slot, len_in, object_count}
 use Rattle.mesh_spans.specs.Counts.{IsCounted, IsPart, IsWithin, byte_count, bytes_in, counts_of, mapped_in, objects_in, with_group, without_group}
 use Rattle.mesh_spans.specs.declared.totals.Totals.{Totals}
-use Rattle.mesh_spans.specs.Groups.{first_of, groups_from, groups_of, table_group}
+use Rattle.mesh_spans.specs.Groups.{groups_from, groups_of, table_group}
 use Rattle.mesh_spans.specs.Index.{GroupEntry, Index, IsGroup, IsObject, SpanEntry, group_at}
 
 -- terms of at most c sum to at most c for each
 sum_few : {X : Type 0} (f : X → ℕ) (d : X) (c : ℕ) (xs : List X) → ((k : ℕ) → f (slice_index_or xs k d) ≤ c) → sum_by f xs ≤ length xs * c
 sum_few f d c [] each = omega arith
-sum_few f d c (x ∷ xs) each =
-    let first : f x ≤ c = each 0 in
-    let rest = sum_few f d c xs (λ k. each (suc k)) in
-    let both = sum_by-cons f x xs in
-    omega (arith, first, rest, both)
+sum_few f d c (x ∷ xs) each = omega (arith, each 0, (sum_few f d c xs (λ k. each (suc k))), sum_by-cons f x xs)
 
 len_fits : (class : ℕ) (o : Option Slot) → IsObject class o → len_in o ≤ class
 len_fits class None fits = omega arith
@@ -31,8 +26,7 @@ pub bytes_few : (group : GroupEntry) → IsGroup group → sum_by len_in group.s
 bytes_few group is =
     let sum = sum_few len_in None group.class group.slots (λ k. len_fits group.class (slice_index_or group.slots k None) (is.objects k)) in
     let full : length group.slots * group.class ≡ pages_of group.class * 4096 = rw is.slots is.class.full in
-    let few = is.class.few_pages in
-    omega (arith, sum, full, few)
+    omega (arith, sum, full, is.class.few_pages)
 
 -- a group with no object has none
 pub bytes_none : (n : ℕ) → 0 ≡ sum_by len_in (replicate {A = Option Slot} n None)
@@ -44,11 +38,7 @@ count_none n = let all = sum_by-replicate (λ (o : Option Slot). if is_some o th
 
 -- what one group counts at most
 pub group_few : (group : GroupEntry) → IsGroup group → IsWithin 1 (counts_of (Some group))
-group_few group is = record {
-  objects = let count = count_by-le-length is_some group.slots in let slots = is.slots in let few = is.class.few_slots in omega (arith, count, slots, few);
-  bytes = let few = bytes_few group is in omega (arith, few);
-  mapped = let few = mul-le-mul_right (pages_of group.class) is.few_members in let pages = is.class.few_pages in omega (arith, few, pages);
-}
+group_few group is = grind (arith, count_by-le-length, bytes_few)
 
 counts_few : (o : Option GroupEntry) → ((group : GroupEntry) → o ≡ Some group → IsGroup group) → IsWithin 1 (counts_of o)
 counts_few None each = record { objects = omega arith; bytes = omega arith; mapped = omega arith }
@@ -67,11 +57,7 @@ totals_few groups totals few each is =
 
 -- nor do fewer count more
 pub fewer_within : (totals group : Totals) → IsWithin 65536 totals → IsWithin 65536 (without_group totals group)
-fewer_within totals group few = record {
-  objects = let all = few.objects in omega (arith, all);
-  bytes = let all = few.bytes in omega (arith, all);
-  mapped = let all = few.mapped in omega (arith, all);
-}
+fewer_within totals group few = grind arith
 
 -- the counts over no group
 pub counted_none : IsCounted [] (counts_of None)
@@ -80,11 +66,7 @@ counted_none = record { objects = refl; bytes = refl; mapped = refl }
 -- what one group counts is a part of what all do
 pub part_is : (groups : List (Option GroupEntry)) (n : ℕ) (totals : Totals) → IsCounted groups totals → n < length groups
     → IsPart (counts_of (group_at groups n)) totals
-part_is groups n totals is below = record {
-  objects = let at = get_or-le-sum_by objects_in groups n None below in let all = is.objects in omega (arith, at, all);
-  bytes = let at = get_or-le-sum_by bytes_in groups n None below in let all = is.bytes in omega (arith, at, all);
-  mapped = let at = get_or-le-sum_by mapped_in groups n None below in let all = is.mapped in omega (arith, at, all);
-}
+part_is groups n totals is below = grind (arith, get_or-le-sum_by)
 
 -- the counts stay right as one group changes and is counted anew
 pub IsCounted_changed : (groups : List (Option GroupEntry)) (n : ℕ) (y : Option GroupEntry) (totals : Totals) → n < length groups → IsCounted groups totals
@@ -98,49 +80,28 @@ IsCounted_changed groups n y totals below is = record {
     changed : (f : Option GroupEntry → ℕ) (total : ℕ) → total ≡ sum_by f groups
         → total - f (group_at groups n) + f y ≡ sum_by f (slice_set groups n y)
     changed f total all =
-        let set = sum_by-set f groups n y None below in
-        let at = get_or-le-sum_by f groups n None below in
-        omega (arith, all, set, at)
+        omega (arith, all, sum_by-set f groups n y None below, get_or-le-sum_by f groups n None below)
 
 -- as one is taken out
 pub IsCounted_taken : (groups : List (Option GroupEntry)) (n : ℕ) (totals : Totals) → n < length groups → IsCounted groups totals
     → IsCounted (slice_set groups n None) (without_group totals (counts_of (group_at groups n)))
-IsCounted_taken groups n totals below is = let changed = IsCounted_changed groups n None totals below is in record {
-  objects = omega (arith, changed.objects);
-  bytes = omega (arith, changed.bytes);
-  mapped = omega (arith, changed.mapped);
-}
+IsCounted_taken groups n totals below is = grind (arith, IsCounted_changed groups n None totals below is)
 
 -- as one comes to be where none was
 pub IsCounted_back : (groups : List (Option GroupEntry)) (n : ℕ) (y : Option GroupEntry) (totals : Totals) → n < length groups → group_at groups n ≡ None
     → IsCounted groups totals → IsCounted (slice_set groups n y) (with_group totals (counts_of y))
-IsCounted_back groups n y totals below none is = let changed = IsCounted_changed groups n y totals below is in record {
-  objects = omega (arith, changed.objects, ap objects_in none);
-  bytes = omega (arith, changed.bytes, ap bytes_in none);
-  mapped = omega (arith, changed.mapped, ap mapped_in none);
-}
+IsCounted_back groups n y totals below none is = grind (arith, IsCounted_changed groups n y totals below is)
 
 -- a number that is no group counts nothing
 pub IsCounted_none : (groups : List (Option GroupEntry)) (totals : Totals) → IsCounted groups totals → IsCounted (groups ++ None ∷ []) totals
-IsCounted_none groups totals is = record {
-  objects = let push = sum_by_push objects_in groups None in let all = is.objects in omega (arith, push, all);
-  bytes = let push = sum_by_push bytes_in groups None in let all = is.bytes in omega (arith, push, all);
-  mapped = let push = sum_by_push mapped_in groups None in let all = is.mapped in omega (arith, push, all);
-}
+IsCounted_none groups totals is = grind (arith, sum_by_push)
 
 in_table : (f : Group → ℕ) (h : Option GroupEntry → ℕ) (spans : List SpanEntry) (b : ℕ) (groups : List (Option GroupEntry)) → h None ≡ 0
     → ((n : ℕ) (group : GroupEntry) → f (table_group spans n group) ≡ h (Some group)) → sum_by h groups ≡ sum_by f (groups_from spans b groups)
 in_table f h spans b [] none same = refl
 in_table f h spans b (None ∷ groups) none same =
-    let rest = in_table f h spans (b + 1) groups none same in
-    let first = sum_by-cons h None groups in
-    omega (arith, first, rest, none)
-in_table f h spans b (Some group ∷ groups) none same =
-    let rest = in_table f h spans (b + 1) groups none same in
-    let first = sum_by-cons h (Some group) groups in
-    let first' = sum_by-cons f (table_group spans b group) (groups_from spans (b + 1) groups) in
-    let one = same b group in
-    omega (arith, first, first', rest, one)
+    omega (arith, sum_by-cons h None groups, in_table f h spans (b + 1) groups none same, none)
+in_table f h spans b (Some group ∷ groups) none same = grind (arith, sum_by-cons, in_table f h spans (b + 1) groups none same)
 
 -- the groups of the table count the same
 pub record AreTotals (index : Index) (totals : Totals) : Type 0 where
@@ -151,41 +112,17 @@ pub record AreTotals (index : Index) (totals : Totals) : Type 0 where
 pub table_counted : (spans : List SpanEntry) (groups : List (Option GroupEntry)) (totals : Totals) → IsCounted groups totals
     → AreTotals (record { spans = spans; groups = groups }) totals
 unfolding groups_of
-table_counted spans groups totals is = record {
-  objects = is.objects ∙ in_table object_count objects_in spans 0 groups refl (λ n group. refl);
-  bytes = is.bytes ∙ in_table byte_count bytes_in spans 0 groups refl (λ n group. refl);
-  mapped = is.mapped ∙ in_table page_count mapped_in spans 0 groups refl
-      (λ n group. ap (λ (count : ℕ). count * pages_of group.class) (length-map group.members (first_of spans)));
-}
+table_counted spans groups totals is = grind (arith, in_table, length-map)
 
--- the bytes of a group with another entry in a slot
-pub bytes_put : (slots : List (Option Slot)) (k bytes before now : ℕ) (was entry : Option Slot) → k < length slots → bytes ≡ sum_by len_in slots
-    → was ≡ slice_index_or slots k was → before ≡ len_in was → now ≡ len_in entry → bytes - before + now ≡ sum_by len_in (slice_set slots k entry)
-bytes_put slots k bytes before now was entry below is at old new =
-    let old' : before ≡ len_in (slice_index_or slots k None) = old ∙ ap len_in (at ∙ get_or_default slots k was None below) in
-    let set = sum_by-set len_in slots k entry None below in
-    let part = get_or-le-sum_by len_in slots k None below in
-    omega (arith, is, set, part, old', new)
+-- what the slots of a group count with another entry in one
+pub slot_put : (f : Option Slot → ℕ) (slots : List (Option Slot)) (k total before now : ℕ) (was entry : Option Slot) → k < length slots
+    → total ≡ sum_by f slots → was ≡ slice_index_or slots k was → before ≡ f was → now ≡ f entry → total - before + now ≡ sum_by f (slice_set slots k entry)
+slot_put f slots k total before now was entry below is at old new = grind (arith, sum_by-set, get_or-le-sum_by)
 
--- how many slots of a group are occupied with another entry in one
-pub count_put : (slots : List (Option Slot)) (k count before now : ℕ) (was entry : Option Slot) → k < length slots → count ≡ count_by is_some slots
-    → was ≡ slice_index_or slots k was → before ≡ (if is_some was then 1 else 0) → now ≡ (if is_some entry then 1 else 0)
-    → count - before + now ≡ count_by is_some (slice_set slots k entry)
-count_put slots k count before now was entry below is at old new =
-    let old' : before ≡ (if is_some (slice_index_or slots k None) then 1 else 0)
-    = old ∙ ap (λ (o : Option Slot). if is_some o then 1 else 0) (at ∙ get_or_default slots k was None below) in
-    let set = sum_by-set (λ (o : Option Slot). if is_some o then 1 else 0) slots k entry None below in
-    let part = get_or-le-sum_by (λ (o : Option Slot). if is_some o then 1 else 0) slots k None below in
-    omega (arith, is, set, part, old', new)
-
--- they are few
+-- the bytes stay few
 pub put_few : (group : GroupEntry) (bytes before now : ℕ) (entry : Option Slot) → IsGroup group → IsObject group.class entry → bytes ≡ sum_by len_in group.slots
     → now ≡ len_in entry → bytes - before + now < 4294967296
-put_few group bytes before now entry is fits all new =
-    let few = bytes_few group is in
-    let one = len_fits group.class entry fits in
-    let most = is.class.most in
-    omega (arith, few, one, most, all, new)
+put_few group bytes before now entry is fits all new = omega (arith, bytes_few _ is, len_fits _ _ fits, is.class.most, all, new)
 
 -- the bytes of two groups with no common occupied slot
 pub bytes_united : (xs ys : List (Option Slot)) → length xs ≡ length ys → do_overlap xs ys ≡ false
@@ -193,16 +130,10 @@ pub bytes_united : (xs ys : List (Option Slot)) → length xs ≡ length ys → 
 bytes_united [] [] long apart = refl
 bytes_united [] (y ∷ ys) long apart = absurd (omega (arith, long))
 bytes_united (x ∷ xs) [] long apart = absurd (omega (arith, long))
-bytes_united (None ∷ xs) (None ∷ ys) long apart =
-    let rest = bytes_united xs ys (omega (arith, long)) apart in
-    let a = sum_by-cons len_in None xs in let b = sum_by-cons len_in None ys in let c = sum_by-cons len_in None (united ys xs) in
-    omega (arith, rest, a, b, c)
-bytes_united (None ∷ xs) (Some y ∷ ys) long apart =
-    let rest = bytes_united xs ys (omega (arith, long)) apart in
-    let a = sum_by-cons len_in None xs in let b = sum_by-cons len_in (Some y) ys in let c = sum_by-cons len_in (Some y) (united ys xs) in
-    omega (arith, rest, a, b, c)
-bytes_united (Some x ∷ xs) (None ∷ ys) long apart =
-    let rest = bytes_united xs ys (omega (arith, long)) apart in
-    let a = sum_by-cons len_in (Some x) xs in let b = sum_by-cons len_in None ys in let c = sum_by-cons len_in (Some x) (united ys xs) in
-    omega (arith, rest, a, b, c)
+bytes_united (None ∷ xs) (None ∷ ys) long apart = let rest = bytes_united xs ys (omega (arith, long)) apart in
+    omega (arith, rest, sum_by-cons len_in None xs, sum_by-cons len_in None ys, sum_by-cons len_in None (united ys xs))
+bytes_united (None ∷ xs) (Some y ∷ ys) long apart = let rest = bytes_united xs ys (omega (arith, long)) apart in
+    omega (arith, rest, sum_by-cons len_in None xs, sum_by-cons len_in (Some y) ys, sum_by-cons len_in (Some y) (united ys xs))
+bytes_united (Some x ∷ xs) (None ∷ ys) long apart = let rest = bytes_united xs ys (omega (arith, long)) apart in
+    omega (arith, rest, sum_by-cons len_in (Some x) xs, sum_by-cons len_in None ys, sum_by-cons len_in (Some x) (united ys xs))
 bytes_united (Some x ∷ xs) (Some y ∷ ys) long apart = absurd (cc apart)

@@ -2,7 +2,7 @@
 use Rattle.std.proofs.Common.{◌≡◌, ◌≢◌, ℕ, zero, suc, ◌<◌, List, [], ◌∷◌, ◌++◌, Option, Some, None, length, slice_set, IfSome, ap, subst, refl, sym, ◌∙◌, arith, inl, inr}
 use Rattle.std.proofs.Math.ListN.{length-append, length-set}
 use Rattle.std.proofs.lemmas.Bool.Decides.{eqb_tells}
-use Rattle.std.proofs.lemmas.List.{get_or-set_other, get_or-set_same}
+use Rattle.std.proofs.lemmas.List.{get_or-set_other, get_or-set_same, set-set}
 use Rattle.std.specs.FinSet.{FinSet, empty}
 use Rattle.std.specs.Option.{option_map}
 use Rattle.std.specs.Ordering.{nat_cmp}
@@ -46,8 +46,7 @@ AreKept_set groups bins after totals now n x below sound moves counted is = reco
 -- a group is taken out
 pub AreKept_taken : (groups : List (Option GroupEntry)) (bins : List (FinSet nat_cmp)) (totals : Totals) (n : ℕ) → n < length groups → AreKept groups bins totals
     → AreKept (slice_set groups n None) (unfiled bins n (file_of (group_at groups n))) (without_group totals (counts_of (group_at groups n)))
-AreKept_taken groups bins totals n below is =
-    AreKept_set groups bins _ totals _ n None below tt (inr refl) (IsCounted_taken groups n totals below is.counted) is
+AreKept_taken groups bins totals n below is = AreKept_set _ _ _ _ _ _ _ below tt (inr refl) (IsCounted_taken _ _ _ below is.counted) is
 
 -- a number that is none is a group
 pub AreKept_back : (groups : List (Option GroupEntry)) (bins : List (FinSet nat_cmp)) (totals : Totals) (n : ℕ) (x : Option GroupEntry) → n < length groups
@@ -82,18 +81,7 @@ AreKept_none groups bins totals room is = record {
     none_more (x ∷ groups) zero = refl
     none_more (x ∷ groups) (suc n) = none_more groups n
 
--- the last of a list's places is set
-pub set_last : (groups : List (Option GroupEntry)) (x y : Option GroupEntry) → slice_set (groups ++ x ∷ []) (length groups) y ≡ groups ++ y ∷ []
-set_last [] x y = refl
-set_last (z ∷ groups) x y = ap (λ (rest : List (Option GroupEntry)). z ∷ rest) (set_last groups x y)
-
--- a place is set twice
-set_again : (groups : List (Option GroupEntry)) (n : ℕ) (x y : Option GroupEntry) → slice_set (slice_set groups n x) n y ≡ slice_set groups n y
-set_again [] n x y = refl
-set_again (z ∷ groups) zero x y = refl
-set_again (z ∷ groups) (suc n) x y = ap (λ (rest : List (Option GroupEntry)). z ∷ rest) (set_again groups n x y)
-
 -- a group that was taken out is back, changed
 pub changed_back : (old mid new : List (Option GroupEntry)) (n : ℕ) (group : GroupEntry) (change : GroupEntry → GroupEntry) → mid ≡ slice_set old n None
     → group_at old n ≡ Some group → new ≡ slice_set mid n (Some (change group)) → new ≡ slice_set old n (option_map change (group_at old n))
-changed_back old mid new n group change taken at back = rw (back, taken, at) (set_again old n None (Some (change group)))
+changed_back old mid new n group change taken at back = rw (back, taken, at) (set-set old n None (Some (change group)))

@@ -1,8 +1,6 @@
 -- What a merge keeps, and what it makes of the table.
 use Rattle.std.proofs.Common.{◌≡◌, ◌≢◌, ℕ, ◌+◌, ◌<◌, ◌≤◌, false, find, IfSome, List, Option, Some, None, length, slice_index, slice_set, ap, subst, sym, ◌∙◌, arith}
-use Rattle.std.proofs.Common.{not, ◌&&◌, nat_eq, inl, inr}
-use Rattle.std.proofs.Math.ListN.{length-set}
-use Rattle.std.proofs.lemmas.Bool.Decides.{eqb_tells}
+use Rattle.std.proofs.Common.{not, ◌&&◌, nat_eq}
 use Rattle.std.specs.Option.{option_map}
 use Rattle.std.proofs.lemmas.List.{get_or-set_other, get_or-set_same}
 use Rattle.model_heap.specs.Mesh.{do_overlap, merged}
@@ -10,7 +8,7 @@ use Rattle.model_heap.specs.Table.{Group, has_number}
 use Rattle.mesh_spans.specs.Changes.{IsMergeable, Merges, Regroups, merged_entry, merged_groups}
 use Rattle.mesh_spans.specs.Groups.{is_in_mesh, groups_from, table_group}
 use Rattle.mesh_spans.specs.Index.{GroupEntry, Index, IsIndex, IsOwned, SpanEntry, group_at}
-use Rattle.mesh_spans.proofs.IndexLemmas.{group_below}
+use Rattle.mesh_spans.proofs.IndexLemmas.{filled_below}
 use Rattle.mesh_spans.proofs.MergedIndex.{IsIndex_merged, IsOwned_merged}
 use Rattle.mesh_spans.proofs.MergedTable.{group_found, groups_merged}
 
@@ -30,9 +28,7 @@ absorbed groups s d a = slice_set (slice_set groups s None) d (option_map (merge
 
 pub absorbed_is : (groups : List (Option GroupEntry)) (s d : ℕ) (a b : GroupEntry) → s ≢ d → group_at groups d ≡ Some b
     → absorbed groups s d a ≡ merged_groups groups s d a b
-absorbed_is groups s d a b two at =
-    ap (λ (o : Option GroupEntry). slice_set (slice_set groups s None) d (option_map (merged_entry a) o))
-    (get_or-set_other groups s d None None (λ e. two (sym e)) ∙ at)
+absorbed_is groups s d a b two at = grind (arith, get_or-set_other)
 
 -- the groups of a mergeable pair after the source was taken out, the destination took its members and slots, and its spans were led there
 pub record HasMerged (spans spans' : List SpanEntry) (groups after : List (Option GroupEntry)) (s d : ℕ) (a : GroupEntry) : Type 0 where
@@ -60,23 +56,12 @@ module _ (spans spans' : List SpanEntry) (groups after : List (Option GroupEntry
 
   pub merge_table : (g : Group) → find (has_number s) (groups_from spans 0 groups) ≡ Some g → groups_from spans' 0 after ≡ merged (groups_from spans 0 groups) g d
   merge_table g found =
-      let one : Some (table_group spans s a) ≡ Some g = sym (group_found spans 0 s s groups a met.at (omega arith)) ∙ found in
-      let same : table_group spans s a ≡ g = cc one in
-      rw (after_is, ← same) (groups_merged spans spans' groups s d a met.pair.b met.at met.pair.destination met.pair.two (group_below groups s a met.at) met.moved.firsts)
+      let same : table_group spans s a ≡ g = cc (sym (group_found spans 0 s s groups a met.at (omega arith)) ∙ found) in
+      rw (after_is, ← same) (groups_merged spans spans' groups s d a met.pair.b met.at met.pair.destination met.pair.two (filled_below groups s a met.at) met.moved.firsts)
 
   -- which groups are in a mesh
   pub merge_closed : (m : ℕ) → is_in_mesh (group_at after m) ≡ (not (nat_eq m s) && is_in_mesh (group_at groups m))
-  merge_closed m = ap (λ (gs : List (Option GroupEntry)). is_in_mesh (group_at gs m)) after_is ∙ elim (eqb_tells m s) [
-    | inl same ↦ rw (same.0, same.1) (ap is_in_mesh (get_or-set_other (slice_set groups s None) d s (Some (merged_entry a met.pair.b)) None met.pair.two
-        ∙ get_or-set_same groups s None None (group_below groups s a met.at)))
-    | inr not_s ↦ rw not_s.0 (elim (eqb_tells m d) [
-      | inl same ↦ rw same.1 (ap is_in_mesh (get_or-set_same (slice_set groups s None) d (Some (merged_entry a met.pair.b)) None
-          (let below = group_below groups d met.pair.b met.pair.destination in omega (arith, below, length-set {A = Option GroupEntry} groups s None)))
-          ∙ ap is_in_mesh (sym met.pair.destination))
-      | inr not_d ↦ ap is_in_mesh (get_or-set_other (slice_set groups s None) d m (Some (merged_entry a met.pair.b)) None not_d.1
-          ∙ get_or-set_other groups s m None None not_s.1)
-    ])
-  ]
+  merge_closed m = grind (arith, get_or-set_other, get_or-set_same, filled_below)
 
   -- what the merge tells of the index
   pub merges_is : (index : Index) → record { spans = spans; groups = groups } ≡ index → (x b : GroupEntry) → group_at index.groups s ≡ Some x → group_at index.groups d ≡ Some b
@@ -105,14 +90,12 @@ module _ (spans : List SpanEntry) (groups middle : List (Option GroupEntry)) (s 
 
   -- the group that takes the source's objects is of its class
   pub same_classes : IfSome (group_at middle d) (λ g. a.class ≡ g.class)
-  same_classes = if_there middle d pair.b (λ g. a.class ≡ g.class) still_there (subst (λ (x : GroupEntry). x.class ≡ pair.b.class) is_source pair.same_class)
+  same_classes = if_there middle d pair.b (λ g. a.class ≡ g.class) still_there (rw is_source at pair.same_class)
 
   -- has room for its members
   pub few_together : IfSome (group_at middle d) (λ g. length a.members + length g.members ≤ 8)
-  few_together = if_there middle d pair.b (λ g. length a.members + length g.members ≤ 8) still_there
-      (subst (λ (x : GroupEntry). length x.members + length pair.b.members ≤ 8) is_source pair.few)
+  few_together = if_there middle d pair.b (λ g. length a.members + length g.members ≤ 8) still_there (rw is_source at pair.few)
 
   -- and for its objects
   pub slots_apart : IfSome (group_at middle d) (λ g. do_overlap a.slots g.slots ≡ false)
-  slots_apart = if_there middle d pair.b (λ g. do_overlap a.slots g.slots ≡ false) still_there
-      (subst (λ (x : GroupEntry). do_overlap x.slots pair.b.slots ≡ false) is_source pair.apart)
+  slots_apart = if_there middle d pair.b (λ g. do_overlap a.slots g.slots ≡ false) still_there (rw is_source at pair.apart)

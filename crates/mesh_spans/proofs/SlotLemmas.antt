@@ -1,12 +1,12 @@
 -- The free slots of a group, and the set of those that are taken.
-use Rattle.std.proofs.Common.{◌≡◌, ℕ, zero, suc, ◌+◌, ◌<◌, ◌-◌, ◌%◌, inl, inr, Bool, true, false, not, if◌then◌else◌, List, [], ◌∷◌, Option, Some, None, is_some, length, map, take, count_by, replicate, slice_get, slice_index, slice_index_or, ap, refl, sym, ◌∙◌, arith}
+use Rattle.std.proofs.Common.{◌≡◌, ℕ, zero, suc, ◌+◌, ◌<◌, ◌-◌, ◌%◌, Bool, true, false, not, if◌then◌else◌, List, [], ◌∷◌, Option, Some, None, is_some, length, map, take, count_by, replicate, slice_get, slice_index, slice_index_or, ap, refl, sym, ◌∙◌, arith}
 use Rattle.std.proofs.lemmas.List.{length-map}
 use Rattle.std.proofs.lemmas.List.Sums.{sum_by-cons}
-use Rattle.std.proofs.lemmas.Bool.Decides.{eqb_tells}
+use Rattle.std.proofs.lemmas.Option.{slice_get-get_or}
 use Rattle.mesh_bits.specs.Bits.{is_member, member_count, clear_count}
 use Rattle.model_heap.specs.Table.{Slot, free_from}
 use Rattle.std.proofs.lemmas.List.{get_or-set_other, get_or-set_same, length-set}
-use Rattle.mesh_class.specs.Classes.{IsClass, pages_of, slots_of}
+use Rattle.mesh_class.specs.Classes.{IsClass, pages_of}
 use Rattle.std.proofs.Math.ListN.{length-replicate}
 use Rattle.mesh_spans.specs.Index.{GroupEntry, IsGroup, IsObject, new_group, with_slot}
 
@@ -80,9 +80,8 @@ none_in (suc n) (suc k) = none_in n k
 
 -- a place of a list of nothing has nothing
 pub none_got : (n k : ℕ) → k < n → slice_get {X = Option Slot} (replicate n None) k ≡ Some None
-none_got zero k below = absurd (omega (arith, below))
-none_got (suc n) zero below = refl
-none_got (suc n) (suc k) below = none_got n k (omega (arith, below))
+none_got n k below =
+    slice_get-get_or (replicate n None) k None (omega (arith, length-replicate {A = Option Slot} n None, below)) ∙ ap Some (none_in n k)
 
 -- the number found is the one that the word picks among the free slots
 pub picked : (slots : List (Option Slot)) (set : List Bool) (word free place i total : ℕ) → set ≡ map is_some slots → length slots ≡ total
@@ -99,26 +98,9 @@ picked slots set word free place i total is long count at before below clear =
 
 -- a new group is one
 pub IsGroup_new : (class member : ℕ) (pages : List ℕ) → IsClass class → length pages ≡ pages_of class → IsGroup (new_group class member pages)
-IsGroup_new class member pages sound long = record {
-  class = sound;
-  some_member = omega arith;
-  few_members = omega arith;
-  pages = long;
-  slots = length-replicate (slots_of class) None;
-  objects = λ k. rw (none_in (slots_of class) k) tt;
-}
+IsGroup_new class member pages sound long = grind (arith, length-replicate, none_in)
 
 -- a group with another entry in a slot is one
 pub IsGroup_put : (group : GroupEntry) (k : ℕ) (entry : Option Slot) → k < length group.slots → IsObject group.class entry → IsGroup group
     → IsGroup (with_slot k entry group)
-IsGroup_put group k entry below fits sound = record {
-  class = sound.class;
-  some_member = sound.some_member;
-  few_members = sound.few_members;
-  pages = sound.pages;
-  slots = length-set group.slots k entry ∙ sound.slots;
-  objects = λ j. elim (eqb_tells j k) [
-    | inl same ↦ rw (same.1, get_or-set_same group.slots k entry None below) fits
-    | inr other ↦ rw (get_or-set_other group.slots k j entry None other.1) (sound.objects j)
-  ];
-}
+IsGroup_put group k entry below fits sound = grind (arith, length-set, get_or-set_same, get_or-set_other)

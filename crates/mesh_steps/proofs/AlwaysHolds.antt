@@ -11,15 +11,14 @@ use Rattle.mesh_pagemap.specs.Entries.{Entries, page_of}
 use Rattle.mesh_spans.specs.Index.{IsIndex}
 use Rattle.mesh_steps.proofs.Objects.{has_in, live_found}
 use Rattle.mesh_steps.specs.Always.{HasHeldPagesTaken, HasObjectsApart}
-use Rattle.mesh_steps.specs.Heap.{Heap, IsHeap, object_in, plain_of, table_of}
+use Rattle.mesh_steps.specs.Heap.{Heap, IsHeap}
 use Rattle.mesh_steps.specs.PageHeap.{PageHeap}
 
 -- no two live objects have an address in common
 pub heap_objects_apart : (h : Heap) → IsHeap h → HasObjectsApart h
 heap_objects_apart h heap i j x r q is is' apart in_r in_q =
-    let none = objects_apart (plain_of h) (table_of h) i j (object_in h r) (object_in h q) heap.sound heap.tied
-    (live_found h i r heap is) (live_found h j q heap is') apart x (has_in h r x in_r) in
-    let two : false ≡ true = sym none ∙ has_in h q x in_q in cc two
+    let none = objects_apart _ _ _ _ _ _ heap.sound heap.tied (live_found _ _ _ heap is) (live_found _ _ _ heap is') apart x (has_in h r _ in_r) in
+    let two : false ≡ true = sym none ∙ has_in h q _ in_q in cc two
 
 -- an address of a range whose virtual page leads to the physical page
 pub record LeadsTo (m : Entries) (page from len : ℕ) : Type 0 where
@@ -41,6 +40,5 @@ leads_to m page from (suc len) some = elim (eqb_tells (page_of m (from / 4096)) 
 pub heap_held_taken : (g : PageHeap) (next : ℕ) → IsIndex g.index.spans g.index.groups → IsPageHeap g.arena g.map g.index g.next_page g.meshes
     → HasHeldPagesTaken (record { pages = g; next_serial = next })
 heap_held_taken g next index paged serial page r is held =
-    let at = leads_to g.map page r.address r.len held in
-    subst (λ (p : ℕ). IsTaken g.arena p) at.leads
-    (page_taken g.arena g.map g.index g.next_page g.meshes index paged serial at.x r is (at.low, at.high))
+    let at = leads_to _ _ _ _ held in
+    subst (λ (p : ℕ). IsTaken g.arena p) at.leads (page_taken _ _ _ g.next_page g.meshes index paged _ _ _ is (at.low, at.high))

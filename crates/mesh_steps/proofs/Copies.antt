@@ -1,10 +1,8 @@
 -- What a copy does to the plain memory that a heap stands for.
-use Rattle.std.proofs.Common.{◌≡◌, ℕ, ◌+◌, ◌<◌, ◌≤◌, List, length, slice_range, Result, Ok, Err, ap, subst, refl, sym, ◌∙◌, ◌⊎◌, inl, inr, arith}
+use Rattle.std.proofs.Common.{◌≡◌, ℕ, ◌+◌, ◌<◌, ◌≤◌, List, length, slice_range, Ok, Err, ap, refl, sym, ◌∙◌, ◌⊎◌, inl, inr, arith}
 use Rattle.std.proofs.lemmas.Bool.Decides.{leb_tells}
-use Rattle.model_memory.specs.Memory.{Memory}
 use Rattle.model_heap.specs.Mesh.{is_blocked}
 use Rattle.model_memory.specs.Plain.{stored}
-use Rattle.model_words.specs.declared.refusals.Refusal.{Refusal}
 use Rattle.model_words.specs.declared.refusals.Refusal.TheVariants.{Outside}
 use Rattle.mesh_steps.proofs.Objects.{ends_past, ends_within}
 use Rattle.mesh_steps.proofs.Stores.{stored_in_is}
@@ -47,9 +45,4 @@ pub copy_stored : (h n : Heap) (to from : Ref) (t f : Occupied) (to_off from_off
     → bytes_at (plain_of h) from from_off len ≡ Ok read → bytes ≡ read
     → IsStore h n (stored_in h to.serial to.addr to_off bytes) (is_blocked (table_of h) (to.addr + to_off) (length bytes)) result
     → IsStore h n (copied_at (plain_of h) to to_off from from_off len) (is_blocked (table_of h) (to.addr + to_off) len) result
-copy_stored h n to from t f to_off from_off len read bytes result heap target source fits has long is same store =
-    let own = subst (λ (bs : List ℕ). IsStore h n (stored_in h to.serial to.addr to_off bs) (is_blocked (table_of h) (to.addr + to_off) (length bs)) result)
-    same store in
-    let counted = subst (λ (k : ℕ). IsStore h n (stored_in h to.serial to.addr to_off read) (is_blocked (table_of h) (to.addr + to_off) k) result) long own in
-    subst (λ (after : Result Memory Refusal). IsStore h n after (is_blocked (table_of h) (to.addr + to_off) len) result)
-    (copied_is h to from t f to_off from_off len read heap target source fits has long is) counted
+copy_stored h n to from t f to_off from_off len read bytes result heap target source fits has long is same store = grind arith

@@ -1,7 +1,6 @@
 -- An empty group taken out of a page heap.
-use Rattle.std.proofs.Common.{◌≡◌, ℕ, suc, ◌+◌, ◌<◌, true, false, not, nat_eq, nat_lt, count_by, filter, is_some, length, slice_index, slice_index_or, slice_set, List, Option, Some, None, Ok, Err, ap, subst, refl, sym, ◌∙◌, arith, inl, inr}
+use Rattle.std.proofs.Common.{◌≡◌, ℕ, ◌+◌, ◌<◌, true, false, not, nat_eq, count_by, filter, is_some, length, slice_index, slice_index_or, slice_set, List, Option, Some, None, Ok, Err, ap, subst, refl, sym, ◌∙◌, arith}
 use Rattle.std.proofs.lemmas.Bool.{eqb-false, eqb-true, lt-ltb}
-use Rattle.std.proofs.lemmas.Bool.Decides.{leb_tells}
 use Rattle.std.proofs.lemmas.List.{get_or-set_other, get_or-set_same, get_or_past}
 use Rattle.std.proofs.lemmas.Option.{slice_get-get_or}
 use Rattle.mesh_arena.specs.Pages.{IsTaken, Pages, free_count}
@@ -45,26 +44,18 @@ module _ (g : PageHeap) (n : ℕ) (a : GroupEntry) (paged : IsPageHeap g.arena g
 
   pub sweeps_filled : a.in_mesh ≡ false → nat_eq (count_by is_some a.slots) 0 ≡ false → sweep (table_in g) n ≡ Err NotEmpty
   sweeps_filled calm filled =
-      let apart = eqb-false (count_by is_some a.slots) 0 filled in
-      let some = lt-ltb 0 (count_by is_some a.slots) (omega (arith, apart)) in
-      rw (found, meshing ∙ calm, some) refl
+      rw (found, meshing ∙ calm, lt-ltb 0 (count_by is_some a.slots) (omega (arith, eqb-false (count_by is_some a.slots) 0 filled))) refl
 
   -- the table without it
   gives : (arena : Pages) (index : Index) → a.in_mesh ≡ false → nat_eq (count_by is_some a.slots) 0 ≡ true
       → free_count arena ≡ free_count g.arena + pages_of a.class → length index.spans ≡ length g.index.spans
       → groups_of index ≡ filter (λ x. not (has_number n x)) (groups_of g.index)
       → sweep (table_in g) n ≡ Ok (record { count = pages_of a.class; table = table_with arena index g.next_page g.meshes })
-  gives arena index calm empty free spans groups =
-      let none : nat_lt 0 (count_by is_some a.slots) ≡ false = rw (eqb-true (count_by is_some a.slots) 0 empty) refl in
-      rw (found, meshing ∙ calm, none, free, spans, groups) refl
+  gives arena index calm empty free spans groups = grind (arith, found)
 
 -- in a group without an object each slot is empty
 none_counted : (slots : List (Option Slot)) (k : ℕ) (slot : Slot) → count_by is_some slots ≡ 0 → slice_index_or slots k None ≡ Some slot → ⊥
-none_counted slots k slot none filled = elim (leb_tells (suc k) (length slots)) [
-  | inl below ↦ let one = filled_counted slots k slot (slice_get-get_or slots k None below.1 ∙ ap Some filled) in omega (arith, one, none)
-  | inr past ↦ absurd (let p = past.1 in
-      let two : ◌≡◌ {A = Option Slot} None (Some slot) = sym (get_or_past slots k None (omega (arith, p))) ∙ filled in cc two)
-]
+none_counted slots k slot none filled = grind (arith, filled_counted, slice_get-get_or, get_or_past)
 
 -- a group of a page heap that is in no mesh is idle
 module _ (g : PageHeap) (n : ℕ) (a : GroupEntry) (sound : IsIndex g.index.spans g.index.groups) (paged : IsPageHeap g.arena g.map g.index g.next_page g.meshes)
@@ -95,12 +86,10 @@ module _ (g : PageHeap) (n : ℕ) (a : GroupEntry) (sound : IsIndex g.index.span
 
       held : (k : ℕ) → k < length a.pages → IsHeldBy (layout_of g.index) (stage_of (layout_of g.index) g.meshes) n k
       held k below =
-          let class = ap pages_of (ap class_in there) in
-          let pages = (sound.each n a there).pages in
           let idle_now = orderly.idle n (open_calm (layout_of g.index) g.meshes n (sym (paged.flags n) ∙ ap is_in_mesh there ∙ calm)).0 in
           record {
             group = some;
-            within = omega (arith, below, class, pages);
+            within = omega (arith, below, ap pages_of (ap class_in there), (sound.each n a there).pages);
             kept = let none : (stage_of (layout_of g.index) g.meshes n).released ≡ 0 = ap (λ (c : Stage). c.released) idle_now in omega (arith, none);
           }
 
@@ -117,22 +106,16 @@ swept g new n a arena map index sound paged there calm empty gives_pages unmaps 
     let pages = entry.pages in
     let more = gives_pages.more in
     let free : free_count arena ≡ free_count g.arena + pages_of a.class = omega (arith, more, pages) in
-    let told = gives g n a paged there arena index calm empty free (ap (λ (xs : List SpanEntry). length xs) spans) table in
+    let told = gives g _ a paged there _ _ calm empty free (ap (λ (xs : List SpanEntry). length xs) spans) table in
     let x : Counted = record { count = pages_of a.class; table = table_with arena index g.next_page g.meshes } in
-    let after = sweep_sound (table_in g) n x paged.sound told in
-    let below = group_below g.index.groups n a there in
     let members = subst (λ (o : Option GroupEntry). 0 < length (members_in o)) (sym there) entry.some_member in
     let zeroth = eqb-true (count_by is_some a.slots) 0 empty in
-    let class = ap pages_of (ap class_in there) in
-    let both = page_heap_sweep g.arena arena g.map map g.index index g.next_page g.meshes n sound paged
-    (record {
-      gone = ap (λ (gs : List (Option GroupEntry)). group_at gs n) groups ∙ get_or-set_same g.index.groups n None None below;
+    let both = page_heap_sweep _ _ _ _ _ _ _ _ _ sound paged (record {
+      gone = ap (λ (gs : List (Option GroupEntry)). group_at gs n) groups ∙ get_or-set_same g.index.groups n None None (group_below _ _ _ there);
       others = λ m other. ap (λ (gs : List (Option GroupEntry)). group_at gs m) groups ∙ get_or-set_other g.index.groups n m None None other;
       spans = spans;
     })
-    members
-    (λ k slot filled. none_counted a.slots k slot zeroth (sym (ap (λ (o : Option GroupEntry). slice_index_or (slots_in o) k None) there) ∙ filled))
-    (ap is_in_mesh there ∙ calm) unmaps
-    (gives_group (layout_of g.index) g.arena arena n a.pages (omega (arith, pages, class))
-    (λ j. ap (λ (o : Option GroupEntry). slice_index (pages_in o) j) there) gives_pages) after in
+    members (λ k slot filled. none_counted a.slots k _ zeroth (sym (ap (λ (o : Option GroupEntry). slice_index_or (slots_in o) k None) there) ∙ filled))
+    (ap is_in_mesh there ∙ calm) unmaps (gives_group _ _ _ _ _ (omega (arith, pages, ap pages_of (ap class_in there)))
+    (λ j. ap (λ (o : Option GroupEntry). slice_index (pages_in o) j) there) gives_pages) (sweep_sound _ _ _ paged.sound told) in
     rw is (both.0, record { table = told; kept = both.1; unmapped = unmaps.gone })

@@ -1,26 +1,13 @@
 -- One page more taken, given or mapped.
-use Rattle.std.proofs.Common.{◌≡◌, ◌≢◌, ℕ, suc, ◌+◌, ◌<◌, ◌≤◌, true, false, List, [], ◌∷◌, ◌++◌, Option, Some, None, is_some, drop, length, set, slice_index, slice_index_or, ap, refl, sym, ◌∙◌, arith, inl, inr}
+use Rattle.std.proofs.Common.{◌≡◌, ◌≢◌, ℕ, suc, ◌+◌, ◌<◌, ◌≤◌, true, false, List, [], ◌∷◌, ◌++◌, Option, Some, None, drop, length, set, slice_index, slice_index_or, ap, refl, sym, ◌∙◌, arith, inl, inr}
 use Rattle.std.proofs.Math.ListN.{get_or-append, length-append}
 use Rattle.std.proofs.Math.Seq.{drop-cons, get_or-append_seam}
 use Rattle.std.proofs.lemmas.Bool.Decides.{eqb_tells, leb_tells}
-use Rattle.std.proofs.lemmas.List.{drop_all, get_or-set_other, set-get_or, set-set, set_comm}
+use Rattle.std.proofs.lemmas.List.{get_or-set_other, set-get_or, set-set, set_comm}
 use Rattle.mesh_arena.specs.Pages.{Pages, is_taken, IsTaken, Takes, Gives}
 use Rattle.mesh_pagemap.specs.Entries.{Entries, Maps}
 use Rattle.mesh_pagemap.specs.declared.prot.Prot.TheVariants.{ReadWrite}
-use Rattle.mesh_layout.specs.Growth.{TakesAll, MapsFirst, AreTaken, AreUnmapped, given_back}
-
--- no page taken
-pub TakesAll_none : (a : Pages) → TakesAll a a []
-TakesAll_none a = record {
-  were_free = λ k h. absurd (omega (arith, h));
-  taken = λ k h. absurd (omega (arith, h));
-  apart = λ k l h. absurd (omega (arith, h));
-  kept = λ p h. h;
-  others = λ p h. refl;
-  same_bytes = λ p o h. refl;
-  fewer = omega arith;
-  same_length = refl;
-}
+use Rattle.mesh_layout.specs.Growth.{TakesAll, MapsFirst, AreTaken, given_back}
 
 different : (a : Pages) (p q : ℕ) → IsTaken a p → is_taken a q ≡ false → p ≢ q
 different a p q taken free same = let at : is_taken a p ≡ false = ap (λ (n : ℕ). is_taken a n) same ∙ free in cc
@@ -35,25 +22,24 @@ TakesAll_more old mid new pages page were takes = record {
   ];
   taken = λ k h. elim (leb_tells (length pages) k) [
     | inr before ↦ rw (at_old k before.1) (takes.other_pages (slice_index pages k)
-        (different mid (slice_index pages k) page (were.taken k before.1) takes.was_free) ∙ were.taken k before.1)
+        (different _ _ _ (were.taken k before.1) takes.was_free) ∙ were.taken k before.1)
     | inl last ↦ rw (at_new k h last.1) takes.taken
   ];
   apart = λ k l h h' other. elim (leb_tells (length pages) k) [
     | inr before ↦ elim (leb_tells (length pages) l) [
       | inr before' ↦ rw (at_old k before.1, at_old l before'.1) (were.apart k l before.1 before'.1 other)
-      | inl last' ↦ rw (at_old k before.1, at_new l h' last'.1) (different mid (slice_index pages k) page (were.taken k before.1) takes.was_free)
+      | inl last' ↦ rw (at_old k before.1, at_new l h' last'.1) (different _ _ _ (were.taken k before.1) takes.was_free)
     ]
     | inl last ↦ elim (leb_tells (length pages) l) [
-      | inr before' ↦ rw (at_new k h last.1, at_old l before'.1)
-          (λ e. different mid (slice_index pages l) page (were.taken l before'.1) takes.was_free (sym e))
+      | inr before' ↦ rw (at_new k h last.1, at_old l before'.1) (λ e. different _ _ _ (were.taken l before'.1) takes.was_free (sym e))
       | inl last' ↦ absurd (other (omega (arith, is_last k h last.1, is_last l h' last'.1)))
     ]
   ];
-  kept = λ p h. takes.other_pages p (different mid p page (were.kept p h) takes.was_free) ∙ were.kept p h;
+  kept = λ p h. takes.other_pages p (different _ _ _ (were.kept p h) takes.was_free) ∙ were.kept p h;
   others = λ p none. takes.other_pages p (λ e. none (length pages) (rw (length-append pages (page ∷ [])) (omega arith))
       (get_or-append_seam pages page [] 0 ∙ sym e))
       ∙ were.others p (λ k below e. none k (rw (length-append pages (page ∷ [])) (omega (arith, below))) (at_old k below ∙ e));
-  same_bytes = λ p o h. takes.other_bytes p o (different mid p page (were.kept p h) takes.was_free) ∙ were.same_bytes p o h;
+  same_bytes = λ p o h. takes.other_bytes p o (different _ _ _ (were.kept p h) takes.was_free) ∙ were.same_bytes p o h;
   fewer = rw (length-append pages (page ∷ [])) (omega (arith, were.fewer, takes.fewer));
   same_length = takes.same_length ∙ were.same_length;
 }
@@ -76,10 +62,7 @@ TakesAll_more old mid new pages page were takes = record {
 -- a page that isn't taken has no bytes
 free_content : (a : Pages) (p : ℕ) → is_taken a p ≡ false → slice_index_or a p None ≡ None
 unfolding is_taken
-free_content a p h = elim (slice_index_or a p None) as (λ (o : Option (List ℕ)). slice_index_or a p None ≡ o → o ≡ None) [
-  | None ↦ λ e. refl
-  | Some bytes ↦ λ e. let two : true ≡ false = sym (ap (λ (o : Option (List ℕ)). is_some o) e) ∙ h in cc two
-] refl
+free_content a p h = grind arith
 
 -- a free page that is freed stays as it is
 freed_again : (a : Pages) (p : ℕ) (x : Option (List ℕ)) → slice_index_or a p None ≡ None → set (set a p x) p None ≡ a
@@ -110,10 +93,7 @@ pub record AreTakenFrom (a : Pages) (pages : List ℕ) (n : ℕ) : Type 0 where
 -- the others stay taken where one of them is given
 pub taken_after : (old mid new : Pages) (pages : List ℕ) (n page : ℕ) → AreTaken old pages → slice_index pages n ≡ page → n < length pages
     → AreTakenFrom mid pages n → Gives mid new page → AreTakenFrom new pages (n + 1)
-taken_after old mid new pages n page taken at below were gives = record {
-  each = λ k from h. gives.other_pages (slice_index pages k)
-      (λ e. taken.apart k n h below (λ same. absurd (omega (arith, same, from))) (e ∙ sym at)) ∙ were.each k (omega (arith, from)) h;
-}
+taken_after old mid new pages n page taken at below were gives = grind arith
 
 -- what is left to give after one page more
 pub given_step : (mid new : Pages) (pages : List ℕ) (n page : ℕ) → n < length pages → slice_index pages n ≡ page → new ≡ set mid page None
@@ -125,23 +105,6 @@ given_step mid new pages n page below at is =
   where
     next : n + 1 ≡ suc n
     next = omega arith
-
--- no page is left to give after the last
-pub given_all : (mid : Pages) (pages : List ℕ) (n : ℕ) → length pages ≤ n → given_back mid (drop n pages) ≡ mid
-given_all mid pages n past = ap (λ (ps : List ℕ). given_back mid ps) (drop_all n pages past)
-
--- no page mapped
-pub MapsFirst_none : (m : Entries) (first : ℕ) (pages : List ℕ) → AreUnmapped m first → MapsFirst m m first pages 0
-MapsFirst_none m first pages unmapped = record {
-  mapped = λ k v h. absurd (omega (arith, h));
-  page = λ k v h. absurd (omega (arith, h));
-  writable = λ k v h. absurd (omega (arith, h));
-  above = λ v h. unmapped v (omega (arith, h));
-  above_writable = λ v h. refl;
-  below = λ v h. refl;
-  below_page = λ v h. refl;
-  below_writable = λ v h. refl;
-}
 
 -- one page more mapped
 pub MapsFirst_more : (old mid new : Entries) (first : ℕ) (pages : List ℕ) (n vpage page : ℕ) → slice_index pages n ≡ page → first + n ≡ vpage

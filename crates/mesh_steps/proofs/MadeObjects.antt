@@ -1,7 +1,6 @@
 -- What making and freeing an object leaves of a heap.
-use Rattle.std.proofs.Common.{◌≡◌, ℕ, ◌+◌, ◌-◌, ◌<◌, ◌≤◌, Bool, List, [], Option, Some, None, Result, Ok, Err, IfErr, map, replicate, ap, subst, refl, sym, ◌∙◌, arith, ◌⊎◌, inl, inr}
+use Rattle.std.proofs.Common.{◌≡◌, ℕ, ◌+◌, ◌-◌, ◌<◌, ◌≤◌, List, [], Option, Some, None, Result, Ok, Err, IfErr, map, replicate, ap, subst, refl, sym, ◌∙◌, arith, ◌⊎◌, inl, inr}
 use Rattle.std.specs.Result.{IsErrAnd}
-use Rattle.std.proofs.lemmas.Bool.Decides.{eqb_tells, leb_tells}
 use Rattle.std.proofs.lemmas.List.{get_or-replicate, length-replicate}
 use Rattle.mesh_arena.specs.Pages.{Pages}
 use Rattle.mesh_layout.proofs.Groups.{entry_in_table}
@@ -22,18 +21,16 @@ use Rattle.model_memory.specs.Memory.{Memory, next_serial, with_object, with_new
 use Rattle.model_heap.specs.Places.{Record, byte_of, meaning, records_of, AreBelow, IsIn, record_with}
 use Rattle.model_memory.specs.Plain.{Named}
 use Rattle.model_heap.specs.Sound.{IsSound, IsTied}
-use Rattle.model_heap.specs.Table.{Group, Placed, Table, first_member, fresh_group, picked_slot, place_in, place_new, placed_in, room_for_span, slot_address, with_group, with_object_in, with_span, without_object}
+use Rattle.model_heap.specs.Table.{Group, Placed, Table, fresh_group, place_in, place_new, placed_in, room_for_span, slot_address, with_span, without_object}
 use Rattle.model_heap.specs.TableLaws.{AreApart}
-use Rattle.model_words.specs.Words.{◌>>=◌, or_refuse, refuse_if}
+use Rattle.model_words.specs.Words.{◌>>=◌}
 use Rattle.model_words.specs.declared.refusals.Refusal.{Refusal}
-use Rattle.model_words.specs.declared.refusals.Refusal.TheVariants.{TooLarge, Zero}
 use Rattle.mesh_pagemap.specs.Entries.{Entries}
 use Rattle.mesh_spans.specs.Index.{address_in, span_at}
 use Rattle.mesh_store.specs.Places.{Saves, byte_of as byte_in}
 use Rattle.mesh_steps.proofs.Objects.{live_found, reference_names}
-use Rattle.mesh_steps.proofs.Slots.{put_object}
-use Rattle.mesh_steps.specs.Heap.{Heap, IsFree, IsHeap, IsMade, IsNotMade, IsObjectAt, arena_of, index_of, live_record, live_records, map_of, memory_of, object_in, plain_of, table_of}
-use Rattle.mesh_steps.specs.PageHeap.{IsPlace, IsPlaceFault, KeepsOutside, PageHeap, first_page, group_number, open_group, table_emptied, table_in, table_with_object}
+use Rattle.mesh_steps.specs.Heap.{Heap, IsFree, IsHeap, IsMade, IsNotMade, IsObjectAt, arena_of, index_of, live_record, live_records, map_of, memory_of, plain_of, table_of}
+use Rattle.mesh_steps.specs.PageHeap.{IsPlace, IsPlaceFault, KeepsOutside, PageHeap, group_number, open_group, table_emptied, table_in, table_with_object}
 use Rattle.model_words.specs.declared.answers.NewFault.{NewFault}
 use Rattle.model_words.specs.declared.answers.NewFault.TheVariants.{Memory as NoMemory, Refused}
 use Rattle.mesh_steps.specs.declared.answers.Occupied.{Occupied}
@@ -42,9 +39,7 @@ use Rattle.mesh_steps.specs.declared.answers.Ref.{Ref}
 -- what a heap means is made of its table, its map and its pages
 memory_is : (g : PageHeap) (next : ℕ) (t : Table) (map : Entries) (arena : Pages) (roots : List (Option ℕ)) → table_in g ≡ t → g.map ≡ map → g.arena ≡ arena
     → memory_of (record { pages = g; next_serial = next }) roots ≡ meaning next (records_of t) (targets_of map) (bytes_in arena) roots
-memory_is g next t map arena roots a b c = ap (λ (u : Table). meaning next (records_of u) (targets_of g.map) (bytes_in g.arena) roots) a
-    ∙ ap (λ (m : Entries). meaning next (records_of t) (targets_of m) (bytes_in g.arena) roots) b
-    ∙ ap (λ (p : Pages). meaning next (records_of t) (targets_of map) (bytes_in p) roots) c
+memory_is g next t map arena roots a b c = grind arith
 
 -- no record of a heap has its next serial, or one above it
 heap_below : (h : Heap) → IsHeap h → AreBelow h.next_serial (live_records h)
@@ -52,10 +47,7 @@ heap_below h heap = tied_below h.next_serial (table_of h) (targets_of (map_of h)
 
 -- a live object's serial is below the next one
 live_below : (h : Heap) (serial : ℕ) (r : Record) → IsHeap h → record_with serial (live_records h) ≡ Some r → serial < h.next_serial
-live_below h serial r heap found = elim (leb_tells h.next_serial serial) [
-  | inr below ↦ below.1
-  | inl past ↦ let clash : None ≡ Some r = sym (heap_below h heap serial past.1) ∙ found in absurd (cc clash)
-]
+live_below h serial r heap found = grind (arith, heap_below)
 
 -- an object taken out of its slot, and nothing else changed
 pub record IsTakenOut (old new : PageHeap) (span slot : ℕ) : Type 0 where
@@ -68,9 +60,8 @@ pub emptied_is : (h : Heap) (addr : ℕ) (o : Occupied) → IsHeap h → IsObjec
 emptied_is h addr o heap at =
     let there = at.in_slot.standing.recorded in
     let n : ℕ = group_number (index_of h) o.span in
-    ap (λ (groups : List Group). record (table_of h) { groups = groups })
-    (one_slot (plain_of h) (table_of h) n o.slot _ (put_object (index_of h) o.span o.serial o.len) heap.sound heap.tied
-    (entry_in_table (index_of h) n there.group there.there) there.filled)
+    ap (λ (groups : List Group). record (table_of h) { groups = groups }) (one_slot _ _ _ _ _ _ heap.sound heap.tied
+    (entry_in_table _ _ _ there.there) there.filled)
 
 -- and it is sound
 pub emptied_sound : (h : Heap) (addr : ℕ) (o : Occupied) → IsHeap h → IsObjectAt h addr o → IsSound (table_emptied h.pages o.span o.slot)
@@ -86,20 +77,17 @@ freed_memory : (old : Heap) (new : PageHeap) (addr : ℕ) (o : Occupied) → IsH
     → IsTakenOut old.pages new o.span o.slot
     → plain_of (record { pages = new; next_serial = old.next_serial }) ≡ with_object (plain_of old) o.serial None
 freed_memory old new addr o heap at out =
-    memory_is new old.next_serial (without_object (table_of old) o.serial) (map_of old) (arena_of old) []
-    (freed_table old new addr o heap at out) out.map out.arena
-    ∙ free_means old.next_serial (table_of old) (targets_of (map_of old)) (bytes_in (arena_of old)) [] o.serial
-    (live_below old o.serial (live_record o.serial at.address o.len) heap at.recorded)
+    memory_is _ _ _ _ _ [] (freed_table _ _ _ _ heap at out) out.map out.arena
+    ∙ free_means _ (table_of old) (targets_of (map_of old)) (bytes_in (arena_of old)) [] o.serial (live_below _ _ _ heap at.recorded)
 
 -- an object taken out leaves a heap
 pub freed_heap : (old : Heap) (new : PageHeap) (addr : ℕ) (o : Occupied) → IsHeap old → IsObjectAt old addr o → IsTakenOut old.pages new o.span o.slot
     → IsHeap (record { pages = new; next_serial = old.next_serial })
 freed_heap old new addr o heap at out = record {
-  sound = subst IsSound (sym (freed_table old new addr o heap at out)) (free_sound (table_of old) o.serial heap.sound);
-  tied = subst (λ (m : Memory). IsTied m (table_in new)) (sym (freed_memory old new addr o heap at out))
-      (subst (λ (t : Table). IsTied (with_object (plain_of old) o.serial None) t) (sym (freed_table old new addr o heap at out))
-      (free_tied (plain_of old) (table_of old) o.serial (object_in old (live_record o.serial at.address o.len))
-      (live_found old o.serial (live_record o.serial at.address o.len) heap at.recorded) heap.tied));
+  sound = subst IsSound (sym (freed_table _ _ _ _ heap at out)) (free_sound _ _ heap.sound);
+  tied = subst (λ (m : Memory). IsTied m (table_in new)) (sym (freed_memory _ _ _ _ heap at out))
+      (subst (λ (t : Table). IsTied (with_object (plain_of old) o.serial None) t) (sym (freed_table _ _ _ _ heap at out)) (free_tied _ _ _ _
+      (live_found _ _ _ heap at.recorded) heap.tied));
 }
 
 -- the object that a reference names, taken out, is freed
@@ -107,14 +95,12 @@ pub freed_is : (old : Heap) (new : PageHeap) (object : Ref) (o : Occupied) → I
     → o.offset ≡ 0 → IsTakenOut old.pages new o.span o.slot → IsFree old (record { pages = new; next_serial = old.next_serial }) object
 freed_is old new object o heap at same first out = record {
   memory =
-      let here = at.at in
       let found : record_with object.serial (live_records old) ≡ Some (live_record o.serial at.address o.len)
       = ap (λ (s : ℕ). record_with s (live_records old)) (sym same) ∙ at.recorded in
       ap (λ (r : Result Named Refusal). r >>= λ named. Ok (with_object (plain_of old) named.serial None))
-      (reference_names old object (live_record o.serial at.address o.len) heap found (omega (arith, here, first)))
-      ∙ ap (λ (s : ℕ). Ok (with_object (plain_of old) s None)) (sym same)
-      ∙ ap (λ (m : Memory). Ok m) (sym (freed_memory old new object.addr o heap at out));
-  table = freed_table old new object.addr o heap at out ∙ ap (λ (s : ℕ). without_object (table_of old) s) same;
+      (reference_names _ _ _ heap found (omega (arith, at.at, first))) ∙ ap (λ (s : ℕ). Ok (with_object (plain_of old) s None)) (sym same)
+      ∙ ap (λ (m : Memory). Ok m) (sym (freed_memory _ _ _ _ heap at out));
+  table = freed_table _ _ _ _ heap at out ∙ ap (λ (s : ℕ). without_object (table_of old) s) same;
   serial = refl;
   arena = out.arena;
   map = out.map;
@@ -123,12 +109,7 @@ freed_is old new object o heap at same first out = record {
 -- a new object placed in a slot of its class
 placed_new : (t : Table) (len word serial class : ℕ) (r : Result Placed Refusal) → class_for len ≡ Some class → 1 ≤ len
     → place_in (open_group t class) t class word serial len ≡ r → place_new t len word serial ≡ r
-placed_new t len word serial class r class_is some is = elim (eqb_tells len 0) [
-  | inl none ↦ absurd (omega (arith, none.1, some))
-  | inr other ↦ ap (λ (b : Bool). refuse_if Zero b >>= λ _. or_refuse TooLarge (class_for len) >>= λ c. place_in (open_group t c) t c word serial len) other.0
-      ∙ ap (λ (o : Option ℕ). or_refuse TooLarge o >>= λ c. place_in (open_group t c) t c word serial len) class_is
-      ∙ is
-]
+placed_new t len word serial class r class_is some is = grind arith
 
 -- what is known where a slot was found for a new object
 pub record IsFound (old : Heap) (mid : PageHeap) (class len word span slot : ℕ) : Type 0 where
@@ -145,18 +126,12 @@ new_placed old mid class len word span slot at = placed_in (table_in mid) at.pla
 placed_is : (old : Heap) (mid : PageHeap) (class len word span slot : ℕ) (at : IsFound old mid class len word span slot)
     → place_new (table_of old) len word old.next_serial ≡ Ok (new_placed old mid class len word span slot at)
 placed_is old mid class len word span slot at =
-    placed_new (table_of old) len word old.next_serial class (Ok (new_placed old mid class len word span slot at)) at.class_is at.some
-    (at.place.placed old.next_serial len)
+    placed_new _ _ _ _ _ _ at.class_is at.some (at.place.placed old.next_serial len)
 
 -- the table with the object in the slot is the one in which the table places it
 put_placed : (old : Heap) (mid : PageHeap) (class len word span slot : ℕ) (at : IsFound old mid class len word span slot)
     → table_with_object mid span slot old.next_serial len ≡ (new_placed old mid class len word span slot at).table
-put_placed old mid class len word span slot at =
-    let group : Group = at.place.group in
-    let picked = at.place.picked in
-    ap (λ (n : ℕ). with_group (table_in mid) n (with_object_in slot (record { member = first_page mid.index span; serial = old.next_serial; len = len }))) picked.number
-    ∙ ap (λ (k : ℕ). with_group (table_in mid) group.number (with_object_in k (record { member = first_page mid.index span; serial = old.next_serial; len = len }))) picked.slot
-    ∙ ap (λ (f : ℕ). with_group (table_in mid) group.number (with_object_in (picked_slot group word) (record { member = f; serial = old.next_serial; len = len }))) picked.member
+put_placed old mid class len word span slot at = grind arith
 
 -- and it is sound
 pub placed_sound : (old : Heap) (mid : PageHeap) (class len word span slot : ℕ) → IsFound old mid class len word span slot
@@ -167,11 +142,7 @@ placed_sound old mid class len word span slot at = subst IsSound (sym (put_place
 -- the address of the slot is where the table places the object
 placed_at : (old : Heap) (mid : PageHeap) (class len word span slot : ℕ) (at : IsFound old mid class len word span slot)
     → address_in (span_at mid.index.spans span) slot ≡ (new_placed old mid class len word span slot at).address
-placed_at old mid class len word span slot at =
-    let place = at.place in
-    ap (λ (f : ℕ). slot_address f (span_at mid.index.spans span).class slot) place.picked.member
-    ∙ ap (λ (c : ℕ). slot_address (first_member place.group) c slot) (place.free.vacant.of_class ∙ sym place.same_class)
-    ∙ ap (λ (k : ℕ). slot_address (first_member place.group) place.group.class k) place.picked.slot
+placed_at old mid class len word span slot at = grind arith
 
 -- an address of a range that is apart from another is outside it
 outside_apart : (a m b n x : ℕ) → AreApart a m b n → b ≤ x → x < b + n → (x < a) ⊎ (a + m ≤ x)
@@ -182,14 +153,10 @@ outside_apart a m b n x (inr after) low high = inl (omega (arith, after, high))
 live_outside : (t : Table) (len word serial : ℕ) (placed : Placed) (s x : ℕ) (r : Record) → IsSound t → place_new t len word serial ≡ Ok placed
     → record_with s (records_of t) ≡ Some r → IsIn r x → (x < placed.address) ⊎ (placed.address + len ≤ x)
 live_outside t len word serial placed s x r sound went found within =
-    let of = (record_slot t s r sound found).1 in
+    let of = (record_slot _ _ _ sound found).1 in
     let address_is : r.address ≡ slot_address of.slot.member of.filled.group.class of.k = ap (λ (q : Record). q.address) of.is in
-    let len_is : r.len ≡ of.slot.len = ap (λ (q : Record). q.len) of.is in
-    let low = within.0 in
-    let high = within.1 in
-    outside_apart placed.address len (slot_address of.slot.member of.filled.group.class of.k) of.slot.len x
-    (new_apart t len word serial placed of.filled.number of.k of.filled.group of.slot sound went of.filled.there of.filled.filled)
-    (omega (arith, low, address_is)) (omega (arith, high, address_is, len_is))
+    outside_apart _ _ _ _ _ (new_apart _ _ _ _ _ _ _ _ _ sound went of.filled.there of.filled.filled)
+    (omega (arith, within.0, address_is)) (omega (arith, within.1, address_is, (ap (λ (q : Record). q.len) of.is)))
 
 -- an object of zeros put into a slot, and nothing else changed
 pub record IsPut (old new : PageHeap) (span slot serial len addr : ℕ) : Type 0 where
@@ -209,11 +176,7 @@ module _ (old : Heap) (mid new : PageHeap) (class len word span slot addr : ℕ)
   -- its bytes are zeros
   new_zeros : (k : ℕ) → k < len → byte_of (targets_of new.map) (bytes_in new.arena) ((new_placed old mid class len word span slot at).address + k) ≡ 0
   unfolding byte_in
-  new_zeros k below =
-      ap (λ (a : ℕ). byte_of (targets_of new.map) (bytes_in new.arena) (a + k)) (sym address_is)
-      ∙ ap (λ (m : Entries). byte_of (targets_of m) (bytes_in new.arena) (addr + k)) put.map
-      ∙ put.saves.inside k (let long = length-replicate {A = ℕ} len 0 in omega (arith, below, long))
-      ∙ get_or-replicate len k 0 0 below
+  new_zeros k below = grind (arith, length-replicate, get_or-replicate)
 
   -- the bytes of the other objects stay
   new_keeps : (s x : ℕ) (r : Record) → record_with s (live_records old) ≡ Some r → IsIn r x
@@ -236,22 +199,19 @@ module _ (old : Heap) (mid new : PageHeap) (class len word span slot addr : ℕ)
   new_memory : plain_of (record { pages = new; next_serial = old.next_serial + 1 })
       ≡ with_new (plain_of old) len (new_placed old mid class len word span slot at).address
   new_memory =
-      memory_is new (old.next_serial + 1) (new_placed old mid class len word span slot at).table new.map new.arena [] new_table refl refl
-      ∙ new_means old.next_serial (table_of old) (targets_of (map_of old)) (targets_of new.map) (bytes_in (arena_of old)) (bytes_in new.arena) []
-      len word (new_placed old mid class len word span slot at) at.heap.sound (heap_below old at.heap)
-      (placed_is old mid class len word span slot at) new_zeros new_keeps
+      memory_is _ _ _ _ _ [] new_table refl refl
+      ∙ new_means _ _ (targets_of (map_of old)) (targets_of new.map) (bytes_in (arena_of old)) (bytes_in new.arena) []
+      len word (new_placed _ _ _ _ _ _ _ at) at.heap.sound (heap_below _ at.heap) (placed_is old mid class len word span slot at) new_zeros new_keeps
 
   -- it is a heap
   pub new_heap : IsHeap (record { pages = new; next_serial = old.next_serial + 1 })
   new_heap =
       let went = placed_is old mid class len word span slot at in
-      let placed : Placed = new_placed old mid class len word span slot at in
-      let next : next_serial (plain_of old) ≡ old.next_serial
-      = meaning_next old.next_serial (live_records old) (targets_of (map_of old)) (bytes_in (arena_of old)) [] in
-      let tied : IsTied (with_new (plain_of old) len placed.address) placed.table
-      = new_tied (plain_of old) (table_of old) 0 len word placed at.heap.sound at.heap.tied
+      let placed : Placed = new_placed _ _ _ _ _ _ _ at in
+      let next : next_serial (plain_of old) ≡ old.next_serial = meaning_next _ _ (targets_of (map_of old)) (bytes_in (arena_of old)) [] in
+      let tied : IsTied (with_new (plain_of old) len placed.address) placed.table = new_tied _ _ 0 len word _ at.heap.sound at.heap.tied
       (ap (λ (s : ℕ). place_new (table_of old) len word s) next ∙ went) in record {
-        sound = subst IsSound (sym new_table) (new_sound (table_of old) len word old.next_serial placed at.heap.sound went);
+        sound = subst IsSound (sym new_table) (new_sound _ len word old.next_serial _ at.heap.sound went);
         tied = subst (λ (m : Memory). IsTied m (table_in new)) (sym new_memory)
             (subst (λ (t : Table). IsTied (with_new (plain_of old) len placed.address) t) (sym new_table) tied);
       }
@@ -278,28 +238,13 @@ fault_heap old new class fault heap is = subst (λ (g : PageHeap). IsHeap (recor
 spanned_new : (t : Table) (len word serial class : ℕ) (room : Result (Unit {0}) Refusal) → class_for len ≡ Some class → 1 ≤ len
     → open_group t class ≡ None → room_for_span t class ≡ room
     → place_new t len word serial ≡ (room >>= λ _. Ok (placed_in (with_span t class) (fresh_group t.next_span class t.next_page) word serial len))
-spanned_new t len word serial class room class_is some none is = placed_new t len word serial class (room >>= λ _.
-    Ok (placed_in (with_span t class) (fresh_group t.next_span class t.next_page) word serial len)) class_is some
-    (ap (λ (o : Option Group). place_in o t class word serial len) none
-    ∙ ap (λ (r : Result (Unit {0}) Refusal). r >>= λ _. Ok (placed_in (with_span t class) (fresh_group t.next_span class t.next_page) word serial len)) is)
+spanned_new t len word serial class room class_is some none is = grind arith
 
 -- where no slot was found, no object is made
 pub fault_is : (old : Heap) (new : PageHeap) (class len word : ℕ) (fault : NewFault) → class_for len ≡ Some class → 1 ≤ len
     → IsPlaceFault old.pages new class fault → IsNotMade old (record { pages = new; next_serial = old.next_serial }) len word fault
-fault_is old new class len word (Refused refusal) class_is some fault = (
-  spanned_new (table_of old) len word old.next_serial class (Err refusal) class_is some fault.none_open fault.room,
-  ap {B = Heap} (λ (g : PageHeap). record { pages = g; next_serial = old.next_serial }) fault.same,
-)
-fault_is old new class len word NoMemory class_is some fault = (
-  record {
-    class = class;
-    class_is = class_is;
-    placed = placed_in (with_span (table_of old) class) (fresh_group (table_of old).next_span class (table_of old).next_page) word old.next_serial len;
-    placed_is = spanned_new (table_of old) len word old.next_serial class (Ok tt) class_is some fault.none_open fault.room;
-    none_open = fault.none_open;
-  },
-  ap {B = Heap} (λ (g : PageHeap). record { pages = g; next_serial = old.next_serial }) fault.same,
-)
+fault_is old new class len word (Refused refusal) class_is some fault = grind arith
+fault_is old new class len word NoMemory class_is some fault = grind (arith, spanned_new (table_of old) len word old.next_serial class (Ok tt) class_is some fault.none_open fault.room)
 
 -- what holds of a fault holds where it is handed on
 pub handed_on : {T : Type 0} (r : Result T NewFault) (fault : NewFault) (P : NewFault → Type 0) → IsErrAnd r (λ e. e ≡ fault) → P fault → IfErr r P

@@ -1,12 +1,12 @@
 -- Whether a mesh of two groups may begin, told by the index.
 use Rattle.std.proofs.Common.{◌≡◌, ◌≢◌, ℕ, ◌+◌, ◌<◌, ◌≤◌, Bool, true, false, not, map, is_some, length, IsSome, Option, Some, None, Err, ap, subst, refl, sym, ◌∙◌, arith}
 use Rattle.std.proofs.lemmas.List.{length-map}
-use Rattle.mesh_class.specs.Classes.{pages_of, slots_of}
+use Rattle.mesh_class.specs.Classes.{slots_of}
 use Rattle.mesh_bits.specs.Bits.{are_meshable}
 use Rattle.mesh_layout.proofs.Beginnings.{Begins, Closes, page_heap_begins}
 use Rattle.mesh_layout.proofs.Groups.{IsEntry, entry_in_table, none_in_table, table_entry}
 use Rattle.mesh_layout.proofs.MadeSteps.{pages_counted}
-use Rattle.mesh_layout.specs.Indexes.{class_in, layout_of}
+use Rattle.mesh_layout.specs.Indexes.{layout_of}
 use Rattle.mesh_layout.specs.PageHeap.{IsPageHeap}
 use Rattle.model_heap.proofs.BeginRefusals.{busy_class, many_members, may_go, no_destination, no_source, other_class, overlapping, same_group}
 use Rattle.model_heap.proofs.FewMeshes.{few_meshes}
@@ -15,7 +15,7 @@ use Rattle.model_heap.proofs.GroupPages.{found_sound}
 use Rattle.model_heap.proofs.MeshLists.{any_tells, class_tells}
 use Rattle.model_search.proofs.Searches.{overlap_by_sets}
 use Rattle.model_heap.specs.Mesh.{do_overlap, may_begin, step_count}
-use Rattle.model_heap.specs.Table.{Group, Made, Table, group_of, has_number}
+use Rattle.model_heap.specs.Table.{Group, Made, Table, group_of}
 use Rattle.model_words.specs.Classes.{row_of}
 use Rattle.model_heap.specs.Sound.{meshes_of}
 use Rattle.model_heap.specs.TableLaws.{IsBusyTest}
@@ -58,8 +58,7 @@ refuses_source busy g s d none = no_source (busy_by busy) (table_in g) s d (none
 -- there is no destination
 pub refuses_destination : (busy : Busy) (g : PageHeap) (s d : ℕ) (a : GroupEntry) → group_at g.index.groups s ≡ Some a → group_at g.index.groups d ≡ None
     → may_begin (busy_by busy) (table_in g) s d ≡ Err NoGroup
-refuses_destination busy g s d a is none =
-    no_destination (busy_by busy) (table_in g) s d (table_group g.index.spans s a) (entry_in_table g.index s a is) (none_in_table g.index d none)
+refuses_destination busy g s d a is none = no_destination (busy_by busy) (table_in g) s d _ (entry_in_table g.index s _ is) (none_in_table g.index d none)
 
 module _ (busy : Busy) (g : PageHeap) (s d : ℕ) (a b : GroupEntry) (is : group_at g.index.groups s ≡ Some a) (is' : group_at g.index.groups d ≡ Some b) where
   from : group_of (table_in g) s ≡ Some (table_group g.index.spans s a)
@@ -97,8 +96,7 @@ module _ (busy : Busy) (g : PageHeap) (s d : ℕ) (a b : GroupEntry) (p : IsIdle
   pub allows : do_overlap a.slots b.slots ≡ false → length a.members + length b.members ≤ 8 → IsPair busy g s d a.class
   allows no_ few = record {
     pair = record { source = table_group g.index.spans s a; destination = table_group g.index.spans d b };
-    may = may_go (busy_by busy) (table_in g) s d (table_group g.index.spans s a) (table_group g.index.spans d b) from_idle into_idle p.two p.one p.idle no_
-        (let m = members in omega (arith, m, few));
+    may = may_go (busy_by busy) (table_in g) _ _ _ _ from_idle into_idle p.two p.one p.idle no_ (let m = members in omega (arith, m, few));
     class_is = refl;
   }
 
@@ -131,21 +129,13 @@ pair_inside busy inside seen s d class same is = has_pair busy inside s d class 
 -- so many steps has a mesh from the source
 pub steps_told : (busy : Busy) (g : PageHeap) (s d class : ℕ) (order : StepOrder) → (h : HasPair busy g s d class) → IsStepOrderOf (layout_of g.index) s order
     → step_count h.of.pair.source ≡ order_steps order
-steps_told busy g s d class order h is =
-    let total = pages_counted g.index s h.from.entry h.from.there in
-    let same = ap class_in h.from.there in
-    let slots = ap slots_of same in
-    let pages = ap pages_of same in
-    let t = is.total in let c = is.slots in let p = is.pages in
-    ap step_count h.from.same ∙ (let sum : step_count (table_group g.index.spans s h.from.entry) ≡ order_steps order = omega (arith, total, slots, pages, t, c, p) in sum)
+steps_told busy g s d class order h is = grind (arith, pages_counted)
 
 -- fewer than ten meshes run before one begins
 pub few_running : (busy : Busy) (g : PageHeap) (s d class : ℕ) → IsPageHeap g.arena g.map g.index g.next_page g.meshes → HasPair busy g s d class → length g.meshes < 10
 few_running busy g s d class paged h =
-    let found = entry_in_table g.index s h.from.entry h.from.there in
-    let row = (found_sound (table_in g) (has_number s) (table_group g.index.spans s h.from.entry) paged.sound found).class in
-    few_meshes (table_in g) class paged.sound
-    (subst (λ (c : ℕ). IsSome (row_of c)) (sym (ap (λ (x : Group). x.class) h.from.same) ∙ h.of.class_is) row) h.idle
+    let row = (found_sound _ _ _ paged.sound (entry_in_table _ _ _ h.from.there)).class in
+    few_meshes _ _ paged.sound (subst (λ (c : ℕ). IsSome (row_of c)) (sym (ap (λ (x : Group). x.class) h.from.same) ∙ h.of.class_is) row) h.idle
 
 -- what a mesh that begins leaves
 pub begun_heap : (busy : Busy) (g : PageHeap) (index : Index) (s d class left : ℕ) → IsPageHeap g.arena g.map g.index g.next_page g.meshes

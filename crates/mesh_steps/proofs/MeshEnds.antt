@@ -40,9 +40,8 @@ same_sides this s d source destination = rw (source, destination) refl
 pub merged_group : (old new : Index) (s d : ℕ) (a b : GroupEntry) → Merges old new s d a b → group_at new.groups d ≡ Some (merged_entry a b)
 merged_group old new s d a b merges =
     let below = group_below old.groups d b merges.destination in
-    let long : length (slice_set old.groups s None) ≡ length old.groups = length-set old.groups s None in
     ap (λ (gs : List (Option GroupEntry)). group_at gs d) merges.groups
-    ∙ get_or-set_same (slice_set old.groups s None) d (Some (merged_entry a b)) None (omega (arith, below, long))
+    ∙ get_or-set_same (slice_set old.groups s None) d (Some (merged_entry a b)) None (omega (arith, below, length-set old.groups s None))
 
 -- the source was merged into the destination, which was opened then
 module _ (old mid new : Index) (this : Mesh) (a b : GroupEntry) (two : this.source ≢ this.destination) (merges : Merges old mid this.source this.destination a b)
@@ -51,11 +50,7 @@ module _ (old mid new : Index) (this : Mesh) (a b : GroupEntry) (two : this.sour
     (table' : groups_of new ≡ groups_of mid) (closed' : (n : ℕ) → is_closed new n ≡ (not (nat_eq n this.destination) && is_closed mid n)) where
   -- a group but the destination is as it was, without the source
   other_than : (n : ℕ) → n ≢ this.destination → group_at new.groups n ≡ group_at (slice_set old.groups this.source None) n
-  other_than n other =
-      ap (λ (gs : List (Option GroupEntry)). group_at gs n) opens.groups
-      ∙ get_or-set_other mid.groups this.destination n (option_map (with_mesh false) (group_at mid.groups this.destination)) None other
-      ∙ ap (λ (gs : List (Option GroupEntry)). group_at gs n) merges.groups
-      ∙ get_or-set_other (slice_set old.groups this.source None) this.destination n (Some (merged_entry a b)) None other
+  other_than n other = grind (arith, get_or-set_other)
 
   merged_there : group_at mid.groups this.destination ≡ Some (merged_entry a b)
   merged_there = merged_group old mid this.source this.destination a b merges
@@ -67,12 +62,11 @@ module _ (old mid new : Index) (this : Mesh) (a b : GroupEntry) (two : this.sour
       b = b;
       source = merges.source;
       destination = merges.destination;
-      gone = other_than this.source two ∙ get_or-set_same old.groups this.source None None (group_below old.groups this.source a merges.source);
+      gone = other_than _ two ∙ get_or-set_same old.groups this.source None None (group_below _ _ _ merges.source);
       merged = ap (λ (gs : List (Option GroupEntry)). group_at gs this.destination) opens.groups
           ∙ get_or-set_same mid.groups this.destination (option_map (with_mesh false) (group_at mid.groups this.destination)) None
-          (group_below mid.groups this.destination (merged_entry a b) merged_there)
-          ∙ ap (option_map (with_mesh false)) merged_there;
-      others = λ n not_s not_d. other_than n not_d ∙ get_or-set_other old.groups this.source n None None not_s;
+          (group_below _ _ _ merged_there) ∙ ap (option_map (with_mesh false)) merged_there;
+      others = λ n not_s not_d. other_than _ not_d ∙ get_or-set_other old.groups this.source n None None not_s;
       firsts = λ i. ap (λ (xs : List SpanEntry). (span_at xs i).first) opens.spans ∙ merges.spans.firsts i;
     };
     source_is = refl;
@@ -93,14 +87,7 @@ module _ (old mid new : Index) (this : Mesh) (a b : GroupEntry) (two : this.sour
 
 -- the groups of a mesh opened again
 pub reopened : (old new : Index) (this : Mesh) → OpensBoth old new this.source this.destination → Reopens old new this
-reopened old new this opens = record {
-  same = record { class = opens.class; members = opens.members; pages = opens.pages; spans = opens.spans };
-  slots = opens.slots;
-  groups = opens.groups;
-  closed = opens.closed;
-  closed_source = opens.closed_source;
-  closed_destination = opens.closed_destination;
-}
+reopened old new this opens = grind arith
 
 module _ (g : PageHeap) (place : ℕ) (this : Mesh) (runs : Runs g place this) where
   -- a step that isn't the last
@@ -112,13 +99,11 @@ module _ (g : PageHeap) (place : ℕ) (this : Mesh) (runs : Runs g place this) w
       → new ≡ record g { arena = arena; map = map; meshes = slice_set g.meshes place (record this { progress = Made (d + 1) }) }
       → IsPageHeap new.arena new.map new.index new.next_page new.meshes × IsStepped g new this.class (record { kind = kind; left = left })
   went_on arena map d left i kind new at left_is some step_at makes is =
-      let goes = page_heap_goes g.arena arena g.map map g.index g.next_page g.meshes (λ mesh. nat_eq mesh.class this.class) this d left i kind runs.index runs.paged
-      runs.found at left_is some step_at makes in
-      let list = progress_set (table_in g) g.meshes place this (Made (d + 1)) runs.paged.sound.meshes runs.paged.sound.one_a_class runs.at in
+      let goes = page_heap_goes _ _ _ _ _ _ _ _ _ _ _ _ _ runs.index runs.paged runs.found at left_is some step_at makes in
+      let list = progress_set (table_in g) _ _ _ _ runs.paged.sound.meshes runs.paged.sound.one_a_class runs.at in
       let is' : new ≡ record g { arena = arena; map = map; meshes = with_progress g.meshes this (Made (d + 1)) }
       = is ∙ ap (λ (ms : List Mesh). record g { arena = arena; map = map; meshes = ms }) list in
-      let there = (sides g place this runs).source in
-      let effect = step_has_effect g.index this d i kind (sides g place this runs).a g.arena arena g.map map there at step_at makes in
+      let effect = step_has_effect _ _ _ _ _ _ _ _ _ _ ((sides g place this runs).source) at step_at makes in
       rw is' (goes.paged, record { table = goes.stepped; kept = goes.kept; mesh = this; running = runs.found; effect = effect })
 
   -- the last step
@@ -129,13 +114,11 @@ module _ (g : PageHeap) (place : ℕ) (this : Mesh) (runs : Runs g place this) w
       → new ≡ record g { arena = arena; map = map; index = index; meshes = remove g.meshes place }
       → IsPageHeap new.arena new.map new.index new.next_page new.meshes × IsStepped g new this.class (record { kind = kind; left = 0 })
   ended arena map index d i kind a b new at last step_at makes unites is =
-      let ends = page_heap_ends g.arena arena g.map map g.index index g.next_page g.meshes (λ mesh. nat_eq mesh.class this.class) this d a b runs.index runs.paged
-      runs.found at last unites i kind step_at makes in
-      let list = without_at (table_in g) g.meshes place this runs.paged.sound.meshes runs.paged.sound.one_a_class runs.at in
+      let ends = page_heap_ends _ _ _ _ _ _ _ _ _ this _ a b runs.index runs.paged runs.found at last unites _ _ step_at makes in
+      let list = without_at (table_in g) _ _ _ runs.paged.sound.meshes runs.paged.sound.one_a_class runs.at in
       let is' : new ≡ record g { arena = arena; map = map; index = index; meshes = without_mesh g.meshes this }
       = is ∙ ap (λ (ms : List Mesh). record g { arena = arena; map = map; index = index; meshes = ms }) list in
-      let there = (sides g place this runs).source in
-      let effect = step_has_effect g.index this d i kind (sides g place this runs).a g.arena arena g.map map there at step_at makes in
+      let effect = step_has_effect _ _ _ _ _ _ _ _ _ _ ((sides g place this runs).source) at step_at makes in
       rw is' (ends.paged, record { table = ends.stepped; kept = ends.kept; mesh = this; running = runs.found; effect = effect })
 
   -- an unprotect of a cancelled mesh that isn't the last
@@ -144,12 +127,11 @@ module _ (g : PageHeap) (place : ℕ) (this : Mesh) (runs : Runs g place this) w
       → new ≡ record g { map = map; meshes = slice_set g.meshes place (record this { progress = Unwinding q (u + 1) }) }
       → IsPageHeap new.arena new.map new.index new.next_page new.meshes × IsStepped g new this.class (record { kind = Unprotect; left = left })
   unwound_on map q u left new at left_is some below protects is =
-      let goes = unwind_goes g.arena g.map map g.index g.next_page g.meshes (λ mesh. nat_eq mesh.class this.class) this q u runs.index runs.paged runs.found at
-      protects left left_is some in
-      let list = progress_set (table_in g) g.meshes place this (Unwinding q (u + 1)) runs.paged.sound.meshes runs.paged.sound.one_a_class runs.at in
+      let goes = unwind_goes _ _ _ _ _ _ _ this _ _ runs.index runs.paged runs.found at protects _ left_is some in
+      let list = progress_set (table_in g) _ _ _ _ runs.paged.sound.meshes runs.paged.sound.one_a_class runs.at in
       let is' : new ≡ record g { map = map; meshes = with_progress g.meshes this (Unwinding q (u + 1)) }
       = is ∙ ap (λ (ms : List Mesh). record g { map = map; meshes = ms }) list in
-      let effect = unwinding_has_effect g.index this q u (sides g place this runs).a g.arena g.map map (sides g place this runs).source at below protects in
+      let effect = unwinding_has_effect _ _ _ _ _ _ _ _ (sides g place this runs).source at below protects in
       rw is' (goes.paged, record { table = goes.stepped; kept = goes.kept; mesh = this; running = runs.found; effect = effect })
 
   -- the last one
@@ -158,12 +140,11 @@ module _ (g : PageHeap) (place : ℕ) (this : Mesh) (runs : Runs g place this) w
       → OpensBoth g.index index this.source this.destination → new ≡ record g { map = map; index = index; meshes = remove g.meshes place }
       → IsPageHeap new.arena new.map new.index new.next_page new.meshes × IsStepped g new this.class (record { kind = Unprotect; left = 0 })
   unwound_end map index q u new at last below protects opens is =
-      let ends = unwind_ends g.arena g.map map g.index g.next_page g.meshes (λ mesh. nat_eq mesh.class this.class) this q u runs.index runs.paged runs.found at
-      protects index last (reopened g.index index this opens) in
-      let list = without_at (table_in g) g.meshes place this runs.paged.sound.meshes runs.paged.sound.one_a_class runs.at in
+      let ends = unwind_ends _ _ _ _ _ _ _ _ _ _ runs.index runs.paged runs.found at protects _ last (reopened _ _ this opens) in
+      let list = without_at (table_in g) _ _ _ runs.paged.sound.meshes runs.paged.sound.one_a_class runs.at in
       let is' : new ≡ record g { map = map; index = index; meshes = without_mesh g.meshes this }
       = is ∙ ap (λ (ms : List Mesh). record g { map = map; index = index; meshes = ms }) list in
-      let effect = unwinding_has_effect g.index this q u (sides g place this runs).a g.arena g.map map (sides g place this runs).source at below protects in
+      let effect = unwinding_has_effect _ _ _ _ _ _ _ _ (sides g place this runs).source at below protects in
       rw is' (ends.paged, record { table = ends.stepped; kept = ends.kept; mesh = this; running = runs.found; effect = effect })
 
   -- an unprotect of a cancelled mesh
@@ -202,9 +183,8 @@ module _ (g : PageHeap) (place : ℕ) (this : Mesh) (runs : Runs g place this) w
       → new ≡ record g { index = index; meshes = remove g.meshes place }
       → IsPageHeap new.arena new.map new.index new.next_page new.meshes × IsCancelled g new this.class 0
   stopped index d new at none opens is =
-      let stops = cancel_stops g.arena g.map g.index g.next_page g.meshes (λ mesh. nat_eq mesh.class this.class) this d runs.index runs.paged runs.found at
-      index none (reopened g.index index this opens) in
-      let list = without_at (table_in g) g.meshes place this runs.paged.sound.meshes runs.paged.sound.one_a_class runs.at in
+      let stops = cancel_stops _ _ _ _ _ _ _ _ runs.index runs.paged runs.found at _ none (reopened _ _ this opens) in
+      let list = without_at (table_in g) _ _ _ runs.paged.sound.meshes runs.paged.sound.one_a_class runs.at in
       let is' : new ≡ record g { index = index; meshes = without_mesh g.meshes this } = is ∙ ap (λ (ms : List Mesh). record g { index = index; meshes = ms }) list in
       rw is' (stops.paged, record { table = stops.cancelled; arena = refl; map = refl })
 
@@ -217,10 +197,9 @@ module _ (g : PageHeap) (place : ℕ) (this : Mesh) (runs : Runs g place this) w
     | inl none ↦
         let end = back.over none.1 in
         subst (λ (n : ℕ). IsPageHeap new.arena new.map new.index new.next_page new.meshes × IsCancelled g new this.class n) none.1
-        (stopped index d new at (let e = none.1 in omega (arith, e, least, some)) end.0 (is ∙ ap (λ (ms : List Mesh). record g { index = index; meshes = ms }) end.1))
+        (stopped _ _ _ at (let e = none.1 in omega (arith, e, least, some)) end.0 (is ∙ ap (λ (ms : List Mesh). record g { index = index; meshes = ms }) end.1))
     | inr more ↦
         let on = back.more more.1 in
-        held d q new at (let e = more.1 in omega (arith, e)) least early (is
-        ∙ ap (λ (i : Index). record g { index = i; meshes = list }) on.0
+        held _ _ _ at (let e = more.1 in omega (arith, e)) least early (is ∙ ap (λ (i : Index). record g { index = i; meshes = list }) on.0
         ∙ ap (λ (ms : List Mesh). record g { meshes = ms }) on.1)
   ]

@@ -18,9 +18,8 @@ use Rattle.model_words.specs.Words.{◌>>=◌}
 use Rattle.model_heap.specs.Sound.{IsSound, IsTied}
 use Rattle.model_heap.specs.Table.{Counted, Group, Table, group_of, has_number, sweep}
 use Rattle.model_words.specs.declared.refusals.Refusal.{Refusal}
-use Rattle.mesh_pagemap.specs.Entries.{Entries, is_mapped}
+use Rattle.mesh_pagemap.specs.Entries.{is_mapped}
 use Rattle.mesh_spans.specs.Index.{IsIndex}
-use Rattle.mesh_arena.specs.Pages.{Pages}
 use Rattle.mesh_steps.proofs.MayBegin.{busy_tells}
 use Rattle.mesh_steps.specs.Heap.{Heap, IsHeap, plain_of, table_of}
 use Rattle.mesh_steps.specs.HeapMeshes.{IsAnswered, IsMeshBegun, IsMeshCancelled, IsMeshed, IsOnItsWay, IsStepMade, IsSwept, KeepsMeaning, MeansTheSame}
@@ -52,9 +51,7 @@ module _ (pages new : PageHeap) (next : ℕ) (heap : IsHeap (heap_of pages next)
 
 -- where arena and page map stay so do all bytes
 same_kept : (pages new : PageHeap) → new.arena ≡ pages.arena → new.map ≡ pages.map → Keeps (layout_of pages.index) pages.arena new.arena pages.map new.map
-same_kept pages new arena map =
-    subst (λ (a : Pages). Keeps (layout_of pages.index) pages.arena a pages.map new.map) (sym arena)
-    (subst (λ (m : Entries). Keeps (layout_of pages.index) pages.arena pages.arena pages.map m) (sym map) (record { each = λ n k o x slot live. refl; same_length = refl }))
+same_kept pages new arena map = grind arith
 
 -- what a call of a mesher leaves: a heap, and its answer
 pub record Leaves {X Y : Type 0} (pages new : PageHeap) (next : ℕ) (wanted : Result Y Refusal) (r : Result X Refusal) (IsMade : X → Type 0) : Type 0 where
@@ -100,9 +97,8 @@ module _ (pages new : PageHeap) (next : ℕ) (heap : IsHeap (heap_of pages next)
   cancelled_leaves class r ok err =
       leaves (cancel (table_in pages) (mesh_in (table_in pages) class)) r (IsCancelled pages new class) _ ok err (λ left is.
       let x : Counted = record { count = left; table = table_in new } in
-      let means = moved pages new next heap (cancel_sound (table_in pages) (λ mesh. nat_eq mesh.class class) x heap.sound is.table)
-      (same_kept pages new is.arena is.map)
-      (cancel_tied (plain_of (heap_of pages next)) (table_in pages) (mesh_in (table_in pages) class) x heap.tied is.table) in
+      let means = moved pages new next heap (cancel_sound _ _ _ heap.sound is.table) (same_kept pages new is.arena is.map)
+      (cancel_tied _ _ _ _ heap.tied is.table) in
       (means, record { table = is.table; arena = is.arena; map = is.map }))
 
   -- one of which a group was swept
@@ -112,16 +108,14 @@ module _ (pages new : PageHeap) (next : ℕ) (heap : IsHeap (heap_of pages next)
   swept_leaves n r index ok err =
       leaves (sweep (table_in pages) n) r (HasGone pages new n) _ ok err (λ count is.
       let x : Counted = record { count = count; table = table_in new } in
-      let sound = sweep_sound (table_in pages) n x heap.sound is.table in
       let tied = sweep_tied (plain_of (heap_of pages next)) (table_in pages) n x heap.tied is.table in (
-        moved pages new next heap sound is.kept tied,
+        moved pages new next heap (sweep_sound (table_in pages) n x heap.sound is.table) is.kept tied,
         record {
           table = is.table;
           unmapped = λ g i there below.
               let e : IsEntry pages.index n g = table_entry pages.index n g there in
-              let total = pages_counted pages.index n e.entry e.there in
               let same = ap page_count e.same in
-              let within : i < page_total (layout_of pages.index) n = omega (arith, below, total, same) in
+              let within : i < page_total (layout_of pages.index) n = omega (arith, below, pages_counted pages.index n e.entry e.there, same) in
               subst (λ (v : ℕ). is_mapped new.map v ≡ false)
               (sym (ap (λ (x : Group). slice_index (virtual_pages x) i) e.same ∙ page_is pages.index n i e.entry e.there within))
               (is.unmapped i (virtual_page (layout_of pages.index) n i) (record { within = within; at = refl }));
@@ -166,14 +160,10 @@ module _ (busy : Busy) (old new : Heap) (source destination left class : ℕ) (h
     (begun : IsMeshBegun (busy_by busy) old new source destination left)
     (class_is : Some class ≡ option_map (λ g. g.class) (group_of (table_of new) source)) where
   all : IsWholeBy (busy_by busy) (table_of old) source destination (record { count = left; table = table_of new })
-  all = whole_by_class (busy_by busy) (table_of old) source destination (record { count = left; table = table_of new }) (busy_tells busy (table_of old))
-      heap.sound begun.table
+  all = whole_by_class _ _ _ _ _ (busy_tells _ _) heap.sound begun.table
 
   same_class : class ≡ all.source.class
-  same_class =
-      let there : group_of (table_of new) source ≡ Some all.source = ap (λ (gs : List Group). find (has_number source) gs) all.groups ∙ all.there in
-      let both : Some class ≡ Some all.source.class = class_is ∙ ap (option_map (λ g. g.class)) there in
-      cc both
+  same_class = cc (class_is ∙ ap (option_map (λ g. g.class)) (ap (λ (gs : List Group). find (has_number source) gs) all.groups ∙ all.there))
 
   pub has_steps : IsOk (steps_of_class class left (table_of new))
   has_steps = rw (same_class, all.steps) refl
@@ -182,10 +172,8 @@ module _ (busy : Busy) (old new : Heap) (source destination left class : ℕ) (h
   pub meshed : (end : Heap) (pages : ℕ) → steps_of_class class left (table_of new) ≡ Ok (table_of end) → pages ≡ pages_of class
       → IsMeshed (busy_by busy) old end source destination pages
   meshed end pages steps count =
-      let same : Ok all.ended ≡ Ok (table_of end) = sym all.steps ∙ ap (λ (c : ℕ). steps_of_class c left (table_of new)) (sym same_class) ∙ steps in
-      let ended : all.ended ≡ table_of end = cc same in
-      let counted : pages_of all.source.class ≡ pages = ap pages_of (sym same_class) ∙ sym count in
-      record { table = all.whole ∙ both (pages_of all.source.class) pages all.ended (table_of end) counted ended }
+      let ended : all.ended ≡ table_of end = cc (sym all.steps ∙ ap (λ (c : ℕ). steps_of_class c left (table_of new)) (sym same_class) ∙ steps) in
+      record { table = all.whole ∙ both (pages_of all.source.class) pages all.ended (table_of end) (ap pages_of (sym same_class) ∙ sym count) ended }
     where
       both : (n n' : ℕ) (t t' : Table) → n ≡ n' → t ≡ t'
           → ◌≡◌ {A = Result Counted Refusal} (Ok (record { count = n; table = t })) (Ok (record { count = n'; table = t' }))

@@ -15,13 +15,11 @@ use Rattle.mesh_layout.proofs.MeshPlaces.{position_finds, position_none}
 use Rattle.mesh_layout.proofs.PageHeapSteps.{page_heap_orderly}
 use Rattle.mesh_layout.proofs.UnwoundMeshes.{cancel_late, unwinding_cancelled}
 use Rattle.model_heap.specs.Mesh.{cancel, mesh_in}
-use Rattle.model_heap.specs.Sound.{IsWithinSteps}
 use Rattle.model_heap.specs.Table.{Made, Mesh, Progress, Unwinding}
 use Rattle.model_words.specs.declared.commands.StepKind.{StepKind}
 use Rattle.model_words.specs.declared.commands.StepKind.TheVariants.{Copy, Protect, Release, Remap, Unprotect}
 use Rattle.model_words.specs.declared.refusals.Refusal.TheVariants.{TooLate}
 use Rattle.mesh_spans.specs.Changes.{IsMergeable}
-use Rattle.mesh_spans.specs.Groups.{table_group}
 use Rattle.mesh_spans.specs.Index.{GroupEntry, IsIndex, group_at}
 use Rattle.mesh_steps.specs.Meshes.{IsRunning}
 use Rattle.mesh_steps.specs.PageHeap.{PageHeap, table_in}
@@ -81,10 +79,7 @@ none_running inside seen class same none =
 -- the step that an order tells is the layout's
 pub step_told : (l : Layout) (n : ℕ) (order : StepOrder) (made i : ℕ) (kind : StepKind) → IsStepOrderOf l n order → IsStepAt order.total order.slots order.pages made kind i
     → IsStepAt (page_total l n) (slots_of (l.class n)) (pages_of (l.class n)) made kind i
-step_told l n order made i kind is at =
-    subst (λ (t : ℕ). IsStepAt t (slots_of (l.class n)) (pages_of (l.class n)) made kind i) is.total
-    (subst (λ (s : ℕ). IsStepAt order.total s (pages_of (l.class n)) made kind i) is.slots
-    (subst (λ (p : ℕ). IsStepAt order.total order.slots p made kind i) is.pages at))
+step_told l n order made i kind is at = grind arith
 
 -- the steps of an order, counted by the layout
 pub steps_are : (l : Layout) (n : ℕ) (order : StepOrder) → IsStepOrderOf l n order → order_steps order ≡ 3 * page_total l n + slots_of (l.class n) + pages_of (l.class n)
@@ -107,22 +102,11 @@ module _ (g : PageHeap) (place : ℕ) (this : Mesh) (runs : Runs g place this) w
 
   -- not all of its steps were made
   pub made_below : (d : ℕ) (order : StepOrder) → this.progress ≡ Made d → IsStepOrderOf (layout_of g.index) this.source order → d < order_steps order
-  made_below d order at is =
-      let total = pages_counted g.index this.source sides.a sides.source in
-      let class = ap class_in sides.source in
-      let slots = ap slots_of class in
-      let pages = ap pages_of class in
-      let within = subst (λ (p : Progress). IsWithinSteps (table_group g.index.spans this.source sides.a) p) at sides.within in
-      let t = is.total in let s = is.slots in let p = is.pages in
-      omega (arith, within, total, slots, pages, t, s, p)
+  made_below d order at is = grind (arith, sides, pages_counted)
 
   -- of a cancelled one not all pages are writable again
   pub unwound_below : (q u : ℕ) → this.progress ≡ Unwinding q u → (u < q) × (q ≤ page_total (layout_of g.index) this.source)
-  unwound_below q u at =
-      let total = pages_counted g.index this.source sides.a sides.source in
-      let within = subst (λ (p : Progress). IsWithinSteps (table_group g.index.spans this.source sides.a) p) at sides.within in
-      let few = within.1 in
-      (within.0, omega (arith, few, total))
+  unwound_below q u at = grind (arith, sides, pages_counted)
 
   -- its groups can be merged
   pub mergeable : IsMergeable g.index this.destination this.source
@@ -225,14 +209,11 @@ module _ (g : PageHeap) (place : ℕ) (this : Mesh) (runs : Runs g place this) w
   -- a cancel after its first remap is refused
   pub late_cancel : (d : ℕ) (order : StepOrder) → this.progress ≡ Made d → IsStepOrderOf (layout_of g.index) this.source order → order.total + order.slots < d
       → cancel (table_in g) (mesh_in (table_in g) this.class) ≡ Err TooLate
-  late_cancel d order at is late =
-      let t = is.total in let s = is.slots in
-      cancel_late g.arena g.map g.index g.next_page g.meshes (λ mesh. nat_eq mesh.class this.class) this d runs.index runs.paged runs.found at (omega (arith, late, t, s))
+  late_cancel d order at is late = grind (arith, cancel_late)
 
   -- one that is unwinding is cancelled again for nothing
   pub cancel_again : (q u : ℕ) → this.progress ≡ Unwinding q u → cancel (table_in g) (mesh_in (table_in g) this.class) ≡ Ok (record { count = q - u; table = table_in g })
-  cancel_again q u at = unwinding_cancelled g.meshes (table_in g) (λ mesh. nat_eq mesh.class this.class) this (table_group g.index.spans this.source sides.a) q u
-      runs.found sides.source_group at
+  cancel_again q u at = unwinding_cancelled g.meshes _ (λ mesh. nat_eq mesh.class this.class) _ _ _ _ runs.found sides.source_group at
 
 -- both groups of a mesh that runs are there
 pub groups_there : (inside seen : PageHeap) (place : ℕ) (this : Mesh) → inside ≡ seen → IsIndex inside.index.spans inside.index.groups

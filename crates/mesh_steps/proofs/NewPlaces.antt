@@ -1,19 +1,19 @@
 -- Where the next object of a class goes.
-use Rattle.std.proofs.Common.{◌≡◌, ℕ, zero, suc, ◌+◌, ◌-◌, ◌%◌, ◌<◌, ◌≤◌, Bool, true, false, not, ◌&&◌, nat_eq, nat_lt, find, List, [], ◌∷◌, ◌++◌, map, Option, Some, None, Result, Ok, IsSome, IsSomeAnd, length, slice_get, slice_index, slice_index_or, ap, subst, refl, sym, ◌∙◌, arith, inl, inr}
+use Rattle.std.proofs.Common.{◌≡◌, ℕ, zero, suc, ◌+◌, ◌-◌, ◌%◌, ◌<◌, ◌≤◌, Bool, false, not, ◌&&◌, nat_eq, nat_lt, find, List, [], ◌∷◌, ◌++◌, map, Option, Some, None, Result, Ok, IsSome, IsSomeAnd, length, slice_get, slice_index, ap, subst, refl, sym, ◌∙◌, arith, inl, inr}
 use Rattle.std.specs.List.{list_any}
 use Rattle.std.specs.Option.{option_map_or}
 use Rattle.std.proofs.Math.ListN.{get_or-append, length-append}
 use Rattle.std.proofs.Math.Seq.{get_or-append_seam}
-use Rattle.std.proofs.lemmas.Bool.{eq-eqb, le-ltb}
+use Rattle.std.proofs.lemmas.Bool.{le-ltb}
 use Rattle.std.proofs.lemmas.Bool.Decides.{leb_tells}
 use Rattle.std.proofs.lemmas.List.{get_or_past}
 use Rattle.std.proofs.lemmas.Option.{get_or_from_slice_get, slice_get-get_or}
-use Rattle.mesh_arena.specs.Pages.{Pages, free_count}
+use Rattle.mesh_arena.specs.Pages.{free_count}
 use Rattle.mesh_class.specs.Classes.{pages_of, slots_of, IsClass}
 use Rattle.mesh_layout.proofs.Groups.{first_is}
 use Rattle.mesh_layout.proofs.PageHeapChanges.{page_heap_grow}
 use Rattle.mesh_layout.specs.Growth.{MapsFirst, TakesAll}
-use Rattle.mesh_layout.specs.Indexes.{class_in, layout_of, members_in, slots_in, table_with}
+use Rattle.mesh_layout.specs.Indexes.{layout_of, members_in, table_with}
 use Rattle.mesh_layout.specs.Layout.{IsLiveAt}
 use Rattle.mesh_layout.specs.PageHeap.{IsPageHeap}
 use Rattle.mesh_layout.specs.Steps.{Keeps}
@@ -22,10 +22,9 @@ use Rattle.model_heap.proofs.NewPlaces.{fresh_picked}
 use Rattle.model_heap.proofs.OpenGroups.{found_open, open_tests}
 use Rattle.model_words.specs.Classes.{Row, row_of}
 use Rattle.model_heap.specs.Sound.{IsSound}
-use Rattle.model_heap.specs.Table.{Group, Mesh, Slot, Table, fresh_group, is_open, object_count, place_in, placed_in, room_for_span, slot_address, takes_objects, takes_part, with_span}
+use Rattle.model_heap.specs.Table.{Group, Slot, Table, fresh_group, is_open, object_count, place_in, placed_in, room_for_span, takes_objects, takes_part, with_span}
 use Rattle.model_words.specs.Words.{◌>>=◌}
 use Rattle.model_words.specs.declared.refusals.Refusal.{Refusal}
-use Rattle.mesh_pagemap.specs.Entries.{Entries}
 use Rattle.mesh_spans.specs.Groups.{IsPicked, groups_of, is_closed, is_in_mesh}
 use Rattle.mesh_spans.specs.Index.{AreUnused, GroupEntry, Index, IsFoundAt, IsIndex, IsVacant, SpanEntry, group_at, new_group, new_span, no_span, record_at, span_at}
 use Rattle.mesh_steps.specs.PageHeap.{IsFreshSpan, IsPlace, KeepsObjects, PageHeap, first_page, group_number, open_group, table_in}
@@ -33,10 +32,7 @@ use Rattle.mesh_steps.specs.PageHeap.{IsFreshSpan, IsPlace, KeepsObjects, PageHe
 -- two tests that agree find the same
 find_same : (f g : Group → Bool) (groups : List Group) → ((group : Group) → f group ≡ g group) → find f groups ≡ find g groups
 find_same f g [] same = refl
-find_same f g (x ∷ groups) same = elim (f x) as (λ b. f x ≡ b → find f (x ∷ groups) ≡ find g (x ∷ groups)) [
-  | true ↦ λ e. rw (e, sym (same x) ∙ e) refl
-  | false ↦ λ e. rw (e, sym (same x) ∙ e) (find_same f g groups same)
-] refl
+find_same f g (x ∷ groups) same = grind arith
 
 -- the index's lowest open group is the table's
 pub open_is : (g : PageHeap) (class : ℕ) → IsPageHeap g.arena g.map g.index g.next_page g.meshes
@@ -63,14 +59,13 @@ placed_open g class word span k (Some group) paged index found picked vacant = r
   group = group;
   placed = λ serial len. rw found refl;
   picked = picked;
-  same_class = open_class (table_in g) class group found;
+  same_class = open_class (table_in g) _ _ found;
   free = record {
     vacant = vacant;
-    first = picked.member ∙ first_is (is_open (table_in g) class) g.index group index found
-        ∙ ap (λ (n : ℕ). (layout_of g.index).first n 0) (sym picked.number);
-    calm = ap (λ (n : ℕ). is_closed g.index n) picked.number ∙ paged.flags group.number ∙ open_quiet (table_in g) class group found;
+    first = picked.member ∙ first_is _ _ _ index found ∙ ap (λ (n : ℕ). (layout_of g.index).first n 0) (sym picked.number);
+    calm = ap (λ (n : ℕ). is_closed g.index n) picked.number ∙ paged.flags group.number ∙ open_quiet (table_in g) class _ found;
   };
-  kept = KeepsObjects_same g;
+  kept = KeepsObjects_same _;
 }
 
 -- the slot found in the lowest open group is where the next object goes
@@ -86,7 +81,6 @@ pub place_fresh : (old new : PageHeap) (class word span k : ℕ) → IsClass cla
     → k ≡ word % slots_of class → IsPlace old new class word span k
 place_fresh old new class word span k sound none fresh at =
     let some : 1 ≤ slots_of class = omega (arith, sound.some_slot) in
-    let within : k < slots_of class = rw at (omega (arith, some)) in
     record {
       group = fresh_group (length old.index.spans) class old.next_page;
       placed = λ serial len.
@@ -100,15 +94,9 @@ place_fresh old new class word span k sound none fresh at =
         slot = at ∙ sym (fresh_picked (length old.index.spans) class old.next_page word some);
       };
       same_class = refl;
-      free = fresh.free k within;
+      free = fresh.free k (rw at (omega (arith, some)));
       kept = fresh.kept;
     }
-
--- a page heap is known by its parts
-pub page_heap_is : (map : Entries) (next : ℕ) (meshes : List Mesh) (arena arena' : Pages) (index index' : Index) → arena ≡ arena' → index ≡ index'
-    → ◌≡◌ {A = PageHeap} (record { arena = arena; map = map; index = index; next_page = next; meshes = meshes })
-    (record { arena = arena'; map = map; index = index'; next_page = next; meshes = meshes })
-page_heap_is map next meshes arena arena' index index' same_arena same_index = rw (same_arena, same_index) refl
 
 -- there is room for a span where pages and addresses are enough
 pub room_is : (t : Table) (class : ℕ) → pages_of class ≤ t.free_pages → t.next_page + pages_of class ≤ 65536 → room_for_span t class ≡ Ok tt
@@ -135,8 +123,7 @@ unused_added index index' next class group unused added i below = elim (leb_tell
 
     at_new : (i : ℕ) → i < length index'.spans → length index.spans ≤ i → span_at index'.spans i ≡ new_span next class group
     at_new i below h =
-        let long : length index'.spans ≡ length index.spans + 1 = ap length added ∙ length-append index.spans (new_span next class group ∷ []) in
-        let same : i ≡ length index.spans = omega (arith, long, below, h) in
+        let same : i ≡ length index.spans = omega (arith, ap length added ∙ length-append index.spans (new_span next class group ∷ []), below, h) in
         rw (added, same) (get_or-append_seam index.spans (new_span next class group) [] no_span)
 
 -- what is known where a span was added over pages that were taken and mapped
@@ -157,11 +144,7 @@ pub record IsAdded (old new : PageHeap) (class span : ℕ) (pages : List ℕ) : 
 -- the table with a span that was added
 added_table : (old new : PageHeap) (class span : ℕ) (pages : List ℕ) → IsAdded old new class span pages
     → table_with new.arena new.index (old.next_page + pages_of class) old.meshes ≡ with_span (table_in old) class
-added_table old new class span pages is =
-    let long : length new.index.spans ≡ length old.index.spans + 1
-    = ap (λ (xs : List SpanEntry). length xs) is.spans ∙ length-append old.index.spans (new_span old.next_page class span ∷ []) in
-    let free : free_count new.arena ≡ free_count old.arena - pages_of class = (let fewer = is.takes.fewer in let count = is.count in omega (arith, fewer, count)) in
-    rw (long, free, is.table, is.number) refl
+added_table old new class span pages is = grind (arith, length-append)
 
 -- a class with a page is one of the table
 row_there : (class : ℕ) → 1 ≤ pages_of class → IsSome (row_of class)
@@ -177,30 +160,17 @@ pub grown : (old new : PageHeap) (class span : ℕ) (pages : List ℕ) → IsCla
     → IsIndex old.index.spans old.index.groups → IsAdded old new class span pages
     → IsPageHeap new.arena new.map new.index new.next_page new.meshes × Keeps (layout_of old.index) old.arena new.arena old.map new.map
 grown old new class span pages sound paged index is =
-    rw (is.next, is.meshes) (page_heap_grow old.arena new.arena old.map new.map old.index new.index old.next_page class pages old.meshes index paged
+    rw (is.next, is.meshes) (page_heap_grow _ _ _ _ _ _ _ _ _ _ index paged
     (is.spans ∙ ap (λ (n : ℕ). old.index.spans ++ new_span old.next_page class n ∷ []) is.number)
     (is.groups ∙ ap (λ (n : ℕ). old.index.groups ++ Some (new_group class n pages) ∷ []) is.number)
-    is.count is.last is.takes is.maps (unused_added old.index new.index old.next_page class span paged.unused is.spans)
+    is.count is.last is.takes is.maps (unused_added old.index new.index _ _ _ paged.unused is.spans)
     (λ n. ap (λ (gs : List (Option GroupEntry)). is_in_mesh (group_at gs n)) is.groups ∙ flags_added old.index.groups class span n pages)
-    (subst (λ (t : Table). IsSound t) (sym (added_table old new class span pages is))
-    (span_sound (table_in old) class paged.sound (row_there class sound.some_page) is.last)))
+    (subst (λ (t : Table). IsSound t) (sym (added_table _ _ _ _ _ is)) (span_sound _ _ paged.sound (row_there _ sound.some_page) is.last)))
 
 -- objects stand where they stood once a group was added
 stays_added : (old new : Index) (added : GroupEntry) (n k o x : ℕ) (slot : Slot) → new.groups ≡ old.groups ++ Some added ∷ []
     → IsLiveAt (layout_of old) n k o x slot → IsLiveAt (layout_of new) n k o x slot
-stays_added old new added n k o x slot groups live =
-    let below : n < length old.groups = elim (leb_tells (length old.groups) n) [
-      | inr less ↦ less.1
-      | inl past ↦ absurd (let two : ◌≡◌ {A = Option Slot} None (Some slot)
-          = sym (ap (λ (e : Option GroupEntry). slice_index_or (slots_in e) k None) (get_or_past old.groups n None past.1)) ∙ live.filled in cc two)
-    ] in
-    let same : group_at new.groups n ≡ group_at old.groups n
-    = ap (λ (gs : List (Option GroupEntry)). group_at gs n) groups ∙ get_or-append old.groups (Some added ∷ []) None n below in
-    record {
-      filled = ap (λ (e : Option GroupEntry). slice_index_or (slots_in e) k None) same ∙ live.filled;
-      within = live.within;
-      at = ap (λ (e : Option GroupEntry). slot_address slot.member (class_in e) k + o) same ∙ live.at;
-    }
+stays_added old new added n k o x slot groups live = grind (arith, get_or_past, get_or-append)
 
 -- a span added is a fresh one
 pub IsFreshSpan_added : (old new : PageHeap) (class span : ℕ) (pages : List ℕ) → IsClass class → IsPageHeap old.arena old.map old.index old.next_page old.meshes
@@ -242,23 +212,11 @@ pub record_there : (index : Index) (n span k serial len : ℕ) (group : GroupEnt
     → group_at index.groups n ≡ Some group
     → slice_get group.slots k ≡ Some (Some (record { member = (span_at index.spans span).first; serial = serial; len = len }))
     → record_at index span k ≡ Some (serial, len)
-record_there index n span k serial len group below of_group at filled =
-    let got : slice_get index.spans span ≡ Some (span_at index.spans span) = slice_get-get_or index.spans span no_span below in
-    let slot : slice_index_or group.slots k None ≡ Some (record { member = (span_at index.spans span).first; serial = serial; len = len })
-    = get_or_from_slice_get group.slots k (Some (record { member = (span_at index.spans span).first; serial = serial; len = len })) None filled in
-    let same = eq-eqb (span_at index.spans span).first (span_at index.spans span).first refl in
-    rw (got, of_group, at, slot, same) refl
-
-triple : (a b c x y z : ℕ) → ◌≡◌ {A = Option (ℕ × ℕ × ℕ)} (Some (a, b, c)) (Some (x, y, z)) → (a ≡ x) × (b ≡ y) × (c ≡ z)
-triple a b c x y z e = let same : ◌≡◌ {A = ℕ × ℕ × ℕ} (a, b, c) (x, y, z) = cc e in
-    (ap (λ (t : ℕ × ℕ × ℕ). t.0) same, ap (λ (t : ℕ × ℕ × ℕ). t.1) same, ap (λ (t : ℕ × ℕ × ℕ). t.2) same)
+record_there index n span k serial len group below of_group at filled = grind (arith, get_or_from_slice_get, slice_get-get_or)
 
 -- what is recorded where an address was found
 pub found_recorded : (index : Index) (n member k o s k' o' serial len : ℕ) (group : GroupEntry) (r : Option (ℕ × ℕ))
     → IsFoundAt index n member k o (Some (s, k', o')) → group_at index.groups n ≡ Some group
     → slice_get group.slots k ≡ Some (Some (record { member = (span_at index.spans member).first; serial = serial; len = len }))
     → r ≡ record_at index s k' → (r ≡ Some (serial, len)) × (o' ≡ o)
-found_recorded index n member k o s k' o' serial len group r found at filled is =
-    let same = triple s k' o' member k o found.found_is in
-    let there = record_there index n member k serial len group found.below found.group_is at filled in
-    (is ∙ ap (λ (x : ℕ). record_at index x k') same.0 ∙ ap (λ (x : ℕ). record_at index member x) same.1 ∙ there, same.2)
+found_recorded index n member k o s k' o' serial len group r found at filled is = grind (arith, record_there)

@@ -1,7 +1,7 @@
 -- What the records of a heap's live objects say of its slots, its bytes and its plain memory.
-use Rattle.std.proofs.Common.{◌≡◌, ℕ, suc, ◌+◌, ◌-◌, ◌<◌, ◌≤◌, Bool, true, false, nat_le, if◌then◌else◌, nat_lt, List, [], ◌∷◌, map, Option, Some, None, IfSome, IsSomeAnd, Ok, Err, length, slice_get, slice_index, slice_range, ap, subst, refl, sym, ◌∙◌, arith, inl, inr}
+use Rattle.std.proofs.Common.{◌≡◌, ℕ, suc, ◌+◌, ◌-◌, ◌<◌, ◌≤◌, Bool, true, false, if◌then◌else◌, List, [], ◌∷◌, Option, Some, None, IfSome, IsSomeAnd, Ok, Err, length, slice_get, slice_index, slice_range, ap, subst, refl, sym, ◌∙◌, arith, inl, inr}
 use Rattle.std.specs.Option.{option_map}
-use Rattle.std.proofs.lemmas.Bool.{eq-eqb, le-leb, le-ltb, leb-true, lt-ltb, ltb-true}
+use Rattle.std.proofs.lemmas.Bool.{eq-eqb, le-leb, le-ltb, lt-ltb}
 use Rattle.std.proofs.lemmas.Bool.Decides.{eqb_tells}
 use Rattle.std.proofs.lemmas.List.{get_or-map, length-map}
 use Rattle.std.proofs.lemmas.List.FromFn.{length-map-range_with_len}
@@ -22,8 +22,7 @@ use Rattle.model_memory.specs.Memory.{Object, has_address, object_of}
 use Rattle.model_heap.specs.Places.{Record, object_at, place_of, IsIn, record_in, record_with}
 use Rattle.model_memory.specs.Plain.{ends_outside, holding}
 use Rattle.model_heap.specs.Sound.{IsSound, times_in}
-use Rattle.model_heap.specs.Table.{Group, Slot, group_of, has_number, slot_address}
-use Rattle.model_words.proofs.Tests.{both_hold}
+use Rattle.model_heap.specs.Table.{Group, Slot, group_of, slot_address}
 use Rattle.model_words.specs.declared.refusals.Refusal.TheVariants.{Freed, Outside, Stray}
 use Rattle.mesh_spans.specs.Groups.{first_of, table_group}
 use Rattle.mesh_spans.specs.Index.{GroupEntry, Index, IsIndex, SpanEntry, group_at, span_at}
@@ -68,8 +67,7 @@ place_in v [] some = absurd (omega (arith, some))
 place_in v (x ∷ xs) some = elim (eqb_tells x v) [
   | inl same ↦ (0, omega arith, same.1)
   | inr other ↦ let more : 1 ≤ 0 + times_in v xs = subst (λ (b : Bool). 1 ≤ (if◌then◌else◌ {A = ℕ} b 1 0) + times_in v xs) other.0 some in
-      let later : 1 ≤ times_in v xs = omega (arith, more) in
-      let rest = place_in v xs later in (suc rest.0, omega (arith, rest.1), rest.2)
+      let rest = place_in v xs (omega (arith, more)) in (suc rest.0, omega (arith, rest.1), rest.2)
 ]
 
 slot_placed : (g : PageHeap) (n k : ℕ) (group : Group) (slot : Slot) (entry : GroupEntry) → IsSound (table_in g) → group_of (table_in g) n ≡ Some group
@@ -77,16 +75,13 @@ slot_placed : (g : PageHeap) (n k : ℕ) (group : Group) (slot : Slot) (entry : 
     → LivePlace g (record_in group.class k slot)
 slot_placed g n k group slot entry sound there filled at same =
     let spans : List SpanEntry = g.index.spans in
-    let is = found_sound (table_in g) (has_number n) group sound there in
+    let is = found_sound _ _ _ sound there in
     let object = is.objects k slot filled in
-    let member = place_in slot.member (map (first_of spans) entry.members)
-    (subst (λ (x : Group). 1 ≤ times_in slot.member x.members) same object.in_member) in
+    let member = place_in _ _ (subst (λ (x : Group). 1 ≤ times_in slot.member x.members) same object.in_member) in
     let within : member.0 < length entry.members = omega (arith, member.1, length-map entry.members (first_of spans)) in
     let first : (span_at spans (slice_index entry.members member.0)).first ≡ slot.member
     = sym (get_or-map (first_of spans) entry.members member.0 0 0 within) ∙ member.2 in
     let class : group.class ≡ entry.class = ap (λ (x : Group). x.class) same in
-    let slots : group.slots ≡ entry.slots = ap (λ (x : Group). x.slots) same in
-    let inside = slice_get_within group.slots k (Some slot) filled in
     record {
       n = n;
       place = member.0;
@@ -94,8 +89,8 @@ slot_placed g n k group slot entry sound there filled at same =
       entry = entry;
       at = at;
       within = within;
-      below = omega (arith, inside, is.places, ap slots_of class);
-      filled = ap (λ (xs : List (Option Slot)). slice_get xs k) (sym slots) ∙ filled
+      below = omega (arith, slice_get_within group.slots k (Some slot) filled, is.places, ap slots_of class);
+      filled = ap (λ (xs : List (Option Slot)). slice_get xs k) (sym (ap (λ (x : Group). x.slots) same)) ∙ filled
           ∙ ap (λ (m : ℕ). Some (Some (record { member = m; serial = slot.serial; len = slot.len }))) (sym first);
       address = ap (λ (m : ℕ). slot_address m entry.class k) first ∙ ap (λ (c : ℕ). slot_address slot.member c k) (sym class);
       some = object.some;
@@ -116,11 +111,7 @@ live_place h serial r heap found =
 -- a part of a live object is one of the layout's
 pub live_in_object : (h : Heap) (serial off count : ℕ) (r : Record) → IsHeap h → record_with serial (live_records h) ≡ Some r → off + count ≤ r.len
     → AreInObject (layout_of (index_of h)) (r.address + off) count
-live_in_object h serial off count r heap found fits =
-    let live = record_live (index_of h) (table_of h) serial r heap.sound refl found in
-    let long = live.len in
-    let at = live.address in
-    record { n = live.n; k = live.k; off = off; slot = live.slot; filled = live.filled; fits = omega (arith, fits, long); at = omega (arith, at) }
+live_in_object h serial off count r heap found fits = grind (arith, record_live (index_of h) (table_of h) serial r heap.sound refl found)
 
 -- a live object ends within the addresses that there are
 pub live_ends : (h : Heap) (serial : ℕ) (r : Record) → IsHeap h → IsIndex (index_of h).spans (index_of h).groups → record_with serial (live_records h) ≡ Some r
@@ -130,12 +121,10 @@ live_ends h serial r heap index found =
     let member = index.members live.n live.place live.entry live.at live.within in
     let span = index.span (slice_index live.entry.members live.place) member.below in
     let class = (index.each live.n live.entry live.at).class in
-    let end = slot_end live.k (slots_of live.entry.class) live.entry.class (pages_of live.entry.class) live.below class.full in
     let last : (span_at (index_of h).spans (slice_index live.entry.members live.place)).first + pages_of live.entry.class ≤ 65536
     = subst (λ (c : ℕ). (span_at (index_of h).spans (slice_index live.entry.members live.place)).first + pages_of c ≤ 65536) member.same_class span.last in
     let at = live.address in
-    let small = live.fits in
-    omega (arith, end, last, at, small)
+    omega (arith, slot_end live.k (slots_of live.entry.class) live.entry.class (pages_of live.entry.class) live.below class.full, last, at, live.fits)
 
 -- the object of a serial is that of its record
 pub live_object : (h : Heap) (roots : List (Option ℕ)) (serial : ℕ) → IsHeap h
@@ -162,8 +151,7 @@ has_record h serial object (Some r) at e =
     let same : object_in h r ≡ object = (let both : Some (object_in h r) ≡ Some object = e in cc both) in record { r = r; found = at; is = sym same }
 
 pub object_record : (h : Heap) (serial : ℕ) (object : Object) → IsHeap h → object_of (plain_of h) serial ≡ Some object → HasRecord h serial object
-object_record h serial object heap live =
-    has_record h serial object (record_with serial (live_records h)) refl (sym (live_object h [] serial heap) ∙ live)
+object_record h serial object heap live = has_record _ _ _ _ refl (sym (live_object _ [] serial heap) ∙ live)
 
 -- as many bytes as the record says
 pub object_len : (h : Heap) (r : Record) → length (object_in h r).bytes ≡ r.len
@@ -190,18 +178,12 @@ reference_stale h object heap none = go (object_of (plain_of h) object.serial) r
 
 -- an address that an object has is in its range
 in_range : (h : Heap) (r : Record) (addr : ℕ) → has_address (object_in h r) addr ≡ true → IsIn r addr
-in_range h r addr has =
-    let both = both_hold (nat_le r.address addr) (nat_lt addr (r.address + length (object_in h r).bytes)) has in
-    let below = ltb-true addr (r.address + length (object_in h r).bytes) both.1 in
-    (leb-true r.address addr both.0, (let long = object_len h r in omega (arith, long, below)))
+in_range h r addr has = grind (arith, object_len)
 
 -- and it has each address of its range
 pub has_in : (h : Heap) (r : Record) (addr : ℕ) → IsIn r addr → has_address (object_in h r) addr ≡ true
 has_in h r addr within =
-    let low = within.0 in
-    let high = within.1 in
-    let long = object_len h r in
-    rw (le-leb r.address addr low, lt-ltb addr (r.address + length (object_in h r).bytes) (omega (arith, high, long))) refl
+    rw (le-leb r.address addr within.0, lt-ltb addr (r.address + length (object_in h r).bytes) (omega (arith, within.1, object_len h r))) refl
 
 -- an object begins within its range
 pub begins_in : (h : Heap) (serial addr : ℕ) (r : Record) → IsHeap h → record_with serial (live_records h) ≡ Some r → r.address ≡ addr → IsIn r addr
@@ -212,15 +194,13 @@ pub address_held : (h : Heap) (serial addr : ℕ) (r : Record) → IsHeap h → 
     → holding (plain_of h) addr ≡ Ok (record { serial = serial; object = object_in h r })
 address_held h serial addr r heap found within =
     let live = live_found h serial r heap found in
-    let holder = one_holder (plain_of h) (table_of h) serial addr (object_in h r) heap.sound heap.tied live (has_in h r addr within) in
-    rw (holder, live) refl
+    rw (one_holder (plain_of h) (table_of h) serial addr (object_in h r) heap.sound heap.tied live (has_in h r addr within), live) refl
 
 -- an address of no live object is held by none
 pub address_stray : (h : Heap) (addr : ℕ) → IsHeap h
     → ((serial : ℕ) (r : Record) → record_with serial (live_records h) ≡ Some r → IsIn r addr → ⊥) → holding (plain_of h) addr ≡ Err Stray
 address_stray h addr heap none =
-    let holder = no_holder (plain_of h) addr (λ serial object live. go serial object live) in
-    rw holder refl
+    rw (no_holder (plain_of h) addr (λ serial object live. go serial object live)) refl
   where
     go : (serial : ℕ) (object : Object) → object_of (plain_of h) serial ≡ Some object → has_address object addr ≡ false
     go serial object live = elim (has_address object addr) as (λ b. has_address object addr ≡ b → b ≡ false) [
@@ -262,30 +242,16 @@ object_found h addr serial r found heap finds is within =
     let both = live_place h serial r heap is in
     let live = both.1 in
     let low = within.0 in
-    let high = within.1 in
     let offset : r.address + (addr - r.address) ≡ addr = omega (arith, low) in
     let there = finds live.n live.place live.k (addr - r.address) live.entry r.serial r.len live.at live.within live.below
-    (omega (arith, low, high, live.fits)) live.filled (ap (λ (a : ℕ). a + (addr - r.address)) live.address ∙ offset) in
+    (omega (arith, low, within.1, live.fits)) live.filled (ap (λ (a : ℕ). a + (addr - r.address)) live.address ∙ offset) in
     IsSomeAnd_more found (λ o. (o.serial ≡ r.serial) × (o.offset ≡ addr - r.address) × (o.len ≡ r.len))
     (λ o. (o.serial ≡ serial) × (r.address + o.offset ≡ addr) × (o.len ≡ r.len))
     (λ o h. (h.0 ∙ both.0, ap (λ (x : ℕ). r.address + x) h.1 ∙ offset, h.2)) there
 
 -- the object in whose slot a reference's address is, is the one that it names, where it has the serial and begins there
 pub referred_is : (h : Heap) (object : Ref) (o : Occupied) → IsHeap h → IsObjectAt h object.addr o → o.offset ≡ 0 → o.serial ≡ object.serial → IsReferred h object o
-referred_is h object o heap at zeroth same =
-    let address : at.address ≡ object.addr = omega (arith, at.at, zeroth) in
-    let recorded : record_with object.serial (live_records h) ≡ Some (live_record object.serial object.addr o.len)
-    = ap (λ (s : ℕ). record_with s (live_records h)) (sym same) ∙ at.recorded
-    ∙ ap (λ (s : ℕ). Some (live_record s at.address o.len)) same ∙ ap (λ (a : ℕ). Some (live_record object.serial a o.len)) address in
-    record {
-      at = at;
-      serial = same;
-      begins = zeroth;
-      recorded = recorded;
-      in_slot = subst (λ (x : ℕ). IsInSlotOf (index_of h) object.addr o.span o.slot x object.serial o.len) zeroth
-          (subst (λ (s : ℕ). IsInSlotOf (index_of h) object.addr o.span o.slot o.offset s o.len) same at.in_slot);
-      named = reference_names h object (live_record object.serial object.addr o.len) heap recorded refl;
-    }
+referred_is h object o heap at zeroth same = grind (arith, reference_names h object (live_record object.serial object.addr o.len) heap)
 
 -- the object in whose slot an address is, is the one that holds it, where the offset is within its length
 pub held_is : (h : Heap) (addr : ℕ) (o : Occupied) → IsHeap h → IsObjectAt h addr o → o.offset < o.len → IsHeld h addr o
@@ -295,8 +261,7 @@ held_is h addr o heap at within = record {
   within = within;
   recorded = at.recorded;
   in_slot = at.in_slot;
-  held = address_held h o.serial addr (live_record o.serial at.address o.len) heap at.recorded
-      (let e = at.at in (omega (arith, e), omega (arith, e, within)));
+  held = address_held _ _ _ _ heap at.recorded (let e = at.at in (omega (arith, e), omega (arith, e, within)));
 }
 
 -- a part of a live object does not end outside

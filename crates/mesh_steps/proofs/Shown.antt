@@ -37,8 +37,7 @@ member_of index n place span entry sound at is =
 pub member_below : (index : Index) (n place span : ℕ) (entry : Option GroupEntry) → IsIndex index.spans index.groups → group_at index.groups n ≡ entry
     → slice_get (members_in entry) place ≡ Some span → span < length index.spans
 member_below index n place span None sound at is = absurd (none-some span (sym (nothing_at place) ∙ is))
-member_below index n place span (Some entry) sound at is =
-    (member_of index n place span entry sound at is).below
+member_below index n place span (Some entry) sound at is = (member_of _ _ _ _ _ sound at is).below
 
 -- what a span has in a slot, where there is a span
 abbrev pub record_of : Index → Option ℕ → ℕ → Option (ℕ × ℕ)

@@ -12,7 +12,7 @@ use Rattle.mesh_layout.proofs.PageHeapChanges.{entry_groups, page_heap_free, pag
 use Rattle.mesh_layout.proofs.PageHeapSteps.{page_heap_orderly}
 use Rattle.mesh_layout.proofs.LiveObjects.{calm_open}
 use Rattle.mesh_layout.proofs.Stores.{store_others}
-use Rattle.mesh_layout.specs.Indexes.{class_in, layout_of, members_in, slots_in, table_with}
+use Rattle.mesh_layout.specs.Indexes.{class_in, layout_of, slots_in, table_with}
 use Rattle.mesh_layout.specs.Layout.{IsCovered}
 use Rattle.mesh_layout.specs.Meshes.{stage_of}
 use Rattle.mesh_layout.specs.PageHeap.{IsPageHeap}
@@ -27,30 +27,14 @@ use Rattle.mesh_steps.specs.PageHeap.{IsFreeSlot, KeepsOutside, PageHeap, first_
 -- the addresses of a free slot are in its group
 pub free_covered : (index : Index) (class span k addr len : ℕ) → IsIndex index.spans index.groups → (f : IsFreeSlot index class span k)
     → addr ≡ address_in (span_at index.spans span) k → len ≤ class → IsCovered (layout_of index) (group_number index span) 0 k addr len
-free_covered index class span k addr len sound f at fits =
-    let vacant = f.vacant in
-    let there = vacant.there in
-    let some = (sound.each (group_number index span) vacant.group there).some_member in
-    let same : class_in (group_at index.groups (group_number index span)) ≡ class = ap class_in there ∙ vacant.same_class in
-    let start : slot_address ((layout_of index).first (group_number index span) 0) (class_in (group_at index.groups (group_number index span))) k ≡ addr
-    = ap (λ (c : ℕ). slot_address ((layout_of index).first (group_number index span) 0) c k) (same ∙ sym vacant.of_class)
-    ∙ ap (λ (f : ℕ). slot_address f (span_at index.spans span).class k) (sym f.first) ∙ sym at in
-    record {
-      member = subst (λ (o : Option GroupEntry). 0 < length (members_in o)) (sym there) some;
-      in_range = subst (λ (c : ℕ). k < slots_of c) (sym same) vacant.in_range;
-      low = omega (arith, start);
-      high = omega (arith, start, same, fits);
-    }
+free_covered index class span k addr len sound f at fits = grind arith
 
 -- no page of a free slot is read-only
 pub free_open : (g : PageHeap) (class span k addr len : ℕ) → IsIndex g.index.spans g.index.groups → IsPageHeap g.arena g.map g.index g.next_page g.meshes
     → IsFreeSlot g.index class span k → addr ≡ address_in (span_at g.index.spans span) k → len ≤ class → IsOpen g.map addr len
 free_open g class span k addr len sound paged f at fits =
-    let n : ℕ = group_number g.index span in
-    let calm = open_calm (layout_of g.index) g.meshes n (sym (paged.flags n) ∙ f.calm) in
-    calm_open (layout_of g.index) (stage_of (layout_of g.index) g.meshes) g.map g.arena n 0 k addr len
-    (page_heap_orderly g.arena g.map g.index g.next_page g.meshes sound paged) paged.laid_out calm.0
-    (free_covered g.index class span k addr len sound f at fits)
+    let calm = open_calm (layout_of g.index) _ _ (sym (paged.flags (group_number g.index span)) ∙ f.calm) in
+    calm_open _ _ _ _ _ _ _ _ _ (page_heap_orderly _ _ _ _ _ sound paged) paged.laid_out calm.0 (free_covered _ _ _ _ _ _ sound f at fits)
 
 -- the object that stands in a slot of a span
 abbrev pub put_object : Index → ℕ → ℕ → ℕ → Slot
@@ -107,19 +91,18 @@ pub put_paged : (g : PageHeap) (arena : Pages) (index : Index) (class span k ser
     → IsPageHeap arena g.map index g.next_page g.meshes
 put_paged g arena index class span k serial len addr p =
     let n : ℕ = group_number g.index span in
-    let alike = index_alike g.index index (entry_groups g.index index n k (Some (put_object g.index span serial len)) p.occupied.spans p.occupied.groups) in
+    let alike = index_alike _ _ (entry_groups _ _ _ _ _ p.occupied.spans p.occupied.groups) in
     let vacant = p.free.vacant in
     let same : (layout_of index).class n ≡ class = alike.class n ∙ ap class_in vacant.there ∙ vacant.same_class in
     let zeros : length {A = ℕ} (replicate len 0) ≡ len = length-replicate len 0 in
     let start : slot_address (first_page g.index span) ((layout_of index).class n) k ≡ addr
     = ap (λ (c : ℕ). slot_address (first_page g.index span) c k) (same ∙ sym vacant.of_class) ∙ sym p.at in
-    let covered = free_covered g.index class span k addr len p.before p.free p.at p.fits in
+    let covered = free_covered _ _ _ _ _ _ p.before p.free p.at p.fits in
     let from : slot_address ((layout_of index).first n 0) ((layout_of index).class n) k ≡ slot_address (first_page g.index span) ((layout_of index).class n) k
     = ap (λ (m : ℕ). slot_address m ((layout_of index).class n) k) (alike.first n 0 ∙ sym p.free.first) in
-    page_heap_make g.arena arena g.map g.index index g.next_page g.meshes n k 0 (put_object g.index span serial len) (replicate len 0) p.before p.after p.paged
-    p.occupied.spans p.occupied.groups p.occupied.closed p.free.calm (subst (λ (t : Table). IsSound t) (sym (put_table g index span k serial len p.occupied)) p.table)
-    (put_there g.index index class span k serial len p.free p.occupied) (omega (arith, zeros))
-    (record {
+    page_heap_make _ _ _ _ _ _ _ _ _ _ _ _ p.before p.after p.paged
+    p.occupied.spans p.occupied.groups p.occupied.closed p.free.calm (subst (λ (t : Table). IsSound t) (sym (put_table g _ _ _ _ _ p.occupied)) p.table)
+    (put_there _ _ _ _ _ _ _ p.free p.occupied) (omega (arith, zeros)) (record {
       member = subst (λ (m : ℕ). 0 < m) (sym (alike.members n)) covered.member;
       in_range = subst (λ (c : ℕ). k < slots_of c) (sym (alike.class n)) covered.in_range;
       low = omega (arith, from);
@@ -192,5 +175,4 @@ out_table g index span k is = rw (is.table, is.spans) refl
 pub out_paged : (g : PageHeap) (index : Index) (span k : ℕ) → IsPageHeap g.arena g.map g.index g.next_page g.meshes → IsVacated g.index index span k
     → IsSound (table_emptied g span k) → IsPageHeap g.arena g.map index g.next_page g.meshes
 out_paged g index span k paged is table =
-    page_heap_free g.arena g.map g.index index g.next_page g.meshes (group_number g.index span) k paged is.spans is.groups is.closed
-    (subst (λ (t : Table). IsSound t) (sym (out_table g index span k is)) table)
+    page_heap_free _ _ _ _ _ _ _ _ paged is.spans is.groups is.closed (subst (λ (t : Table). IsSound t) (sym (out_table g _ _ _ is)) table)

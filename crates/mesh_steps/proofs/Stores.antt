@@ -1,22 +1,20 @@
 -- What a store does to the plain memory that a heap stands for.
-use Rattle.std.proofs.Common.{◌≡◌, ℕ, ◌+◌, ◌-◌, ◌<◌, ◌≤◌, Bool, List, [], ◌∷◌, Some, Result, Ok, Err, length, slice_index, ap, subst, refl, sym, ◌∙◌, arith}
+use Rattle.std.proofs.Common.{◌≡◌, ℕ, ◌+◌, ◌<◌, ◌≤◌, Bool, List, [], ◌∷◌, Some, Result, Ok, Err, length, ap, subst, refl, sym, ◌∙◌, arith}
 use Rattle.mesh_arena.specs.Pages.{Pages, free_count}
 use Rattle.mesh_layout.proofs.Meaning.{store_means_here}
 use Rattle.mesh_layout.proofs.PageHeapSteps.{page_heap_orderly}
 use Rattle.mesh_layout.proofs.LiveObjects.{blocked_is, open_is}
 use Rattle.mesh_layout.specs.Indexes.{layout_of}
 use Rattle.mesh_layout.specs.Layout.{AreInObject}
-use Rattle.mesh_layout.specs.Meshes.{stage_of}
 use Rattle.mesh_layout.specs.PageHeap.{IsPageHeap, bytes_in, targets_of}
 use Rattle.model_heap.proofs.Meanings.{byte_read}
 use Rattle.model_heap.proofs.TiedMemories.{stored_tied}
 use Rattle.model_memory.specs.Memory.{Memory}
 use Rattle.model_heap.specs.Mesh.{is_blocked}
 use Rattle.model_heap.specs.Places.{Record, meaning, record_with}
-use Rattle.model_memory.specs.Plain.{Named, holding, stored}
+use Rattle.model_memory.specs.Plain.{holding, stored}
 use Rattle.model_heap.specs.Sound.{IsSound, IsTied}
 use Rattle.model_heap.specs.Table.{Table}
-use Rattle.model_words.specs.Words.{◌>>=◌}
 use Rattle.model_words.specs.declared.refusals.Refusal.{Refusal}
 use Rattle.model_words.specs.declared.refusals.Refusal.TheVariants.{Freed, Outside, Stray}
 use Rattle.mesh_spans.specs.Index.{IsIndex}
@@ -40,9 +38,8 @@ store_is : (h : Heap) (arena : Pages) (r : Record) (off : ℕ) (bytes : List ℕ
     → meaning h.next_serial (live_records h) (targets_of (map_of h)) (bytes_in arena) []
     ≡ stored (plain_of h) (record { serial = r.serial; object = object_in h r }) off bytes
 store_is h arena r off bytes heap index paged found fits may saves =
-    store_means_here h.next_serial (index_of h) (table_of h) (stage_of (layout_of (index_of h)) (table_of h).meshes) (map_of h) (arena_of h) arena r off bytes
-    heap.sound refl heap.tied (page_heap_orderly (arena_of h) (map_of h) (index_of h) (table_of h).next_page (table_of h).meshes index paged) paged.laid_out found
-    (λ serial x q is other within here. heap_objects_apart h heap serial r.serial x q r is found other within here) fits may saves
+    store_means_here _ _ _ _ _ _ _ _ _ _ heap.sound refl heap.tied (page_heap_orderly _ _ _ _ _ index paged) paged.laid_out found
+    (λ serial x q is other within here. heap_objects_apart _ heap serial r.serial x q r is found other within here) fits may saves
 
 -- a store that was done, by what it is answered
 answers_done : (old new : Heap) (after : Result Memory Refusal) (touches : Bool) → IsStored old new after touches → IsStore old new after touches Done
@@ -80,15 +77,13 @@ IsHeap_stored : (h : Heap) (arena : Pages) (r : Record) (off : ℕ) (bytes : Lis
     → IsHeap (with_arena h arena)
 IsHeap_stored h arena r off bytes heap index paged found fits may saves =
     let table = store_table h arena saves.same_free in
-    let live = live_found h r.serial r heap found in
-    let memory = store_is h arena r off bytes heap index paged found fits may saves in
     let tied : IsTied (stored (plain_of h) (record { serial = r.serial; object = object_in h r }) off bytes) (table_of h)
-    = stored_tied (plain_of h) (table_of h) (record { serial = r.serial; object = object_in h r }) off bytes live
+    = stored_tied (plain_of h) (table_of h) (record { serial = r.serial; object = object_in h r }) off bytes (live_found h r.serial r heap found)
     (let long = object_len h r in omega (arith, long, fits)) heap.tied in
     record {
       sound = subst (λ (t : Table). IsSound t) (sym table) heap.sound;
       tied = subst (λ (t : Table). IsTied (plain_of (with_arena h arena)) t) (sym table)
-          (subst (λ (m : Memory). IsTied m (table_of h)) (sym memory) tied);
+          (subst (λ (m : Memory). IsTied m (table_of h)) (sym (store_is h arena r off bytes heap index paged found fits may saves)) tied);
     }
 
 -- a store through a stale reference
@@ -104,22 +99,14 @@ stored_past h object o off bytes is past =
 -- a byte stored at an address is stored in the object that holds it
 pub stored_held : (h : Heap) (addr byte : ℕ) (o : Occupied) (i : IsHeld h addr o) → IsHeap h
     → stored_at_address (plain_of h) addr byte ≡ stored_in h o.serial i.address o.offset (byte ∷ [])
-stored_held h addr byte o i heap =
-    let at : addr - i.address ≡ o.offset = (let e = i.at in omega (arith, e)) in
-    ap (λ (x : Result Named Refusal). x >>= λ named. Ok (stored (plain_of h) named (addr - named.object.address) (byte ∷ []))) i.held
-    ∙ ap (λ (off : ℕ). Ok (stored (plain_of h) (record { serial = o.serial; object = object_in h (live_record o.serial i.address o.len) }) off (byte ∷ []))) at
-    ∙ sym (stored_in_is h o.serial i.address o.offset o.len (byte ∷ []) heap i.recorded (let w = i.within in omega (arith, w)))
+stored_held h addr byte o i heap = grind (arith, stored_in_is)
 
 -- a byte read at an address is the one of the object that holds it
 pub read_held : (h : Heap) (addr byte : ℕ) (o : Occupied) (i : IsHeld h addr o) → byte ≡ byte_of (arena_of h) (map_of h) addr
     → byte_at_address (plain_of h) addr ≡ Ok byte
 unfolding byte_of
 read_held h addr byte o i loaded =
-    let at : addr - i.address ≡ o.offset = (let e = i.at in omega (arith, e)) in
-    ap (λ (x : Result Named Refusal). x >>= λ named. Ok (slice_index named.object.bytes (addr - named.object.address))) i.held
-    ∙ ap (λ (off : ℕ). Ok (slice_index (object_in h (live_record o.serial i.address o.len)).bytes off)) at
-    ∙ ap (λ (b : ℕ). Ok b) (byte_read (targets_of (map_of h)) (bytes_in (arena_of h)) (live_record o.serial i.address o.len) o.offset i.within
-    ∙ ap (λ (x : ℕ). byte_of (arena_of h) (map_of h) x) i.at ∙ sym loaded)
+    grind (arith, byte_read (targets_of (map_of h)) (bytes_in (arena_of h)) (live_record o.serial i.address o.len) o.offset i.within)
 
 -- a byte read at an address of no object
 pub read_stray : (h : Heap) (addr : ℕ) → holding (plain_of h) addr ≡ Err Stray → byte_at_address (plain_of h) addr ≡ Err Stray
@@ -140,13 +127,12 @@ pub stored_whole : (h : Heap) (g : PageHeap) (serial address off : ℕ) (bytes :
 stored_whole h g serial address off bytes heap index paged live whole may saves =
     let r : Record = live_record serial address live.len in
     let memory = store_is h g.arena r off bytes heap index paged live.recorded live.enough may saves in
-    let done = stored_in_is h serial address off live.len bytes heap live.recorded live.enough in
     subst (λ (x : PageHeap). IsHeap (record { pages = x; next_serial = h.next_serial })
     × IsStore h (record { pages = x; next_serial = h.next_serial }) (stored_in h serial address off bytes)
     (is_blocked (table_of h) (address + off) (length bytes)) Done) (sym whole) (
       IsHeap_stored h g.arena r off bytes heap index paged live.recorded live.enough may saves,
       answers_done h (with_arena h g.arena) (stored_in h serial address off bytes) (is_blocked (table_of h) (address + off) (length bytes)) (record {
-        memory = done ∙ ap (λ (m : Memory). Ok m) (sym memory);
+        memory = (stored_in_is h serial address off live.len bytes heap live.recorded live.enough) ∙ ap (λ (m : Memory). Ok m) (sym memory);
         may = open_is (arena_of h) (map_of h) (index_of h) (table_of h).next_page (table_of h).meshes index paged (address + off) (length bytes) may;
         table = store_table h g.arena saves.same_free;
         serial = refl;
@@ -173,12 +159,8 @@ live_inside seen own serial address bytes same live = subst (λ (h : Heap). IsLi
 -- a part of a live object is one of the layout's, and lies within the addresses that there are
 pub live_for_object : (h : Heap) (serial address off count : ℕ) → IsHeap h → IsLiveFor h serial address (off + count)
     → AreInObject (layout_of (index_of h)) (address + off) count
-live_for_object h serial address off count heap live =
-    live_in_object h serial off count (live_record serial address live.len) heap live.recorded live.enough
+live_for_object h serial address off count heap live = live_in_object _ _ _ _ _ heap live.recorded live.enough
 
 pub live_for_fits : (h : Heap) (serial address off count : ℕ) → IsHeap h → IsIndex (index_of h).spans (index_of h).groups → 1 ≤ count
     → IsLiveFor h serial address (off + count) → address + off < 268435456
-live_for_fits h serial address off count heap index some live =
-    let ends = live_ends h serial (live_record serial address live.len) heap index live.recorded in
-    let enough = live.enough in
-    omega (arith, ends, enough, some)
+live_for_fits h serial address off count heap index some live = omega (arith, live_ends _ _ _ heap index live.recorded, live.enough, some)

@@ -1,15 +1,10 @@
-use Rattle.std.proofs.Common.{◌≡◌, ◌*◌, ◌≤◌, Some, ap, length, arith}
-use Rattle.std.proofs.lemmas.Grind.{common_steps}
-use Rattle.mesh_spans.specs.Counts.{counts_of}
-use Rattle.mesh_spans.specs.declared.totals.Totals.{Totals}
+use Rattle.std.proofs.Common.{◌*◌, ◌≤◌, ap, length, arith}
 use Rattle.mesh_spans.proofs.CountLemmas.{group_few}
 use Rattle.mesh_spans.proofs.filing.counts_of.Goals as goal
 
 pub overflow_cast-result : goal.overflow_cast-result
 overflow_cast-result c =
-    let few = c.bytes.ensures.sound.few_members in
-    let members = ap length c.members.ensures.value in
-    omega (arith, few, members)
+    omega (arith, c.bytes.ensures.sound.few_members, ap length c.members.ensures.value)
 
 pub overflow_mul-result : goal.overflow_mul-result
 overflow_mul-result c =
@@ -18,7 +13,4 @@ overflow_mul-result c =
     omega (arith, few)
 
 pub returns-in-Some-clause-few : goal.returns-in-Some-clause-few
-returns-in-Some-clause-few c =
-    let same : ◌≡◌ {A = Totals} (record { objects = c.count.result; bytes = c.bytes.result; mapped = length c.members.result.now * c.pages.result })
-    (counts_of (Some c.in-Some.group)) = grind (arith, common_steps) in
-    rw same (group_few c.in-Some.group c.bytes.ensures.sound)
+returns-in-Some-clause-few c = grind (arith, group_few)

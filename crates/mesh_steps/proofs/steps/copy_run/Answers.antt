@@ -6,8 +6,7 @@ use Rattle.mesh_steps.proofs.steps.copy_run.Goals as goal
 
 pub returns-clause-copies : goal.returns-clause-copies
 returns-clause-copies c =
-    copies_run (layout_of c.args.spans.now) c.args.arena.now c.copy.new.self c.args.source c.args.destination c.args.from c.args.len c.requires.inside
-    (subst (λ (p : ℕ). Writes c.args.arena.now c.copy.new.self p (c.args.from % 4096)
+    copies_run _ _ _ _ _ _ _ c.requires.inside (subst (λ (p : ℕ). Writes c.args.arena.now c.copy.new.self p (c.args.from % 4096)
     (run_of (byte_at c.args.arena.now ((layout_of c.args.spans.now).page c.args.source (c.args.from / 4096))) (c.args.from % 4096) c.args.len))
     c.physical_page-there.ensures
     (subst (λ (p : ℕ). Writes c.args.arena.now c.copy.new.self c.physical_page-there.result (c.args.from % 4096)

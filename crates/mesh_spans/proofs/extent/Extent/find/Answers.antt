@@ -1,15 +1,11 @@
 use Rattle.std.proofs.Common.{◌≡◌, ℕ, ◌+◌, ◌*◌, ◌<◌, ◌/◌, ◌%◌, arith, ap, refl, ◌∙◌}
 use Rattle.std.proofs.lemmas.Grind.{common_steps}
-use Rattle.std.proofs.lemmas.Nat.{div-mul-add, div-add-mod'}
 use Rattle.mesh_spans.specs.Index.{SpanEntry}
 use Rattle.mesh_spans.proofs.extent.Extent.find.Goals as goal
 
 -- quotient and remainder of what stands behind so many whole parts
 parts : (n k size o : ℕ) → o < size → n ≡ k * size + o → (n / size ≡ k) × (n % size ≡ o)
-parts n k size o small e =
-    let whole : n / size ≡ k = rw e (div-mul-add k size o small) in
-    let product : n / size * size ≡ k * size = ap (λ (q : ℕ). q * size) whole in
-    let sum = div-add-mod' n size in (whole, omega (arith, product, sum, e))
+parts n k size o small e = grind arith
 
 pub returns-clause-found : goal.returns-clause-found
 returns-clause-found c = λ k o small offset at.

@@ -2,14 +2,14 @@ use Rattle.std.proofs.Common.{None, sym, ◌∙◌}
 use Rattle.std.proofs.Math.ListN.{length-set}
 use Rattle.mesh_spans.specs.Groups.{groups_of}
 use Rattle.mesh_spans.proofs.MergeLemmas.{HasMerged, few_together, merge_closed, merge_keeps, members_below, merge_table, merges_is, same_classes, slots_apart}
-use Rattle.mesh_spans.proofs.IndexLemmas.{group_below}
+use Rattle.mesh_spans.proofs.IndexLemmas.{filled_below}
 use Rattle.mesh_spans.proofs.index.Spans.merge.Goals as goal
 use Rattle.mesh_spans.proofs.index.Spans.merge.Goals.{After-regroup}
 
 pub take-requires : goal.take-requires
 take-requires c =
     let pair = rw (← c.self.view_is) at c.requires.pair in
-    group_below c.self.inside.groups c.args.src pair.a pair.source
+    filled_below c.self.inside.groups c.args.src pair.a pair.source
 
 pub absorb-requires : goal.absorb-requires
 absorb-requires c =
@@ -17,7 +17,7 @@ absorb-requires c =
     let at = sym c.take.ensures.group ∙ c.in-Some.is in
     let is = c.take.ensures.groups in
     record {
-      there = rw (is, length-set c.self.inside.groups c.args.src None) (group_below c.self.inside.groups c.args.dst pair.b pair.destination);
+      there = rw (is, length-set c.self.inside.groups c.args.src None) (filled_below c.self.inside.groups c.args.dst pair.b pair.destination);
       class = same_classes c.self.inside.spans.items c.self.inside.groups c.take.new.self c.args.src c.args.dst c.in-Some.source pair at is;
       few = few_together c.self.inside.spans.items c.self.inside.groups c.take.new.self c.args.src c.args.dst c.in-Some.source pair at is;
       apart = slots_apart c.self.inside.spans.items c.self.inside.groups c.take.new.self c.args.src c.args.dst c.in-Some.source pair at is;
@@ -25,8 +25,7 @@ absorb-requires c =
 
 pub regroup-requires : goal.regroup-requires
 regroup-requires c =
-    members_below c.self.inside.spans.items c.self.inside.groups c.args.src c.in-Some.source c.members.result.now c.self.invariant.0
-    (sym c.take.ensures.group ∙ c.in-Some.is) c.members.ensures.value
+    members_below _ _ _ _ _ c.self.invariant.0 (sym c.take.ensures.group ∙ c.in-Some.is) c.members.ensures.value
 
 -- what was merged
 met : (c : After-regroup) → HasMerged c.self.inside.spans.items c.regroup.new.spans.items c.self.inside.groups c.absorb.new.self c.args.src c.args.dst c.in-Some.source
@@ -46,8 +45,7 @@ returns-in-Some-clause-merges c = merges_is _ _ _ _ _ _ _ (met (goal.at.returns-
 pub returns-in-Some-clause-table : goal.returns-in-Some-clause-table
 unfolding groups_of
 returns-in-Some-clause-table c = λ a found.
-    let found' = rw (← c.self.view_is) at found in
-    rw (← c.self.view_is) (merge_table _ _ _ _ _ _ _ (met (goal.at.returns-in-Some-clause-table c).After-regroup) a found')
+    rw (← c.self.view_is) (merge_table _ _ _ _ _ _ _ (met (goal.at.returns-in-Some-clause-table c).After-regroup) a (rw (← c.self.view_is) at found))
 
 pub returns-in-Some-clause-closed : goal.returns-in-Some-clause-closed
 returns-in-Some-clause-closed c = λ m. rw (← c.self.view_is) (merge_closed _ _ _ _ _ _ _ (met (goal.at.returns-in-Some-clause-closed c).After-regroup) m)

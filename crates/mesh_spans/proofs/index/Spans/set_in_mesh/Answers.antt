@@ -1,4 +1,3 @@
-use Rattle.mesh_spans.specs.Changes.{with_flag}
 use Rattle.mesh_spans.specs.Groups.{groups_of}
 use Rattle.mesh_spans.proofs.FlagLemmas.{replaced_flag, replaced_keeps, some_below}
 use Rattle.mesh_spans.proofs.MergedTable.{groups_flagged}
@@ -9,9 +8,7 @@ set_in_mesh-requires c = some_below c.self.inside.groups c.args.n (rw (← c.sel
 
 pub invariant_of-self : goal.invariant_of-self
 invariant_of-self c =
-    let below = some_below c.self.inside.groups c.args.n (rw (← c.self.view_is) at c.requires) in
-    rw c.set_in_mesh.ensures (replaced_keeps c.self.inside.spans.items c.self.inside.groups (with_flag c.self.inside.groups c.args.n c.args.in_mesh)
-    c.self.inside.owners c.args.n (replaced_flag c.self.inside.groups c.args.n c.args.in_mesh below) c.self.invariant)
+    rw c.set_in_mesh.ensures (replaced_keeps _ _ _ _ _ (replaced_flag _ _ _) c.self.invariant)
 
 pub returns-clause-table : goal.returns-clause-table
 unfolding groups_of

@@ -5,6 +5,5 @@ use Rattle.mesh_spans.proofs.index.Spans.totals.Goals as goal
 
 pub returns : goal.returns
 returns c =
-    let all = subst (λ (x : Index). AreTotals x c.totals.result) c.self.view_is
-    (table_counted c.self.inside.spans.items c.self.inside.groups c.totals.result c.totals.ensures) in
+    let all = subst (λ (x : Index). AreTotals x c.totals.result) c.self.view_is (table_counted _ _ _ c.totals.ensures) in
     record { objects = all.objects; bytes = all.bytes; mapped = all.mapped }

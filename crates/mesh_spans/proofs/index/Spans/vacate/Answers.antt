@@ -1,8 +1,7 @@
 use Rattle.std.proofs.Common.{None, arith}
 use Rattle.mesh_spans.specs.Groups.{groups_of}
-use Rattle.mesh_spans.specs.Index.{span_at}
-use Rattle.mesh_spans.proofs.IndexLemmas.{nothing_fits, put_keeps, recorded}
-use Rattle.mesh_spans.proofs.FlagLemmas.{entry_closed}
+use Rattle.mesh_spans.proofs.IndexLemmas.{nothing_fits, recorded}
+use Rattle.mesh_spans.proofs.FlagLemmas.{entry_closed, put_keeps}
 use Rattle.mesh_spans.proofs.TableLemmas.{groups_put}
 use Rattle.mesh_spans.proofs.index.Spans.vacate.Goals as goal
 
@@ -21,20 +20,15 @@ put-requires-clause-fits c =
 
 pub invariant_of-self : goal.invariant_of-self
 invariant_of-self c =
-    let some = rw (← c.self.view_is) at c.requires in
-    rw (c.put.ensures, c.group-group.ensures, c.extent.ensures, ← c.self.view_is)
-    (put_keeps c.self.inside.spans.items c.self.inside.groups c.self.inside.owners (span_at c.self.inside.spans.items c.args.span).group c.args.slot None
-    (nothing_fits _ c.args.span c.args.slot c.self.invariant.0 some) c.self.invariant)
+    rw (c.put.ensures, c.group-group.ensures, c.extent.ensures, ← c.self.view_is) (put_keeps _ _ _ _ _ _
+    (nothing_fits _ _ _ c.self.invariant.0 (rw (← c.self.view_is) at c.requires)) c.self.invariant)
 
 pub returns-clause-groups : goal.returns-clause-groups
 returns-clause-groups c = rw (c.put.ensures, c.group-group.ensures, c.extent.ensures, ← c.self.view_is)
 
 pub returns-clause-table : goal.returns-clause-table
 unfolding groups_of
-returns-clause-table c =
-    let n = (span_at c.self.inside.spans.items c.args.span).group in
-    rw (c.put.ensures, c.group-group.ensures, c.extent.ensures, ← c.self.view_is)
-    (groups_put c.self.inside.spans.items 0 n n c.args.slot None c.self.inside.groups (omega arith))
+returns-clause-table c = grind (arith, groups_put)
 
 pub returns-clause-closed : goal.returns-clause-closed
 returns-clause-closed c = λ m. rw (c.put.ensures, ← c.self.view_is) (entry_closed c.self.inside.groups c.group-group.result c.args.slot m None)

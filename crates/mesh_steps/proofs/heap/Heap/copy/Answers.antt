@@ -1,6 +1,5 @@
 use Rattle.std.proofs.Common.{◌+◌, inl, inr}
 use Rattle.model_heap.specs.Mesh.{is_blocked}
-use Rattle.model_words.specs.declared.refusals.Refusal.TheVariants.{Outside}
 use Rattle.mesh_steps.proofs.Copies.{copied_past, copy_stored}
 use Rattle.mesh_steps.proofs.Stores.{answers_refused}
 use Rattle.mesh_steps.specs.Heap.{IsStore, copied_at, plain_of, table_of}
@@ -9,9 +8,7 @@ use Rattle.mesh_steps.proofs.heap.Heap.copy.Goals as goal
 
 pub returns-then-not-has_range-clause-refused : goal.returns-then-not-has_range-clause-refused
 returns-then-not-has_range-clause-refused c refusal e =
-    answers_refused c.args.self.now (copied_at (plain_of c.args.self.now) c.args.to c.args.to_off c.args.from c.args.from_off c.args.len) Outside refusal
-    (copied_past c.args.self.now c.args.to c.args.from c.in-Some.target c.in-Some-live.source c.args.to_off c.args.from_off c.args.len c.in-Some.ensures.there
-    c.in-Some-live.ensures.there (elim c.then-not-has_range.branch [
+    answers_refused _ _ _ _ (copied_past _ _ _ _ _ _ _ _ c.in-Some.ensures.there c.in-Some-live.ensures.there (elim c.then-not-has_range.branch [
       | then-not-has_range-via-then-not-has_range w ↦ inl w.if-not-has_range.ensures.past
       | then-not-has_range-via-else-not-has_range+then-not-has_range-2 w ↦ inr w.if-not-has_range-2.ensures.past
     ])) e
@@ -21,8 +18,7 @@ stored : (c : After-save) → IsStore c.args.self.now c.save.new.self
     (copied_at (plain_of c.args.self.now) c.args.to c.args.to_off c.args.from c.args.from_off c.args.len)
     (is_blocked (table_of c.args.self.now) (c.args.to.addr + c.args.to_off) c.args.len) c.save.result
 stored c =
-    copy_stored c.args.self.now c.save.new.self c.args.to c.args.from c.in-Some.target c.in-Some-live.source c.args.to_off c.args.from_off c.args.len
-    c.fetch-bytes.result.items c.as_slice.result.now c.save.result c.live.ensures.sound c.in-Some.ensures.there c.in-Some-live.ensures.there
+    copy_stored _ _ _ _ _ _ _ _ _ _ _ _ c.live.ensures.sound c.in-Some.ensures.there c.in-Some-live.ensures.there
     c.if-not-has_range.ensures.within c.if-not-has_range-2.ensures.within c.fetch-bytes.ensures.count c.fetch-bytes.ensures.bytes c.as_slice.ensures.value
     c.save.ensures
 

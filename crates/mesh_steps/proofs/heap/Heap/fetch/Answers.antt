@@ -14,16 +14,12 @@ overlaid xs ys same =
 
 pub overflow_add-object : goal.overflow_add-object
 overflow_add-object c =
-    let fits = live_for_fits (record { pages = c.self.inside.pages; next_serial = c.self.inside.next_serial }) c.args.object.serial c.args.object.addr
-    c.args.off c.args.len c.self.invariant c.sound.ensures.index c.requires.some (live_inside _ _ c.args.object.serial c.args.object.addr _ c.self.view_is
-    c.requires.live) in
-    omega (arith, fits)
+    omega (arith, live_for_fits _ _ _ _ _ c.self.invariant c.sound.ensures.index c.requires.some (live_inside _ _ _ _ _ c.self.view_is c.requires.live))
 
 pub load-requires-clause-object : goal.load-requires-clause-object
 load-requires-clause-object c =
     let long : length c.as_mut_slice.result.now ≡ c.args.len = grind (arith, common_steps) in
-    rw long (live_for_object (record { pages = c.self.inside.pages; next_serial = c.self.inside.next_serial }) c.args.object.serial c.args.object.addr
-    c.args.off c.args.len c.self.invariant (live_inside _ _ c.args.object.serial c.args.object.addr _ c.self.view_is c.requires.live))
+    rw long (live_for_object _ _ _ _ _ c.self.invariant (live_inside _ _ _ _ _ c.self.view_is c.requires.live))
 
 pub returns-clause-bytes : goal.returns-clause-bytes
 returns-clause-bytes c =
@@ -34,6 +30,4 @@ returns-clause-bytes c =
     let same : length c.load.new.out ≡ length c.truncate.new.self.items
     = ap (λ (xs : List ℕ). length xs) out
     ∙ length-run_of (byte_of c.self.inside.pages.arena c.self.inside.pages.map) (c.args.object.addr + c.args.off) c.args.len ∙ sym long in
-    rw (← c.self.view_is) (read_is (record { pages = c.self.inside.pages; next_serial = c.self.inside.next_serial }) c.args.object c.args.off c.args.len _
-    c.self.invariant (live_inside _ _ c.args.object.serial c.args.object.addr _ c.self.view_is c.requires.live)
-    (overlaid c.load.new.out c.truncate.new.self.items same ∙ out))
+    rw (← c.self.view_is) (read_is _ _ _ _ _ c.self.invariant (live_inside _ _ _ _ _ c.self.view_is c.requires.live) (overlaid _ _ same ∙ out))

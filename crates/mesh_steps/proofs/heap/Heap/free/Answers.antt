@@ -15,13 +15,11 @@ invariant_of-self c =
     let there = subst (λ (r : Option Occupied). IfSome r (IsReferred c.args.self.now c.args.object)) c.in_ok-live.ensures.ok_part c.live.ensures.there in
     let at = subst (λ (h : Heap). IsObjectAt h c.args.object.addr c.in_ok-live.live) (sym c.self.view_is) there.at in
     let out = c.take_out.ensures in
-    freed_heap (record { pages = c.self.inside.pages; next_serial = c.self.inside.next_serial }) c.take_out.new.self c.args.object.addr
-    c.in_ok-live.live c.self.invariant at (record { table = out.table; arena = out.arena; map = out.map })
+    freed_heap _ _ _ _ c.self.invariant at (record { table = out.table; arena = out.arena; map = out.map })
 
 pub returns-clause-freed : goal.returns-clause-freed
 returns-clause-freed c =
     let there = subst (λ (r : Option Occupied). IfSome r (IsReferred c.args.self.now c.args.object)) c.in_ok-live.ensures.ok_part c.live.ensures.there in
     let at = subst (λ (h : Heap). IsObjectAt h c.args.object.addr c.in_ok-live.live) (sym c.self.view_is) there.at in
     let out = c.take_out.ensures in
-    rw (← c.self.view_is) (freed_is (record { pages = c.self.inside.pages; next_serial = c.self.inside.next_serial }) c.take_out.new.self
-    c.args.object c.in_ok-live.live c.self.invariant at there.serial there.begins (record { table = out.table; arena = out.arena; map = out.map }))
+    rw (← c.self.view_is) (freed_is _ _ _ _ c.self.invariant at there.serial there.begins (record { table = out.table; arena = out.arena; map = out.map }))

@@ -19,22 +19,18 @@ put c =
 
 pub invariant_of-self : goal.invariant_of-self
 invariant_of-self c =
-    fault_heap (record { pages = c.self.inside.pages; next_serial = c.self.inside.next_serial }) c.place.new.self c.in_ok-class.class
-    c.in_err-span.field-0.0 c.self.invariant c.in_err-span.ensures.err
+    fault_heap _ _ _ _ c.self.invariant c.in_err-span.ensures.err
 
 pub returns-in_err-span-clause-fault : goal.returns-in_err-span-clause-fault
 returns-in_err-span-clause-fault c =
     let heap : Heap = record { pages = c.self.inside.pages; next_serial = c.self.inside.next_serial } in
     let new : Heap = record { pages = c.place.new.self; next_serial = c.self.inside.next_serial } in
     rw (← c.self.view_is) (handed_on c.from_residual-in_err-span.result c.in_err-span.field-0.0 (IsNotMade heap new c.args.len c.args.word)
-    c.from_residual-in_err-span.ensures.1
-    (fault_is heap c.place.new.self c.in_ok-class.class c.args.len c.args.word c.in_err-span.field-0.0 c.in_ok-class.ensures.least
-    c.in_ok-class.ensures.some c.in_err-span.ensures.err))
+    c.from_residual-in_err-span.ensures.1 (fault_is _ _ _ _ _ _ c.in_ok-class.ensures.least c.in_ok-class.ensures.some c.in_err-span.ensures.err))
 
 pub put-addr-requires-clause-sound : goal.put-addr-requires-clause-sound
 put-addr-requires-clause-sound c =
-    placed_sound (record { pages = c.self.inside.pages; next_serial = c.self.inside.next_serial }) c.place.new.self c.in_ok-class.class c.args.len c.args.word
-    c.in_ok-span.span c.in_ok-span.slot (record {
+    placed_sound _ _ _ _ _ _ _ (record {
       heap = c.self.invariant;
       class_is = c.in_ok-class.ensures.least;
       some = c.in_ok-class.ensures.some;
@@ -43,10 +39,8 @@ put-addr-requires-clause-sound c =
 
 pub invariant_of-self-2 : goal.invariant_of-self-2
 invariant_of-self-2 c =
-    new_heap (before c) c.place.new.self c.put-addr.new.self c.in_ok-class.class c.args.len c.args.word c.in_ok-span.span c.in_ok-span.slot c.put-addr.result
-    (at c) (put c)
+    new_heap (before c) c.place.new.self _ c.in_ok-class.class c.args.len c.args.word c.in_ok-span.span c.in_ok-span.slot c.put-addr.result (at c) (put c)
 
 pub returns-clause-made : goal.returns-clause-made
 returns-clause-made c =
-    rw (← c.self.view_is) (new_is (before c) c.place.new.self c.put-addr.new.self c.in_ok-class.class c.args.len c.args.word c.in_ok-span.span
-    c.in_ok-span.slot c.put-addr.result (at c) (put c))
+    rw (← c.self.view_is) (new_is _ c.place.new.self _ c.in_ok-class.class _ _ c.in_ok-span.span c.in_ok-span.slot _ (at c) (put c))

@@ -8,11 +8,8 @@ returns-clause-there c =
     rw (← c.self.view_is) (IfSome_more c.occupied_at.result
     (λ o. IsInSlotOf c.self.inside.pages.index c.args.addr o.span o.slot o.offset o.serial o.len)
     (IsObjectAt (record { pages = c.self.inside.pages; next_serial = c.self.inside.next_serial }) c.args.addr)
-    (λ o. in_slot_recorded (record { pages = c.self.inside.pages; next_serial = c.self.inside.next_serial }) c.args.addr o c.self.invariant)
-    c.occupied_at.ensures.there)
+    (λ o. in_slot_recorded _ _ _ c.self.invariant) c.occupied_at.ensures.there)
 
 pub returns-clause-found : goal.returns-clause-found
 returns-clause-found c =
-    rw (← c.self.view_is) (λ serial r is within.
-    object_found (record { pages = c.self.inside.pages; next_serial = c.self.inside.next_serial }) c.args.addr serial r c.occupied_at.result
-    c.self.invariant c.occupied_at.ensures.found is within)
+    rw (← c.self.view_is) (λ serial r is within. object_found _ _ _ _ _ c.self.invariant c.occupied_at.ensures.found is within)

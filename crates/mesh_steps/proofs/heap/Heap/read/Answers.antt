@@ -6,5 +6,4 @@ returns-in_default-clause-refused c =
     read_stale c.args.self.now c.args.object c.args.off c.args.len c.in_default.ensures.none
 
 pub returns-then-not-has_range-clause-refused : goal.returns-then-not-has_range-clause-refused
-returns-then-not-has_range-clause-refused c =
-    read_past c.args.self.now c.args.object c.in-Some.live c.args.off c.args.len c.in-Some.ensures.there c.if-not-has_range.ensures.past
+returns-then-not-has_range-clause-refused c = read_past _ _ _ _ _ c.in-Some.ensures.there c.if-not-has_range.ensures.past

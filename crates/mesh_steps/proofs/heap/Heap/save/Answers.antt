@@ -1,30 +1,23 @@
-use Rattle.std.proofs.Common.{◌+◌, length, refl, subst, arith}
-use Rattle.model_heap.specs.Mesh.{is_blocked}
-use Rattle.mesh_steps.specs.Heap.{Heap, IsStore, stored_in, table_of}
-use Rattle.mesh_steps.specs.declared.answers.Stored.TheVariants.{Done}
+use Rattle.std.proofs.Common.{refl, arith}
 use Rattle.mesh_steps.proofs.Stores.{held_back, live_for_fits, live_for_object, live_inside, stored_whole}
 use Rattle.mesh_steps.proofs.heap.Heap.save.Goals as goal
 
 pub overflow_add-from : goal.overflow_add-from
 overflow_add-from c =
-    let fits = live_for_fits (record { pages = c.self.inside.pages; next_serial = c.self.inside.next_serial }) c.args.serial c.args.addr c.args.off
-    (length c.args.bytes.now) c.self.invariant c.sound.ensures.index c.requires.some (live_inside _ _ c.args.serial c.args.addr _ c.self.view_is c.requires.live) in
+    let fits = live_for_fits _ _ _ _ _ c.self.invariant c.sound.ensures.index c.requires.some (live_inside _ _ _ _ _ c.self.view_is c.requires.live) in
     omega (arith, fits)
 
 pub blocked-requires-clause-object : goal.blocked-requires-clause-object
 blocked-requires-clause-object c =
-    live_for_object (record { pages = c.self.inside.pages; next_serial = c.self.inside.next_serial }) c.args.serial c.args.addr c.args.off
-    (length c.args.bytes.now) c.self.invariant (live_inside _ _ c.args.serial c.args.addr _ c.self.view_is c.requires.live)
+    live_for_object _ _ _ _ _ c.self.invariant (live_inside _ _ _ _ _ c.self.view_is c.requires.live)
 
 pub save-requires-clause-object : goal.save-requires-clause-object
 save-requires-clause-object c =
-    live_for_object (record { pages = c.self.inside.pages; next_serial = c.self.inside.next_serial }) c.args.serial c.args.addr c.args.off
-    (length c.args.bytes.now) c.self.invariant (live_inside _ _ c.args.serial c.args.addr _ c.self.view_is c.requires.live)
+    live_for_object _ _ _ _ _ c.self.invariant (live_inside _ _ _ _ _ c.self.view_is c.requires.live)
 
 pub invariant_of-self : goal.invariant_of-self
 invariant_of-self c =
-    (stored_whole (record { pages = c.self.inside.pages; next_serial = c.self.inside.next_serial }) c.save.new.self c.args.serial c.args.addr c.args.off
-    c.args.bytes.now c.self.invariant c.sound.ensures.index c.sound.ensures.pages (live_inside _ _ c.args.serial c.args.addr _ c.self.view_is c.requires.live)
+    (stored_whole _ _ _ _ _ _ c.self.invariant c.sound.ensures.index c.sound.ensures.pages (live_inside _ _ _ _ _ c.self.view_is c.requires.live)
     c.save.ensures.others c.if-blocked.ensures.open c.save.ensures.saves).0
 
 pub returns-then-blocked : goal.returns-then-blocked
@@ -34,10 +27,4 @@ returns-then-blocked c =
     (c.if-blocked.ensures.blocked.0 refl))
 
 pub returns : goal.returns
-returns c =
-    subst (λ (h : Heap). IsStore h (record { pages = c.save.new.self; next_serial = c.self.inside.next_serial })
-    (stored_in h c.args.serial c.args.addr c.args.off c.args.bytes.now)
-    (is_blocked (table_of h) (c.args.addr + c.args.off) (length c.args.bytes.now)) Done) c.self.view_is
-    (stored_whole (record { pages = c.self.inside.pages; next_serial = c.self.inside.next_serial }) c.save.new.self c.args.serial c.args.addr c.args.off
-    c.args.bytes.now c.self.invariant c.sound.ensures.index c.sound.ensures.pages (live_inside _ _ c.args.serial c.args.addr _ c.self.view_is c.requires.live)
-    c.save.ensures.others c.if-blocked.ensures.open c.save.ensures.saves).1
+returns c = grind (arith, stored_whole)

@@ -14,10 +14,8 @@ finish-requires c =
 
 pub returns : goal.returns
 returns c = record {
-  made = meshed c.args.busy c.args.self.now c.start.new.self c.args.source c.args.destination c.in_ok-left.left c.unwrap-class.result c.sound.ensures
-      c.in_ok-left.ensures.made
-      (sym c.unwrap-class.ensures ∙ c.class_of.ensures
-      ∙ ap (λ (h : Heap). option_map (λ (g : Group). g.class) (group_of (table_of h) c.args.source)) c.self.view_is) c.finish.new.self c.pages.result c.finish.ensures.table c.pages.ensures.value;
+  made = meshed _ _ c.start.new.self _ _ c.in_ok-left.left _ c.sound.ensures c.in_ok-left.ensures.made (sym c.unwrap-class.ensures ∙ c.class_of.ensures
+      ∙ ap (λ (h : Heap). option_map (λ (g : Group). g.class) (group_of (table_of h) c.args.source)) c.self.view_is) _ _ c.finish.ensures.table c.pages.ensures.value;
   refused = tt;
-  kept = kept_on c.args.self.now c.start.new.self c.finish.new.self c.in_ok-left.ensures.kept c.finish.ensures.kept;
+  kept = kept_on _ _ _ c.in_ok-left.ensures.kept c.finish.ensures.kept;
 }

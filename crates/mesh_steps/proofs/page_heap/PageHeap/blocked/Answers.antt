@@ -7,6 +7,5 @@ use Rattle.mesh_steps.proofs.page_heap.PageHeap.blocked.Goals as goal
 
 pub blocked-requires-clause-backed : goal.blocked-requires-clause-backed
 blocked-requires-clause-backed c =
-    object_backed c.self.inside.store.arena c.self.inside.store.map c.self.inside.spans c.self.inside.next_page c.self.inside.meshes.items c.args.addr c.args.len
-    c.sound.ensures c.self.invariant
+    object_backed _ _ _ _ _ _ _ c.sound.ensures c.self.invariant
     (subst (λ (g : PageHeap). AreInObject (layout_of g.index) c.args.addr c.args.len) (sym c.self.view_is) c.requires.object)

@@ -14,20 +14,16 @@ no_pair x e = cc e
 
 pub returns-in_err-span-clause-found : goal.returns-in_err-span-clause-found
 returns-in_err-span-clause-found c = rw (← c.self.view_is) (λ n place k o group serial len at within below small filled is.
-    let found = c.in_err-span.ensures.found n place k o group at within below small is in
-    absurd (no_triple (slice_index group.members place, k, o) found.found_is))
+    absurd (no_triple (slice_index group.members place, k, o) (c.in_err-span.ensures.found n place k o group at within below small is).found_is))
 
 pub returns-in_err-serial-clause-found : goal.returns-in_err-serial-clause-found
 returns-in_err-serial-clause-found c = rw (← c.self.view_is) (λ n place k o group serial len at within below small filled is.
     let found = c.in_ok-span.ensures.found n place k o group at within below small is in
-    let there = found_recorded c.self.inside.spans n (slice_index group.members place) k o c.in_ok-span.span c.in_ok-span.slot c.in_ok-span.offset serial len
-    group None found at filled c.in_err-serial.ensures.value in
-    absurd (no_pair (serial, len) there.0))
+    absurd (no_pair _ (found_recorded _ _ _ _ _ _ _ _ _ _ _ _ found at filled c.in_err-serial.ensures.value).0))
 
 pub returns-clause-found : goal.returns-clause-found
 returns-clause-found c = rw (← c.self.view_is) (λ n place k o group serial len at within below small filled is.
     let found = c.in_ok-span.ensures.found n place k o group at within below small is in
-    let there = found_recorded c.self.inside.spans n (slice_index group.members place) k o c.in_ok-span.span c.in_ok-span.slot c.in_ok-span.offset serial len
-    group (Some (c.in_ok-serial.serial, c.in_ok-serial.len)) found at filled c.in_ok-serial.ensures.value in
-    let both = pair c.in_ok-serial.serial c.in_ok-serial.len serial len there.0 in
+    let there = found_recorded _ _ _ _ _ _ _ _ _ _ _ _ found at filled c.in_ok-serial.ensures.value in
+    let both = pair _ _ _ _ there.0 in
     (both.0, there.1, both.1))

@@ -13,8 +13,7 @@ handed_on (Err e) fault P same holds = subst P (sym same) holds
 
 pub returns-in-Some-clause-ok : goal.returns-in-Some-clause-ok
 returns-in-Some-clause-ok c =
-    rw (← c.self.view_is) (place_open _ c.args.class c.args.word c.in-Some.place.0 c.in-Some.place.1 c.self.invariant c.sound.ensures
-    c.in-Some.ensures.picked c.in-Some.ensures.vacant)
+    rw (← c.self.view_is) (place_open _ _ _ _ _ c.self.invariant c.sound.ensures c.in-Some.ensures.picked c.in-Some.ensures.vacant)
 
 pub returns-in_err-span-in-None-clause-err : goal.returns-in_err-span-in-None-clause-err
 returns-in_err-span-in-None-clause-err c =
@@ -27,7 +26,6 @@ returns-in_err-span-in-None-clause-err c =
 pub returns-in_ok-span-in-None-clause-ok : goal.returns-in_ok-span-in-None-clause-ok
 returns-in_ok-span-in-None-clause-ok c =
     let none : open_group (table_in c.args.self.now) c.args.class ≡ None
-    = subst (λ (g : PageHeap). open_group (table_in g) c.args.class ≡ None) c.self.view_is (sym (open_is _ c.args.class c.self.invariant) ∙ c.in-None.ensures.none) in
+    = subst (λ (g : PageHeap). open_group (table_in g) c.args.class ≡ None) c.self.view_is (sym (open_is _ _ c.self.invariant) ∙ c.in-None.ensures.none) in
     let at : c.numbered.result ≡ c.args.word % slots_of c.args.class = rw (c.numbered.ensures, c.from.ensures, c.slots.ensures.value) refl in
-    place_fresh c.args.self.now c.add_span.new.self c.args.class c.args.word c.in_ok-span-in-None.span c.numbered.result c.slots.ensures.class none
-    c.in_ok-span-in-None.ensures.ok at
+    place_fresh _ _ _ _ _ _ c.slots.ensures.class none c.in_ok-span-in-None.ensures.ok at

@@ -2,7 +2,7 @@ use Rattle.std.proofs.Common.{◌≡◌, ℕ, ◌≤◌, sym, subst}
 use Rattle.mesh_layout.proofs.PageHeapBytes.{slot_backed}
 use Rattle.model_heap.specs.Sound.{IsSound}
 use Rattle.mesh_spans.specs.Index.{span_at}
-use Rattle.mesh_steps.specs.PageHeap.{IsFreeSlot, PageHeap, group_number, table_with_object}
+use Rattle.mesh_steps.specs.PageHeap.{IsFreeSlot, PageHeap, table_with_object}
 use Rattle.mesh_steps.proofs.Insides.{seen_of}
 use Rattle.mesh_steps.proofs.Slots.{IsPut, free_covered, free_open, put_keeps, put_paged, put_saved}
 use Rattle.mesh_steps.proofs.page_heap.PageHeap.put.Goals as goal
@@ -20,17 +20,14 @@ fits_inside seen inside span len same fits = subst (λ (g : PageHeap). len ≤ (
 
 pub clear-requires-clause-backed : goal.clear-requires-clause-backed
 clear-requires-clause-backed c =
-    slot_backed c.self.inside.store.arena c.self.inside.store.map c.self.inside.spans c.self.inside.next_page c.self.inside.meshes.items
-    (group_number c.self.inside.spans c.args.span) 0 c.args.slot c.address-addr.result c.args.len c.sound.ensures c.self.invariant
-    (free_covered c.self.inside.spans (span_at c.self.inside.spans.spans c.args.span).class c.args.span c.args.slot c.address-addr.result c.args.len
+    slot_backed _ _ _ _ _ _ _ _ _ _ c.sound.ensures c.self.invariant (free_covered _ _ _ _ _ _
     c.sound.ensures (free_inside _ _ c.args.span c.args.slot c.self.view_is c.requires.free) c.address-addr.ensures.value
-    (fits_inside _ _ c.args.span c.args.len c.self.view_is c.requires.fits))
+    (fits_inside _ _ _ _ c.self.view_is c.requires.fits))
 
 pub clear-requires-clause-writable : goal.clear-requires-clause-writable
 clear-requires-clause-writable c =
-    free_open (seen_of c.self.inside) (span_at c.self.inside.spans.spans c.args.span).class c.args.span c.args.slot c.address-addr.result c.args.len c.sound.ensures c.self.invariant
-    (free_inside _ _ c.args.span c.args.slot c.self.view_is c.requires.free) c.address-addr.ensures.value
-    (fits_inside _ _ c.args.span c.args.len c.self.view_is c.requires.fits)
+    free_open _ _ _ _ _ _ c.sound.ensures c.self.invariant (free_inside _ _ _ _ c.self.view_is c.requires.free) c.address-addr.ensures.value
+    (fits_inside _ _ _ _ c.self.view_is c.requires.fits)
 
 -- what was put
 stands : (c : After-sound-2) → IsPut (seen_of c.self.inside) c.clear.new.store.arena c.occupy.new.self (span_at c.self.inside.spans.spans c.args.span).class c.args.span

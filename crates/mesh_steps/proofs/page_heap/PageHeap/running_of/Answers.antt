@@ -11,5 +11,4 @@ returns-in_default-clause-refused c = (
 
 pub returns-clause-found : goal.returns-clause-found
 returns-clause-found c =
-    running_found _ _ c.args.class c.in-Some.place c.index-deref-place.result _ _ _ c.self.view_is c.as_slice.ensures.value c.place_of.ensures c.in-Some.is
-    c.deref.ensures.0 c.index-deref-place.is
+    running_found _ _ _ _ _ _ _ _ c.self.view_is c.as_slice.ensures.value c.place_of.ensures c.in-Some.is c.deref.ensures.0 c.index-deref-place.is

@@ -8,13 +8,11 @@ use Rattle.mesh_steps.proofs.page_heap.PageHeap.save.Goals as goal
 
 pub save-requires-clause-backed : goal.save-requires-clause-backed
 save-requires-clause-backed c =
-    object_backed c.self.inside.store.arena c.self.inside.store.map c.self.inside.spans c.self.inside.next_page c.self.inside.meshes.items c.args.addr (length c.args.bytes.now)
-    c.sound.ensures c.self.invariant
+    object_backed _ _ _ _ _ _ _ c.sound.ensures c.self.invariant
     (subst (λ (g : PageHeap). AreInObject (layout_of g.index) c.args.addr (length c.args.bytes.now)) (sym c.self.view_is) c.requires.object)
 
 pub invariant_of-self : goal.invariant_of-self
 invariant_of-self c =
-    rw c.save.ensures.map (page_heap_store c.self.inside.store.arena c.save.new.self.arena c.self.inside.store.map c.self.inside.spans
-    c.self.inside.next_page c.self.inside.meshes.items c.args.addr c.args.bytes.now c.sound.ensures c.self.invariant
+    rw c.save.ensures.map (page_heap_store _ _ _ _ _ _ _ _ c.sound.ensures c.self.invariant
     (subst (λ (g : PageHeap). AreInObject (layout_of g.index) c.args.addr (length c.args.bytes.now)) (sym c.self.view_is) c.requires.object)
     (subst (λ (g : PageHeap). IsOpen g.map c.args.addr (length c.args.bytes.now)) (sym c.self.view_is) c.requires.writable) c.save.ensures.saves)

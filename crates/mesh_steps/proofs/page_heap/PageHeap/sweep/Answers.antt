@@ -48,8 +48,7 @@ give_pages-requires c =
     rw c.pages.ensures.value (can_give (seen_of c.self.inside) c.args.n c.in-Some.group.now c.sound.ensures c.self.invariant (sym c.in-Some.ensures) (sym c.in_mesh.ensures ∙ c.if-in_mesh.false))
 
 pub unmap_group-requires : goal.unmap_group-requires
-unmap_group-requires c =
-    can_unmap (seen_of c.self.inside) c.args.n c.in-Some.group.now c.sound.ensures c.self.invariant (sym c.in-Some.ensures)
+unmap_group-requires c = can_unmap (seen_of c.self.inside) _ c.in-Some.group.now c.sound.ensures c.self.invariant (sym c.in-Some.ensures)
 
 pub invariant_of-self : goal.invariant_of-self
 invariant_of-self c = (left c).0

@@ -5,16 +5,14 @@ use Rattle.mesh_steps.proofs.page_heap.meshes.reopen_both.Goals as goal
 
 pub reopen-requires-2 : goal.reopen-requires-2
 reopen-requires-2 c =
-    flag_there c.args.spans.now c.reopen.new.self c.args.source c.args.destination false
-    (record { there = c.requires.source; spans = c.reopen.ensures.spans; groups = c.reopen.ensures.groups }) c.requires.destination
+    flag_there _ _ _ _ _ (record { there = c.requires.source; spans = c.reopen.ensures.spans; groups = c.reopen.ensures.groups }) c.requires.destination
 
 pub returns : goal.returns
 returns c =
     let one : Flags c.args.spans.now c.reopen.new.self c.args.source false
     = record { there = c.requires.source; spans = c.reopen.ensures.spans; groups = c.reopen.ensures.groups } in
-    opened_twice c.args.spans.now c.reopen.new.self c.reopen-2.new.self c.args.source c.args.destination one
-    (record {
-      there = flag_there c.args.spans.now c.reopen.new.self c.args.source c.args.destination false one c.requires.destination;
+    opened_twice _ _ _ _ _ one (record {
+      there = flag_there _ _ _ _ _ one c.requires.destination;
       spans = c.reopen-2.ensures.spans;
       groups = c.reopen-2.ensures.groups;
     })
