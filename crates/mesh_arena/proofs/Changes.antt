@@ -1,9 +1,8 @@
 -- What a change of one page does, by places.
-use Rattle.std.proofs.Common.{◌≡◌, ◌≢◌, ℕ, ◌+◌, ◌<◌, ◌≤◌, true, false, cond, List, [], Option, Some, None, length, set, get_or, replicate, refl, sym, ap, ◌∙◌, arith, rules, length-set, get_or-set_same, get_or-set_other, ⊎_elim}
+use Rattle.std.proofs.Common.{◌≡◌, ◌≢◌, ℕ, ◌+◌, ◌<◌, ◌≤◌, true, false, cond, List, [], Option, Some, None, length, set, get_or, replicate, refl, sym, ap, ◌∙◌, arith, rules, length-set, get_or-set_same, get_or-set_other}
 use Rattle.std.specs.Prelude.{not, unwrap_or, slice_range}
 use Rattle.std.proofs.lemmas.List.{length-replicate, get_or_past, get_or-replicate, places, same_lists}
 use Rattle.std.proofs.lemmas.List.FromFn.{length-map-range_with_len, get_or-map-range_with_len}
-use Rattle.std.proofs.lemmas.Bool.{cases_lt}
 use Rattle.mesh_arena.specs.Pages.{Pages, IsTaken, is_taken, byte_at, bytes_of, free_count, blank_page, with_run, run_of, Takes, Gives, Writes}
 use Rattle.mesh_arena.proofs.Counts.{free_count-set}
 use Rattle.mesh_arena.proofs.Taken.{taken-below, is_taken-set_same, is_taken-set_other, is_taken-set_some}
@@ -25,11 +24,7 @@ unfolding byte_at
 byte_at-bytes_of a p o = refl
 
 get_or-zeros : (n o : ℕ) → ◌≡◌ {A = ℕ} (get_or (replicate n 0) o 0) 0
-get_or-zeros n o =
-    ⊎_elim
-    (λ (l : o < n). get_or-replicate n o 0 0 l)
-    (λ (past : n ≤ o). get_or_past (replicate n 0) o 0 (rw length-replicate past))
-    (cases_lt o n)
+get_or-zeros n o = grind (arith, get_or-replicate, get_or_past, length-replicate)
 
 get_or-blank_page : (o : ℕ) → ◌≡◌ {A = ℕ} (get_or blank_page o 0) 0
 unfolding blank_page

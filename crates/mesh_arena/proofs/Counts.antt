@@ -22,9 +22,8 @@ unfolding is_taken
 none_free_below a zero h all = refl
 none_free_below a (suc n) h all =
     let here : n < length a = omega arith in
-    let lower : n ≤ length a = omega arith in
     let more : count_by is_none (take (n + 1) a) ≡ count_by is_none (take n a) = count_by_more_no is_none a n None here (ap not (all n (omega arith))) in
-    rw add-one at more ∙ none_free_below a n lower (λ p l. all p (omega arith))
+    rw add-one at more ∙ none_free_below a n (omega arith) (λ p l. all p (omega arith))
 
 -- where every page is taken, none is free
 pub none_free : (a : Pages) → ((p : ℕ) → p < length a → IsTaken a p) → free_count a ≡ 0
@@ -48,8 +47,7 @@ found_nowhere xs e = rw e (grind (arith, nat_tests))
 -- the lowest free page is the one below which all are taken
 pub lowest_free-is : (a : Pages) (p : ℕ) → p < length a → is_taken a p ≡ false → ((q : ℕ) → q < p → IsTaken a q) → lowest_free a ≡ Some p
 unfolding is_taken
-lowest_free-is a p h free below =
-    found_at a p h (position_or_len_is is_none a p None (omega arith) (λ k l. ap not (below k l)) (λ _. ap not free))
+lowest_free-is a p h free below = found_at _ _ h (position_or_len_is is_none a p None (omega arith) (λ k l. ap not (below k l)) (λ _. ap not free))
 
 -- and there is none where none is free
 pub lowest_free-none : (a : Pages) → free_count a ≡ 0 → lowest_free a ≡ None

@@ -1,6 +1,6 @@
 -- Frames that were made, some of them given back.
 use Rattle.std.proofs.Common.{◌≡◌, ◌≢◌, ℕ, ◌+◌, ◌-◌, ◌<◌, ◌≤◌, ◌++◌, ◌∷◌, [], Bool, true, false, cond, not, List, Option, Some, None, length, set, get_or, replicate, refl, sym, ap, ◌∙◌, arith, length-set, length-append, get_or-set_same, get_or-set_other, ⊎_elim}
-use Rattle.std.specs.Prelude.{is_some, unwrap_or}
+use Rattle.std.specs.Prelude.{is_some}
 use Rattle.std.specs.Ordering.{nat_cmp}
 use Rattle.std.specs.Cmp.{nat_cmp_total}
 use Rattle.std.specs.FinSet.{FinSet, contains, empty, insert, remove, contains-empty, contains-insert, contains-remove}
@@ -47,8 +47,7 @@ changed : (made more : List (List ℕ)) (given kept : FinSet nat_cmp) (p : ℕ) 
 changed made more given kept p x sized here others h =
     let all : length (made_pages made given) ≡ length made = length-made_pages made given in
     let long : length (made_pages more kept) ≡ length made = length-made_pages more kept ∙ sized in
-    let sets : length (set (made_pages made given) p x) ≡ length made = length-set (made_pages made given) p x ∙ all in
-    same_lists (made_pages more kept) (set (made_pages made given) p x) (long ∙ sym sets)
+    same_lists (made_pages more kept) (set (made_pages made given) p x) (long ∙ sym (length-set (made_pages made given) p x ∙ all))
     (λ q d l.
     let within : q < length more = omega (arith, l, long, sized) in
     let below : q < length made = omega (arith, l, long) in
@@ -87,20 +86,15 @@ taken-not_given made given n p taken = not_true (contains given p) (sym (is_take
 
 -- a taken page has its frame's bytes
 pub bytes-frame : (made : List (List ℕ)) (given : FinSet nat_cmp) (n p : ℕ) → IsTaken (pages_of made given n) p → bytes_of (pages_of made given n) p ≡ get_or made p []
-bytes-frame made given n p taken =
-    let h : p < length made = taken-frame made given n p taken in
-    let within : p < length (made_pages made given) = omega (arith, h, length-made_pages made given) in
-    ap (λ (o : Option (List ℕ)). unwrap_or o [])
-    (content-made (made_pages made given) n p within ∙ page-made_pages made given p None h ∙ kept_page made given p (taken-not_given made given n p taken))
+bytes-frame made given n p taken = grind (arith, taken-frame, length-made_pages, content-made, page-made_pages, taken-not_given)
 
 -- new bytes in a taken page's frame
 pub pages-written : (made : List (List ℕ)) (given : FinSet nat_cmp) (n p : ℕ) (bytes : List ℕ) → IsTaken (pages_of made given n) p → pages_of (set made p bytes) given n ≡ set (pages_of made given n) p (Some bytes)
 pages-written made given n p bytes taken =
     let h : p < length made = taken-frame made given n p taken in
-    let within : p < length (made_pages made given) = omega (arith, h, length-made_pages made given) in
     let here : page_at (set made p bytes) given p ≡ Some bytes = kept_page (set made p bytes) given p (taken-not_given made given n p taken) ∙ ap Some (get_or-set_same made p bytes [] h) in
     ap (λ (a : Pages). with_unmade a n) (changed made (set made p bytes) given given p (Some bytes) (length-set made p bytes) here (λ q ne. set_page_other made given given p q bytes refl ne) h)
-    ∙ set-made (made_pages made given) n p (Some bytes) within
+    ∙ set-made (made_pages made given) n p (Some bytes) (omega (arith, h, length-made_pages made given))
 
 -- a taken page's frame is given back
 pub pages-given : (made : List (List ℕ)) (given : FinSet nat_cmp) (n p : ℕ) → IsTaken (pages_of made given n) p → pages_of made (insert given p) n ≡ set (pages_of made given n) p None
@@ -114,34 +108,31 @@ pages-given made given n p taken =
 -- a frame that was given back is taken again
 pub pages-taken : (made : List (List ℕ)) (given : FinSet nat_cmp) (n p : ℕ) (bytes : List ℕ) → p < length made → pages_of (set made p bytes) (remove given p) n ≡ set (pages_of made given n) p (Some bytes)
 pages-taken made given n p bytes h =
-    let within : p < length (made_pages made given) = omega (arith, h, length-made_pages made given) in
     let here : page_at (set made p bytes) (remove given p) p ≡ Some bytes = kept_page (set made p bytes) (remove given p) p (removed_same given p) ∙ ap Some (get_or-set_same made p bytes [] h) in
     ap (λ (a : Pages). with_unmade a n)
     (changed made (set made p bytes) given (remove given p) p (Some bytes) (length-set made p bytes) here (λ q ne. set_page_other made given (remove given p) p q bytes (removed_other given p q ne) ne) h)
-    ∙ set-made (made_pages made given) n p (Some bytes) within
+    ∙ set-made (made_pages made given) n p (Some bytes) (omega (arith, h, length-made_pages made given))
 
 -- the pages where one more frame is made
 made_pages-push : (made : List (List ℕ)) (given : FinSet nat_cmp) (bytes : List ℕ) → contains given (length made) ≡ false → made_pages (made ++ bytes ∷ []) given ≡ made_pages made given ++ Some bytes ∷ []
 made_pages-push made given bytes fresh =
     let more : length (made ++ bytes ∷ []) ≡ length made + 1 = length-append made (bytes ∷ []) in
-    let all : length (made_pages made given) ≡ length made = length-made_pages made given in
-    let long : length (made_pages (made ++ bytes ∷ []) given) ≡ length made + 1 = length-made_pages (made ++ bytes ∷ []) given ∙ more in
+    let all : length (made_pages made given) ≡ length made = length-made_pages _ _ in
+    let long : length (made_pages (made ++ bytes ∷ []) given) ≡ length made + 1 = length-made_pages _ _ ∙ more in
     let both : length (made_pages made given ++ Some bytes ∷ []) ≡ length made + 1 = length-append (made_pages made given) (Some bytes ∷ []) ∙ ap (λ k. k + 1) all in
     same_lists (made_pages (made ++ bytes ∷ []) given) (made_pages made given ++ Some bytes ∷ []) (long ∙ sym both)
     (λ q d l.
-    let within : q < length (made ++ bytes ∷ []) = omega (arith, l, long, more) in
-    let is = page-made_pages (made ++ bytes ∷ []) given q d within in
+    let is = page-made_pages _ _ _ _ (omega (arith, l, long, more)) in
     ⊎_elim
     (λ (below : q < length made).
     let low : q < length (made_pages made given) = omega (arith, below, all) in
-    is ∙ (rw (get_or_append_left made (bytes ∷ []) [] q below) refl) ∙ sym (get_or_append_left (made_pages made given) (Some bytes ∷ []) d q low ∙ page-made_pages made given q d below))
+    is ∙ (rw (get_or_append_left made (bytes ∷ []) [] q below) refl) ∙ sym (get_or_append_left (made_pages made given) (Some bytes ∷ []) d q low ∙ page-made_pages _ _ _ _ below))
     (λ (past : length made ≤ q).
     let last : q ≡ length made = omega (arith, past, l, long) in
     let none : q - length made ≡ 0 = omega (arith, last) in
     let at : get_or (made ++ bytes ∷ []) q [] ≡ bytes = get_or-append_right made (bytes ∷ []) (length made) q [] refl past ∙ ap (λ i. get_or (bytes ∷ []) i []) none in
     let there : get_or (made_pages made given ++ Some bytes ∷ []) q d ≡ Some bytes = get_or-append_right (made_pages made given) (Some bytes ∷ []) (length made) q d all past ∙ ap (λ i. get_or (Some bytes ∷ []) i d) none in
-    is ∙ kept_page (made ++ bytes ∷ []) given q (ap (contains given) last ∙ fresh) ∙ ap Some at ∙ sym there)
-    (cases_lt q (length made)))
+    is ∙ kept_page _ _ _ (ap (contains given) last ∙ fresh) ∙ ap Some at ∙ sym there) (cases_lt q (length made)))
 
 -- no frame is given back that is not made
 unmade-not_given : (made : List (List ℕ)) (given : FinSet nat_cmp) (p : ℕ) → AreMade made given → length made ≤ p → contains given p ≡ false
@@ -155,9 +146,8 @@ unmade-not_given made given p are past = told (contains given p) refl
 pub pages-next : (made : List (List ℕ)) (given : FinSet nat_cmp) (n : ℕ) (bytes : List ℕ) → AreMade made given → length made < n → pages_of (made ++ bytes ∷ []) given n ≡ set (pages_of made given n) (length made) (Some bytes)
 pages-next made given n bytes are h =
     let all : length (made_pages made given) ≡ length made = length-made_pages made given in
-    let room : length (made_pages made given) < n = omega (arith, all, h) in
     ap (λ (a : Pages). with_unmade a n) (made_pages-push made given bytes (unmade-not_given made given (length made) are (omega arith)))
-    ∙ set-next (made_pages made given) n (Some bytes) room ∙ ap (λ i. set (pages_of made given n) i (Some bytes)) all
+    ∙ set-next (made_pages made given) n (Some bytes) (omega (arith, all, h)) ∙ ap (λ i. set (pages_of made given n) i (Some bytes)) all
 
 -- there are so many pages
 pub length-pages : (made : List (List ℕ)) (given : FinSet nat_cmp) (n : ℕ) → length made ≤ n → length (pages_of made given n) ≡ n
@@ -170,13 +160,7 @@ pub record IsLowest (pages : Pages) (p : ℕ) : Type 0 where
   pub passed : (k : ℕ) → k < p → IsTaken pages k
 
 pub lowest-given : (made : List (List ℕ)) (given : FinSet nat_cmp) (n p : ℕ) → AreMade made given → length made ≤ n → IsFirst (contains given) 0 65536 p → IsLowest (pages_of made given n) p
-lowest-given made given n p are room first =
-    let h : p < length made = are.within p first.passes in
-    record {
-      within = omega (arith, h, room, length-pages made given n room);
-      free = is_taken-page made given n p h ∙ ap not first.passes;
-      passed = λ k l. is_taken-page made given n k (omega (arith, l, h)) ∙ ap not (first.first k (omega arith) l);
-    }
+lowest-given made given n p are room first = grind (arith, length-pages, is_taken-page)
 
 -- where none was given back, every frame that was made is taken
 pub all-taken : (made : List (List ℕ)) (given : FinSet nat_cmp) (n k : ℕ) → AreMade made given → n ≤ 4096 → length made ≤ n → IsLeast (contains given) 0 65536 None → k < length made → IsTaken (pages_of made given n) k
@@ -194,17 +178,13 @@ pub made-none : (made : List (List ℕ)) → AreMade made (empty {R = nat_cmp})
 made-none made = record { within = λ p has. let no : contains (empty {R = nat_cmp}) p ≡ false = contains-empty nat_cmp p in absurd (cc) }
 
 pub made-insert : (made : List (List ℕ)) (given : FinSet nat_cmp) (p : ℕ) → AreMade made given → p < length made → AreMade made (insert given p)
-made-insert made given p are h = record {
-  within = λ q has. ⊎_elim (λ (e : q ≡ p). omega (arith, e, h)) (λ (ne : q ≢ p). are.within q (sym (inserted_other given p q ne) ∙ has)) (cases_eq q p);
-}
+made-insert made given p are h = grind (arith, inserted_other)
 
 pub made-remove : (made : List (List ℕ)) (given : FinSet nat_cmp) (p : ℕ) (bytes : List ℕ) → AreMade made given → AreMade (set made p bytes) (remove given p)
 made-remove made given p bytes are = record {
   within = λ q has.
-      ⊎_elim
-      (λ (e : q ≡ p). let no : contains (remove given p) q ≡ false = ap (contains (remove given p)) e ∙ removed_same given p in absurd (cc))
-      (λ (ne : q ≢ p). omega (arith, are.within q (sym (removed_other given p q ne) ∙ has), length-set made p bytes))
-      (cases_eq q p);
+      ⊎_elim (λ (e : q ≡ p). let no : contains (remove given p) q ≡ false = ap (contains (remove given p)) e ∙ removed_same _ _ in absurd (cc))
+      (λ (ne : q ≢ p). omega (arith, are.within q (sym (removed_other _ _ _ ne) ∙ has), length-set made p bytes)) (cases_eq q p);
 }
 
 pub made-push : (made : List (List ℕ)) (given : FinSet nat_cmp) (bytes : List ℕ) → AreMade made given → AreMade (made ++ bytes ∷ []) given

@@ -35,8 +35,7 @@ tied_by_write a free p bytes tied taken = record {
 pub found : (a : Pages) (free p : ℕ) → IsTied a free → 0 < free → p ≤ length a → ((q : ℕ) → q < p → IsTaken a q) → p < length a
 found a free p tied some within passed =
     ⊎_elim
-    (λ (l : p < length a). l)
-    (λ (past : length a ≤ p). absurd (omega (arith, some, tied.counted, none_free a (λ q l. passed q (omega (arith, l, past))))))
+    (λ (l : p < length a). l) (λ (past : length a ≤ p). absurd (omega (arith, some, tied.counted, none_free _ (λ q l. passed q (omega (arith, l, past))))))
     (cases_lt p (length a))
 
 -- fewer pages are free than a counter holds

@@ -10,11 +10,7 @@ use Rattle.mesh_arena.specs.Pages.{Pages, IsTaken, is_taken, content}
 use Rattle.mesh_arena.specs.Frames.{with_unmade}
 
 nones : (m k : ℕ) → get_or {A = Option (List ℕ)} (replicate m None) k None ≡ None
-nones m k =
-    ⊎_elim
-    (λ (l : k < m). get_or-replicate m k None None l)
-    (λ (past : m ≤ k). get_or_past (replicate m None) k None (rw length-replicate past))
-    (cases_lt k m)
+nones m k = grind (arith, get_or-replicate, get_or_past, length-replicate)
 
 -- a frame that was made
 pub content-made : (a : Pages) (n p : ℕ) → p < length a → content (with_unmade a n) p ≡ content a p
@@ -25,10 +21,6 @@ content-made a n p h = get_or_append_left a (replicate (n - length a) None) None
 pub content-unmade : (a : Pages) (n p : ℕ) → length a ≤ p → content (with_unmade a n) p ≡ None
 unfolding with_unmade
 content-unmade a n p h = get_or-append_right a (replicate (n - length a) None) (length a) p None refl h ∙ nones (n - length a) (p - length a)
-
-pub is_taken-made : (a : Pages) (n p : ℕ) → p < length a → is_taken (with_unmade a n) p ≡ is_taken a p
-unfolding is_taken
-is_taken-made a n p h = ap is_some (content-made a n p h)
 
 pub is_taken-unmade : (a : Pages) (n p : ℕ) → length a ≤ p → is_taken (with_unmade a n) p ≡ false
 unfolding is_taken
@@ -56,6 +48,5 @@ pub set-next : (a : Pages) (n : ℕ) (x : Option (List ℕ)) → length a < n �
 unfolding with_unmade
 set-next a n x h =
     let rest = replicate (n - (length a + 1)) None in
-    let here : set (a ++ replicate (n - length a) None) (length a) x ≡ a ++ x ∷ rest = ap (λ s. set (a ++ s) (length a) x) (next_of n (length a) h) ∙ set-append_seam a None rest x in
     let there : (a ++ x ∷ []) ++ replicate (n - length (a ++ x ∷ [])) None ≡ a ++ x ∷ rest = ap (λ m. (a ++ x ∷ []) ++ replicate (n - m) None) (length-append a (x ∷ [])) ∙ append_assoc a (x ∷ []) rest in
-    there ∙ sym here
+    there ∙ sym (ap (λ s. set (a ++ s) (length a) x) (next_of n (length a) h) ∙ set-append_seam a None rest x)

@@ -129,14 +129,7 @@ removed_is len n old lent new set is same long puts at =
 -- one word with one bit put
 pub puts_in_word : (words : List ℕ) (n word : ℕ) (value : Bool) → n / 64 < length words → bit word (n % 64) ≡ value
     → ((k : ℕ) → k < 64 → k ≢ n % 64 → bit_at word k ≡ bit_at (slice_index words (n / 64)) k) → PutsBit words (slice_set words (n / 64) word) n value
-puts_in_word words n word value inside here others = record {
-  here = rw (get_or-set_same words (n / 64) word 0 inside) here;
-  others = λ m apart. elim (eqb_tells (m / 64) (n / 64)) [
-    | inl same ↦ let bits_apart : m % 64 ≢ n % 64 = λ e. apart (let s = same.1 in omega (arith, e, s)) in
-        rw (same.1, get_or-set_same words (n / 64) word 0 inside, others (m % 64) (omega arith) bits_apart) refl
-    | inr other ↦ rw (get_or-set_other words (n / 64) (m / 64) word 0 other.1) refl
-  ];
-}
+puts_in_word words n word value inside here others = grind (arith, get_or-set_same, get_or-set_other)
 
 -- the bits of a word from a place on
 bit_shifted : (word from k : ℕ) → bit_at (word / 2 ^ from) k ≡ bit_at word (from + k)
@@ -144,9 +137,7 @@ bit_shifted word from k = ap (λ (n : ℕ). n % 2) (shr-shr word from k)
 
 -- a word of which nothing is left after a shift has no bit there
 pub least_none : (word from : ℕ) → word / 2 ^ from ≡ 0 → IsLeast (bit word) from 64 None
-least_none word from none m above below =
-    let at : from + (m - from) ≡ m = omega (arith, above) in
-    ap (λ (k : ℕ). bit word k) (sym at) ∙ ap (λ (b : ℕ). nat_eq b 1) (sym (bit_shifted word from (m - from)) ∙ ap (λ (w : ℕ). bit_at w (m - from)) none ∙ bit_at-zero (m - from))
+least_none word from none m above below = grind (arith, bit_shifted word from (m - from))
 
 -- and else its least bit is as many places up as the rest has zeros below
 pub least_some : (word from : ℕ) → 0 < word / 2 ^ from → word < 2 ^ 64 → from < 64 → IsLeast (bit word) from 64 (Some (from + trailing_zeros w64 (word / 2 ^ from)))
@@ -171,62 +162,31 @@ abbrev pub ArePassed : List ℕ → ℕ → ℕ → Type 0
 ArePassed words from end = (m : ℕ) → from ≤ m → m < end → has words m ≡ false
 
 has_in : (words : List ℕ) (j k m : ℕ) → k < 64 → m ≡ 64 * j + k → has words m ≡ bit (slice_index words j) k
-has_in words j k m below is =
-    let word : m / 64 ≡ j = omega (arith, below, is) in
-    let place : m % 64 ≡ k = omega (arith, below, is) in
-    rw (word, place) refl
+has_in words j k m below is = grind arith
 
 -- the least bit of a word is that of the words where all before it are passed
 pub found_in_word : (words : List ℕ) (from end j low k n : ℕ) → ArePassed words from (64 * j + low) → from ≤ 64 * j + low → low < 64
     → IsFirst (bit (slice_index words j)) low 64 k → 64 * j + 64 ≤ end → n ≡ 64 * j + k → IsFirst (has words) from end n
-found_in_word words from end j low k n passed start small least inside is =
-    let above = least.above in
-    let below = least.below in
-    record {
-      above = omega (arith, start, above, is);
-      below = omega (arith, below, is, inside);
-      passes = has_in words j k n below is ∙ least.passes;
-      first = λ m high under. elim (leb_tells (64 * j + low) m) [
-        | inl here ↦ let h = here.1 in
-            has_in words j (m - 64 * j) m (omega (arith, h, under, is, below)) (omega (arith, h)) ∙ least.first (m - 64 * j) (omega (arith, h)) (omega (arith, h, under, is))
-        | inr before ↦ passed m high before.1
-      ];
-    }
+found_in_word words from end j low k n passed start small least inside is = grind arith
 
 -- a word without a bit from the place on is passed
 pub passed_word : (words : List ℕ) (from j low : ℕ) → ArePassed words from (64 * j + low) → IsLeast (bit (slice_index words j)) low 64 None
     → ArePassed words from (64 * (j + 1))
-passed_word words from j low passed none m high under = elim (leb_tells (64 * j + low) m) [
-  | inl here ↦ let h = here.1 in
-      has_in words j (m - 64 * j) m (omega (arith, h, under)) (omega (arith, h)) ∙ none (m - 64 * j) (omega (arith, h)) (omega (arith, h, under))
-  | inr before ↦ passed m high before.1
-]
+passed_word words from j low passed none m high under = grind arith
 
 -- words that are zero are passed
 pub passed_zeros : (words : List ℕ) (from j n : ℕ) → ArePassed words from (64 * j) → ((i : ℕ) → j ≤ i → i < n → slice_index words i ≡ 0)
     → ArePassed words from (64 * n)
-passed_zeros words from j n passed zeros m high under = elim (leb_tells (64 * j) m) [
-  | inl here ↦ let h = here.1 in
-      ap (λ (w : ℕ). bit w (m % 64)) (zeros (m / 64) (omega (arith, h)) (omega (arith, under))) ∙ ap (λ (b : ℕ). nat_eq b 1) (bit_at-zero (m % 64))
-  | inr before ↦ passed m high before.1
-]
+passed_zeros words from j n passed zeros m high under = grind arith
 
 -- a word that the summary doesn't mark is zero
 pub unmarked : (words summary : List ℕ) (j : ℕ) → IsMarked words summary → has summary j ≡ false → slice_index words j ≡ 0
-unmarked words summary j marked none = elim (eqb_tells (slice_index words j) 0) [
-  | inl same ↦ same.1
-  | inr other ↦ absurd (let two : true ≡ false = sym (ap not other.0) ∙ sym (marked j) ∙ none in cc two)
-]
+unmarked words summary j marked none = grind arith
 
 -- one that it marks has a bit
 pub marked_some : (words summary : List ℕ) (j : ℕ) → IsMarked words summary → slice_index words j < 2 ^ 64 → has summary j ≡ true
     → IsLeast (bit (slice_index words j)) 0 64 None → ⊥
-marked_some words summary j marked fits is none = elim (eqb_tells (slice_index words j) 0) [
-  | inl same ↦ let two : false ≡ true = sym (ap not same.0) ∙ sym (marked j) ∙ is in cc two
-  | inr other ↦ let some : 0 < slice_index words j = (let apart = other.1 in omega (arith, apart)) in
-      let low = bit_at-trailing_zeros w64 (slice_index words j) some fits in
-      let two : true ≡ false = sym (ap (λ (b : ℕ). nat_eq b 1) low.1) ∙ none (trailing_zeros w64 (slice_index words j)) (omega arith) low.0 in cc two
-]
+marked_some words summary j marked fits is none = grind (arith, bit_at-trailing_zeros w64 (slice_index words j))
 
 -- every word but one is as it was
 abbrev pub AreOthers : List ℕ → List ℕ → ℕ → Type 0
@@ -238,27 +198,17 @@ other_mark words new summary j at marked others apart = marked j ∙ ap (λ (w :
 -- the summary after a bit of a word is set
 pub marked_insert : (words new summary after : List ℕ) (n : ℕ) → IsMarked words summary → AreOthers words new (n / 64)
     → has new n ≡ true → PutsBit summary after (n / 64) true → IsMarked new after
-marked_insert words new summary after n marked rest some puts j = elim (eqb_tells j (n / 64)) [
-  | inl same ↦ rw same.1 (puts.here ∙ elim (eqb_tells (slice_index new (n / 64)) 0) [
-    | inl none ↦ absurd (let two : true ≡ false = sym some ∙ ap (λ (w : ℕ). bit w (n % 64)) none.1 ∙ ap (λ (b : ℕ). nat_eq b 1) (bit_at-zero (n % 64)) in cc two)
-    | inr other ↦ sym (ap not other.0)
-  ])
-  | inr other ↦ puts.others j other.1 ∙ other_mark words new summary j (n / 64) marked rest other.1
-]
+marked_insert words new summary after n marked rest some puts j = grind arith
 
 -- after a word's last bit is cleared
 pub marked_cleared : (words new summary after : List ℕ) (n : ℕ) → IsMarked words summary → AreOthers words new (n / 64)
     → slice_index new (n / 64) ≡ 0 → PutsBit summary after (n / 64) false → IsMarked new after
-marked_cleared words new summary after n marked rest none puts j = elim (eqb_tells j (n / 64)) [
-  | inl same ↦ rw (same.1, none) puts.here
-  | inr other ↦ puts.others j other.1 ∙ other_mark words new summary j (n / 64) marked rest other.1
-]
+marked_cleared words new summary after n marked rest none puts j = grind arith
 
 -- a word that has a bit after one was cleared had one
 was_some : (words new : List ℕ) (n : ℕ) → PutsBit words new n false → slice_index new (n / 64) < 2 ^ 64 → slice_index new (n / 64) ≢ 0 → slice_index words (n / 64) ≢ 0
 was_some words new n puts fits some none =
-    let more : 0 < slice_index new (n / 64) = omega (arith, some) in
-    let low = bit_at-trailing_zeros w64 (slice_index new (n / 64)) more fits in
+    let low = bit_at-trailing_zeros w64 (slice_index new (n / 64)) (omega (arith, some)) fits in
     let k : ℕ = trailing_zeros w64 (slice_index new (n / 64)) in
     let is : has new (64 * (n / 64) + k) ≡ true = has_in new (n / 64) k (64 * (n / 64) + k) low.0 refl ∙ ap (λ (b : ℕ). nat_eq b 1) low.1 in
     elim (eqb_tells (64 * (n / 64) + k) n) [
@@ -282,16 +232,7 @@ marked_kept words new summary n marked rest puts fits some j = elim (eqb_tells j
 pub least_contained : (words : List ℕ) (s : FinSet nat_cmp) (from end : ℕ) (r : Option ℕ) → set_of words ≡ s → IsLeast (has words) from end r
     → IsLeast (contains s) from end r
 least_contained words s from end None is none = λ m above below. ap (λ (t : FinSet nat_cmp). contains t m) (sym is) ∙ contains-set_of words m ∙ none m above below
-least_contained words s from end (Some n) is least = record {
-  above = least.above;
-  below = least.below;
-  passes = ap (λ (t : FinSet nat_cmp). contains t n) (sym is) ∙ contains-set_of words n ∙ least.passes;
-  first = λ m above below. ap (λ (t : FinSet nat_cmp). contains t m) (sym is) ∙ contains-set_of words m ∙ least.first m above below;
-}
-
--- nothing is at or above a number past the end
-pub nothing_past : (words : List ℕ) (from end : ℕ) → end ≤ from → IsLeast (has words) from end None
-nothing_past words from end past m above below = absurd (omega (arith, past, above, below))
+least_contained words s from end (Some n) is least = grind (arith, contains-set_of)
 
 -- all below a number is passed before it
 pub passed_start : (words : List ℕ) (from : ℕ) → ArePassed words from (64 * (from / 64) + from % 64)
@@ -301,9 +242,8 @@ passed_start words from m above below = absurd (omega (arith, above, below))
 pub found_by_summary : (words summary : List ℕ) (from marks end j next k n : ℕ) → IsMarked words summary → ArePassed words from (64 * j) → from ≤ 64 * j
     → IsFirst (has summary) j marks next → 64 * next + 64 ≤ end → IsFirst (bit (slice_index words next)) 0 64 k → n ≡ 64 * next + k → IsFirst (has words) from end n
 found_by_summary words summary from marks end j next k n marked passed start least inside low is =
-    let above = least.above in
     let all : ArePassed words from (64 * next + 0) = (λ m h l. passed_zeros words from j next passed (λ i h l. unmarked words summary i marked (least.first i h l)) m h (omega (arith, l))) in
-    found_in_word words from end next 0 k n all (omega (arith, start, above)) (omega arith) low inside is
+    found_in_word words from end next 0 k n all (omega (arith, start, least.above)) (omega arith) low inside is
 
 -- nothing there where the summary has nothing
 pub none_by_summary : (words summary : List ℕ) (from marks end j : ℕ) → IsMarked words summary → ArePassed words from (64 * j) → IsLeast (has summary) j marks None
@@ -313,10 +253,7 @@ none_by_summary words summary from marks end j marked passed none few m above be
 
 -- a word that the summary marks is one of the words
 pub marked_inside : (words summary : List ℕ) (j : ℕ) → IsMarked words summary → has summary j ≡ true → j < length words
-marked_inside words summary j marked is = elim (leb_tells (length words) j) [
-  | inl past ↦ absurd (let two : false ≡ true = sym (ap (λ (w : ℕ). not (nat_eq w 0)) (get_or_past words j 0 past.1)) ∙ sym (marked j) ∙ is in cc two)
-  | inr within ↦ within.1
-]
+marked_inside words summary j marked is = grind (arith, get_or_past)
 
 -- zero words have no marks
 pub marked_zeros : (k l : ℕ) → IsMarked (replicate k 0) (replicate l 0)

@@ -1,12 +1,12 @@
 -- The set that four words hold.
-use Rattle.std.proofs.Common.{◌≡◌, ◌≢◌, ℕ, zero, suc, ◌+◌, ◌-◌, ◌*◌, ◌/◌, ◌%◌, ◌^◌, ◌<◌, ◌≤◌, Bool, true, false, cond, not, nat_eq, Option, None, Some, IfSome, take, w64, bit_and, List, [], ◌∷◌, map, length, replicate, slice_set, slice_index, count_by, get_or, set, ap, refl, sym, ◌∙◌, arith, inl, inr, zero-add, add-zero, add_assoc}
+use Rattle.std.proofs.Common.{◌≡◌, ◌≢◌, ℕ, zero, suc, ◌+◌, ◌-◌, ◌*◌, ◌/◌, ◌%◌, ◌^◌, ◌<◌, ◌≤◌, Bool, true, false, cond, not, nat_eq, Option, None, Some, IfSome, take, w64, bit_and, List, [], ◌∷◌, map, length, replicate, slice_set, slice_index, count_by, get_or, set, ap, refl, sym, ◌∙◌, arith, inl, inr, add-zero, add_assoc}
 use Rattle.std.proofs.Math.Nat.{pow-suc}
 use Rattle.std.proofs.lemmas.List.Sums.{sum_by-cons}
 use Rattle.std.proofs.lemmas.List.{get_or-set_other, get_or-set_same, get_or-replicate}
 use Rattle.std.proofs.Math.ListN.{length-set, length-replicate}
 use Rattle.std.proofs.lemmas.Bool.Decides.{eqb_tells}
 use Rattle.std.specs.Int.{bit_at, bit_not}
-use Rattle.std.specs.Int.Bits.{and_self, and_zero_l, and_zero_r}
+use Rattle.std.specs.Int.Bits.{and_self, and_zero_r}
 use Rattle.std.proofs.lemmas.Nat.{and_mod, and_shr}
 use lib.Count.{ones, ones_in, ones_step}
 use Rattle.std.specs.List.{range_with_len}
@@ -39,17 +39,12 @@ members_put old new width i bit h most puts =
     each : (k : ℕ) → k < width → get_or (set (members old width) i bit) k false ≡ has new k
     each k below = elim (eqb_tells k i) [
       | inl same ↦ rw same.1 (get_or-set_same (members old width) i bit false len ∙ sym puts.here)
-      | inr apart ↦ get_or-set_other (members old width) i k bit false apart.1 ∙ member_has old width k below
-          ∙ sym (puts.others k (omega arith) apart.1)
+      | inr apart ↦ get_or-set_other (members old width) i k bit false apart.1 ∙ member_has _ _ _ below ∙ sym (puts.others k (omega arith) apart.1)
     ]
 
 -- the bits from the width on stay clear where one below it is put
 pub clear_put : (old new : List ℕ) (width i : ℕ) (bit : Bool) → i < width → IsBitmap old width → PutsBit old new i bit → IsBitmap new width
-clear_put old new width i bit h was puts = record {
-  some = was.some;
-  most = was.most;
-  clear_above = λ j above below. let apart : j ≢ i = omega arith in puts.others j below apart ∙ was.clear_above j above below;
-}
+clear_put old new width i bit h was puts = grind arith
 
 -- a bit of a set is read
 pub ruleset bit_read = (below_width, member_has)
@@ -60,14 +55,7 @@ pub ruleset bit_put = (below_width, members_put, clear_put)
 -- one word with one bit put
 pub puts_in_word : (words : List ℕ) (i word : ℕ) (bit : Bool) → i / 64 < length words → nat_eq (bit_at word (i % 64)) 1 ≡ bit
     → ((k : ℕ) → k < 64 → k ≢ i % 64 → bit_at word k ≡ bit_at (slice_index words (i / 64)) k) → PutsBit words (slice_set words (i / 64) word) i bit
-puts_in_word words i word bit inside here others = record {
-  here = rw (get_or-set_same words (i / 64) word 0 inside) here;
-  others = λ j below apart. elim (eqb_tells (j / 64) (i / 64)) [
-    | inl same ↦ let bits_apart : j % 64 ≢ i % 64 = λ e. apart (omega arith) in
-        rw (same.1, get_or-set_same words (i / 64) word 0 inside, others (j % 64) (omega arith) bits_apart) refl
-    | inr other ↦ rw (get_or-set_other words (i / 64) (j / 64) word 0 other.1) refl
-  ];
-}
+puts_in_word words i word bit inside here others = grind (arith, get_or-set_same, get_or-set_other)
 
 zero_word : (k : ℕ) → slice_index (0 ∷ 0 ∷ 0 ∷ 0 ∷ []) k ≡ 0
 zero_word zero = refl
@@ -113,18 +101,14 @@ unfolding passing low_ones
 passing_low f a zero n h = refl
 passing_low f a (suc k) n h =
     let lowest : f a ≡ nat_eq (n % 2) 1 = h 0 a (omega arith) (omega arith) ∙ ap (λ (x : ℕ). nat_eq x 1) (bit_at_lowest n) in
-    let first : cond (f a) 1 0 ≡ n % 2 = ap (λ (b : Bool). cond b 1 0) lowest ∙ bit_worth n in
     let rest : passing f (a + 1) k ≡ low_ones k (n / 2) = passing_low f (a + 1) k (n / 2)
     (λ i j below e. h (suc i) j (omega arith) (omega arith) ∙ ap (λ (x : ℕ). nat_eq x 1) (bit_at-suc n i)) in
-    omega (arith, first, rest)
+    omega (arith, (ap (λ (b : Bool). cond b 1 0) lowest ∙ bit_worth n), rest)
 
 -- a range in two parts
 passing_split : (f : ℕ → Bool) (a m k b n : ℕ) → a + m ≡ b → m + k ≡ n → passing f a n ≡ passing f a m + passing f b k
 unfolding passing
-passing_split f a zero k b n h e =
-    let from : b ≡ a = omega arith in
-    let len : n ≡ k = omega arith in
-    rw (from, len) (sym (zero-add (passing f a k)))
+passing_split f a zero k b n h e = grind arith
 passing_split f a (suc m) k b n h e =
     let len : n ≡ suc (m + k) = omega arith in
     let rest : passing f (a + 1) (m + k) ≡ passing f (a + 1) m + passing f b k = passing_split f (a + 1) m k b (m + k) (omega arith) refl in
@@ -134,9 +118,7 @@ passing_split f a (suc m) k b n h e =
 passing_none : (f : ℕ → Bool) (a k : ℕ) → ((j : ℕ) → a ≤ j → j < a + k → f j ≡ false) → passing f a k ≡ 0
 unfolding passing
 passing_none f a zero h = refl
-passing_none f a (suc k) h =
-    let first : f a ≡ false = h a (omega arith) (omega arith) in
-    rw (first, passing_none f (a + 1) k (λ j above below. h j (omega arith) (omega arith))) refl
+passing_none f a (suc k) h = rw (h a (omega arith) (omega arith), passing_none f (a + 1) k (λ j above below. h j (omega arith) (omega arith))) refl
 
 -- the count of a range's truths
 count_passing : (f : ℕ → Bool) (a k : ℕ) → count_by (λ b. b) (map f (range_with_len a k)) ≡ passing f a k
@@ -147,9 +129,8 @@ count_passing f a (suc k) = sum_by-cons (λ b. cond b 1 0) (f a) (map f (range_w
 -- the ones of word j are the members among its 64 numbers
 word_ones : (words : List ℕ) (j a : ℕ) → 64 * j ≡ a → slice_index words j < 2 ^ 64 → passing (has words) a 64 ≡ ones (slice_index words j)
 word_ones words j a from fits =
-    passing_low (has words) a 64 (slice_index words j)
-    (λ i n below e. let word : n / 64 ≡ j = omega arith in let bit : n % 64 ≡ i = omega arith in rw (word, bit) refl)
-    ∙ sym (ones_low 64 (slice_index words j) fits)
+    passing_low _ _ _ _ (λ i n below e. let word : n / 64 ≡ j = omega arith in let bit : n % 64 ≡ i = omega arith in rw (word, bit) refl)
+    ∙ sym (ones_low _ _ fits)
 
 -- the words' ones are the set's members
 pub member_count_words : (words : List ℕ) (width : ℕ) → ((j : ℕ) → slice_index words j < 2 ^ 64) → IsBitmap words width
@@ -182,9 +163,7 @@ clear_count_more words i = sum_by-map-range_with_len_more (λ b. cond (not b) 1 
 pub found_clear : (words : List ℕ) (width : ℕ) (set : List Bool) (r : Option ℕ) → members words width ≡ set
     → IfSome r (λ i. (i < width) × (has words i ≡ false)) → IfSome r (λ i. (i < length set) × (is_member set i ≡ false))
 found_clear words width set None e h = tt
-found_clear words width set (Some i) e h =
-    let long : length set ≡ width = sym (ap length e) ∙ length_members words width in
-    (omega (arith, h.0), sym (ap (λ s. is_member s i) e) ∙ member_has words width i h.0 ∙ h.1)
+found_clear words width set (Some i) e h = grind (arith, length_members, member_has)
 
 -- the clear numbers below a number of the set are the clear bits below it
 pub found_place : (words : List ℕ) (width : ℕ) (set : List Bool) (place : ℕ) (r : Option ℕ) → members words width ≡ set
@@ -192,8 +171,7 @@ pub found_place : (words : List ℕ) (width : ℕ) (set : List Bool) (place : �
     → IfSome r (λ i. clear_count (take i set) ≡ place)
 found_place words width set place None e h g = tt
 found_place words width set place (Some i) e h g =
-    let front : take i (members words width) ≡ members words i = take-map-range_with_len (has words) 0 width i (omega (arith, h.0)) in
-    ap (λ s. clear_count (take i s)) (sym e) ∙ ap clear_count front ∙ g
+    ap (λ s. clear_count (take i s)) (sym e) ∙ ap clear_count (take-map-range_with_len (has words) 0 width i (omega (arith, h.0))) ∙ g
 
 clear_and_members : (set : List Bool) → clear_count set + member_count set ≡ length set
 clear_and_members [] = refl
@@ -206,23 +184,17 @@ clear_and_members (false ∷ set) =
 pub clear_count_word : (words : List ℕ) (j a : ℕ) → 64 * j ≡ a → slice_index words j < 2 ^ 64
     → clear_count (members words (a + 64)) + ones (slice_index words j) ≡ clear_count (members words a) + 64
 clear_count_word words j a from fits =
-    let whole : member_count (members words (a + 64)) ≡ passing (has words) 0 (a + 64) = count_passing (has words) 0 (a + 64) in
-    let before : member_count (members words a) ≡ passing (has words) 0 a = count_passing (has words) 0 a in
     let parts : passing (has words) 0 (a + 64) ≡ passing (has words) 0 a + passing (has words) a 64
     = passing_split (has words) 0 a 64 a (a + 64) (omega arith) refl in
-    let word : passing (has words) a 64 ≡ ones (slice_index words j) = word_ones words j a from fits in
     let all = clear_and_members (members words (a + 64)) ∙ length_members words (a + 64) in
     let below = clear_and_members (members words a) ∙ length_members words a in
-    omega (arith, whole, before, parts, word, all, below)
+    omega (arith, count_passing (has words) 0 (a + 64), count_passing (has words) 0 a, parts, word_ones words j a from fits, all, below)
 
 -- how many of one more bit are set
 low_ones_more : (k n : ℕ) → low_ones (suc k) n ≡ low_ones k n + bit_at n k
 unfolding low_ones
 low_ones_more zero n = let lowest = bit_at_lowest n in omega (arith, lowest)
-low_ones_more (suc k) n =
-    let rest : low_ones (suc k) (n / 2) ≡ low_ones k (n / 2) + bit_at (n / 2) k = low_ones_more k (n / 2) in
-    let bit = bit_at-suc n k in
-    omega (arith, rest, bit)
+low_ones_more (suc k) n = omega (arith, low_ones_more k (n / 2), bit_at-suc n k)
 
 -- no bit of zero is
 pub low_ones_none : (k : ℕ) → low_ones k 0 ≡ 0
@@ -235,27 +207,19 @@ pub low_ones_below : (k n : ℕ) → ((i : ℕ) → i < k → bit_at n i ≡ 0) 
 unfolding low_ones
 low_ones_below zero n none = refl
 low_ones_below (suc k) n none =
-    let first : n % 2 ≡ 0 = sym (bit_at_lowest n) ∙ none 0 (omega arith) in
     let rest : low_ones k (n / 2) ≡ 0 = low_ones_below k (n / 2) (λ i below. sym (bit_at-suc n i) ∙ none (suc i) (omega (arith, below))) in
-    omega (arith, first, rest)
+    omega (arith, sym (bit_at_lowest n) ∙ none 0 (omega arith), rest)
 
 -- a bit that is set in the other bits of a word is clear in the word
 pub clear_bit_of : (words : List ℕ) (i j k : ℕ) → 64 * j + k ≡ i → k < 64 → slice_index words j < 2 ^ 64 → has words i ≡ nat_eq (1 - bit_at (bit_not w64 (slice_index words j)) k) 1
-clear_bit_of words i j k is below fits =
-    let word : i / 64 ≡ j = omega (arith, is, below) in
-    let bit : i % 64 ≡ k = omega (arith, is, below) in
-    let not_bit = bit_at_not w64 (slice_index words j) k fits below in
-    let few = bit_at-lt (slice_index words j) k in
-    let same : bit_at (slice_index words j) k ≡ 1 - bit_at (bit_not w64 (slice_index words j)) k = omega (arith, not_bit, few) in
-    rw (word, bit) (ap (λ (b : ℕ). nat_eq b 1) same)
+clear_bit_of words i j k is below fits = grind (arith, bit_at_not w64 (slice_index words j) k fits below)
 
 -- a clear bit as a number
 clear_worth : (words : List ℕ) (j k : ℕ) → k < 64 → slice_index words j < 2 ^ 64
     → cond (not (has words (64 * j + k))) 1 0 ≡ bit_at (bit_not w64 (slice_index words j)) k
 clear_worth words j k below fits =
     let bit : ℕ = bit_at (bit_not w64 (slice_index words j)) k in
-    ap (λ (b : Bool). cond (not b) 1 0) (clear_bit_of words (64 * j + k) j k refl below fits)
-    ∙ worth bit (bit_at-lt (bit_not w64 (slice_index words j)) k)
+    ap (λ (b : Bool). cond (not b) 1 0) (clear_bit_of _ _ _ _ refl below fits) ∙ worth bit (bit_at-lt (bit_not w64 (slice_index words j)) k)
   where
     worth : (b : ℕ) → b < 2 → cond (not (nat_eq (1 - b) 1)) 1 0 ≡ b
     worth zero few = refl
@@ -268,18 +232,13 @@ lowered n = bit_and n (n - 1)
 
 lowered_odd : (n : ℕ) → n % 2 ≡ 1 → (lowered n % 2 ≡ 0) × (lowered n / 2 ≡ n / 2)
 lowered_odd n odd =
-    let bit : (n - 1) % 2 ≡ 0 = omega (arith, odd) in
     let half : (n - 1) / 2 ≡ n / 2 = omega (arith, odd) in (
-      and_mod n (n - 1) 1 ∙ ap (λ (b : ℕ). bit_and (n % 2) b) bit ∙ and_zero_r (n % 2),
+      and_mod n (n - 1) 1 ∙ ap (λ (b : ℕ). bit_and (n % 2) b) (omega (arith, odd)) ∙ and_zero_r (n % 2),
       and_shr n (n - 1) 1 ∙ ap (λ (b : ℕ). bit_and (n / 2) b) half ∙ and_self (n / 2),
     )
 
 lowered_even : (n : ℕ) → 0 < n → n % 2 ≡ 0 → (lowered n % 2 ≡ 0) × (lowered n / 2 ≡ lowered (n / 2))
-lowered_even n some even =
-    let half : (n - 1) / 2 ≡ n / 2 - 1 = omega (arith, some, even) in (
-      and_mod n (n - 1) 1 ∙ ap (λ (b : ℕ). bit_and b ((n - 1) % 2)) even ∙ and_zero_l ((n - 1) % 2),
-      and_shr n (n - 1) 1 ∙ ap (λ (b : ℕ). bit_and (n / 2) b) half,
-    )
+lowered_even n some even = grind (arith, and_mod n (n - 1) 1, and_shr n (n - 1) 1)
 
 -- the bits that are left of a word without its lowest one
 pub record IsLowered (k old new : ℕ) : Type 0 where
@@ -301,22 +260,18 @@ is_lowered (suc k) n some = elim (eqb_tells (n % 2) 1) [
   | inl odd ↦
       let new = lowered_odd n odd.1 in
       let first = odd.1 in let none = new.0 in
-      let rest : low_ones k (lowered n / 2) ≡ low_ones k (n / 2) = ap (low_ones k) new.1 in
       record {
         is = λ bit. bit_at-suc n k ∙ ap (λ (h : ℕ). bit_at h k) (sym new.1) ∙ sym (bit_at-suc (lowered n) k) ∙ bit;
-        place = λ bit. omega (arith, first, none, rest);
+        place = λ bit. omega (arith, first, none, ap (low_ones k) new.1);
       }
   | inr other ↦
-      let apart = other.1 in
-      let even : n % 2 ≡ 0 = omega (arith, apart) in
+      let even : n % 2 ≡ 0 = omega (arith, other.1) in
       let new = lowered_even n some even in
-      let none = new.0 in
       let half = is_lowered k (n / 2) (omega (arith, some, even)) in
       let down : bit_at (lowered n) (suc k) ≡ bit_at (lowered (n / 2)) k = bit_at-suc (lowered n) k ∙ ap (λ (h : ℕ). bit_at h k) new.1 in
-      let rest : low_ones k (lowered n / 2) ≡ low_ones k (lowered (n / 2)) = ap (low_ones k) new.1 in
       record {
         is = λ bit. bit_at-suc n k ∙ half.is (sym down ∙ bit);
-        place = λ bit. let below = half.place (sym down ∙ bit) in omega (arith, even, none, rest, below);
+        place = λ bit. let below = half.place (sym down ∙ bit) in omega (arith, even, new.0, ap (low_ones k) new.1, below);
       }
 ]
 
@@ -328,16 +283,11 @@ lowered_count (suc k) n some fits = elim (eqb_tells (n % 2) 1) [
   | inl odd ↦
       let new = lowered_odd n odd.1 in
       let first = odd.1 in let none = new.0 in
-      let rest : low_ones k (lowered n / 2) ≡ low_ones k (n / 2) = ap (low_ones k) new.1 in
-      omega (arith, first, none, rest)
+      omega (arith, first, none, ap (low_ones k) new.1)
   | inr other ↦
-      let apart = other.1 in
-      let even : n % 2 ≡ 0 = omega (arith, apart) in
+      let even : n % 2 ≡ 0 = omega (arith, other.1) in
       let new = lowered_even n some even in
-      let none = new.0 in
-      let half = lowered_count k (n / 2) (omega (arith, some, even)) (half_lt k n fits) in
-      let rest : low_ones k (lowered n / 2) ≡ low_ones k (lowered (n / 2)) = ap (low_ones k) new.1 in
-      omega (arith, even, none, rest, half)
+      omega (arith, even, new.0, ap (low_ones k) new.1, lowered_count k (n / 2) (omega (arith, some, even)) (half_lt k n fits))
 ]
 
 -- the clear numbers below a bit of a word are those below the word, and its clear bits below that one
@@ -346,18 +296,12 @@ pub clear_count_bits : (words : List ℕ) (j k : ℕ) → k ≤ 64 → slice_ind
 unfolding low_ones
 clear_count_bits words j zero few fits = let same : 64 * j + 0 ≡ 64 * j = omega arith in rw same (sym (add-zero (clear_count (members words (64 * j)))))
 clear_count_bits words j (suc k) few fits =
-    let rest = clear_count_bits words j k (omega (arith, few)) fits in
-    let more = clear_count_more words (64 * j + k) in
     let bits = low_ones_more k (bit_not w64 (slice_index words j)) in
     let one = clear_worth words j k (omega (arith, few)) fits in
     let same : 64 * j + suc k ≡ 64 * j + k + 1 = omega arith in
-    rw same (omega (arith, rest, more, bits, one))
+    rw same (omega (arith, clear_count_bits words j k (omega (arith, few)) fits, clear_count_more words (64 * j + k), bits, one))
 
 -- no more numbers are clear below a lower number
 pub clear_count_below : (words : List ℕ) (i k : ℕ) → clear_count (members words i) ≤ clear_count (members words (i + k))
 clear_count_below words i zero = let same : i + 0 ≡ i = omega arith in rw same (omega arith)
-clear_count_below words i (suc k) =
-    let rest = clear_count_below words i k in
-    let more = clear_count_more words (i + k) in
-    let same : i + suc k ≡ i + k + 1 = omega arith in
-    rw same (omega (arith, rest, more))
+clear_count_below words i (suc k) = grind (arith, clear_count_below words i k, clear_count_more words (i + k))

@@ -4,7 +4,6 @@ use Rattle.std.specs.Prelude.{min, max}
 use Rattle.std.specs.Int.{bit_at}
 use Rattle.std.proofs.Math.Bool.{false-or, or-false}
 use Rattle.std.proofs.lemmas.Bool.{cases_lt, and_parts, and_from}
-use Rattle.std.proofs.lemmas.Bool.Decides.{nat_tests}
 use Rattle.std.proofs.lemmas.List.{get_or_past}
 use Rattle.std.proofs.lemmas.List.FromFn.{fill_by_all}
 use Rattle.std.proofs.lemmas.Nat.{and_le_l, le_or_l, le_or_r, pow_pos}
@@ -14,11 +13,7 @@ use Rattle.mesh_bits.proofs.BitsLemmas.{length_members, member_has}
 
 -- two words that share no bit have no bit in both
 apart_in_word : (a b k : ℕ) → bit_and a b ≡ 0 → nat_eq (bit_at a k) 1 ≡ true → nat_eq (bit_at b k) 1 ≡ false
-apart_in_word a b k none set =
-    let e : min (bit_at a k) (bit_at b k) ≡ 0 = sym (bit_at_and a b k) ∙ ap (λ (n : ℕ). bit_at n k) none ∙ bit_at-zero k in
-    let one : bit_at a k ≡ 1 = grind (arith, nat_tests) in
-    let other : bit_at b k ≡ 0 = omega (arith, e, one) in
-    rw other refl
+apart_in_word a b k none set = grind (arith, bit_at_and a b k)
 
 lesser_bit : (x y : ℕ) → x < 2 → y < 2 → (nat_eq x 1 ≡ true → nat_eq y 1 ≡ false) → min x y ≡ 0
 lesser_bit zero y p q h = omega arith
@@ -30,8 +25,7 @@ lesser_bit (suc (suc x)) y p q h = absurd (omega arith)
 -- two words that have no bit in both share none
 word_apart : (a b : ℕ) → a < 2 ^ 64 → ((k : ℕ) → k < 64 → nat_eq (bit_at a k) 1 ≡ true → nat_eq (bit_at b k) 1 ≡ false) → bit_and a b ≡ 0
 word_apart a b fits apart =
-    let below : bit_and a b < 2 ^ 64 = omega (arith, and_le_l a b) in
-    same_from_bits_below 64 (bit_and a b) 0 below (pow_pos 64) (λ k l.
+    same_from_bits_below 64 (bit_and a b) 0 (omega (arith, and_le_l a b)) (pow_pos 64) (λ k l.
     bit_at_and a b k ∙ lesser_bit (bit_at a k) (bit_at b k) (bit_at-lt a k) (bit_at-lt b k) (apart k l) ∙ sym (bit_at-zero k))
 
 other_clear : (x y : Bool) → not (x && y) ≡ true → x ≡ true → y ≡ false
@@ -53,8 +47,7 @@ one_word_apart words others j fits below apart =
     word_apart (slice_index words j) (slice_index others j) fits (λ k l set.
     let word : (64 * j + k) / 64 ≡ j = omega arith in
     let bit : (64 * j + k) % 64 ≡ k = omega arith in
-    let here : has words (64 * j + k) ≡ true = rw (word, bit) set in
-    rw (word, bit) at (apart (64 * j + k) (omega arith) here))
+    rw (word, bit) at (apart (64 * j + k) (omega arith) (rw (word, bit) set)))
 
 both_zero : (a b : ℕ) → bit_or a b ≡ 0 → (a ≡ 0) × (b ≡ 0)
 both_zero a b e = (omega (arith, le_or_l a b, e), omega (arith, le_or_r a b, e))
@@ -105,25 +98,18 @@ apart-are_meshable (x ∷ xs) (y ∷ ys) h =
 
 -- sets below one width have no number in both where their words have no bit in both
 pub apart_from_bits : (words others : List ℕ) (width : ℕ) → width ≤ 256 → HaveNoBitInBoth words others → AreApart (members words width) (members others width)
-apart_from_bits words others width most apart i in_first =
-    ⊎_elim
-    (λ (below : i < width).
-    member_has others width i below ∙ apart i (omega arith) (sym (member_has words width i below) ∙ in_first))
-    (λ (above : width ≤ i). not_member others width i above)
-    (cases_lt i width)
+apart_from_bits words others width most apart i in_first = grind (arith, member_has, not_member)
 
 -- and words have no bit in both where their sets have no number in both
 pub bits_from_apart : (words others : List ℕ) (width : ℕ) → IsBitmap words width → AreApart (members words width) (members others width) → HaveNoBitInBoth words others
 bits_from_apart words others width sound apart i in_words set =
-    ⊎_elim
-    (λ (below : i < width). sym (member_has others width i below) ∙ apart i (member_has words width i below ∙ set))
+    ⊎_elim (λ (below : i < width). sym (member_has _ _ _ below) ∙ apart i (member_has _ _ _ below ∙ set))
     (λ (above : width ≤ i). let clear = sound.clear_above i above in_words in absurd (cc))
     (cases_lt i width)
 
 -- two sets of one length are below one width
 pub same_width : (words others : List ℕ) (width other_width : ℕ) (xs ys : List Bool) → members words width ≡ xs → members others other_width ≡ ys → length xs ≡ length ys → other_width ≡ width
-same_width words others width other_width xs ys e f same =
-    sym (length_members others other_width) ∙ ap length f ∙ sym same ∙ sym (ap length e) ∙ length_members words width
+same_width words others width other_width xs ys e f same = sym (length_members _ _) ∙ ap length f ∙ sym same ∙ sym (ap length e) ∙ length_members _ _
 
 length-union : (xs ys : List Bool) → length xs ≡ length ys → length (union_of xs ys) ≡ length xs
 length-union [] ys e = sym e
@@ -147,11 +133,7 @@ members-union words others new width most either =
 
 -- and have no bit from the width on
 pub clear_union : (words others new : List ℕ) (width : ℕ) → IsBitmap words width → IsBitmap others width → HasBitsOfEither words others new → IsBitmap new width
-clear_union words others new width one other either = record {
-  some = one.some;
-  most = one.most;
-  clear_above = λ i above below. either i below ∙ rw (one.clear_above i above below, other.clear_above i above below) refl;
-}
+clear_union words others new width one other either = grind arith
 
 greater_bit : (x y : ℕ) → x < 2 → y < 2 → nat_eq (max x y) 1 ≡ (nat_eq x 1 || nat_eq y 1)
 greater_bit zero zero p q = refl
@@ -164,8 +146,7 @@ greater_bit (suc (suc x)) y p q = absurd (omega arith)
 
 -- a bit of the one word or of the other
 pub bit_of_either : (a b k : ℕ) → nat_eq (bit_at (bit_or a b) k) 1 ≡ (nat_eq (bit_at a k) 1 || nat_eq (bit_at b k) 1)
-bit_of_either a b k =
-    ap (λ (n : ℕ). nat_eq n 1) (bit_at_or a b k) ∙ greater_bit (bit_at a k) (bit_at b k) (bit_at-lt a k) (bit_at-lt b k)
+bit_of_either a b k = ap (λ (n : ℕ). nat_eq n 1) (bit_at_or a b k) ∙ greater_bit _ _ (bit_at-lt a k) (bit_at-lt b k)
 
 -- four words, each with the bits of either word at its place
 pub four_either : (words others : List ℕ) → HasBitsOfEither words others

@@ -105,25 +105,10 @@ IsTable-set places v x table first = record {
   first_empty = get_or-set_other places v 0 x None (omega arith) ∙ table.first_empty;
 }
 
--- a table of no places
-pub IsTable-none : IsTable []
-IsTable-none = record { short = omega arith; first_empty = refl }
-
--- a table stays one where empty places are added
-pub IsTable-same : (old new : List (Option (ℕ × Prot))) → IsTable old → length new ≤ 65536 → ((v : ℕ) → get_or new v None ≡ get_or old v None) → IsTable new
-IsTable-same old new table short same = record { short = short; first_empty = same 0 ∙ table.first_empty }
-
 -- tables with the same entries stand for the same map
 pub mapping-same : (old new : List (Option (ℕ × Prot))) → ((v : ℕ) → get_or new v None ≡ get_or old v None) → mapping new ≡ mapping old
 mapping-same old new same =
     same_map nat_cmp_total nat_cmp-IsAntisymmetric _ _ (λ q. get-mapping new q ∙ same q ∙ sym (get-mapping old q))
-
--- one more empty place
-pub empty_more : (places : List (Option (ℕ × Prot))) (v : ℕ) → get_or (places ++ None ∷ []) v None ≡ get_or places v None
-empty_more [] zero = refl
-empty_more [] (suc v) = refl
-empty_more (x ∷ places) zero = refl
-empty_more (x ∷ places) (suc v) = empty_more places v
 
 -- a mapped virtual page has a place
 pub mapped_within : (places : List (Option (ℕ × Prot))) (v : ℕ) → IsMapped (mapping places) v → v < length places

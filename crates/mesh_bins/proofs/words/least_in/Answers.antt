@@ -8,5 +8,4 @@ returns-then-rest-eq0 c = least_none c.args.word c.args.from c.if-rest-eq0.true
 pub returns : goal.returns
 returns c =
     let some : 0 < c.args.word / 2 ^ c.args.from = (let apart = c.if-rest-eq0.false in omega (arith, apart)) in
-    let fits : c.args.word < 2 ^ 64 = search rules in
-    least_some c.args.word c.args.from some fits c.requires
+    least_some c.args.word c.args.from some (search rules) c.requires

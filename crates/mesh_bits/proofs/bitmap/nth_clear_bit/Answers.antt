@@ -30,9 +30,8 @@ up_to words width i place above count =
 
 pub returns-in_err-i-clause-none : goal.returns-in_err-i-clause-none
 returns-in_err-i-clause-none c =
-    let fits : slice_index c.args.words.now (c.skip_words-first.result.0 / 64) < 2 ^ 64 = search rules in
     let end = at_bit c.args.words.now c.skip_words-first.result.0 c.skip_words-first.result.1 c.args.place 64
-    c.skip_words-first.ensures.word (omega arith) fits c.skip_words-first.ensures.place in
+    c.skip_words-first.ensures.word (omega arith) (search rules) c.skip_words-first.ensures.place in
     let few : low_ones 64 (bit_not w64 (slice_index c.args.words.now (c.skip_words-first.result.0 / 64))) ≤ c.skip_words-first.result.1 = c.in_err-i.ensures.none in
     let all : clear_count (members c.args.words.now (c.skip_words-first.result.0 + 64)) ≤ c.args.place = omega (arith, end, few) in
     rw c.from_residual.ensures (elim c.skip_words-first.ensures.last [
@@ -51,8 +50,7 @@ returns-then-i-width-clause-clear c =
 
 pub returns-then-i-width-clause-place : goal.returns-then-i-width-clause-place
 returns-then-i-width-clause-place c =
-    place_of c.args.words.now c.skip_words-first.result.0 c.skip_words-first.result.1 c.args.place c.in_ok-i.field-0
-    c.skip_words-first.ensures.word c.in_ok-i.ensures.one.0 (search rules) c.skip_words-first.ensures.place c.in_ok-i.ensures.place
+    place_of _ _ _ _ _ c.skip_words-first.ensures.word c.in_ok-i.ensures.one.0 (search rules) c.skip_words-first.ensures.place c.in_ok-i.ensures.place
 
 pub returns-else-i-width-clause-none : goal.returns-else-i-width-clause-none
 returns-else-i-width-clause-none c =

@@ -1,4 +1,4 @@
-use Rattle.std.proofs.Common.{◌≡◌, ◌<◌, ◌*◌, ◌/◌, ◌^◌, slice_index, arith, rules, inr}
+use Rattle.std.proofs.Common.{◌≡◌, ◌<◌, ◌*◌, ◌/◌, ◌^◌, slice_index, arith, rules}
 use Rattle.std.proofs.lemmas.Nat.{ones-le}
 use Rattle.mesh_bits.proofs.BitsLemmas.{clear_count_word}
 use Rattle.mesh_bits.proofs.bitmap.skip_words.Goals as goal
@@ -16,10 +16,4 @@ loop-first-preserved c =
     }
 
 pub returns-then-left-clear-clause-last : goal.returns-then-left-clear-clause-last
-returns-then-left-clear-clause-last c =
-    let fits : slice_index c.args.words.now (c.loop-first.first / 64) < 2 ^ 64 = search rules in
-    let from : 64 * (c.loop-first.first / 64) ≡ c.loop-first.first = omega arith in
-    let word = clear_count_word c.args.words.now (c.loop-first.first / 64) c.loop-first.first from fits in
-    let most = ones-le 64 (slice_index c.args.words.now (c.loop-first.first / 64)) fits in
-    let count = c.loop-first.invariant.count in
-    inr (omega (arith, word, most, count))
+returns-then-left-clear-clause-last c = grind (arith, clear_count_word)

@@ -1,4 +1,4 @@
-use Rattle.std.proofs.Common.{◌≡◌, ℕ, ◌≤◌, false, None, replicate, length, arith, ap, sym, ◌∙◌}
+use Rattle.std.proofs.Common.{◌≡◌, ℕ, ◌≤◌, false, None, replicate, arith, ap, ◌∙◌}
 use Rattle.std.proofs.lemmas.List.{length-replicate}
 use Rattle.mesh_arena.specs.Pages.{Pages, is_taken, free_count}
 use Rattle.mesh_arena.specs.Tied.{IsTied}
@@ -10,12 +10,7 @@ free_of : (a : Pages) (n : ℕ) → a ≡ replicate n None → free_count a ≡ 
 free_of a n e = ap free_count e ∙ free_count-replicate n
 
 new_tied : (a : Pages) (n : ℕ) → n ≤ 4096 → a ≡ replicate n None → IsTied a n
-new_tied a n few e =
-    let count : length a ≡ n = ap length e ∙ length-replicate n None in
-    record {
-      few = omega arith;
-      counted = sym (free_of a n e);
-    }
+new_tied a n few e = grind (arith, length-replicate, free_of)
 
 untaken : (a : Pages) (m : ℕ) → a ≡ replicate m None → (p : ℕ) → is_taken a p ≡ false
 untaken a m e p = ap (λ (s : Pages). is_taken s p) e ∙ is_taken-replicate m p

@@ -17,8 +17,7 @@ lowest a free p tied some within passed here =
     }
 
 pub returns-then-self-eq0-clause-page : goal.returns-then-self-eq0-clause-page
-returns-then-self-eq0-clause-page c =
-    rw (← c.self.view_is) (sym (lowest_free-none c.self.inside.frames (omega (arith, c.self.invariant.counted))))
+returns-then-self-eq0-clause-page c = rw (← c.self.view_is) (sym (lowest_free-none _ (omega (arith, c.self.invariant.counted))))
 
 pub take-requires-clause-within : goal.take-requires-clause-within
 take-requires-clause-within c =

@@ -12,6 +12,5 @@ invariant_of-self c =
 
 pub returns-clause-writes : goal.returns-clause-writes
 returns-clause-writes c =
-    let taken = rw (← c.self.view_is) at c.requires.taken in
     let sized = rw (c.index-place.ensures) at c.write.ensures.sized in
-    rw (c.write.ensures.written, c.index-place.ensures, ← c.self.view_is) (writes _ _ _ _ taken (omega arith))
+    rw (c.write.ensures.written, c.index-place.ensures, ← c.self.view_is) (writes _ _ _ _ (rw (← c.self.view_is) at c.requires.taken) (omega arith))

@@ -3,5 +3,4 @@ use Rattle.mesh_arena.proofs.Changes.{refilled}
 use Rattle.mesh_arena.proofs.frame.Frame.clear.Goals as goal
 
 pub returns : goal.returns
-returns c =
-    refilled c.fill.new.self c.self.inside.bytes (c.fill.ensures.after (λ y e. search rules)) c.self.invariant
+returns c = refilled _ _ (c.fill.ensures.after (λ y e. search rules)) c.self.invariant

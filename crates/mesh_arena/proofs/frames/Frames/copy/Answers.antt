@@ -9,11 +9,8 @@ whole_of made new n p x count e = take_at new (drop (length new) made) n (ap len
 
 pub returns-clause-copied : goal.returns-clause-copied
 returns-clause-copied c =
-    let from_taken = rw (← c.self.view_is) at c.requires.from_taken in
     let to_taken = rw (← c.self.view_is) at c.requires.to_taken in
     let is = rw (c.as_mut_slice.ensures.value) at c.copy_between.ensures.copied in
     let count : c.self.inside.made.len ≡ length c.self.inside.made.items = omega (arith, c.as_mut_slice.ensures.len, ap length c.as_mut_slice.ensures.value) in
-    let from = bytes-frame c.self.inside.made.items c.self.inside.given c.self.inside.count c.args.from from_taken in
-    let to = bytes-frame c.self.inside.made.items c.self.inside.given c.self.inside.count c.args.to to_taken in
-    rw (whole_of c.self.inside.made.items c.copy_between.new.frames c.self.inside.made.len c.args.to _ count is, ← c.self.view_is, from, to)
-    (pages-written c.self.inside.made.items c.self.inside.given c.self.inside.count c.args.to _ to_taken)
+    let from = bytes-frame _ _ _ _ (rw (← c.self.view_is) at c.requires.from_taken) in
+    rw (whole_of _ _ _ _ _ count is, ← c.self.view_is, from, bytes-frame _ _ _ _ to_taken) (pages-written _ _ _ _ _ to_taken)

@@ -1,4 +1,4 @@
-use Rattle.std.proofs.Common.{◌≡◌, ◌<◌, ◌+◌, ◌*◌, ◌/◌, ◌%◌, ◌^◌, None, Some, slice_index, true, length, arith, rules}
+use Rattle.std.proofs.Common.{◌≡◌, ◌<◌, ◌+◌, ◌*◌, ◌/◌, ◌%◌, None, Some, slice_index, true, length, arith, rules}
 use Rattle.std.proofs.lemmas.Grind.{common_steps}
 use Rattle.mesh_bins.specs.Words.{IsFirst, IsLeast, has, bit}
 use Rattle.mesh_bins.proofs.WordLemmas.{found_by_summary, found_in_word, least_contained, marked_some, none_by_summary, passed_start, passed_word}
@@ -26,9 +26,8 @@ pub returns-in_err-bit : goal.returns-in_err-bit
 returns-in_err-bit c =
     let at : c.index.result.now ≡ slice_index c.self.inside.words.items c.in_ok-next.next = grind (arith, common_steps) in
     let none : IsLeast (bit (slice_index c.self.inside.words.items c.in_ok-next.next)) 0 64 None = rw at at c.in_err-bit.ensures in
-    let fits : slice_index c.self.inside.words.items c.in_ok-next.next < 2 ^ 64 = search rules in
     let passes : has c.self.inside.summary c.in_ok-next.next ≡ true = (let first : IsFirst (has c.self.inside.summary) (c.args.from / 64 + 1) (64 * length c.self.inside.summary) c.in_ok-next.next = c.in_ok-next.ensures in first.passes) in
-    absurd (marked_some c.self.inside.words.items c.self.inside.summary c.in_ok-next.next c.self.invariant.marked fits passes none)
+    absurd (marked_some c.self.inside.words.items c.self.inside.summary c.in_ok-next.next c.self.invariant.marked (search rules) passes none)
 
 pub returns : goal.returns
 returns c =

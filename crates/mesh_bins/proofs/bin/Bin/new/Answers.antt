@@ -10,6 +10,4 @@ invariant_of-result c =
     record { sized = ap length zeros ∙ length-replicate {A = ℕ} 1024 0; summed = refl; topped = refl; marked = rw zeros (marked_zeros 1024 16); top_marked = marked_zeros 16 1 }
 
 pub returns : goal.returns
-returns c =
-    let zeros : c.in_ok-words.words.items ≡ replicate 1024 0 = c.in_ok-words.ensures.items_if_clones_equal (search rules) in
-    ap set_of zeros ∙ set_of-zeros 1024
+returns c = ap set_of (c.in_ok-words.ensures.items_if_clones_equal (search rules)) ∙ set_of-zeros 1024

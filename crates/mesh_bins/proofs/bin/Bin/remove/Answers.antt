@@ -9,12 +9,7 @@ zero_is : (ws read new : List ℕ) (n : ℕ) (zero : Bool) → read ≡ ws → w
 zero_is ws read new n zero same written is = is ∙ ap (λ (xs : List ℕ). nat_eq (slice_index xs (n / 64)) 0) (same ∙ written)
 
 pub is_zero-requires : goal.is_zero-requires
-is_zero-requires c =
-    let was = c.as_mut_slice.ensures.value in
-    let written = written_is c.self.inside.words.len c.self.inside.words.items _ c.clear_bit.new.words c.self.inside.words.ok.0 was c.clear_bit.ensures.long in
-    let now : length c.as_slice.result.now ≡ 1024
-    = ap length (c.as_slice.ensures.value ∙ written) ∙ c.clear_bit.ensures.long ∙ ap length was ∙ c.self.invariant.sized in
-    omega (arith, now)
+is_zero-requires c = grind arith
 
 pub invariant_of-self : goal.invariant_of-self
 invariant_of-self c =
@@ -47,10 +42,8 @@ invariant_of-self-else-is_zero c =
 
 pub returns-then-is_zero : goal.returns-then-is_zero
 returns-then-is_zero c =
-    removed_is c.self.inside.words.len c.args.n c.self.inside.words.items _ c.clear_bit.new.words _ c.self.inside.words.ok.0 c.as_mut_slice.ensures.value
-    c.clear_bit.ensures.long c.clear_bit.ensures.puts c.self.view_is
+    removed_is _ _ _ _ _ _ c.self.inside.words.ok.0 c.as_mut_slice.ensures.value c.clear_bit.ensures.long c.clear_bit.ensures.puts c.self.view_is
 
 pub returns-else-is_zero : goal.returns-else-is_zero
 returns-else-is_zero c =
-    removed_is c.self.inside.words.len c.args.n c.self.inside.words.items _ c.clear_bit.new.words _ c.self.inside.words.ok.0 c.as_mut_slice.ensures.value
-    c.clear_bit.ensures.long c.clear_bit.ensures.puts c.self.view_is
+    removed_is _ _ _ _ _ _ c.self.inside.words.ok.0 c.as_mut_slice.ensures.value c.clear_bit.ensures.long c.clear_bit.ensures.puts c.self.view_is

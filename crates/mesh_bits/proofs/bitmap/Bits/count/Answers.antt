@@ -5,5 +5,4 @@ use Rattle.mesh_bits.proofs.bitmap.Bits.count.Goals as goal
 
 pub returns : goal.returns
 returns c =
-    c.count_bits.ensures.count
-    ∙ member_count_words c.self.inside.words c.self.inside.width c.count_bits.ensures.words c.self.invariant ∙ ap member_count c.self.view_is
+    c.count_bits.ensures.count ∙ member_count_words _ _ c.count_bits.ensures.words c.self.invariant ∙ ap member_count c.self.view_is

@@ -5,8 +5,7 @@ use Rattle.mesh_bits.proofs.bitmap.Bits.disjoint.Goals as goal
 
 pub returns-clause-apart : goal.returns-clause-apart
 returns-clause-apart c =
-    let same = same_width _ _ _ _ _ _ c.self.view_is c.other.view_is c.requires in
-    rw (← c.self.view_is, ← c.other.view_is, same) (
+    rw (← c.self.view_is, ← c.other.view_is, same_width _ _ _ _ _ _ c.self.view_is c.other.view_is c.requires) (
       λ h. apart_from_bits c.self.inside.words c.other.inside.words c.self.inside.width c.self.invariant.most (c.share_no_bit.ensures.0 h),
       λ h. c.share_no_bit.ensures.1 (bits_from_apart c.self.inside.words c.other.inside.words c.self.inside.width c.self.invariant h),
     )

@@ -11,8 +11,7 @@ invariant_of-result c =
 pub returns-clause-union : goal.returns-clause-union
 returns-clause-union c =
     let same = same_width _ _ _ _ _ _ c.self.view_is c.other.view_is c.requires in
-    rw (← c.self.view_is, ← c.other.view_is, same)
-    (members-union c.self.inside.words c.other.inside.words c.either_bits.result c.self.inside.width c.self.invariant.most c.either_bits.ensures)
+    rw (← c.self.view_is, ← c.other.view_is, same) (members-union _ _ _ _ c.self.invariant.most c.either_bits.ensures)
 
 pub returns-clause-members : goal.returns-clause-members
 returns-clause-members c =
