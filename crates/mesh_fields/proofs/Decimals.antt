@@ -3,7 +3,7 @@ use Rattle.std.proofs.Common.{◌≡◌, ℕ, ◌+◌, ◌-◌, ◌*◌, ◌%◌
 use Rattle.std.specs.Fmt.{decimal}
 use Rattle.std.proofs.Math.Seq.{take-suc}
 use Rattle.std.specs.List.{fold, list_all}
-use Rattle.std.proofs.lemmas.Bool.{and_parts, true≢false, le-leb, cases_lt}
+use Rattle.std.proofs.lemmas.Bool.{and_parts, true≢false, cases_lt}
 use Rattle.std.proofs.lemmas.Fmt.{decimal_by_steps, digits_decimal, decimal-digits_value}
 use Rattle.std.proofs.lemmas.List.{take-append-drop, get_or_append_left}
 use Rattle.std.proofs.lemmas.List.Sums.{fold-append}
@@ -29,17 +29,10 @@ abbrev pub AreDigits : List ℕ → Type 0
 AreDigits field = list_all is_decimal_digit field ≡ true
 
 tells : IsDigitsTest AreDigits
-tells = record {
-  empty = refl;
-  parts = λ c cs e. let k = and_parts (is_decimal_digit c) (list_all is_decimal_digit cs) e in (between_by_test 48 57 c k.0, k.1);
-  more = λ c cs k e. rw (le-leb 48 c k.0, le-leb c 57 k.1) e;
-}
+tells = grind arith
 
 folds : FoldsDigits (λ n digits. fold with_decimal n digits)
-folds = record {
-  empty = λ n. refl;
-  more = λ n c cs k. let e : 10 * n + (c - 48) ≡ n * 10 + (c - 48) = omega arith in ap (λ m. fold with_decimal m cs) e;
-}
+folds = grind arith
 
 numerals : IsNumeralModel AreDigits decimal_value
 numerals = numerals_by_fold AreDigits tells (λ n digits. fold with_decimal n digits) folds
@@ -69,10 +62,7 @@ no_byte field none n small is = omega (arith, (first_of n small).0, ap length is
 
 -- nor do digits behind a leading zero
 pub zero_first : (field : List ℕ) → 2 ≤ length field → get_or field 0 0 ≡ 48 → IsNoNumber field
-zero_first field long lead n small is =
-    let first = first_of n small in
-    let at : get_or (decimal n) 0 0 ≡ 48 = ap (λ f. get_or f 0 0) (sym is) ∙ lead in
-    ⊎_elim (λ (l : n < 1). omega (arith, first.2 (omega arith), ap length is)) (λ (m : 1 ≤ n). omega (arith, at, first.1 (omega arith))) (cases_lt n 1)
+zero_first field long lead n small is = grind (arith, first_of)
 
 -- the number of one digit more
 pub next_value : (digits : List ℕ) (i : ℕ) → i < length digits → decimal_value (take (i + 1) digits) ≡ 10 * decimal_value (take i digits) + (get_or digits i 0 - 48)
@@ -93,8 +83,7 @@ number_spelt least most field n small is = rw (is, value_of_decimal n small, sam
 -- a field that spells none is refused
 pub number_unspelt : (least most : ℕ) (field : List ℕ) → most < 2 ^ 64 → IsNoNumber field → number_in least most field ≡ Err Number
 number_unspelt least most field small none =
-    let test = are_same (decimal (decimal_value field)) field && is_between least most (decimal_value field) in
-    rw (fails test (λ passes.
+    rw (fails (are_same (decimal (decimal_value field)) field && is_between least most (decimal_value field)) (λ passes.
     let parts = and_parts (are_same (decimal (decimal_value field)) field) (is_between least most (decimal_value field)) passes in
     let ends = between_by_test least most (decimal_value field) parts.1 in
     none (decimal_value field) (omega (arith, ends.1, small)) (sym (same_by_test (decimal (decimal_value field)) field parts.0)))) refl

@@ -31,5 +31,4 @@ digit_entry table byte is below small = some_of (hex_value byte) _ (entry table 
 
 -- and any other one says that its byte is no digit
 pub no_digit_entry : (table : List ℕ) (byte : ℕ) → table ≡ digit_values → byte < 256 → 16 ≤ get_or table byte 0 → None ≡ hex_value byte
-no_digit_entry table byte is below large =
-    none_of (hex_value byte) (λ value told. (digit_told byte value told).1) (omega (arith, entry table byte is below, large))
+no_digit_entry table byte is below large = none_of _ (λ value told. (digit_told byte _ told).1) (omega (arith, entry _ _ is below, large))

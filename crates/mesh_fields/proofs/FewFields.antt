@@ -1,7 +1,7 @@
 -- A line that is split into its fields as it is scanned.
 use Rattle.std.proofs.Common.{◌≡◌, ℕ, ◌+◌, ◌-◌, ◌<◌, ◌≤◌, Bool, true, false, nat_eq, List, [], ◌∷◌, ◌++◌, ap, append_assoc, arith, drop, get_or, length, refl, subst, sym, take, ◌∙◌}
 use Rattle.std.specs.List.{All, list_all, list_any}
-use Rattle.std.proofs.lemmas.Bool.{and_parts, ne_eqb, le-leb}
+use Rattle.std.proofs.lemmas.Bool.{and_parts, ne_eqb}
 use Rattle.std.proofs.Math.Seq.{take-add}
 use Rattle.std.proofs.lemmas.List.{get_or-drop, length-drop, length-take, take_more}
 use Rattle.std.proofs.lemmas.List.Elements.{All-cons, All-nil}
@@ -36,9 +36,7 @@ all_both p xs ys first later = rw (list_all-append p xs ys, first, later) refl
 
 -- bytes of a field may stand in a line
 printable_byte : (b : ℕ) → is_field_byte b ≡ true → is_printable b ≡ true
-printable_byte b h =
-    let ends = between_by_test 33 126 b h in
-    rw (le-leb 32 b (omega (arith, ends.0)), le-leb b 126 ends.1) refl
+printable_byte b h = grind arith
 
 printable_bytes : (field : List ℕ) → list_all is_field_byte field ≡ true → list_all is_printable field ≡ true
 printable_bytes [] h = refl
@@ -51,8 +49,7 @@ pub one_begun : (before field : List ℕ) (fields : List (List ℕ)) → IsBegun
 one_begun before field fields begun bytes = record {
   splits = λ more.
       ap line_fields (append_assoc (before ++ field) (32 ∷ []) more ∙ append_assoc before field (32 ∷ more))
-      ∙ begun.splits (field ++ 32 ∷ more)
-      ∙ ap (λ parts. fields ++ parts) (slice_split_at (λ b. nat_eq b 32) field 32 more (no_spaces field bytes) refl)
+      ∙ begun.splits (field ++ 32 ∷ more) ∙ ap (λ parts. fields ++ parts) (slice_split_at (λ b. nat_eq b 32) field 32 more (no_spaces _ bytes) refl)
       ∙ sym (append_assoc fields (field ∷ []) (line_fields more));
   printable = all_both is_printable (before ++ field) (32 ∷ []) (all_both is_printable before field begun.printable (printable_bytes field bytes)) refl;
 }
@@ -60,10 +57,7 @@ one_begun before field fields begun bytes = record {
 -- the last field ends the line
 pub line_begun : (before field : List ℕ) (fields : List (List ℕ)) → IsBegun before fields → list_all is_field_byte field ≡ true
     → (fields ++ field ∷ [] ≡ line_fields (before ++ field)) × (list_all is_printable (before ++ field) ≡ true)
-line_begun before field fields begun bytes = (
-  sym (begun.splits field ∙ ap (λ parts. fields ++ parts) (slice_split_none (λ b. nat_eq b 32) field (no_spaces field bytes))),
-  all_both is_printable before field begun.printable (printable_bytes field bytes),
-)
+line_begun before field fields begun bytes = grind (arith, slice_split_none, no_spaces, all_both, printable_bytes)
 
 -- the bytes up to one place, then those up to a later one
 pub up_to : (bytes : List ℕ) (i j : ℕ) → i ≤ j → take j bytes ≡ take i bytes ++ take (j - i) (drop i bytes)
@@ -75,10 +69,9 @@ pub field_begun : (text : List ℕ) (fields : List (List ℕ)) (start end d : �
     → IsBegun (take (end + 1) text) (fields ++ take (end - start) (drop start text) ∷ [])
 field_begun text fields start end d later within space begun bytes =
     let whole : take (end + 1) text ≡ (take start text ++ take (end - start) (drop start text)) ++ 32 ∷ []
-    = take_more text end d within ∙ ap (λ before. before ++ get_or text end d ∷ []) (up_to text start end later)
+    = take_more text end d within ∙ ap (λ before. before ++ get_or text end d ∷ []) (up_to _ _ _ later)
     ∙ ap (λ (b : ℕ). (take start text ++ take (end - start) (drop start text)) ++ b ∷ []) space in
-    subst (λ before. IsBegun before (fields ++ take (end - start) (drop start text) ∷ [])) (sym whole)
-    (one_begun (take start text) (take (end - start) (drop start text)) fields begun bytes)
+    subst (λ before. IsBegun before (fields ++ take (end - start) (drop start text) ∷ [])) (sym whole) (one_begun _ _ _ begun bytes)
 
 -- the last field is read, and the line end stands behind it
 pub line_split : (text rest : List ℕ) (fields : List (List ℕ)) (start end d : ℕ) → start ≤ end → end < length text → end ≤ 1024 → get_or text end d ≡ 10
@@ -107,8 +100,7 @@ field_more text start place d later within byte bytes =
     let more : take (place + 1 - start) (drop start text) ≡ take (place - start) (drop start text) ++ get_or text place d ∷ []
     = ap (λ (n : ℕ). take n (drop start text)) count ∙ take_more (drop start text) (place - start) d (omega (arith, left, later, within))
     ∙ ap (λ (b : ℕ). take (place - start) (drop start text) ++ b ∷ []) here in
-    let last : list_all is_field_byte (get_or text place d ∷ []) ≡ true = rw byte refl in
-    ap (list_all is_field_byte) more ∙ all_both is_field_byte (take (place - start) (drop start text)) (get_or text place d ∷ []) bytes last
+    ap (list_all is_field_byte) more ∙ all_both is_field_byte (take (place - start) (drop start text)) (get_or text place d ∷ []) bytes (rw byte refl)
 
 -- one more field that isn't empty
 pub filled_more : (fields : List (List ℕ)) (field : List ℕ) → list_any is_empty fields ≡ false → is_empty field ≡ false

@@ -1,5 +1,5 @@
 -- Fields of hexadecimal digits: a number, and bytes of two digits each.
-use Rattle.std.proofs.Common.{◌≡◌, ◌≢◌, ℕ, zero, suc, ◌+◌, ◌*◌, ◌/◌, ◌%◌, ◌^◌, ◌<◌, ◌≤◌, true, false, ◌&&◌, if◌then◌else◌, nat_le, Bool, List, [], ◌∷◌, ◌++◌, Option, Some, None, Result, Ok, Err, length, get_or, take, drop, ap, refl, sym, subst, ◌∙◌, arith, inl, inr, append-nil, append_assoc, length-append, add-one}
+use Rattle.std.proofs.Common.{◌≡◌, ◌≢◌, ℕ, zero, suc, ◌+◌, ◌*◌, ◌/◌, ◌%◌, ◌^◌, ◌<◌, ◌≤◌, true, false, ◌&&◌, if◌then◌else◌, nat_le, Bool, List, [], ◌∷◌, ◌++◌, Option, Some, None, Result, Ok, Err, length, get_or, take, drop, ap, refl, sym, ◌∙◌, arith, inl, inr, append-nil, append_assoc, length-append, add-one}
 use Rattle.std.specs.Prelude.{◌⊎◌, is_some}
 use Rattle.std.specs.List.{fold, list_all}
 use Rattle.std.proofs.lemmas.Bool.Decides.{leb_tells}
@@ -23,10 +23,7 @@ use Rattle.mesh_fields.proofs.Sames.{fails, same_bytes}
 
 -- a number with one more hexadecimal digit
 with_digit : (n d : ℕ) → d < 16 → with_hex n (hex_digit d) ≡ 16 * n + d
-with_digit n d small = elim (leb_tells (suc d) 10) [
-  | inl low ↦ rw (low.0, le-leb (suc (48 + d)) 97 (omega (arith, low.1))) (omega arith)
-  | inr high ↦ rw (high.0, lt-leb (suc (87 + d)) 97 (omega (arith, high.1))) (omega arith)
-]
+with_digit n d small = grind arith
 
 -- the spelling of a value is a digit
 digit_is : (d : ℕ) → d < 16 → is_hex_digit (hex_digit d) ≡ true
@@ -45,10 +42,7 @@ value_of (Some v) h = (v, refl)
 -- every digit of a number is one
 all_digits : (more n : ℕ) → list_all is_hex_digit (hex_from more n) ≡ true
 all_digits zero n = rw (digit_is (n % 16) (omega arith)) refl
-all_digits (suc more) n = elim (leb_tells (suc n) 16) [
-  | inl low ↦ rw (low.0, digit_is n low.1) refl
-  | inr high ↦ rw (high.0, list_all-append is_hex_digit (hex_from more (n / 16)) (hex_digit (n % 16) ∷ []), all_digits more (n / 16), digit_is (n % 16) (omega arith)) refl
-]
+all_digits (suc more) n = grind (arith, list_all-append, all_digits more (n / 16))
 
 -- a digit is spelt as it is
 one_digit : (more d : ℕ) → d < 16 → hex_from more d ≡ hex_digit d ∷ []
@@ -58,10 +52,7 @@ one_digit (suc more) d small = rw (le-leb (suc d) 16 small) refl
 -- one more digit of a number above 0 is spelt behind its digits
 one_more_digit : (more n d : ℕ) → 1 ≤ n → d < 16 → 16 * n + d < 16 ^ suc more → hex_from more (16 * n + d) ≡ hex_from more n ++ hex_digit d ∷ []
 one_more_digit zero n d some below small = absurd (omega (arith, some, small))
-one_more_digit (suc more) n d some below small =
-    let front : (16 * n + d) / 16 ≡ n = omega (arith, below) in let last : (16 * n + d) % 16 ≡ d = omega (arith, below) in
-    let fewer : n < 16 ^ suc more = omega (arith, small, pow-suc 16 (suc more)) in
-    rw (lt-leb (suc (16 * n + d)) 16 (omega (arith, some)), front, last, fewer_digits more n fewer) refl
+one_more_digit (suc more) n d some below small = grind (arith, fewer_digits)
 
 -- digits behind a number above 0 are spelt behind its digits
 digits_behind : (more n : ℕ) (digits : List ℕ) → 1 ≤ n → list_all is_hex_digit digits ≡ true → fold with_hex n digits < 16 ^ suc more
@@ -86,9 +77,8 @@ hex_with_one_more digits i digit h is =
     ap (λ (k : ℕ). hex_number (take k digits)) (add-one i) ∙ ap hex_number (take-suc digits i 0 h)
     ∙ fold-append with_hex 0 (take i digits) (get_or digits i 0 ∷ []) ∙ ap (λ (b : ℕ). with_hex (hex_number (take i digits)) b) told.0
     ∙ with_digit (hex_number (take i digits)) digit told.1 in
-    let whole : hex_number (take (i + 1) digits ++ drop (i + 1) digits) ≡ hex_number digits = ap hex_number (take-append-drop (i + 1) digits) in
     let later = grows with_hex (λ m d. omega arith) (hex_number (take (i + 1) digits)) (drop (i + 1) digits) in
-    omega (arith, next, whole, later, fold-append with_hex 0 (take (i + 1) digits) (drop (i + 1) digits))
+    omega (arith, next, ap hex_number (take-append-drop (i + 1) digits), later, fold-append with_hex 0 (take (i + 1) digits) (drop (i + 1) digits))
 
 -- what isn't the spelling of a number in the range is refused
 refused : (more most : ℕ) (field : List ℕ) → (field ≡ hex_from more (hex_number field) → hex_number field ≤ most → ⊥) → hex_in more most field ≡ Err Number
@@ -117,10 +107,7 @@ no_digit more most field none = refused more most field (λ is small. omega (ari
 
 -- the digit of a value above 0 isn't that of 0, and the other way round
 other_digit : (d : ℕ) → 1 ≤ d → hex_digit d ≢ 48
-other_digit d some zero_digit = elim (leb_tells (suc d) 10) [
-  | inl low ↦ let is = rw low.0 at zero_digit in omega (arith, is, some)
-  | inr high ↦ let is = rw high.0 at zero_digit in omega (arith, is)
-]
+other_digit d some zero_digit = grind arith
 
 above_zero : (d : ℕ) → hex_digit d ≢ 48 → 1 ≤ d
 above_zero zero other = absurd (other refl)
@@ -149,31 +136,23 @@ no_leading_zero more zero small long zero_first = omega (arith, long, ap (λ (f 
 no_leading_zero more (suc n) small long zero_first = (first_digit more (suc n) (omega arith) small).0 zero_first
 
 pub leading_zero : (more most : ℕ) (field : List ℕ) → most < 16 ^ suc more → 2 ≤ length field → get_or field 0 0 ≡ 48 → hex_in more most field ≡ Err Number
-leading_zero more most field fits long zero_first = refused more most field (λ is small.
-    no_leading_zero more (hex_number field) (omega (arith, fits, small))
-    (subst (λ (f : List ℕ). 2 ≤ length f) is long) (subst (λ (f : List ℕ). get_or f 0 0 ≡ 48) is zero_first))
+leading_zero more most field fits long zero_first = grind (arith, refused, no_leading_zero)
 
 -- digits behind a first digit that isn't 0
 spelt_behind : (more d : ℕ) (digits : List ℕ) → 1 ≤ d → d < 16 → list_all is_hex_digit digits ≡ true → fold with_hex d digits < 16 ^ suc more
     → hex_from more (fold with_hex d digits) ≡ hex_digit d ∷ digits
-spelt_behind more d digits some below are small =
-    digits_behind more d digits some are small ∙ ap (λ (front : List ℕ). front ++ digits) (one_digit more d below)
+spelt_behind more d digits some below are small = digits_behind _ _ _ some are small ∙ ap (λ (front : List ℕ). front ++ digits) (one_digit _ _ below)
 
 -- the spelling of its number is read as it
 spelt_so : (more most : ℕ) (field : List ℕ) → hex_from more (hex_number field) ≡ field → hex_number field ≤ most → hex_in more most field ≡ Ok (hex_number field)
 spelt_so more most field spelt small =
-    let same : are_same (hex_from more (hex_number field)) field ≡ true = ap (λ (f : List ℕ). are_same f field) spelt ∙ same_bytes field in
-    rw (same, le-leb (hex_number field) most small) refl
+    rw ((ap (λ (f : List ℕ). are_same f field) spelt ∙ same_bytes field), le-leb (hex_number field) most small) refl
 
 -- a field of digits without a leading zero is read as its number
 pub hex_spelt : (more most : ℕ) (field : List ℕ) → most < 16 ^ suc more → 1 ≤ length field → ((2 ≤ length field) × (get_or field 0 0 ≡ 48) → ⊥)
     → list_all is_hex_digit field ≡ true → hex_number field ≤ most → hex_in more most field ≡ Ok (hex_number field)
 hex_spelt more most [] fits some first are small = absurd (omega (arith, some))
-hex_spelt more most (b ∷ []) fits some first are small =
-    let parts = and_parts (is_hex_digit b) true are in
-    let value = value_of (hex_value b) parts.0 in let told = digit_told b value.0 value.1 in
-    let number : hex_number (b ∷ []) ≡ value.0 = ap (λ (c : ℕ). with_hex 0 c) told.0 ∙ with_digit 0 value.0 told.1 ∙ omega arith in
-    spelt_so more most (b ∷ []) (ap (hex_from more) number ∙ one_digit more value.0 told.1 ∙ ap (λ (c : ℕ). c ∷ []) (sym told.0)) small
+hex_spelt more most (b ∷ []) fits some first are small = grind (arith, one_digit)
 hex_spelt more most (b ∷ c ∷ cs) fits some first are small =
     let parts = and_parts (is_hex_digit b) (list_all is_hex_digit (c ∷ cs)) are in
     let value = value_of (hex_value b) parts.0 in let told = digit_told b value.0 value.1 in
@@ -211,19 +190,10 @@ one_byte : (bytes : List ℕ) (byte : ℕ) (read : Result (List ℕ) FaultKind)
 one_byte bytes byte (Err e) = refl
 one_byte bytes byte (Ok later) = ap Ok (sym (append_assoc bytes (byte ∷ []) later))
 
--- two digits in front of others
-pub two_digits : (rest : List ℕ) → 2 ≤ length rest → rest ≡ get_or rest 0 0 ∷ get_or rest 1 0 ∷ drop 2 rest
-two_digits [] some = absurd (omega (arith, some))
-two_digits (x ∷ []) some = absurd (omega (arith, some))
-two_digits (x ∷ y ∷ rest) some = refl
-
 -- one more byte of a field was read
 pub byte_read : (field bytes rest : List ℕ) (byte : ℕ) → bytes_from field ≡ behind_bytes bytes (bytes_from rest) → 2 ≤ length rest
     → byte_from (get_or rest 0 0) (get_or rest 1 0) ≡ Ok byte → bytes_from field ≡ behind_bytes (bytes ++ byte ∷ []) (bytes_from (drop 2 rest))
-byte_read field bytes rest byte so_far some is =
-    let front : bytes_from rest ≡ (bytes_from (drop 2 rest) >>= λ later. Ok (byte ∷ later)) =
-    ap bytes_from (two_digits rest some) ∙ ap (λ (r : Result ℕ FaultKind). r >>= λ b. bytes_from (drop 2 rest) >>= λ later. Ok (b ∷ later)) is in
-    so_far ∙ ap (behind_bytes bytes) front ∙ one_byte bytes byte (bytes_from (drop 2 rest))
+byte_read field bytes rest byte so_far some is = grind (arith, one_byte)
 
 -- more bytes than 32 were read
 many_bytes : (field bytes : List ℕ) (read : Result (List ℕ) FaultKind) → bytes_from field ≡ behind_bytes bytes read → 33 ≤ length bytes
@@ -236,12 +206,9 @@ many_bytes field bytes (Ok later) so_far many only =
 pub too_many_bytes : (field bytes rest : List ℕ) (byte : ℕ) → bytes_from field ≡ behind_bytes bytes (bytes_from rest) → 2 ≤ length rest
     → byte_from (get_or rest 0 0) (get_or rest 1 0) ≡ Ok byte → 32 ≤ length bytes → bytes_in field ≡ Err Hex
 too_many_bytes field bytes rest byte so_far some is full =
-    many_bytes field (bytes ++ byte ∷ []) (bytes_from (drop 2 rest)) (byte_read field bytes rest byte so_far some is)
-    (omega (arith, length-append bytes (byte ∷ []), full)) (only_hex (drop 2 rest))
+    many_bytes field _ _ (byte_read field _ _ _ so_far some is) (omega (arith, length-append bytes (byte ∷ []), full)) (only_hex (drop 2 rest))
 
 -- all bytes of a field were read
 pub bytes_read : (field bytes : List ℕ) → bytes_from field ≡ behind_bytes bytes (bytes_from []) → 1 ≤ length bytes → length bytes ≤ 32
     → bytes_in field ≡ Ok bytes
-bytes_read field bytes so_far some few =
-    let is : bytes_from field ≡ Ok bytes = so_far ∙ ap Ok (append-nil bytes) in
-    rw (is, le-leb 1 (length bytes) some, le-leb (length bytes) 32 few) refl
+bytes_read field bytes so_far some few = rw (so_far ∙ ap Ok (append-nil bytes), le-leb 1 (length bytes) some, le-leb (length bytes) 32 few) refl

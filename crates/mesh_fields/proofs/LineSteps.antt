@@ -1,11 +1,10 @@
 -- The lines of a text, one by one, and the faults of their bytes.
-use Rattle.std.proofs.Common.{◌≡◌, ℕ, ◌+◌, ◌<◌, ◌≤◌, suc, Bool, true, false, not, nat_eq, nat_lt, List, [], ◌∷◌, ◌++◌, Result, Ok, Err, length, ap, append_assoc, refl, sym, ◌∙◌, arith, inl, inr}
-use Rattle.std.specs.List.{list_all, slice_split}
+use Rattle.std.proofs.Common.{◌≡◌, ℕ, ◌+◌, ◌<◌, ◌≤◌, suc, Bool, true, false, nat_lt, List, [], ◌∷◌, ◌++◌, Result, Ok, Err, length, ap, append_assoc, refl, sym, ◌∙◌, arith, inl, inr}
+use Rattle.std.specs.List.{list_all}
 use Rattle.std.proofs.lemmas.Bool.{le-leb, lt-leb, true≢false}
 use Rattle.std.proofs.lemmas.Bool.Decides.{leb_tells}
 use Rattle.std.proofs.lemmas.List.{length-append}
-use Rattle.model_jobs.specs.JobFiles.{Draft, fault_at, has_ended, is_printable, lines_in, or_fault, take_fields, take_line}
-use Rattle.model_jobs.proofs.FieldReadings.{not_refused}
+use Rattle.model_jobs.specs.JobFiles.{Draft, fault_at, has_ended, is_printable, lines_in, or_fault, take_line}
 use Rattle.model_jobs.specs.Jobs.{Job}
 use Rattle.model_words.specs.Words.{◌>>=◌, refuse_if}
 use Rattle.model_words.specs.declared.faults.FaultKind.{FaultKind}
@@ -27,8 +26,7 @@ step number draft line (next ∷ lines) parts going = rw going refl
 -- a text is read line by line
 pub line_step : (text line rest : List ℕ) (number : ℕ) (draft : Draft) → text_lines text ≡ line ∷ text_lines rest → has_ended draft.section ≡ false
     → lines_in number draft (text_lines text) ≡ after_line number (text_lines rest) (take_line draft line)
-line_step text line rest number draft is going =
-    ap (lines_in number draft) is ∙ step number draft line (text_lines rest) (some_part 10 rest) going
+line_step text line rest number draft is going = ap (lines_in number draft) is ∙ step number draft line _ (some_part 10 rest) going
 
 -- the same, whatever follows the line
 pub line_step_more : (text line rest : List ℕ) (number : ℕ) (draft : Draft) (more : List ℕ) → text_lines text ≡ line ∷ text_lines rest
@@ -47,9 +45,8 @@ long_step number draft line (next ∷ lines) long going = rw (going, le-leb 1025
 -- a line whose end doesn't stand within as many bytes as a line may have
 pub unended_fault : (text : List ℕ) → text_lines text ≡ text ∷ [] → 1024 < length text → IsFaultyLine text LongLine
 unended_fault text is long number draft more going =
-    let line = unended_more text more is in
-    ap (lines_in number draft) line.is
-    ∙ long_step number draft (text ++ line.behind) line.later (omega (arith, long, length-append text line.behind)) going
+    let line = unended_more _ _ is in
+    ap (lines_in number draft) line.is ∙ long_step _ _ _ _ (omega (arith, long, length-append text line.behind)) going
 
 -- the first fault of two tests, whatever comes behind them
 first_fault : (long other : Bool) (next : Result Draft FaultKind) (kind : FaultKind) → (refuse_if LongLine long >>= λ _. refuse_if Byte other) ≡ Err kind
@@ -61,15 +58,7 @@ first_fault false false next kind is = cc
 -- a line whose bytes have a fault
 pub bytes_fault : (text line rest : List ℕ) (kind : FaultKind) → text_lines text ≡ line ∷ text_lines rest → bytes_fit line ≡ Err kind → IsFaultyLine text kind
 bytes_fault text line rest kind is refused number draft more going =
-    let taken : take_line draft line ≡ Err kind =
-    first_fault (nat_lt 1024 (length line)) (not (list_all is_printable line)) (take_fields draft (slice_split (λ b. nat_eq b 32) line)) kind refused in
-    line_step_more text line rest number draft more is going ∙ ap (after_line number (text_lines (rest ++ more))) taken
-
--- two tests that were passed
-both_passed : (long other : Bool) → (refuse_if LongLine long >>= λ _. refuse_if Byte other) ≡ Ok tt → (long ≡ false) × (other ≡ false)
-both_passed true other is = absurd (cc)
-both_passed false true is = absurd (cc)
-both_passed false false is = (refl, refl)
+    line_step_more text _ rest _ _ more is going ∙ ap (after_line number (text_lines (rest ++ more))) (first_fault _ _ _ _ refused)
 
 -- a number that is not above another
 not_above : (least n : ℕ) → nat_lt least n ≡ false → n ≤ least
@@ -77,9 +66,7 @@ not_above least n h = elim (leb_tells (suc least) n) [ inl over ↦ absurd (true
 
 -- a line whose bytes have none
 pub short_and_printable : (line : List ℕ) → bytes_fit line ≡ Ok tt → (length line ≤ 1024) × (list_all is_printable line ≡ true)
-short_and_printable line fit =
-    let passed = both_passed (nat_lt 1024 (length line)) (not (list_all is_printable line)) fit in
-    (not_above 1024 (length line) passed.0, not_refused (list_all is_printable line) passed.1)
+short_and_printable line fit = grind arith
 
 -- a line that is short enough and printable
 pub bytes_taken : (line : List ℕ) → length line ≤ 1024 → list_all is_printable line ≡ true → bytes_fit line ≡ Ok tt

@@ -1,5 +1,5 @@
 -- Lists cut at a byte.
-use Rattle.std.proofs.Common.{◌≡◌, ℕ, zero, suc, ◌+◌, ◌<◌, ◌≤◌, ap, get_or, ◌∙◌, Bool, true, false, cond, nat_eq, List, [], ◌∷◌, ◌++◌, Option, Some, None, length, take, drop, refl, subst, sym, arith, inl, inr}
+use Rattle.std.proofs.Common.{◌≡◌, ℕ, zero, suc, ◌+◌, ◌<◌, ◌≤◌, ap, get_or, ◌∙◌, Bool, true, false, cond, nat_eq, List, [], ◌∷◌, ◌++◌, Option, Some, None, length, take, drop, refl, sym, arith, inl, inr}
 use Rattle.std.specs.List.{join_with_byte, onto_first, position, position_or_len, slice_split}
 use Rattle.std.proofs.lemmas.Bool.Decides.{eqb_tells, leb_tells}
 use Rattle.std.specs.List.{list_all}
@@ -15,13 +15,7 @@ place_in c bytes = position (λ b. nat_eq b c) bytes
 -- the first part ends at that place
 pub split_at_place : (c : ℕ) (bytes : List ℕ) (place : ℕ) → place_in c bytes ≡ Some place
     → slice_split (λ b. nat_eq b c) bytes ≡ take place bytes ∷ slice_split (λ b. nat_eq b c) (drop (place + 1) bytes)
-split_at_place c bytes place h = elim (leb_tells (suc (position_or_len (λ b. nat_eq b c) bytes)) (length bytes)) [
-  | inl within ↦
-      let found = rw within.0 at h in let is : position_or_len (λ b. nat_eq b c) bytes ≡ place = cc in
-      let first = slice_split_first (λ b. nat_eq b c) bytes 0 within.1 in
-      subst (λ (n : ℕ). slice_split (λ b. nat_eq b c) bytes ≡ take n bytes ∷ slice_split (λ b. nat_eq b c) (drop (n + 1) bytes)) is first
-  | inr past ↦ let none = rw past.0 at h in absurd (cc)
-]
+split_at_place c bytes place h = grind (arith, slice_split_first)
 
 -- bytes without such a byte are one part
 split_past : (c : ℕ) (bytes : List ℕ) → length bytes ≤ position_or_len (λ b. nat_eq b c) bytes → slice_split (λ b. nat_eq b c) bytes ≡ bytes ∷ []
@@ -59,8 +53,7 @@ line_at [] i d h e printable = absurd (omega (arith, h))
 line_at (b ∷ bs) zero d h e printable = slice_split-cons_yes (λ b. nat_eq b 10) b bs (eq-eqb b 10 e)
 line_at (b ∷ bs) (suc i) d h e printable =
     let parts = and_parts (is_printable b) (list_all is_printable (take i bs)) printable in
-    let ends = between_by_test 32 126 b parts.0 in
-    let other : nat_eq b 10 ≡ false = ne_eqb b 10 (λ is. omega (arith, is, ends.0)) in
+    let other : nat_eq b 10 ≡ false = ne_eqb b 10 (λ is. omega (arith, is, (between_by_test 32 126 b parts.0).0)) in
     let on : suc (i + 1) ≡ suc i + 1 = omega arith in
     slice_split-cons_no (λ b. nat_eq b 10) b bs other ∙ ap (onto_first b) (line_at bs i d (omega (arith, h)) e parts.1)
     ∙ ap (λ (k : ℕ). (b ∷ take i bs) ∷ slice_split (λ b. nat_eq b 10) (drop k (b ∷ bs))) on
@@ -71,8 +64,7 @@ pub printable_line : (line more : List ℕ) → list_all is_printable line ≡ t
 printable_line [] more printable = refl
 printable_line (b ∷ bs) more printable =
     let parts = and_parts (is_printable b) (list_all is_printable bs) printable in
-    let ends = between_by_test 32 126 b parts.0 in
-    let other : nat_eq b 10 ≡ false = ne_eqb b 10 (λ is. omega (arith, is, ends.0)) in
+    let other : nat_eq b 10 ≡ false = ne_eqb b 10 (λ is. omega (arith, is, (between_by_test 32 126 b parts.0).0)) in
     slice_split-cons_no (λ b. nat_eq b 10) b (bs ++ 10 ∷ more) other ∙ ap (onto_first b) (printable_line bs more parts.1)
 
 -- a text that begins with a line: it is the line, its end and the rest, and whatever follows the line's end stands behind the line
@@ -91,14 +83,12 @@ first_line (b ∷ bs) line rest is = elim (eqb_tells b 10) [
   | inl same ↦
       let cut = sym (slice_split-cons_yes (λ b. nat_eq b 10) b bs same.0) ∙ is in
       let first : [] ≡ line = cc in
-      let later : slice_split (λ b. nat_eq b 10) bs ≡ slice_split (λ b. nat_eq b 10) rest = cc in
-      rw (sym first) (record { whole = rw (same.1, same_text bs rest later) refl; ends = λ more. refl })
+      rw (sym first) (record { whole = rw (same.1, same_text bs rest cc) refl; ends = λ more. refl })
   | inr other ↦
       let parts = some_part 10 bs in
       let cut = sym (slice_split-cons_no (λ b. nat_eq b 10) b bs other.0 ∙ ap (onto_first b) parts.is) ∙ is in
       let first : b ∷ parts.first ≡ line = cc in
-      let later : parts.later ≡ slice_split (λ b. nat_eq b 10) rest = cc in
-      let behind = first_line bs parts.first rest (parts.is ∙ ap (λ lines. parts.first ∷ lines) later) in
+      let behind = first_line bs parts.first rest (parts.is ∙ ap (λ lines. parts.first ∷ lines) cc) in
       rw (sym first) (record {
         whole = ap (λ left. b ∷ left) behind.whole;
         ends = λ more. slice_split-cons_no (λ b. nat_eq b 10) b (parts.first ++ 10 ∷ more) other.0 ∙ ap (onto_first b) (behind.ends more);
@@ -112,11 +102,7 @@ pub record IsLineWith (text more : List ℕ) : Type 0 where
   pub is : slice_split (λ b. nat_eq b 10) (text ++ more) ≡ (text ++ behind) ∷ later
 
 one_more : (b : ℕ) (text more : List ℕ) → nat_eq b 10 ≡ false → IsLineWith text more → IsLineWith (b ∷ text) more
-one_more b text more other line = record {
-  behind = line.behind;
-  later = line.later;
-  is = slice_split-cons_no (λ b. nat_eq b 10) b (text ++ more) other ∙ ap (onto_first b) line.is;
-}
+one_more b text more other line = grind arith
 
 pub unended_more : (text more : List ℕ) → slice_split (λ b. nat_eq b 10) text ≡ text ∷ [] → IsLineWith text more
 unended_more [] more is = let parts = some_part 10 more in record { behind = parts.first; later = parts.later; is = parts.is }
@@ -125,6 +111,5 @@ unended_more (b ∷ bs) more is = elim (eqb_tells b 10) [
   | inr other ↦
       let parts = some_part 10 bs in
       let cut : (b ∷ parts.first) ∷ parts.later ≡ (b ∷ bs) ∷ [] = sym (slice_split-cons_no (λ b. nat_eq b 10) b bs other.0 ∙ ap (onto_first b) parts.is) ∙ is in
-      let one : slice_split (λ b. nat_eq b 10) bs ≡ bs ∷ [] = cc in
-      one_more b bs more other.0 (unended_more bs more one)
+      one_more b bs more other.0 (unended_more bs more cc)
 ]

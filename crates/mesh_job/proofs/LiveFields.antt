@@ -23,10 +23,7 @@ later fields = take (length fields - 1) (drop 1 fields)
 read_by_word : (workers : ℕ) (fields : List (Bor (List ℕ))) (other : Bor (List ℕ)) → 1 ≤ length fields → list_any is_empty (texts fields) ≡ false
     → live_of_fields workers (texts fields) ≡ live_in workers (get_or fields 0 other).now (texts (later fields))
 read_by_word workers [] other some filled = absurd (omega (arith, some))
-read_by_word workers (word ∷ rest) other some filled =
-    let count : length (word ∷ rest) - 1 ≡ length rest = omega arith in
-    let all : take (length (word ∷ rest) - 1) rest ≡ rest = take_all (length (word ∷ rest) - 1) rest (omega (arith, count)) in
-    rw (all, filled) refl
+read_by_word workers (word ∷ rest) other some filled = grind (arith, take_all)
 
 -- a line of the word `run` is an attempt, and any other a call
 pub attempt_by_word : (workers : ℕ) (fields : List (Bor (List ℕ))) (other : Bor (List ℕ)) → 1 ≤ length fields → list_any is_empty (texts fields) ≡ false

@@ -1,5 +1,5 @@
 -- Fields that are read digit by digit, with the bytes behind them.
-use Rattle.std.proofs.Common.{◌≡◌, ℕ, ◌+◌, ◌-◌, ◌*◌, ◌/◌, ◌^◌, ◌<◌, ◌≤◌, true, List, [], ◌∷◌, ◌++◌, Some, Ok, length, get_or, take, drop, ap, refl, sym, ◌∙◌, arith, add-one, append_assoc}
+use Rattle.std.proofs.Common.{◌≡◌, ℕ, ◌+◌, ◌-◌, ◌*◌, ◌^◌, ◌<◌, ◌≤◌, true, List, [], ◌∷◌, ◌++◌, Some, Ok, length, get_or, take, drop, ap, refl, sym, ◌∙◌, arith, add-one, append_assoc}
 use Rattle.std.specs.Fmt.{decimal}
 use Rattle.std.specs.List.{list_all}
 use Rattle.std.proofs.Math.Nat.{pow-suc, pow-le-pow_right}
@@ -11,10 +11,10 @@ use Rattle.std.proofs.lemmas.List.Sums.{fold-append}
 use Rattle.model_jobs.proofs.Fields.{with_digit}
 use Rattle.model_jobs.proofs.FieldReadings.{address_told, digit_told, digits_told}
 use Rattle.model_jobs.specs.JobFiles.{byte_from, decimal_value, hex_number, hex_value, with_hex}
-use Rattle.model_jobs.specs.Texts.{address_text, byte_text, bytes_text, hex_digit}
+use Rattle.model_jobs.specs.Texts.{address_text, byte_text, bytes_text}
 use Rattle.mesh_fields.specs.Fields.{LeadsNoZero, is_decimal_digit, is_hex_digit}
 use Rattle.mesh_fields.proofs.Decimals.{digits_spell, next_value}
-use Rattle.mesh_fields.proofs.HexFields.{hex_spelt, two_digits}
+use Rattle.mesh_fields.proofs.HexFields.{hex_spelt}
 use Rattle.mesh_fields.proofs.Sames.{between_by_test}
 
 -- so many decimal digits of a text were read to a number
@@ -41,15 +41,13 @@ one_read text place value within digit so_far =
 -- with one digit more a number of fewer than 19 digits fits 64 bits
 pub one_fits : (text : List ℕ) (place value : ℕ) → place < length text → place < 19 → is_decimal_digit (get_or text place 0) ≡ true
     → AreDigitsOf text place value → value * 10 + (get_or text place 0 - 48) < 2 ^ 64
-one_fits text place value within few digit so_far =
-    fits_digits (value * 10 + (get_or text place 0 - 48)) (place + 1) (one_read text place value within digit so_far).below (omega (arith, few))
+one_fits text place value within few digit so_far = fits_digits _ _ (one_read _ _ _ within digit so_far).below (omega (arith, few))
 
 -- digits without a leading zero are the spelling of their value
 pub value_spelt : (text : List ℕ) (place value : ℕ) → 1 ≤ length (take place text) → place ≤ 19 → AreDigitsOf text place value → LeadsNoZero (take place text)
     → text ≡ decimal value ++ drop place text
 value_spelt text place value some few read leads =
-    let small = fits_digits value place read.below few in
-    let spelt = digits_spell (take place text) read.digits some leads (omega (arith, read.value, small)) in
+    let spelt = digits_spell (take place text) read.digits some leads (omega (arith, read.value, fits_digits value place read.below few)) in
     sym (take-append-drop place text) ∙ ap (λ (front : List ℕ). front ++ drop place text) (spelt ∙ ap decimal (sym read.value))
 
 -- so many hexadecimal digits of a text were read to a number
@@ -81,8 +79,7 @@ one_hex_read text place value digit within is so_far =
 -- with one digit more a number of fewer than 7 digits is still the number of an address
 pub one_hex_fits : (text : List ℕ) (place value digit : ℕ) → place < length text → place < 7 → hex_value (get_or text place 0) ≡ Some digit
     → AreHexDigitsOf text place value → value * 16 + digit ≤ 268435455
-one_hex_fits text place value digit within few is so_far =
-    fits_address (value * 16 + digit) (place + 1) (one_hex_read text place value digit within is so_far).below (omega (arith, few))
+one_hex_fits text place value digit within few is so_far = fits_address _ _ (one_hex_read _ _ _ _ within is so_far).below (omega (arith, few))
 
 -- digits without a leading zero are the spelling of the address that is their value
 pub address_is_spelt : (text : List ℕ) (place value : ℕ) → 1 ≤ length (take place text) → place ≤ 7 → AreHexDigitsOf text place value
@@ -96,18 +93,12 @@ address_is_spelt text place value some few read leads =
 -- two digits are the spelling of their byte
 pub byte_spelt : (text : List ℕ) (byte : ℕ) → 2 ≤ length text → byte_from (get_or text 0 0) (get_or text 1 0) ≡ Ok byte
     → (text ≡ byte_text byte ++ drop 2 text) × (byte ≤ 255)
-byte_spelt text byte some is =
-    let told = digits_told (get_or text 0 0) (get_or text 1 0) byte is in (
-      two_digits text some ∙ ap (λ (high : ℕ). high ∷ get_or text 1 0 ∷ drop 2 text) told.0
-          ∙ ap (λ (low : ℕ). hex_digit (byte / 16) ∷ low ∷ drop 2 text) told.1,
-      told.2,
-    )
+byte_spelt text byte some is = grind (arith, digits_told)
 
 -- one byte more
 pub bytes_spelt_on : (text bytes rest : List ℕ) (byte : ℕ) → text ≡ bytes_text bytes ++ rest → 2 ≤ length rest
     → byte_from (get_or rest 0 0) (get_or rest 1 0) ≡ Ok byte → text ≡ bytes_text (bytes ++ byte ∷ []) ++ drop 2 rest
 bytes_spelt_on text bytes rest byte so_far some is =
     let one = byte_spelt rest byte some is in
-    let more : bytes_text (bytes ++ byte ∷ []) ≡ bytes_text bytes ++ byte_text byte = flat_map-append byte_text bytes (byte ∷ []) in
     so_far ∙ ap (λ (left : List ℕ). bytes_text bytes ++ left) one.0 ∙ sym (append_assoc (bytes_text bytes) (byte_text byte) (drop 2 rest))
-    ∙ ap (λ (front : List ℕ). front ++ drop 2 rest) (sym more)
+    ∙ ap (λ (front : List ℕ). front ++ drop 2 rest) (sym (flat_map-append byte_text bytes (byte ∷ [])))

@@ -4,7 +4,7 @@ use Rattle.std.specs.Prelude.{codes}
 use Rattle.model_words.specs.Words.{◌>>=◌}
 use Rattle.model_words.specs.declared.commands.Command.{Command}
 use Rattle.model_words.specs.declared.faults.FaultKind.{FaultKind}
-use Rattle.model_jobs.specs.JobFiles.{Draft, are_same, command_in, script_line}
+use Rattle.model_jobs.specs.JobFiles.{Draft, are_same, script_line}
 use Rattle.mesh_job.specs.Draft.{with_line}
 
 -- a command behind a script is one behind that of the draft
@@ -19,5 +19,4 @@ pub command_taken : (draft : Draft) (worker : ℕ) (word : List ℕ) (fields : L
     → (are_same word (codes "worker") && nat_lt (worker + 1) draft.workers) ≡ false
     → (are_same word (codes "plan") && nat_eq (worker + 1) draft.workers) ≡ false → with_line draft.script draft.version word fields ≡ Ok script
     → script_line draft worker word fields ≡ Ok (record draft { script = script })
-command_taken draft worker word fields script no_worker no_plan is =
-    rw (no_worker, no_plan) (script_taken draft script (command_in draft.version word fields) is)
+command_taken draft worker word fields script no_worker no_plan is = rw (no_worker, no_plan) (script_taken _ _ _ is)

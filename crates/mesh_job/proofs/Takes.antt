@@ -54,32 +54,20 @@ fault_read old mid new fault bytes rest so_far sound found told = record {
       ∙ so_far.reads (rest ++ more) ∙ behind_no_fault mid (rest ++ more) sound ∙ told more ∙ sym (behind_fault new fault more found);
 }
 
--- nothing is taken behind a fault, but for the count
-pub fault_stays : (old new : Reading) (fault : TextFault) (bytes : List ℕ) → old.fault ≡ Some fault → new.fault ≡ Some fault → IsReadTo old bytes new []
-fault_stays old new fault bytes found stays = record {
-  taken = bytes;
-  whole = sym (append-nil bytes);
-  reads = λ more. behind_fault old fault (bytes ++ more) found ∙ sym (behind_fault new fault more stays);
-}
-
 -- the bytes that were taken, and those that are left
 pub record IsCut (bytes taken left : List ℕ) (count : ℕ) : Type 0 where
   pub front : take count bytes ≡ taken
   pub back : drop count bytes ≡ left
 
 pub cut_at : (bytes taken left : List ℕ) → bytes ≡ taken ++ left → IsCut bytes taken left (length bytes - length left)
-cut_at bytes taken left is =
-    let len : length bytes ≡ length taken + length left = ap (λ (xs : List ℕ). length xs) is ∙ length-append taken left in
-    let count : length bytes - length left ≡ length taken = omega (arith, len) in
-    record { front = rw (count, is) (take-append_seam taken left); back = rw (count, is) (drop-append_seam taken left) }
+cut_at bytes taken left is = grind (arith, length-append taken left, take-append_seam taken left, drop-append_seam taken left)
 
 -- a text was taken, and then these bytes
 pub taken_more : (old new : Reading) (text bytes left : List ℕ) → HasTaken old text → IsReadTo old bytes new left → IsReading new
     → new.taken ≡ old.taken + (length bytes - length left) → HasTaken new (text ++ take (length bytes - length left) bytes)
 taken_more old new text bytes left before on sound count =
-    let cut = cut_at bytes on.taken left on.whole in
     let len : length bytes ≡ length on.taken + length left = ap (λ (xs : List ℕ). length xs) on.whole ∙ length-append on.taken left in
-    subst (λ (part : List ℕ). HasTaken new (text ++ part)) (sym cut.front) (record {
+    subst (λ (part : List ℕ). HasTaken new (text ++ part)) (sym (cut_at bytes on.taken left on.whole).front) (record {
       sound = sound;
       count = omega (arith, count, before.count, len, length-append text on.taken);
       reads = λ more.
@@ -106,8 +94,7 @@ file_fault r text rest count fault short taken found = file_read r text rest cou
 -- the file that ends before its last line was taken
 pub file_cut : (r : Reading) (text rest : List ℕ) (count : ℕ) → length (text ++ rest) ≤ 1048576 → HasTaken r (text ++ take count rest)
     → r.fault ≡ None → IsLeft r (drop count rest) → has_ended (draft_of r.draft).section ≡ false → read_text (text ++ rest) ≡ Err (fault_at r.number Cut)
-file_cut r text rest count short taken sound left going =
-    file_read r text rest count short taken ∙ behind_no_fault r (drop count rest) sound ∙ cut_off (drop count rest) r.number (draft_of r.draft) left.part going
+file_cut r text rest count short taken sound left going = file_read _ _ _ _ short taken ∙ behind_no_fault r _ sound ∙ cut_off _ _ _ left.part going
 
 -- the file that ends with its last line
 pub file_ended : (r : Reading) (text rest : List ℕ) (count : ℕ) → length (text ++ rest) ≤ 1048576 → HasTaken r (text ++ take count rest)

@@ -45,9 +45,8 @@ line_taken text line rest draft draft' is going taken =
 -- a fault of a line's fields is one of the line
 pub line_fault : (text line rest : List ℕ) (draft : Draft) (fault : LineFault) → IsLine text line rest → has_ended draft.section ≡ false
     → IsFaultOfStep (take_fields draft (line_fields line)) fault → IsFaultOfLine draft text fault
-line_fault text line rest draft (LineKind kind) is going refused = λ number more.
-    line_step_more text line rest number draft more is.lines going
-    ∙ ap (after_line number (text_lines (rest ++ more))) (fields_taken draft line is.short is.printable ∙ refused)
+line_fault text line rest draft (LineKind kind) is going refused = λ number more. line_step_more text _ rest _ _ more is.lines going
+    ∙ ap (after_line number (text_lines (rest ++ more))) (fields_taken _ _ is.short is.printable ∙ refused)
 line_fault text line rest draft LineMemory is going h = tt
 
 -- a text that begins with the spelling of a line that is taken is read on from behind the line's end
@@ -55,13 +54,11 @@ pub spelt_line_taken : (text line rest : List ℕ) (draft draft' : Draft) → te
     → take_line draft line ≡ Ok draft' → IsReadOn draft text draft' rest
 spelt_line_taken text line rest draft draft' is going taken =
     let short = refuse_if_went LongLine (nat_lt 1024 (length line)) _ draft' taken in
-    let plain = refuse_if_went Byte (not (list_all is_printable line)) _ draft' short.1 in
-    let printable = not_refused (list_all is_printable line) plain.0 in
+    let printable = not_refused _ (refuse_if_went Byte (not (list_all is_printable line)) _ draft' short.1).0 in
     record {
       taken = line ++ 10 ∷ [];
       whole = is ∙ sym (append_assoc line (10 ∷ []) rest);
       reads = λ number more.
           ap (λ (bytes : List ℕ). lines_in number draft (text_lines bytes)) (append_assoc line (10 ∷ []) more)
-          ∙ line_step (line ++ 10 ∷ more) line more number draft (printable_line line more printable) going
-          ∙ ap (after_line number (text_lines more)) taken;
+          ∙ line_step (line ++ 10 ∷ more) line more number draft (printable_line _ more printable) going ∙ ap (after_line number (text_lines more)) taken;
     }

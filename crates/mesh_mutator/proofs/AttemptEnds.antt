@@ -41,9 +41,8 @@ pub IsBook_answered : (b : Book) (h : Heap) (cells : Cells) (worker : ℕ) (comm
     → h.next_serial ≤ b.heap.next_serial + 1 → IsBook (answered_book b h cells (entry_of worker command reply))
 IsBook_answered b h cells worker command reply steps goes_on heap book short done rooted long next =
     let m : Memory = memory_of_book b in
-    let tied : IsTied m (table_of b.heap) = IsTied_roots b.heap b.cells heap.tied in
     let step : PlainStep m command (answered m (table_of b.heap) command).reply (answered m (table_of b.heap) command).memory
-    = steps m (table_of b.heap) command heap.sound tied in
+    = steps m (table_of b.heap) command heap.sound (IsTied_roots b.heap b.cells heap.tied) in
     let outcome = done.outcome in
     let step' : PlainStep m command reply (memory_in h cells)
     = subst (λ (r : Reply). PlainStep m command r (memory_in h cells)) (sym outcome.reply_is)

@@ -30,13 +30,6 @@ use Rattle.mesh_steps.specs.declared.answers.Ref.{Ref}
 use Rattle.mesh_steps.specs.declared.answers.Stored.{Stored}
 use Rattle.mesh_steps.specs.declared.answers.Stored.TheVariants.{Blocked as StoreBlocked, Done as StoreDone, Refused as StoreRefused}
 
--- a command that touches no read-only page is not held back
-held_by_none : (m : Memory) (t : Table) (command : Command) (reply : Reply) → touches_read_only m t command ≡ false → is_held_back m t command reply ≡ false
-held_by_none m t command reply none = elim (is_refusal reply) as (λ b. is_refusal reply ≡ b → is_held_back m t command reply ≡ false) [
-  | true ↦ λ e. rw e refl
-  | false ↦ λ e. rw e none
-] refl
-
 -- what the memory says of a cell is what the cell holds
 pub root_is : (h : Heap) (cells : Cells) (cell : ℕ) → root_of (memory_in h cells) cell ≡ option_map serial_of (cell_at cells cell)
 root_is h cells cell = get_or-map (option_map serial_of) cells cell None
@@ -55,9 +48,7 @@ named_is h cells cell object rooted at = go (object_of (plain_of h) object.seria
 
 -- an empty cell names nothing
 pub named_none : (h : Heap) (cells : Cells) (cell : ℕ) → cell_at cells cell ≡ None → named_by (memory_in h cells) cell ≡ Err Empty
-named_none h cells cell at =
-    let root : root_of (memory_in h cells) cell ≡ None = root_is h cells cell ∙ ap (λ (o : Option Ref). option_map serial_of o) at in
-    rw root refl
+named_none h cells cell at = rw (root_is h cells cell ∙ ap (λ (o : Option Ref). option_map serial_of o) at) refl
 
 -- the memory with other roots
 abbrev pub with_roots : Memory → List (Option ℕ) → Memory
@@ -147,7 +138,7 @@ pub store_performed : (h h' : Heap) (cells : Cells) (command : Command) (after :
     → (IsOk after → touches_read_only (memory_in h cells) (table_of h) command ≡ is_blocked (table_of h) addr len)
     → KeepsHeap command h h' → IsStore h h' after (is_blocked (table_of h) addr len) stored → IsPerformed h h' cells cells command (attempt_of stored)
 store_performed h h' cells command after addr len StoreDone is alike touches kept whole = let store = whole.done refl in record {
-  outcome = outcome_is h' cells _ _ _ _ (is ∙ ap (others_answered _ _ (table_of h)) (alike ∙ ap (made_of (done_over cells)) store.memory)) refl store.table;
+  outcome = outcome_is _ _ _ _ _ _ (is ∙ ap (others_answered _ _ (table_of h)) (alike ∙ ap (made_of (done_over cells)) store.memory)) refl store.table;
   not_held = touches (rw store.memory refl) ∙ store.may;
   refused = no_refusal;
   other_cells = λ cell apart. refl;
@@ -164,8 +155,7 @@ store_performed h h' cells command (Ok n) addr len StoreBlocked is alike touches
     )
 store_performed h h' cells command after addr len (StoreRefused refusal) is alike touches kept whole =
     let store = whole.refused refusal refl in
-    refused_performed h h' cells command refusal
-    (is ∙ ap (others_answered _ _ (table_of h)) (alike ∙ ap (made_of (done_over cells)) store.told)) store.same
+    refused_performed _ _ _ _ _ (is ∙ ap (others_answered _ _ (table_of h)) (alike ∙ ap (made_of (done_over cells)) store.told)) store.same
 
 -- each object that is live now was live, at the address where it is
 abbrev pub KeepAddresses : Memory → Memory → Type 0
@@ -215,8 +205,7 @@ referred_is m object named is =
     let live = or_refuse_went Freed (object_of m object.serial) _ named is in
     let test = refuse_if_went Freed (not (nat_eq live.value.address object.addr)) _ named live.then in
     let same : record { serial = object.serial; object = live.value } ≡ named = (let both = test.1 in cc both) in
-    subst (λ (n : Named). IsReferredTo m object n) same
-    (record { serial = refl; live = live.is; address = equal live.value.address object.addr (unnegated _ test.0) })
+    subst (λ (n : Named). IsReferredTo m object n) same (record { serial = refl; live = live.is; address = equal _ _ (unnegated _ test.0) })
 
 -- what holds an address is live
 holding_live : (m : Memory) (addr : ℕ) (named : Named) → holding m addr ≡ Ok named → object_of m named.serial ≡ Some named.object
@@ -295,8 +284,7 @@ free_performed h h' cells cell object rooted at free =
 pub free_refused : (h h' : Heap) (cells : Cells) (cell : ℕ) (object : Ref) (refusal : Refusal) → AreRooted h cells → cell_at cells cell ≡ Some object
     → freed_at (plain_of h) object ≡ Err refusal → h' ≡ h → IsPerformed h h' cells cells (Free cell) (Done (ReplyRefused refusal))
 free_refused h h' cells cell object refusal rooted at is same =
-    refused_performed h h' cells (Free cell) refusal
-    (ap (others_answered _ (table_of h) _) (free_alike h cells cell object rooted at ∙ ap (made_of (done_over cells)) is)) same
+    refused_performed _ _ _ _ _ (ap (others_answered _ (table_of h) _) (free_alike h _ _ _ rooted at ∙ ap (made_of (done_over cells)) is)) same
 
 -- a look-up is answered what follows of the plain memory's result
 looked : (h : Heap) (cells : Cells) (command : Command) (reply : Reply) (r : Result (Reply × Memory) Refusal) → plain (memory_in h cells) 0 command ≡ r
@@ -321,8 +309,7 @@ put_empty h cells cell off bytes at =
     refused_performed h h cells _ Empty (ap (others_answered _ (table_of h) _) (first_is _ _ _ (named_none h cells cell at))) refl
 
 pub free_empty : (h : Heap) (cells : Cells) (cell : ℕ) → cell_at cells cell ≡ None → IsPerformed h h cells cells (Free cell) (Done (ReplyRefused Empty))
-free_empty h cells cell at =
-    refused_performed h h cells _ Empty (ap (others_answered _ (table_of h) _) (first_is _ _ _ (named_none h cells cell at))) refl
+free_empty h cells cell at = refused_performed _ _ _ _ _ (ap (others_answered _ (table_of h) _) (first_is _ _ _ (named_none h cells cell at))) refl
 
 -- a `peek`
 pub peek_looked : (h : Heap) (cells : Cells) (addr : ℕ) (r : Result ℕ Refusal) (reply : Reply) → byte_at_address (plain_of h) addr ≡ r
@@ -491,23 +478,3 @@ made_rooted h h' cells cell len word object is long rooted = set_rooted h' cells
         → ((serial < next_serial (plain_of h)) × (object_of (plain_of h) serial ≡ Some live)) ⊎ ((serial ≡ next_serial (plain_of h)) × (new ≡ live))
     held serial live there = held_behind (plain_of h).objects new serial live
         (ap (λ (m : Memory). object_of m serial) (sym is.memory) ∙ there)
-
--- a look-up as an attempt
-pub looked_performed : (h : Heap) (cells : Cells) (command : Command) (reply : Reply)
-    → answered (memory_in h cells) (table_of h) command
-    ≡ others_answered (memory_in h cells) (table_of h) (table_of h) (plain (memory_in h cells) 0 command)
-    → touches_read_only (memory_in h cells) (table_of h) command ≡ false → IsLooked h cells command reply
-    → IsPerformed h h cells cells command (Done reply)
-looked_performed h cells command reply is none looked = record {
-  outcome = subst (λ (o : Outcome). IsOutcome h cells o reply) (sym is) (go (plain (memory_in h cells) 0 command) looked);
-  not_held = held_by_none (memory_in h cells) (table_of h) command reply none;
-  refused = λ _. (refl, refl);
-  other_cells = λ cell apart. refl;
-  kept = keeps_same command h;
-  pages = refl;
-}
-  where
-    go : (r : Result (Reply × Memory) Refusal) → Follows r (memory_in h cells) reply (memory_in h cells)
-        → IsOutcome h cells (others_answered (memory_in h cells) (table_of h) (table_of h) r) reply
-    go (Ok x) follows = record { reply_is = follows.0; memory = follows.1; table = refl }
-    go (Err e) follows = record { reply_is = follows.0; memory = refl; table = refl }

@@ -96,6 +96,5 @@ copy_touches h cells to to_off from from_off len target source rooted at of went
 -- a copy between references keeps the addresses
 pub copied_at_keeps : (m n : Memory) (to : Ref) (to_off : ℕ) (from : Ref) (from_off len : ℕ) → copied_at m to to_off from from_off len ≡ Ok n → KeepAddresses m n
 copied_at_keeps m n to to_off from from_off len is =
-    let between = copy_went m n to from to_off from_off len is in
-    subst (λ (x : Memory). KeepAddresses m x) between.after
-    (stored_keeps m between.target to_off _ (referred_is m to between.target between.target_is).live)
+    let between = copy_went _ _ _ _ _ _ _ is in
+    subst (λ (x : Memory). KeepAddresses m x) between.after (stored_keeps m _ to_off _ (referred_is m _ _ between.target_is).live)

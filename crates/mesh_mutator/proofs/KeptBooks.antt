@@ -15,9 +15,8 @@ kept_book old new cells entries room kept book = record {
   cells = book.cells;
   rooted = λ cell object at.
       let was = book.rooted cell object at in
-      let below = was.0 in
       let serial = kept.serial in (
-        omega (arith, below, serial),
+        omega (arith, was.0, serial),
         λ live is. was.1 live (sym (ap (λ (m : Memory). object_of m object.serial) (kept.memory [])) ∙ is),
       );
   legal = subst (λ (m : Memory). IsLegal entries m) (sym (kept.memory (serials_of cells))) book.legal;

@@ -43,6 +43,5 @@ pub entries_pushed : (kept half kept' : List ℕ) (entries : List PackedEntry) (
     → entries_in kept' (entries ++ entry ∷ []) ≡ entries_in kept entries ++ record { worker = entry.worker; command = command; reply = reply } ∷ []
 entries_pushed kept half kept' entries entry command reply first second within command_there is_command is_reply =
     let later : entries_in kept' entries ≡ entries_in half entries = entries_stay half kept' entries second (entries_within kept half entries first within) in
-    let sooner : entries_in half entries ≡ entries_in kept entries = entries_stay kept half entries first within in
     let same : command_in kept' entry.command ≡ command = command_stays half kept' entry.command second command_there ∙ is_command in
-    map-append (entry_in kept') entries (entry ∷ []) ∙ rw (later, sooner, same, is_reply) refl
+    map-append (entry_in kept') entries (entry ∷ []) ∙ rw (later, entries_stay kept half entries first within, same, is_reply) refl

@@ -28,10 +28,9 @@ none_from : (f : ℕ → Option Object) (k n address : ℕ) → ((q : ℕ) → k
     → holder_from k (values_from f k n) address ≡ None
 none_from f k zero address h = refl
 none_from f k (suc n) address h =
-    let here : holds_address (f k) address ≡ false = h k (omega arith) (omega arith) in
     let rest = none_from f (suc k) n address (λ q above below. h q (omega (arith, above)) (omega (arith, below))) in
     let one : k + 1 ≡ suc k = omega arith in
-    passed k (f k) (values_from f (suc k) n) address here ∙ rw one rest
+    passed k (f k) (values_from f (suc k) n) address (h k (omega arith) (omega arith)) ∙ rw one rest
 
 some_from : (f : ℕ → Option Object) (k n j address : ℕ) → j < n → holds_address (f (k + j)) address ≡ true
     → ((q : ℕ) → k ≤ q → q < k + j → holds_address (f q) address ≡ false) → holder_from k (values_from f k n) address ≡ Some (k + j)
@@ -41,20 +40,17 @@ some_from f k (suc n) zero address below is h =
     let here : holds_address (f k) address ≡ true = subst (λ (i : ℕ). holds_address (f i) address ≡ true) none is in
     first k (f k) (values_from f (suc k) n) address here ∙ ap (λ (i : ℕ). Some i) (sym none)
 some_from f k (suc n) (suc j) address below is h =
-    let here : holds_address (f k) address ≡ false = h k (omega arith) (omega arith) in
     let one : k + 1 ≡ suc k = omega arith in
     let more : k + suc j ≡ suc k + j = omega arith in
     let there : holds_address (f (suc k + j)) address ≡ true = subst (λ (i : ℕ). holds_address (f i) address ≡ true) more is in
     let rest = some_from f (suc k) n j address (omega (arith, below)) there (λ q above under. h q (omega (arith, above)) (omega (arith, under))) in
-    passed k (f k) (values_from f (suc k) n) address here ∙ rw (one, more) rest
+    passed k (f k) (values_from f (suc k) n) address (h k (omega arith) (omega arith)) ∙ rw (one, more) rest
 
 -- a key at or below `j`, where all keys are above it, is not there
 absent : (j k : ℕ) (entries : List (ℕ × Object)) → AllByRecursion (λ y. nat_cmp j y ≡ Less) (keys_of entries) → k ≤ j → lookup (is_at (nat_cmp k)) entries ≡ None
 absent j k [] above below = refl
 absent j k (entry ∷ entries) above below =
-    let more : j < entry.0 = ranked j entry.0 Less (sym above.0) in
-    let other = other_key k entry.0 (λ same. absurd (omega (arith, same, more, below))) in
-    rw other (absent j k entries above.1 below)
+    rw (other_key k entry.0 (λ same. absurd (omega (arith, same, ranked j entry.0 Less (sym above.0), below)))) (absent j k entries above.1 below)
 
 -- what holds of an object that isn't there
 holds_none : (o : Option Object) (address : ℕ) → o ≡ None → holds_address o address ≡ false
@@ -90,8 +86,7 @@ first_is (entry ∷ entries) address sorted = go (has_address entry.1 address) r
     go false h (Some serial) rest =
         let other = other_key serial entry.0 (λ same.
         let none : lookup (is_at (nat_cmp serial)) entries ≡ None = absent entry.0 serial entries above (omega (arith, same)) in
-        let off : holds_address (lookup (is_at (nat_cmp serial)) entries) address ≡ false = holds_none (lookup (is_at (nat_cmp serial)) entries) address none in
-        let both : true ≡ false = sym rest.0 ∙ off in absurd (cc both)) in
+        let both : true ≡ false = sym rest.0 ∙ (holds_none (lookup (is_at (nat_cmp serial)) entries) address none) in absurd (cc both)) in
         (rw other rest.0, λ k below. not_first entry entries address k h (rest.1 k below))
 
 -- the first entry with the address, in the map

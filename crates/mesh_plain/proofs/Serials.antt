@@ -62,14 +62,13 @@ new_more false false m cell len address = simp length-append (omega arith)
 pub answered_more : (m n : Memory) (address : ℕ) (command : Command) (reply : Reply) → Follows (plain m address command) m reply n
     → next_serial n ≤ next_serial m + 1
 answered_more m n address (New cell len word) reply f =
-    subst (λ k. next_serial k ≤ next_serial m + 1) (sym (follows_is (plain m address (New cell len word)) m n reply f))
-    (new_more (nat_eq len 0) (nat_lt 2048 len) m cell len address)
-answered_more m n address (Put cell off bytes) reply f = subst (λ k. next_serial k ≤ next_serial m + 1) (sym (follows_is _ m n reply f)) (left_more m (Put cell off bytes) reply)
-answered_more m n address (Get cell off len) reply f = subst (λ k. next_serial k ≤ next_serial m + 1) (sym (follows_is _ m n reply f)) (left_more m (Get cell off len) reply)
-answered_more m n address (Free cell) reply f = subst (λ k. next_serial k ≤ next_serial m + 1) (sym (follows_is _ m n reply f)) (left_more m (Free cell) reply)
-answered_more m n address (Alias to from) reply f = subst (λ k. next_serial k ≤ next_serial m + 1) (sym (follows_is _ m n reply f)) (left_more m (Alias to from) reply)
-answered_more m n address (Addr cell) reply f = subst (λ k. next_serial k ≤ next_serial m + 1) (sym (follows_is _ m n reply f)) (left_more m (Addr cell) reply)
-answered_more m n address (Peek place) reply f = subst (λ k. next_serial k ≤ next_serial m + 1) (sym (follows_is _ m n reply f)) (left_more m (Peek place) reply)
-answered_more m n address (Poke place byte) reply f = subst (λ k. next_serial k ≤ next_serial m + 1) (sym (follows_is _ m n reply f)) (left_more m (Poke place byte) reply)
+    subst (λ k. next_serial k ≤ next_serial m + 1) (sym (follows_is _ _ _ _ f)) (new_more _ _ _ _ _ _)
+answered_more m n address (Put cell off bytes) reply f = subst (λ k. next_serial k ≤ next_serial m + 1) (sym (follows_is _ _ _ _ f)) (left_more m (Put cell off bytes) reply)
+answered_more m n address (Get cell off len) reply f = subst (λ k. next_serial k ≤ next_serial m + 1) (sym (follows_is _ _ _ _ f)) (left_more m (Get cell off len) reply)
+answered_more m n address (Free cell) reply f = subst (λ k. next_serial k ≤ next_serial m + 1) (sym (follows_is _ _ _ _ f)) (left_more m (Free cell) reply)
+answered_more m n address (Alias to from) reply f = subst (λ k. next_serial k ≤ next_serial m + 1) (sym (follows_is _ _ _ _ f)) (left_more m (Alias to from) reply)
+answered_more m n address (Addr cell) reply f = subst (λ k. next_serial k ≤ next_serial m + 1) (sym (follows_is _ _ _ _ f)) (left_more m (Addr cell) reply)
+answered_more m n address (Peek place) reply f = subst (λ k. next_serial k ≤ next_serial m + 1) (sym (follows_is _ _ _ _ f)) (left_more m (Peek place) reply)
+answered_more m n address (Poke place byte) reply f = subst (λ k. next_serial k ≤ next_serial m + 1) (sym (follows_is _ _ _ _ f)) (left_more m (Poke place byte) reply)
 answered_more m n address (CopyBytes to to_off from from_off len) reply f =
-    subst (λ k. next_serial k ≤ next_serial m + 1) (sym (follows_is _ m n reply f)) (left_more m (CopyBytes to to_off from from_off len) reply)
+    subst (λ k. next_serial k ≤ next_serial m + 1) (sym (follows_is _ _ _ _ f)) (left_more m (CopyBytes to to_off from from_off len) reply)

@@ -100,10 +100,9 @@ object_made old new roots roots' n cell len address small u v =
     let up = updated old new n (Some (record { address = address; bytes = replicate len 0 })) u in
     let vp = updated roots roots' cell (Some n) v in
     let one : n + 1 ≡ suc n = omega arith in
-    let next : next_serial (memory_of_maps (get nat_cmp old) n (get nat_cmp roots)) ≡ n = values_length (get nat_cmp old) 0 n in
     let objects = values_snoc (get nat_cmp old) (get nat_cmp new) (Some (record { address = address; bytes = replicate len 0 })) 0 n n (omega arith) up.0 up.1 in
     let cells = values_set (get nat_cmp roots) (get nat_cmp roots') (Some n) 0 256 cell cell small (omega arith) vp.0 vp.1 in
-    rw (one, next) (rw (objects, cells) refl)
+    rw (one, values_length (get nat_cmp old) 0 n) (rw (objects, cells) refl)
 
 -- how many serials there are
 pub serials : (f : ℕ → Option Object) (n : ℕ) (g : ℕ → Option ℕ) → next_serial (memory_of_maps f n g) ≡ n

@@ -18,11 +18,9 @@ block_element f (x ∷ xs) zero i d h g =
 block_element f (x ∷ xs) (suc k) i d h g =
     let n : ℕ = length (f x) in
     let p : ℕ = place_in_all f xs k i in
-    let long = length-append (f x) (flat_map f (take k xs)) in
-    let at : place_in_all f (x ∷ xs) (suc k) i ≡ n + p = omega (arith, long) in
-    let back : (n + p) - n ≡ p = omega arith in
+    let at : place_in_all f (x ∷ xs) (suc k) i ≡ n + p = omega (arith, length-append (f x) (flat_map f (take k xs))) in
     ap (λ (q : ℕ). get_or (f x ++ flat_map f xs) q 0) at ∙ get_or-append_right (f x) (flat_map f xs) n (n + p) 0 refl (omega arith)
-    ∙ ap (λ (q : ℕ). get_or (flat_map f xs) q 0) back ∙ block_element f xs k i d (omega (arith, h)) g
+    ∙ ap (λ (q : ℕ). get_or (flat_map f xs) q 0) (omega arith) ∙ block_element f xs k i d (omega (arith, h)) g
 
 -- a block without an element leaves all without it
 pub block_without : {X : Type 0} (f : X → List ℕ) (xs : List X) (k i : ℕ) (d y : X) → k < length xs → i < length (f (get_or xs k d))
@@ -34,9 +32,7 @@ block_without f (x ∷ xs) zero i d y h g e =
 block_without f (x ∷ xs) (suc k) i d y h g e =
     let n : ℕ = length (f x) in
     let p : ℕ = place_in_all f xs k i in
-    let long = length-append (f x) (flat_map f (take k xs)) in
-    let at : place_in_all f (x ∷ xs) (suc k) i ≡ n + p = omega (arith, long) in
     let back : (n + p) - n ≡ p = omega arith in
     ap (λ (zs : List ℕ). f x ++ zs) (block_without f xs k i d y (omega (arith, h)) g e)
     ∙ ap (λ (q : ℕ). f x ++ remove (flat_map f xs) q) (sym back) ∙ sym (remove-append_right (f x) (flat_map f xs) n (n + p) refl (omega arith))
-    ∙ ap (λ (q : ℕ). remove (f x ++ flat_map f xs) q) (sym at)
+    ∙ ap (λ (q : ℕ). remove (f x ++ flat_map f xs) q) (sym (omega (arith, length-append (f x) (flat_map f (take k xs)))))

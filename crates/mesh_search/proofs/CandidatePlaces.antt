@@ -44,8 +44,7 @@ not_less a b h = elim (leb_tells (suc a) b) [ inl l ↦ absurd (true≢false (sy
 parted : (view : View) (n : ℕ) → IsView view → IsPartitionedBy (λ (c : Candidate). nat_lt c.number n) view.candidates
 parted view n is i j d h g low =
     let xs : List Candidate = view.candidates in
-    let inside : i < length xs = omega (arith, h, g) in
-    let at_i : slice_index_or xs i d ≡ candidate_at view i = index_any xs i d no_candidate inside in
+    let at_i : slice_index_or xs i d ≡ candidate_at view i = index_any xs i d no_candidate (omega (arith, h, g)) in
     let at_j : slice_index_or xs j d ≡ candidate_at view j = index_any xs j d no_candidate g in
     let less : (candidate_at view j).number < n = is_less _ _ (ap (λ (c : Candidate). nat_lt c.number n) (sym at_j) ∙ low) in
     let below : (candidate_at view i).number < n = (elim (leb_tells (suc i) j) [
@@ -112,10 +111,9 @@ others n cs (m ∷ ns) there all none = elim (eqb_tells m n) [
   | inl same ↦ absurd (let one : times_in n (m ∷ ns) ≡ 1 + times_in n ns = rw same.0 refl in omega (arith, one, none))
   | inr apart ↦
       let rest : times_in n ns ≡ 0 = (let zero_ : times_in n (m ∷ ns) ≡ 0 + times_in n ns = rw apart.0 refl in omega (arith, zero_, none)) in
-      let here = placed n cs there in
       let at = placed m cs (All-head (IsIn cs) m ns all) in (
         (elim (eqb_tells (place_or n cs) (place_or m cs)) [
-          | inl same ↦ absurd (apart.1 (sym at.1 ∙ ap (λ (p : ℕ). (slice_index_or cs p no_candidate).number) (sym same.1) ∙ here.1))
+          | inl same ↦ absurd (apart.1 (sym at.1 ∙ ap (λ (p : ℕ). (slice_index_or cs p no_candidate).number) (sym same.1) ∙ (placed n cs there).1))
           | inr other ↦ other.0
         ]),
         others n cs ns there (All-tail (IsIn cs) m ns all) rest,
@@ -143,10 +141,9 @@ all_below cs (n ∷ ns) q all h = elim (eqb_tells q (place_or n cs)) [
 -- a view has as many candidates as it has different numbers
 pub few_named : (view : View) (numbers : List ℕ) → AreNamed view numbers → length numbers ≤ length view.candidates
 few_named view numbers are =
-    let long : length (map (λ (m : ℕ). place_or m view.candidates) numbers) ≡ length numbers = length-map numbers (λ (m : ℕ). place_or m view.candidates) in
     let few = length-le_from_distinct_below (map (λ (m : ℕ). place_or m view.candidates) numbers) (length view.candidates)
     (apart view.candidates numbers are.each are.once) (λ q h. all_below view.candidates numbers q are.each h) in
-    omega (arith, long, few)
+    omega (arith, (length-map numbers (λ (m : ℕ). place_or m view.candidates)), few)
 
 number_named : (n : ℕ) (cs : List Candidate) → IsIn cs n → (unwrap_or (find (is_numbered n) cs) no_candidate).number ≡ n
 number_named n [] h = absurd (cc h)

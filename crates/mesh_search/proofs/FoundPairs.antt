@@ -65,6 +65,5 @@ found_in view words t (Ok f) sound is =
       rw is (subst (λ (n : ℕ). (split_search order t).probes ≤ t * (n / 2)) long (search_probes order t)),
       rw is (meshable_among order view.candidates (shuffle_picks view.candidates words) (split_search order t).pairs (search_meshable order t)),
       λ n. rw is (
-          let times : times_paired n (split_search order t).pairs ≤ times_in n (map (λ (c : Candidate). c.number) order) = search_once order t n in
-          let once = shuffled_once view words sound n in omega (arith, times, once)),
+          let once = shuffled_once view words sound n in omega (arith, search_once order t n, once)),
     )

@@ -32,10 +32,9 @@ at_last (y ∷ ys) x (suc j) e = at_last ys x j (omega (arith, e))
 -- the bound goes up with a candidate more
 pub below_more : (xs : List Candidate) (x : Candidate) (from : ℕ) → AreBelow xs from → from ≤ x.number → AreBelow (xs ++ x ∷ []) (x.number + 1)
 below_more xs x from below above j h =
-    let long : length (xs ++ x ∷ []) ≡ length xs + 1 = length-append xs (x ∷ []) in
     elim (leb_tells (suc j) (length xs)) [
       | inl l ↦ let low = l.1 in rw (before_last xs x j low) (let b = below j low in omega (arith, b, above))
-      | inr l ↦ let high = l.1 in rw (at_last xs x j (omega (arith, high, h, long))) (omega arith)
+      | inr l ↦ let high = l.1 in rw (at_last xs x j (omega (arith, high, h, length-append xs (x ∷ [])))) (omega arith)
     ]
 
 -- a view goes on with a candidate above it
@@ -48,9 +47,8 @@ view_more class from xs x view below few above fits is =
       ascending = λ j k h g. elim (leb_tells (suc k) (length xs)) [
         | inl l ↦ let low = l.1 in rw (before_last xs x j (omega (arith, h, low)), before_last xs x k low) (view.ascending j k h low)
         | inr l ↦
-            let high = l.1 in
             let inside : j < length xs = omega (arith, h, g, long) in
-            rw (before_last xs x j inside, at_last xs x k (omega (arith, high, g, long))) (let b = below j inside in omega (arith, b, above))
+            rw (before_last xs x j inside, at_last xs x k (omega (arith, l.1, g, long))) (let b = below j inside in omega (arith, b, above))
       ];
     }
 
@@ -83,18 +81,15 @@ pub partial_is : (class number : ℕ) (group : GroupEntry) → IsGroup group →
     → IsCandidate class (record { number = number; occupied = map is_some group.slots })
 partial_is class number group sound is =
     let class_is : Bool = nat_eq group.class class in
-    let open_ : Bool = not group.in_mesh in
     let some : Bool = nat_lt 0 (count_by is_some group.slots) in
     let room : Bool = nat_lt (count_by is_some group.slots) (length group.slots) in
-    let tests : (class_is ≡ true) × (some ≡ true) × (room ≡ true) = all_parts class_is open_ some room is in
+    let tests : (class_is ≡ true) × (some ≡ true) × (room ≡ true) = all_parts class_is (not group.in_mesh) some room is in
     let same : group.class ≡ class = (elim (eqb_tells group.class class) [ inl l ↦ l.1 | inr l ↦ absurd (true≢false (sym tests.0 ∙ l.0)) ]) in
     let count = count_filled group.slots in
-    let long : length (map is_some group.slots) ≡ length group.slots = length-map group.slots is_some in
     let slots : length group.slots ≡ slots_of class = sound.slots ∙ ap slots_of same in
-    let low = is_less 0 (count_by is_some group.slots) tests.1 in
     let high = is_less (count_by is_some group.slots) (length group.slots) tests.2 in record {
-      width = long ∙ slots;
-      some = omega (arith, low, count);
+      width = (length-map group.slots is_some) ∙ slots;
+      some = omega (arith, is_less 0 (count_by is_some group.slots) tests.1, count);
       room = omega (arith, high, count, slots);
     }
 

@@ -121,11 +121,9 @@ tried_paired (x ∷ ls) (y ∷ rs) e once =
 -- what stays of two lists is there once where the lists are
 pub unpaired_once : (ps : List Pairing) (ls rs : List Candidate) → AreOnce (ls ++ rs) → AreOnce (unpaired ps ls ++ unpaired ps rs)
 unpaired_once ps ls rs once n =
-    let before = times-append n ls rs in
-    let after = times-append n (unpaired ps ls) (unpaired ps rs) in
     let l : times n (unpaired ps ls) ≤ times n ls = times-filter n (λ c. not (is_paired ps c)) ls in
     let r : times n (unpaired ps rs) ≤ times n rs = times-filter n (λ c. not (is_paired ps c)) rs in
-    let h = once n in omega (arith, before, after, l, r, h)
+    let h = once n in omega (arith, times-append n ls rs, times-append n (unpaired ps ls) (unpaired ps rs), l, r, h)
 
 -- where no pair is new all stay
 pub all_stay : (ps old new : List Pairing) (xs : List Candidate) → new ≡ old ++ ps → length new ≤ length old → xs ≡ unpaired ps xs
@@ -139,10 +137,8 @@ all_stay (p ∷ ps) old new xs e h = absurd (let long = ap length e in let both 
 -- the two halves of an order are there once where the order is
 pub halves_once : (half : ℕ) (order : List Candidate) → AreOnce order → AreOnce (take half order ++ take half (drop half order))
 halves_once half order once n =
-    let both = times-append n (take half order) (take half (drop half order)) in
-    let whole = times-split n half order in
     let rest = times-split n half (drop half order) in
-    let h = once n in omega (arith, both, whole, rest, h)
+    let h = once n in omega (arith, times-append n (take half order) (take half (drop half order)), times-split n half order, rest, h)
 
 -- by place, a candidate of a round is in one of its pairs exactly where its try meshes
 pub round_paired : (i : ℕ) (left right : List Candidate) → length left ≡ length right → AreOnce (left ++ right)
@@ -150,9 +146,5 @@ pub round_paired : (i : ℕ) (left right : List Candidate) → length left ≡ l
     × (map (is_paired (pairs_of_round i left right)) (rotated (i % length right) right) ≡ round_answers i left right)
 round_paired i left right e once =
     let shift : ℕ = i % length right in
-    let long : length (rotated shift right) ≡ length right = length-rotated shift right in
-    tried_paired left (rotated shift right) (omega (arith, e, long)) (λ n.
-    let both = times-append n left right in
-    let turned_ = times-append n (drop shift right) (take shift right) in
-    let whole = times-split n shift right in
-    let h = once n in omega (arith, both, turned_, whole, h))
+    tried_paired left (rotated shift right) (omega (arith, e, length-rotated shift right)) (λ n.
+    let h = once n in omega (arith, times-append n left right, times-append n (drop shift right) (take shift right), times-split n shift right, h))

@@ -45,15 +45,13 @@ length-unmeshed (false ∷ bs) (x ∷ xs) e = let rest = length-unmeshed bs xs (
 pub unmeshed_even : (k : ℕ) (bs : List Bool) (xs ys : List ℕ) → length bs ≡ length xs → length bs ≡ length ys
     → length (unmeshed bs xs) ≡ length (unmeshed (rotated k bs) ys)
 unmeshed_even k bs xs ys e f =
-    let l = length-unmeshed bs xs e in
     let long : length (rotated k bs) ≡ length bs = (let a = length-append (drop k bs) (take k bs) in let b = length-drop k bs in let d = length-take k bs in omega (arith, a, b, d)) in
-    let r = length-unmeshed (rotated k bs) ys (omega (arith, long, f)) in
     let parts : length (filter not (rotated k bs)) ≡ length (filter not (drop k bs)) + length (filter not (take k bs))
     = ap (λ (cs : List Bool). length cs) (filter-append not (drop k bs) (take k bs)) ∙ length-append (filter not (drop k bs)) (filter not (take k bs)) in
     let whole : length (filter not bs) ≡ length (filter not (take k bs)) + length (filter not (drop k bs))
     = ap (λ (cs : List Bool). length (filter not cs)) (sym (take-append-drop k bs)) ∙ ap (λ (cs : List Bool). length cs) (filter-append not (take k bs) (drop k bs))
     ∙ length-append (filter not (take k bs)) (filter not (drop k bs)) in
-    omega (arith, l, r, parts, whole)
+    omega (arith, length-unmeshed bs xs e, length-unmeshed (rotated k bs) ys (omega (arith, long, f)), parts, whole)
 
 map-unmeshed : {A B : Type 0} (f : A → B) (bs : List Bool) (xs : List A) → map f (unmeshed bs xs) ≡ unmeshed bs (map f xs)
 map-unmeshed f [] xs = refl

@@ -1,7 +1,7 @@
 -- A walk that comes to its end has built the history.
-use Rattle.std.proofs.Common.{◌≡◌, ℕ, zero, suc, ◌+◌, ◌<◌, ◌≤◌, Bool, true, false, List, [], ◌∷◌, ◌++◌, length, nat_eq, is_some, take, drop, slice_index_or, slice_set, ap, subst, refl, sym, ◌∙◌, arith, inl, inr, Option, Some, None, append_assoc, append-nil}
+use Rattle.std.proofs.Common.{◌≡◌, ℕ, zero, suc, ◌+◌, ◌<◌, ◌≤◌, Bool, true, false, List, [], ◌∷◌, ◌++◌, length, nat_eq, take, drop, slice_index_or, slice_set, ap, subst, refl, sym, ◌∙◌, arith, inl, inr, None, append_assoc, append-nil}
 use Rattle.std.specs.List.{All}
-use Rattle.std.proofs.lemmas.Bool.Decides.{eqb_tells, leb_tells}
+use Rattle.std.proofs.lemmas.Bool.Decides.{eqb_tells}
 use Rattle.std.proofs.lemmas.List.{get_or-set_same, get_or-set_other, get_or_default, get_or_past, drop-set-lt, length-set, take_all}
 use Rattle.std.proofs.lemmas.List as lists
 use Rattle.std.proofs.Math.Seq.{drop-cons, take-suc-set}
@@ -39,11 +39,7 @@ took_at (r ∷ rs) (l ∷ ls) n v m before after (suc j) h = took_at rs ls n (su
 
 -- the seat of the entry had a call there
 inside : (w : ℕ) (old new : List (List Kept)) (s : IsStepped w old new) → w < length old
-inside w old new s = elim (leb_tells (suc w) (length old)) [
-  | inl below ↦ below.1
-  | inr past ↦ let none : slice_index_or old w [] ≡ [] = get_or_past old w [] (let p = past.1 in omega (arith, p)) in
-      let clash : [] ≡ s.kept ∷ s.tail = sym none ∙ s.first in absurd (cc clash)
-]
+inside w old new s = grind (arith, get_or_past)
 
 pub stepped_same : (w : ℕ) (old new : List (List Kept)) (s : IsStepped w old new) → slice_index_or new w [] ≡ s.tail
 stepped_same w old new s = ap (λ (x : List (List Kept)). slice_index_or x w []) s.set ∙ get_or-set_same old w s.tail [] (inside w old new s)
@@ -97,20 +93,13 @@ none_before (e ∷ es) n w k v m rest below good =
           let tail = none_before es (suc n) w k v (left_by m e.command e.reply) next.1 (omega (arith, below)) next.4 in
           rw next.2 (reads_bare next.0 next.1 k v next.3 ∙ tail)
       | inr other ↦
-          let next : Next false good.1 (λ x. Good (suc n) w (left_by m e.command e.reply) es x) = rw other at good.4 in
-          none_before es (suc n) w k v (left_by m e.command e.reply) good.1 (omega (arith, below)) next
+          none_before es (suc n) w k v (left_by m e.command e.reply) good.1 (omega (arith, below)) (rw other at good.4)
     ] in
     ap (λ (l : List Kept). reads_at k v l) good.2 ∙ reads_append k v good.0 good.1 ∙ rw first later
 
 -- a step takes no read
 step_reads : (w : ℕ) (old new : List (List Kept)) (s : IsStepped w old new) (j k v : ℕ) → reads_at k v (slice_index_or old j []) ≡ reads_at k v (slice_index_or new j [])
-step_reads w old new s j k v = elim (eqb_tells w j) [
-  | inl same ↦
-      let first : slice_index_or old j [] ≡ s.kept ∷ s.tail = subst (λ (x : ℕ). slice_index_or old x [] ≡ s.kept ∷ s.tail) same.1 s.first in
-      let rest : slice_index_or new j [] ≡ s.tail = subst (λ (x : ℕ). slice_index_or new x [] ≡ s.tail) same.1 (stepped_same w old new s) in
-      ap (λ (l : List Kept). reads_at k v l) first ∙ reads_bare s.kept s.tail k v s.bare ∙ ap (λ (l : List Kept). reads_at k v l) (sym rest)
-  | inr other ↦ ap (λ (l : List Kept). reads_at k v l) (sym (stepped_other w j old new s other.1))
-]
+step_reads w old new s j k v = grind (arith, stepped_same w old new s, stepped_other w j old new s)
 
 -- what was taken has no read that saw another length
 took_reads : (n k v : ℕ) (m : Memory) (rest left : List Kept) → Took n m rest left → (k ≡ n → ⊥) → reads_at k v rest ≡ reads_at k v left
@@ -134,9 +123,7 @@ built_same : (entries : List Entry) (k : ℕ) (xs ys : List (List Kept))
     → ((q j w : ℕ) → k ≤ q → reads_at q w (slice_index_or xs j []) ≡ reads_at q w (slice_index_or ys j [])) → built_from k xs entries ≡ built_from k ys entries
 built_same [] k xs ys h = all_same xs ys k 0 (λ j w. h k j w (omega arith))
 built_same (e ∷ es) k xs ys h =
-    let here = all_same xs ys k 0 (λ j w. h k j w (omega arith)) in
-    let rest = built_same es (suc k) xs ys (λ q j w above. h q j w (omega (arith, above))) in
-    rw here (rw rest refl)
+    rw (all_same xs ys k 0 (λ j w. h k j w (omega arith))) (rw (built_same es (suc k) xs ys (λ q j w above. h q j w (omega (arith, above)))) refl)
 
 -- what is written where all reads of a length are taken
 taken_all : (rests lefts : List (List Kept)) (n v : ℕ) (m : Memory) (before after : List Entry) → AreTaken n v m rests lefts before after
@@ -197,18 +184,14 @@ taken_up_to_more n k m rests now rest left before mid after below to is taken =
     let cut_now = drop-cons now k [] there in
     let cut = drop-cons rests k [] below in
     let both : slice_index_or now k [] ∷ drop (suc k) now ≡ slice_index_or rests k [] ∷ drop (suc k) rests = sym cut_now ∙ to.others ∙ cut in
-    let same : slice_index_or now k [] ≡ slice_index_or rests k [] = cc both in
-    let after_same : drop (suc k) now ≡ drop (suc k) rests = cc both in
-    let set_more : drop (suc k) (slice_set now k left) ≡ drop (suc k) now = drop-set-lt (suc k) now k left (omega arith) in
     let front : take (suc k) (slice_set now k left) ≡ take k now ++ left ∷ [] = take-suc-set now k left there in
     rw one (record {
-      others = set_more ∙ after_same;
+      others = (drop-set-lt (suc k) now k left (omega arith)) ∙ (cc both);
       many = length-set now k left ∙ to.many;
       goes_on = λ end lefts h.
           let began : AreTaken n k m (slice_index_or rests k [] ∷ drop (suc k) rests) (left ∷ lefts) mid end =
-          (after, subst (λ (r : List Kept). IsTakenTo n k m r left mid after) (is ∙ same) taken, h) in
-          let whole : AreTaken n k m (drop k rests) (left ∷ lefts) mid end = subst (λ (rs : List (List Kept)). AreTaken n k m rs (left ∷ lefts) mid end) (sym cut) began in
-          let first = to.goes_on end (left ∷ lefts) whole in
+          (after, subst (λ (r : List Kept). IsTakenTo n k m r left mid after) (is ∙ (cc both)) taken, h) in
+          let first = to.goes_on end (left ∷ lefts) (subst (λ (rs : List (List Kept)). AreTaken n k m rs (left ∷ lefts) mid end) (sym cut) began) in
           let joined : take k now ++ left ∷ lefts ≡ take (suc k) (slice_set now k left) ++ lefts = sym (append_assoc (take k now) (left ∷ []) lefts) ∙ ap (λ (ls : List (List Kept)). ls ++ lefts) (sym front) in
           subst (λ (ls : List (List Kept)). AreTaken n 0 m rests ls before end) joined first;
     })
@@ -217,10 +200,8 @@ taken_up_to_more n k m rests now rest left before mid after below to is taken =
 pub taken_up_to_all : (n k : ℕ) (m : Memory) (rests now : List (List Kept)) (before after : List Entry) → length rests ≤ k → IsTakenUpTo n k m rests now before after
     → AreTaken n 0 m rests now before after
 taken_up_to_all n k m rests now before after past to =
-    let none : drop k rests ≡ [] = drop_all rests k past in
-    let last : AreTaken n k m (drop k rests) [] after after = rw none refl in
     let whole : take k now ++ [] ≡ now = append-nil (take k now) ∙ take_all k now (let x = to.many in omega (arith, past, x)) in
-    subst (λ (ls : List (List Kept)). AreTaken n 0 m rests ls before after) whole (to.goes_on after [] last)
+    subst (λ (ls : List (List Kept)). AreTaken n 0 m rests ls before after) whole (to.goes_on after [] (rw (drop_all rests k past) refl))
 
 -- within a list the default has no part
 pub index_any : {X : Type 0} (xs : List X) (i : ℕ) (d e : X) → i < length xs → slice_index_or xs i d ≡ slice_index_or xs i e
@@ -233,31 +214,16 @@ ComesTo m rests entries n now lefts history = (after : List Entry) → Walks n n
 -- before the first entry
 pub comes_first : (now : Memory) (rests seats : List (List Kept)) (entries history after : List Entry) → now ≡ empty_memory → rests ≡ seats → history ≡ []
     → Walks 0 now rests entries history after → Walks 0 empty_memory seats entries [] after
-comes_first now rests seats entries history after same_memory same_rests same_history walks =
-    let one = subst (λ (m : Memory). Walks 0 m rests entries history after) same_memory walks in
-    let two = subst (λ (l : List (List Kept)). Walks 0 empty_memory l entries history after) same_rests one in
-    subst (λ (h : List Entry). Walks 0 empty_memory seats entries h after) same_history two
+comes_first now rests seats entries history after same_memory same_rests same_history walks = grind arith
 
 -- one entry more
 pub comes_more : (m now : Memory) (rests lefts mids next : List (List Kept)) (entries : List Entry) (n : ℕ) (history mid after : List Entry) (entry : Entry) → n < length entries
     → slice_index_or entries n entry ≡ entry → ComesTo m rests entries n now lefts history → AreTaken n 0 now lefts mids history mid → IsStepped entry.worker mids next
     → after ≡ mid ++ entry ∷ [] → ComesTo m rests entries (n + 1) (left_by now entry.command entry.reply) next after
-comes_more m now rests lefts mids next entries n history mid after entry below at comes taken stepped more =
-    let one : suc n ≡ n + 1 = omega arith in
-    subst (λ (k : ℕ). ComesTo m rests entries k (left_by now entry.command entry.reply) next after) one (λ end walks.
-    let cut : drop n entries ≡ entry ∷ drop (suc n) entries = drop-cons entries n entry below ∙ ap (λ (e : Entry). e ∷ drop (suc n) entries) at in
-    let on : Walks (suc n) (left_by now entry.command entry.reply) next (drop (suc n) entries) (mid ++ entry ∷ []) end =
-    subst (λ (h : List Entry). Walks (suc n) (left_by now entry.command entry.reply) next (drop (suc n) entries) h end) more walks in
-    let whole : Walks n now lefts (entry ∷ drop (suc n) entries) history end = (mids, next, mid, taken, stepped, on) in
-    comes end (subst (λ (es : List Entry). Walks n now lefts es history end) (sym cut) whole))
+comes_more m now rests lefts mids next entries n history mid after entry below at comes taken stepped more = grind (arith, drop-cons)
 
 -- the journal's end
 pub comes_to_end : (m now : Memory) (rests lefts ends : List (List Kept)) (entries : List Entry) (n : ℕ) (history after : List Entry) → length entries ≤ n
     → ComesTo m rests entries n now lefts history → AreTaken n 0 now lefts ends history after → ((w : ℕ) → slice_index_or ends w [] ≡ []) → Walks 0 m rests entries [] after
 comes_to_end m now rests lefts ends entries n history after past comes taken none =
     comes after (rw (drop_all entries n past) (ends, taken, none))
-
--- nothing is there
-pub no_some : {X : Type 0} (x : Option X) → is_some x ≡ false → x ≡ None
-no_some None h = refl
-no_some (Some x) h = absurd (cc h)

@@ -49,19 +49,7 @@ cut_at entries k e below at = drop-cons entries k e below ∙ ap (λ (x : Entry)
 -- another worker's entry
 pub same_past : (calls rest : List Kept) (worker : ℕ) (entries : List Entry) (k place : ℕ) (e : Entry) → k < length entries → slice_index_or entries k e ≡ e
     → nat_eq e.worker worker ≡ false → SameSoFar calls rest worker entries k place → SameSoFar calls rest worker entries (k + 1) place
-same_past calls rest worker entries k place e below at other same =
-    let cut = cut_at entries k e below at in
-    let on : calls_of worker (drop k entries) ≡ calls_of worker (drop (suc k) entries) = ap (λ (x : List Entry). calls_of worker x) cut ∙ rw other refl in
-    let one : suc k ≡ k + 1 = omega arith in
-    let small = same.small in
-    subst (λ (j : ℕ). SameSoFar calls rest worker entries j place) one (record {
-      done = same.done;
-      theirs = same.theirs;
-      ours = same.ours ∙ ap (λ (x : List Call). same.done ++ x) on;
-      many = same.many;
-      small = omega (arith, small);
-      first = same.first;
-    })
+same_past calls rest worker entries k place e below at other same = grind (arith, cut_at)
 
 -- the worker's own entry is the first call that follows of its own
 own_call : (worker : ℕ) (entries : List Entry) (k : ℕ) (e : Entry) → k < length entries → slice_index_or entries k e ≡ e → nat_eq e.worker worker ≡ true
@@ -85,12 +73,11 @@ same_own calls rest tail rest' kept worker entries k place e below at own head i
     let one : suc k ≡ k + 1 = omega arith in
     let small = same.small in
     let many = same.many in
-    let l = length-append same.done (entry_call e ∷ []) in
     subst (λ (j : ℕ). SameSoFar calls rest' worker entries j (place + 1)) one (record {
       done = same.done ++ entry_call e ∷ [];
       theirs = same.theirs ∙ ap (λ (x : List Call). same.done ++ x) theirs ∙ sym (append_assoc same.done (entry_call e ∷ []) (recorded rest'));
       ours = same.ours ∙ ap (λ (x : List Call). same.done ++ x) on ∙ sym (append_assoc same.done (entry_call e ∷ []) (calls_of worker (drop (suc k) entries)));
-      many = omega (arith, l, many);
+      many = omega (arith, length-append same.done (entry_call e ∷ []), many);
       small = omega (arith, small);
       first = skipped.first;
     })
@@ -110,12 +97,7 @@ seam (d ∷ ds) xs = seam ds xs
 differ_next : (calls rest : List Kept) (worker : ℕ) (entries : List Entry) (k place : ℕ) (xs ys : List Call) → recorded rest ≡ xs
     → calls_of worker (drop k entries) ≡ ys → slice_get xs 0 ≢ slice_get ys 0 → SameSoFar calls rest worker entries k place
     → DifferFirstAt (recorded calls) (calls_of worker entries) place
-differ_next calls rest worker entries k place xs ys theirs ours other same =
-    rw (same.theirs ∙ ap (λ (l : List Call). same.done ++ l) theirs, same.ours ∙ ap (λ (l : List Call). same.done ++ l) ours)
-    (subst (λ (n : ℕ). DifferFirstAt (same.done ++ xs) (same.done ++ ys) n) same.many (record {
-      same_before = front same.done xs ys;
-      other = λ one. other (sym (seam same.done xs) ∙ one ∙ seam same.done ys);
-    }))
+differ_next calls rest worker entries k place xs ys theirs ours other same = grind (arith, front, seam)
 
 -- no call is left for its own entry
 pub differ_short : (calls rest : List Kept) (worker : ℕ) (entries : List Entry) (k place : ℕ) (e : Entry) → k < length entries → slice_index_or entries k e ≡ e
@@ -130,12 +112,6 @@ pub differ_here : (calls rest tail : List Kept) (kept : Kept) (worker : ℕ) (en
 differ_here calls rest tail kept worker entries k place e below at own head differs same =
     differ_next calls rest worker entries k place _ _ (first_call calls rest tail kept worker entries k place head same) (own_call worker entries k e below at own)
     (λ both. let one : call_of kept ≡ entry_call e = cc both in differs one) same
-
--- after all entries no call is left
-pub same_all : (calls rest : List Kept) (worker : ℕ) (entries : List Entry) (k place : ℕ) → length entries ≤ k → rest ≡ [] → SameSoFar calls rest worker entries k place
-    → recorded calls ≡ calls_of worker entries
-same_all calls rest worker entries k place past none same =
-    same.theirs ∙ ap (λ (x : List Kept). same.done ++ recorded x) none ∙ ap (λ (x : List Entry). same.done ++ calls_of worker x) (sym (drop_all entries k past)) ∙ sym same.ours
 
 -- after all entries one is left
 pub differ_some : (calls rest : List Kept) (worker : ℕ) (entries : List Entry) (k place : ℕ) → length entries ≤ k → (rest ≡ [] → ⊥)

@@ -1,9 +1,8 @@
 -- Seats that are made, and one call more.
-use Rattle.std.proofs.Common.{◌≡◌, ℕ, zero, suc, ◌+◌, ◌<◌, ◌≤◌, true, List, [], ◌∷◌, ◌++◌, length, take, slice_index, slice_index_or, ap, subst, refl, sym, ◌∙◌, arith, is_some, inl, inr}
-use Rattle.std.proofs.lemmas.Bool.Decides.{eqb_tells, leb_tells}
+use Rattle.std.proofs.Common.{◌≡◌, ℕ, zero, suc, ◌+◌, ◌<◌, ◌≤◌, true, List, [], ◌∷◌, ◌++◌, length, take, slice_index, slice_index_or, ap, refl, sym, ◌∙◌, arith, is_some, inl, inr}
 use Rattle.std.specs.List.{All}
 use Rattle.std.proofs.lemmas.List.{get_or-map, get_or_past, length-append, length-map, map-append, take_more}
-use Rattle.std.proofs.lemmas.List.Elements.{All-append, All-cons}
+use Rattle.std.proofs.lemmas.List.Elements.{All-append}
 use Rattle.std.proofs.lemmas.Option.{slice_get_within, get_or_from_slice_get}
 use Rattle.model_memory.specs.Plain.{Entry}
 use Rattle.model_memory.specs.SeatLaws.{HasStranger}
@@ -19,11 +18,7 @@ seats_more (c ∷ cs) (suc i) k n below is = ap (λ (seats : List Seat). record 
 
 -- one call more
 pub kept_more : (s t : Seat) (kept : Kept) → IsSeat s → length s.calls < s.room → IsKept kept → t.calls ≡ s.calls ++ kept ∷ [] → t.room ≡ s.room → IsSeat t
-kept_more s t kept is below good calls room = record {
-  short = let l = length-append s.calls (kept ∷ []) in rw (calls, room) (omega (arith, l, below));
-  kept = subst (λ (ks : List Kept). All IsKept ks) (sym calls) (All-append IsKept s.calls (kept ∷ []) is.kept
-      (All-cons IsKept kept [] good (λ k d none. absurd (omega (arith, none)))));
-}
+kept_more s t kept is below good calls room = grind (arith, length-append s.calls (kept ∷ []), All-append IsKept s.calls (kept ∷ []) is.kept)
 
 -- as many
 pub calls_many : (seats : List Seat) → length (calls_of_seats seats) ≡ length seats
@@ -45,20 +40,9 @@ pub calls_more : (seats : List Seat) (k : ℕ) (d : Seat) → k < length seats �
 calls_more seats k d below =
     ap (λ (ss : List Seat). calls_of_seats ss) (take_more seats k d below) ∙ map-append (λ seat. seat.calls) (take k seats) (slice_index_or seats k d ∷ [])
 
--- each seat's calls are kept ones
-pub kept_seat : (seats : List Seat) (k : ℕ) (calls : List Kept) → slice_index_or (calls_of_seats seats) k [] ≡ calls → All IsKept calls
-    → ((w : ℕ) → w < k → All IsKept (kept_by (calls_of_seats seats) w)) → (w : ℕ) → w < k + 1 → All IsKept (kept_by (calls_of_seats seats) w)
-kept_seat seats k calls is kept before w below = elim (eqb_tells w k) [
-  | inl same ↦ subst (λ (x : ℕ). All IsKept (kept_by (calls_of_seats seats) x)) (sym same.1) (subst (λ (l : List Kept). All IsKept l) (sym is) kept)
-  | inr other ↦ before w (let o = other.1 in omega (arith, o, below))
-]
-
 pub kept_all : (seats : List Seat) (k : ℕ) → length seats ≤ k → ((w : ℕ) → w < k → All IsKept (kept_by (calls_of_seats seats) w)) → (w : ℕ)
     → All IsKept (kept_by (calls_of_seats seats) w)
-kept_all seats k past before w = elim (leb_tells (suc w) k) [
-  | inl below ↦ before w below.1
-  | inr beyond ↦ subst (λ (l : List Kept). All IsKept l) (sym (calls_past seats w (let b = beyond.1 in omega (arith, past, b)))) (λ j d none. absurd (omega (arith, none)))
-]
+kept_all seats k past before w = grind (arith, calls_past)
 
 -- only reads saw a length
 pub kept_marked : (calls : List Kept) → All IsKept calls → All is_marked calls
@@ -70,7 +54,4 @@ pub no_stranger : (count : ℕ) (numbers : List ℕ) (entries : List Entry) → 
     → HasStranger count numbers entries → ⊥
 no_stranger count numbers entries few known (inl more) = omega (arith, few, more)
 no_stranger count numbers entries few known (inr some) =
-    let within = slice_get_within entries some.0 some.1 some.2 in
-    let there = get_or_from_slice_get entries some.0 some.1 some.1 some.2 in
-    let low : some.1.worker < count = subst (λ (e : Entry). e.worker < count) there (known some.0 some.1 within) in
-    let high = some.3 in omega (arith, low, high)
+    grind (arith, slice_get_within entries some.0 some.1 some.2, get_or_from_slice_get entries some.0 some.1 some.1 some.2)

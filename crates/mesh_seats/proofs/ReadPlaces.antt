@@ -1,5 +1,5 @@
 -- Where a read may stand after some calls of its seat, and where not.
-use Rattle.std.proofs.Common.{◌≡◌, ℕ, suc, ◌+◌, ◌<◌, ◌≤◌, Bool, true, false, ◌||◌, List, [], ◌∷◌, ◌++◌, length, nat_eq, nat_lt, nat_le, take, drop, slice_get, ap, subst, refl, sym, ◌∙◌, arith, inl, inr, Some, None, append-nil}
+use Rattle.std.proofs.Common.{◌≡◌, ℕ, suc, ◌+◌, ◌<◌, ◌≤◌, Bool, true, false, ◌||◌, List, [], ◌∷◌, ◌++◌, length, nat_lt, nat_le, take, drop, slice_get, ap, subst, refl, sym, ◌∙◌, arith, Some, None, append-nil}
 use Rattle.std.specs.List.{list_any}
 use Rattle.std.proofs.Math.Seq.{take-suc}
 use Rattle.std.proofs.lemmas.Bool.{le-leb, le-ltb, lt-leb, lt-ltb}
@@ -8,10 +8,9 @@ use Rattle.std.proofs.lemmas.Option.{get_or_from_slice_get, slice_get_past, slic
 use Rattle.std.proofs.lemmas.List.{length-append}
 use Rattle.model_memory.specs.Plain.{Entry}
 use Rattle.model_memory.specs.Seats.{Call}
-use Rattle.model_memory.specs.Reads.{Kept, call_of, is_out_of_place, is_passed, lengths_seen, places_from, recorded}
+use Rattle.model_memory.specs.Reads.{Kept, is_out_of_place, is_passed, lengths_seen, places_from, recorded}
 use Rattle.model_memory.proofs.FittingCalls.{drop_at, drop_none, recorded_append, seen_append}
 use Rattle.model_memory.proofs.WovenCalls.{first_or}
-use Rattle.model_words.proofs.Tests.{tells}
 
 -- the places ascend, and end below the total
 abbrev pub Ascend : ℕ → List ℕ → Type 0
@@ -20,19 +19,11 @@ Ascend total (p ∷ ps) = (suc p ≤ first_or total ps) × Ascend total ps
 
 first_at : (es : List Entry) (k w total : ℕ) → total ≡ k + length es → k ≤ first_or total (places_from k w es)
 first_at [] k w total is = omega (arith, is)
-first_at (e ∷ es) k w total is = let rest = first_at es (suc k) w total (omega (arith, is)) in elim (tells (nat_eq e.worker w)) [
-  | inl own ↦ rw own (omega arith)
-  | inr other ↦ rw other (omega (arith, rest))
-]
+first_at (e ∷ es) k w total is = grind (arith, first_at es (suc k) w total (omega (arith, is)))
 
 pub places_ascend : (es : List Entry) (k w total : ℕ) → total ≡ k + length es → Ascend total (places_from k w es)
 places_ascend [] k w total is = tt
-places_ascend (e ∷ es) k w total is =
-    let rest = places_ascend es (suc k) w total (omega (arith, is)) in
-    let first = first_at es (suc k) w total (omega (arith, is)) in elim (tells (nat_eq e.worker w)) [
-      | inl own ↦ rw own (first, rest)
-      | inr other ↦ rw other rest
-    ]
+places_ascend (e ∷ es) k w total is = grind (arith, first_at, places_ascend es (suc k) w total (omega (arith, is)))
 
 -- a disjunction of two that fail
 both_false : (a b : Bool) → a ≡ false → b ≡ false → (a || b) ≡ false
@@ -77,10 +68,9 @@ pub leaves_read : (places : List ℕ) (total : ℕ) (before : List Kept) (c : Ke
 leaves_read places total before c low n ps room sees above fine =
     let none : recorded (c ∷ []) ≡ [] = rw sees refl in
     let same_rec : recorded (before ++ c ∷ []) ≡ recorded before = recorded_append before (c ∷ []) ∙ rw none (append-nil (recorded before)) in
-    let one_more : lengths_seen (before ++ c ∷ []) ≡ lengths_seen before ++ n ∷ [] = seen_append before (c ∷ []) ∙ rw sees refl in
     record {
       cut = subst (λ (l : List Call). drop (length l) places ≡ ps) (sym same_rec) room.cut;
-      seen = λ q above_q. subst (λ (ns : List ℕ). list_any (λ m. nat_lt q m) ns ≡ false) (sym one_more)
+      seen = λ q above_q. subst (λ (ns : List ℕ). list_any (λ m. nat_lt q m) ns ≡ false) (sym (seen_append before (c ∷ []) ∙ rw sees refl))
           (any_append (λ m. nat_lt q m) (lengths_seen before) (n ∷ []) (room.seen q (omega (arith, above, above_q))) (both_false (nat_lt q n) false (le-ltb q n above_q) refl));
       after = λ q above_q. subst (λ (l : List Call). list_any (λ place. nat_le q place) (take (length l) places) ≡ false) (sym same_rec)
           (room.after q (omega (arith, above, above_q)));
@@ -89,9 +79,7 @@ leaves_read places total before c low n ps room sees above fine =
 
 -- a recorded call is one more
 one_recorded : (before : List Kept) (c : Kept) → c.seen ≡ None → length (recorded (before ++ c ∷ [])) ≡ suc (length (recorded before))
-one_recorded before c bare =
-    let one : recorded (c ∷ []) ≡ call_of c ∷ [] = rw bare refl in
-    rw (recorded_append before (c ∷ [])) (rw one (let l = length-append (recorded before) (call_of c ∷ []) in omega (arith, l)))
+one_recorded before c bare = grind (arith, recorded_append, length-append)
 
 -- after a recorded call there is room from the one after its index on
 pub leaves_recorded : (places : List ℕ) (total : ℕ) (before : List Kept) (c : Kept) (low p : ℕ) (qs : List ℕ) → Ascend total (p ∷ qs)
@@ -111,10 +99,6 @@ leaves_recorded places total before c low p qs ascend room bare =
       next = ascend.0;
     }
 
--- before the first call there is room from 0 on
-pub leaves_none : (places : List ℕ) (total : ℕ) → Leaves places total [] 0 places
-leaves_none places total = record { cut = refl; seen = λ q h. refl; after = λ q h. refl; next = omega arith }
-
 either_true : (a b : Bool) → a ≡ true → (a || b) ≡ true
 either_true true b h = refl
 either_true false b h = cc
@@ -130,18 +114,14 @@ any_last p xs x h = list_any-append p xs (x ∷ []) ∙ or_true (list_any p xs) 
 -- a read that saw less than the read before it is out of place
 pub wrong_after_read : (places : List ℕ) (total : ℕ) (before : List Kept) (c : Kept) (n q : ℕ) → c.seen ≡ Some n → q < n
     → is_out_of_place places total (before ++ c ∷ []) q ≡ true
-wrong_after_read places total before c n q sees less =
-    let one : lengths_seen (before ++ c ∷ []) ≡ lengths_seen before ++ n ∷ [] = seen_append before (c ∷ []) ∙ rw sees refl in
-    either_true _ _ (either_true _ _ (either_true _ _ (subst (λ (ns : List ℕ). list_any (λ m. nat_lt q m) ns ≡ true) (sym one)
-    (any_last (λ m. nat_lt q m) (lengths_seen before) n (lt-ltb q n less)))))
+wrong_after_read places total before c n q sees less = grind (arith, seen_append, any_last)
 
 -- one that saw no more than the index of the recorded call before it is
 pub wrong_after_recorded : (places : List ℕ) (total : ℕ) (before : List Kept) (c : Kept) (p q : ℕ) → c.seen ≡ None
     → slice_get places (length (recorded before)) ≡ Some p → q ≤ p → is_out_of_place places total (before ++ c ∷ []) q ≡ true
 wrong_after_recorded places total before c p q bare at small =
-    let len = one_recorded before c bare in
     let longer : take (length (recorded (before ++ c ∷ []))) places ≡ take (length (recorded before)) places ++ p ∷ [] =
-    ap (λ (k : ℕ). take k places) len ∙ take_more places (length (recorded before)) p at in
+    ap (λ (k : ℕ). take k places) (one_recorded before c bare) ∙ take_more places (length (recorded before)) p at in
     either_true _ _ (either_true _ _ (or_true _ _ (subst (λ (l : List ℕ). list_any (λ place. nat_le q place) l ≡ true) (sym longer)
     (any_last (λ place. nat_le q place) (take (length (recorded before)) places) p (le-leb q p small)))))
 

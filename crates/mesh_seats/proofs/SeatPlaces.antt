@@ -12,7 +12,7 @@ use Rattle.model_memory.specs.Seats.{calls_of}
 use Rattle.model_memory.proofs.FittingCalls.{drop_at, get_seam}
 use Rattle.model_memory.proofs.WovenCalls.{AtLeast, entry_call, first_or, looks, places_least}
 use Rattle.mesh_seats.specs.Walk.{IsAnswered, StopsAt}
-use Rattle.mesh_seats.proofs.ReadPlaces.{Ascend, Leaves, in_place, leaves_none, leaves_read, leaves_recorded, places_ascend, wrong_after_read, wrong_after_recorded, wrong_before_recorded, wrong_past_end}
+use Rattle.mesh_seats.proofs.ReadPlaces.{Ascend, Leaves, in_place, leaves_read, leaves_recorded, places_ascend, wrong_after_read, wrong_after_recorded, wrong_before_recorded, wrong_past_end}
 
 -- the indices of a worker's entries
 abbrev pub places_of : ℕ → List Entry → List ℕ
@@ -32,17 +32,6 @@ pub record Stands (entries : List Entry) (n v : ℕ) (calls rest : List Kept) : 
 pub record Wrong (entries : List Entry) (v : ℕ) (calls : List Kept) (i : ℕ) : Type 0 where
   pub right : (k : ℕ) → k < i → IsRight entries (places_of v entries) calls k
   pub here : IsRight entries (places_of v entries) calls i → ⊥
-
--- before the first entry and the first call
-pub stands_first : (entries : List Entry) (v : ℕ) (calls : List Kept) → recorded calls ≡ calls_of v entries → Stands entries 0 v calls calls
-stands_first entries v calls own = record {
-  before = [];
-  split = refl;
-  right = λ i below. absurd (omega (arith, below));
-  leaves = leaves_none (places_of v entries) (length entries);
-  own = own;
-  early = λ kept tail q at sees below. absurd (omega (arith, below));
-}
 
 -- one call more stands before
 split_more : (calls before tail : List Kept) (kept : Kept) → calls ≡ before ++ kept ∷ tail → calls ≡ (before ++ kept ∷ []) ++ tail
@@ -76,25 +65,23 @@ stands_read entries n v m calls tail kept many is answered s =
     let places = places_of v entries in
     let total = length entries in
     let ps = places_from n v (drop n entries) in
-    let fine : is_out_of_place places total s.before n ≡ false =
-    in_place places total s.before n n ps (ascend_from entries n v many) s.leaves (omega arith) s.leaves.next in
+    let fine : is_out_of_place places total s.before n ≡ false = in_place _ _ _ _ _ _ (ascend_from _ _ _ many) s.leaves (omega arith) s.leaves.next in
     let here : IsRight entries places calls (length s.before) = λ other q at sees.
-    let same = call_there calls s.before tail kept other s.split at in
-    let eq : Some n ≡ Some q = sym answered.0 ∙ ap (λ (k : Kept). k.seen) same ∙ sees in
-    let n_is : n ≡ q = cc eq in (
+    let same = call_there _ _ _ _ _ s.split at in
+    let n_is : n ≡ q = cc (sym answered.0 ∙ ap (λ (k : Kept). k.seen) same ∙ sees) in (
       subst (λ (x : ℕ). is_out_of_place places total (take (length s.before) calls) x ≡ false) n_is
-          (subst (λ (b : List Kept). is_out_of_place places total b n ≡ false) (sym (calls_before calls s.before (kept ∷ tail) s.split)) fine),
+          (subst (λ (b : List Kept). is_out_of_place places total b n ≡ false) (sym (calls_before _ _ _ s.split)) fine),
       subst (λ (x : ℕ). other.reply ≡ read_reply (memory_after empty_memory (take x entries)) other.command) n_is
           (subst (λ (k : Kept). k.reply ≡ read_reply (memory_after empty_memory (take n entries)) k.command) same
           (subst (λ (x : Memory). kept.reply ≡ read_reply x kept.command) is answered.1)),
     ) in
     record {
       before = s.before ++ kept ∷ [];
-      split = split_more calls s.before tail kept s.split;
-      right = right_more entries v calls s.before kept s.right here;
-      leaves = leaves_read places total s.before kept n n ps s.leaves answered.0 (omega arith) s.leaves.next;
+      split = split_more _ _ _ _ s.split;
+      right = right_more _ _ _ _ _ s.right here;
+      leaves = leaves_read _ _ _ _ _ _ _ s.leaves answered.0 (omega arith) s.leaves.next;
       own = (let o : recorded (kept ∷ tail) ≡ calls_of v (drop n entries) = s.own in rw answered.0 at o);
-      early = λ next rest q at sees below. wrong_after_read places total s.before kept n q answered.0 below;
+      early = λ next rest q at sees below. wrong_after_read places total s.before kept _ _ answered.0 below;
     }
 
 -- and so are several
@@ -102,27 +89,19 @@ pub stands_reads : (entries : List Entry) (n v : ℕ) (m : Memory) (calls rest t
     → m ≡ memory_after empty_memory (take n entries) → rest ≡ taken ++ left → All (IsAnswered n m) taken → Stands entries n v calls rest → Stands entries n v calls left
 stands_reads entries n v m calls rest [] left many is split right s = subst (λ (l : List Kept). Stands entries n v calls l) split s
 stands_reads entries n v m calls rest (c ∷ cs) left many is split right s =
-    let first : Stands entries n v calls (c ∷ (cs ++ left)) = subst (λ (l : List Kept). Stands entries n v calls l) split s in
     stands_reads entries n v m calls (cs ++ left) cs left many is refl (λ k d below. right (suc k) d (omega (arith, below)))
-    (stands_read entries n v m calls (cs ++ left) c many is (right 0 c (omega arith)) first)
+    (stands_read entries n v m calls (cs ++ left) c many is (right 0 c (omega arith)) (subst (λ (l : List Kept). Stands entries n v calls l) split s))
 
 -- a read out of place is not right
 misplaced : (entries : List Entry) (v : ℕ) (calls before tail : List Kept) (kept : Kept) (q : ℕ) → calls ≡ before ++ kept ∷ tail → kept.seen ≡ Some q
     → is_out_of_place (places_of v entries) (length entries) before q ≡ true → IsRight entries (places_of v entries) calls (length before) → ⊥
-misplaced entries v calls before tail kept q split sees out right =
-    let at : slice_get calls (length before) ≡ Some kept = ap (λ (l : List Kept). slice_get l (length before)) split ∙ get_seam before tail kept in
-    let fine : is_out_of_place (places_of v entries) (length entries) (take (length before) calls) q ≡ false = (right kept q at sees).0 in
-    let fine' : is_out_of_place (places_of v entries) (length entries) before q ≡ false =
-    subst (λ (b : List Kept). is_out_of_place (places_of v entries) (length entries) b q ≡ false) (calls_before calls before (kept ∷ tail) split) fine in
-    let clash : true ≡ false = sym out ∙ fine' in cc clash
+misplaced entries v calls before tail kept q split sees out right = grind (arith, get_seam before tail kept, calls_before calls before (kept ∷ tail) split)
 
 -- the first call left is wrong
 pub wrong_here : (entries : List Entry) (n v : ℕ) (calls rest : List Kept) (s : Stands entries n v calls rest) (i : ℕ) → i ≡ length calls - length rest
     → (IsRight entries (places_of v entries) calls (length s.before) → ⊥) → Wrong entries v calls i
 wrong_here entries n v calls rest s i is wrong =
-    let l = length-append s.before rest in
-    let whole : length calls ≡ length (s.before ++ rest) = ap (λ (x : List Kept). length x) s.split in
-    let same : length s.before ≡ i = omega (arith, l, whole, is) in
+    let same : length s.before ≡ i = omega (arith, length-append s.before rest, (ap (λ (x : List Kept). length x) s.split), is) in
     subst (λ (k : ℕ). Wrong entries v calls k) same (record { right = s.right; here = wrong })
 
 -- a read at which the walk stops is not right
@@ -135,8 +114,7 @@ stopped_wrong entries n v m calls (kept ∷ tail) s is stops right = elim (leb_t
       let same : stops.0 ≡ n = (let b = stops.2 in let o = not_less.1 in omega (arith, b, o)) in
       let sees : kept.seen ≡ Some n = stops.1 ∙ ap (λ (x : ℕ). Some x) same in
       let at : slice_get calls (length s.before) ≡ Some kept = ap (λ (l : List Kept). slice_get l (length s.before)) s.split ∙ get_seam s.before tail kept in
-      let reply : kept.reply ≡ read_reply (memory_after empty_memory (take n entries)) kept.command = (right kept n at sees).1 in
-      stops.3 (sees, subst (λ (x : Memory). kept.reply ≡ read_reply x kept.command) (sym is) reply)
+      stops.3 (sees, subst (λ (x : Memory). kept.reply ≡ read_reply x kept.command) (sym is) ((right kept n at sees).1))
 ]
 
 -- another worker's entry is passed
@@ -204,8 +182,7 @@ pub held_wrong : (entries es : List Entry) (e : Entry) (n v : ℕ) (m : Memory) 
     → nat_eq e.worker v ≡ true → StopsAt n m false rest → ((kept : Kept) (tail : List Kept) → rest ≡ kept ∷ tail → kept.seen ≡ None → ⊥)
     → IsRight entries (places_of v entries) calls (length s.before) → ⊥
 held_wrong entries es e n v m calls [] s cut own stops no_recorded right =
-    let calls_same : calls_of v (drop n entries) ≡ entry_call e ∷ calls_of v es = ap (λ (x : List Entry). calls_of v x) cut ∙ rw own refl in
-    let clash : [] ≡ entry_call e ∷ calls_of v es = s.own ∙ calls_same in cc clash
+    let clash : [] ≡ entry_call e ∷ calls_of v es = s.own ∙ (ap (λ (x : List Entry). calls_of v x) cut ∙ rw own refl) in cc clash
 held_wrong entries es e n v m calls (kept ∷ tail) s cut own stops no_recorded right = elim (looks kept.seen) [
   | inl bare ↦ no_recorded kept tail refl bare
   | inr some ↦
@@ -221,8 +198,7 @@ pub left_is_wrong : (entries : List Entry) (n v : ℕ) (m : Memory) (calls rest 
 left_is_wrong entries n v m calls [] s none end stops some right = some refl
 left_is_wrong entries n v m calls (kept ∷ tail) s none end stops some right = elim (looks kept.seen) [
   | inl bare ↦
-      let o : recorded (kept ∷ tail) ≡ [] = s.own ∙ ap (λ (x : List Entry). calls_of v x) none in
-      let clash : call_of kept ∷ recorded tail ≡ [] = rw bare at o in cc clash
+      let clash : call_of kept ∷ recorded tail ≡ [] = rw bare at (s.own ∙ ap (λ (x : List Entry). calls_of v x) none) in cc clash
   | inr seen ↦
       let above : n < seen.0 = stops seen.0 seen.1 in
       misplaced entries v calls s.before tail kept seen.0 s.split seen.1 (wrong_past_end (places_of v entries) (length entries) s.before seen.0 (omega (arith, above, end))) right
@@ -231,7 +207,4 @@ left_is_wrong entries n v m calls (kept ∷ tail) s none end stops some right = 
 -- where none is left all are right
 pub all_right : (entries : List Entry) (n v : ℕ) (calls : List Kept) → Stands entries n v calls [] → (i : ℕ) → IsRight entries (places_of v entries) calls i
 all_right entries n v calls s i kept q at sees =
-    let whole : calls ≡ s.before = s.split ∙ append-nil s.before in
-    let within : i < length calls = slice_get_within calls i kept at in
-    let same : length calls ≡ length s.before = ap (λ (x : List Kept). length x) whole in
-    s.right i (omega (arith, within, same)) kept q at sees
+    s.right i (omega (arith, slice_get_within calls i kept at, (ap (λ (x : List Kept). length x) (s.split ∙ append-nil s.before)))) kept q at sees

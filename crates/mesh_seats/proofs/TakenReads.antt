@@ -1,16 +1,14 @@
 -- Reads that the walk takes.
-use Rattle.std.proofs.Common.{◌≡◌, ℕ, suc, ◌+◌, ◌<◌, ◌≤◌, Bool, true, false, List, [], ◌∷◌, ◌++◌, length, ap, subst, refl, sym, ◌∙◌, arith, inl, inr, slice_set, Option, Some, append_assoc, append-nil}
+use Rattle.std.proofs.Common.{◌≡◌, ℕ, suc, ◌+◌, ◌<◌, ◌≤◌, Bool, true, false, List, [], ◌∷◌, ◌++◌, length, ap, subst, refl, sym, ◌∙◌, arith, slice_set, Option, Some, append_assoc, append-nil}
 use Rattle.std.specs.List.{All}
 use Rattle.std.proofs.lemmas.Bool.{eq-eqb}
-use Rattle.std.proofs.lemmas.Bool.Decides.{eqb_tells}
 use Rattle.std.proofs.lemmas.List.Elements.{All-append, All-cons}
 use Rattle.model_memory.specs.Memory.{Memory}
 use Rattle.model_memory.specs.Plain.{Entry}
 use Rattle.model_memory.specs.Reads.{Kept, is_length, reads_at}
 use Rattle.std.proofs.lemmas.List.{get_or-set_same, get_or-set_other}
-use Rattle.model_words.proofs.Tests.{tells}
 use Rattle.mesh_seats.specs.Seat.{IsKept}
-use Rattle.mesh_seats.specs.Walk.{AreLeft, IsAnswered, IsLeft, IsTakenTo, StopsAt, left_of}
+use Rattle.mesh_seats.specs.Walk.{IsAnswered, IsLeft, IsTakenTo, StopsAt, left_of}
 
 -- nothing is taken yet
 pub taken_none : (n worker : ℕ) (m : Memory) (calls : List Kept) (before : List Entry) → IsTakenTo n worker m calls calls before before
@@ -19,10 +17,7 @@ taken_none n worker m calls before = record { taken = []; split = refl; right = 
 -- the reads of calls in a row
 pub reads_append : (n worker : ℕ) (xs ys : List Kept) → reads_at n worker (xs ++ ys) ≡ reads_at n worker xs ++ reads_at n worker ys
 reads_append n worker [] ys = refl
-reads_append n worker (x ∷ xs) ys = let rest = reads_append n worker xs ys in elim (tells (is_length n x.seen)) [
-  | inl hit ↦ rw hit (ap (λ (es : List Entry). record { worker = worker; command = x.command; reply = x.reply } ∷ es) rest)
-  | inr miss ↦ rw miss rest
-]
+reads_append n worker (x ∷ xs) ys = grind (arith, reads_append n worker xs ys)
 
 -- the length is this one
 is_it : (n : ℕ) (s : Option ℕ) → s ≡ Some n → is_length n s ≡ true
@@ -65,27 +60,4 @@ left_none n m old = record { below = λ v none. absurd (omega (arith, none)); ot
 -- one seat more
 pub left_more : (n k : ℕ) (m : Memory) (old now : List (List Kept)) (left : List Kept) → k < length now → LeftBelow n m old now k
     → IsLeft n m false (left_of old k) left → LeftBelow n m old (slice_set now k left) (k + 1)
-left_more n k m old now left inside was here = record {
-  below = λ v low. elim (eqb_tells v k) [
-    | inl same ↦
-        let set : left_of (slice_set now k left) v ≡ left = ap (λ (x : ℕ). left_of (slice_set now k left) x) same.1 ∙ get_or-set_same now k left [] inside in
-        let mine : IsLeft n m false (left_of old v) left = subst (λ (x : ℕ). IsLeft n m false (left_of old x) left) (sym same.1) here in
-        subst (λ (l : List Kept). IsLeft n m false (left_of old v) l) (sym set) mine
-    | inr other ↦
-        let lower : v < k = (let o = other.1 in omega (arith, low, o)) in
-        let set : left_of (slice_set now k left) v ≡ left_of now v = get_or-set_other now k v left [] other.1 in
-        subst (λ (l : List Kept). IsLeft n m false (left_of old v) l) (sym set) (was.below v lower)
-  ];
-  others = λ v above. get_or-set_other now k v left [] (λ same. absurd (omega (arith, above, same))) ∙ was.others v (omega (arith, above));
-}
-
--- the first seat that stands before a wrong read
-pub left_wrong : (n k : ℕ) (m : Memory) (old now : List (List Kept)) (left : List Kept) → k < length now → length now ≡ length old → LeftBelow n m old now k
-    → IsLeft n m true (left_of old k) left → AreLeft n m old (slice_set now k left) (Some k)
-left_wrong n k m old now left inside many was here = (
-  omega (arith, inside, many),
-  (λ v low.
-      let set : left_of (slice_set now k left) v ≡ left_of now v = get_or-set_other now k v left [] (λ same. absurd (omega (arith, low, same))) in
-      subst (λ (l : List Kept). IsLeft n m false (left_of old v) l) (sym set) (was.below v low)),
-  subst (λ (l : List Kept). IsLeft n m true (left_of old k) l) (sym (get_or-set_same now k left [] inside)) here,
-)
+left_more n k m old now left inside was here = grind (arith, get_or-set_same, get_or-set_other)

@@ -8,7 +8,7 @@ use Rattle.model_memory.specs.Plain.{Entry}
 use Rattle.model_memory.specs.Reads.{AreRight, IsRight, Kept, ReadDiffers, kept_by, memory_after, recorded}
 use Rattle.model_memory.specs.Seats.{calls_of}
 use Rattle.mesh_seats.specs.Walk.{AreLeft, IsFirstLeft, IsLeft, IsStep, StopsAt, Tells, left_of}
-use Rattle.mesh_seats.proofs.SeatPlaces.{Stands, Wrong, all_right, held_wrong, left_is_wrong, places_of, stands_first, stands_past, stands_reads, stands_step, stopped_wrong, wrong_here}
+use Rattle.mesh_seats.proofs.SeatPlaces.{Stands, Wrong, all_right, held_wrong, left_is_wrong, places_of, stands_past, stands_reads, stands_step, stopped_wrong, wrong_here}
 use Rattle.mesh_seats.proofs.BuiltHistories.{stepped_other, stepped_same}
 
 -- nothing was told and all seats are looked at, or the seats below the one that was told are
@@ -29,37 +29,18 @@ AreStopped n m rests = (v : ℕ) → v < length rests → StopsAt n m false (lef
 -- the beginning
 pub looks_first : (seats : List (List Kept)) (entries : List Entry) → ((w : ℕ) → w < length seats → recorded (kept_by seats w) ≡ calls_of w entries)
     → Looks seats entries 0 seats None
-looks_first seats entries own = record {
-  few = omega arith;
-  stands = λ v below. stands_first entries v (kept_by seats v) (own v below);
-  telling = refl;
-}
+looks_first seats entries own = grind arith
 
 -- from a seat that was found on no seat is looked at
 pub looks_told : (seats : List (List Kept)) (entries : List Entry) (n w i : ℕ) (rests rests' : List (List Kept)) (told' : Option (ℕ × ℕ)) → w < length rests
     → length rests ≤ length seats → ((v : ℕ) → v < w → Stands entries n v (kept_by seats v) (left_of rests v)) → Wrong entries w (kept_by seats w) i
     → rests' ≡ take w rests → told' ≡ Some (w, i) → Looks seats entries n rests' told'
-looks_told seats entries n w i rests rests' told' inside few stands wrong cut tells =
-    let many : length rests' ≡ w = ap (λ (l : List (List Kept)). length l) cut ∙ length-take-le w rests (omega (arith, inside)) in
-    let below_seats : w < length seats = omega (arith, inside, few) in
-    record {
-      few = omega (arith, many, below_seats);
-      stands = λ v low.
-          let lower : v < w = omega (arith, low, many) in
-          let same : left_of rests v ≡ left_of rests' v = sym (get_or-take w rests v [] lower) ∙ ap (λ (l : List (List Kept)). left_of l v) (sym cut) in
-          subst (λ (l : List Kept). Stands entries n v (kept_by seats v) l) same (stands v lower);
-      telling = subst (λ (t : Option (ℕ × ℕ)). IsToldAt seats entries (length rests') t) (sym tells)
-          (subst (λ (k : ℕ). IsToldAt seats entries k (Some (w, i))) (sym many) (refl, below_seats, wrong));
-    }
+looks_told seats entries n w i rests rests' told' inside few stands wrong cut tells = grind (arith, length-take-le, get_or-take)
 
 -- what holds of the seats below the one that is told holds of those that are looked at from then on
 stopped_below : (n w : ℕ) (m : Memory) (rests rests' : List (List Kept)) → w ≤ length rests → ((v : ℕ) → v < w → StopsAt n m false (left_of rests v)) → rests' ≡ take w rests
     → AreStopped n m rests'
-stopped_below n w m rests rests' inside stops cut v low =
-    let many : length rests' ≡ w = ap (λ (l : List (List Kept)). length l) cut ∙ length-take-le w rests inside in
-    let lower : v < w = omega (arith, low, many) in
-    let same : left_of rests v ≡ left_of rests' v = sym (get_or-take w rests v [] lower) ∙ ap (λ (l : List (List Kept)). left_of l v) (sym cut) in
-    subst (λ (l : List Kept). StopsAt n m false l) same (stops v lower)
+stopped_below n w m rests rests' inside stops cut v low = grind (arith, length-take-le, get_or-take)
 
 -- the reads of one seat that are right here are taken
 stands_left : (seats : List (List Kept)) (entries : List Entry) (n v : ℕ) (m : Memory) (wrong : Bool) (rest left : List Kept) → length entries ≡ n + length (drop n entries)
@@ -70,17 +51,7 @@ stands_left seats entries n v m wrong rest left many is to s = stands_reads entr
 pub looks_taken : (seats : List (List Kept)) (entries : List Entry) (n : ℕ) (m : Memory) (rests lefts rests' : List (List Kept)) (found : Option ℕ) (told told' : Option (ℕ × ℕ))
     → length entries ≡ n + length (drop n entries) → m ≡ memory_after empty_memory (take n entries) → length lefts ≡ length rests → Looks seats entries n rests told
     → AreLeft n m rests lefts found → Tells seats found lefts rests' told told' → Looks seats entries n rests' told' × AreStopped n m rests'
-looks_taken seats entries n m rests lefts rests' None told told' many is same looks left tells =
-    let lefts_look : Looks seats entries n lefts told = record {
-      few = (let f = looks.few in omega (arith, f, same));
-      stands = λ v low. let lower : v < length rests = omega (arith, low, same) in
-          stands_left seats entries n v m false (left_of rests v) (left_of lefts v) many is (left v lower) (looks.stands v lower);
-      telling = subst (λ (k : ℕ). IsToldAt seats entries k told) (sym same) looks.telling;
-    } in
-    let stopped : AreStopped n m lefts = λ v low. (left v (omega (arith, low, same))).stops in (
-      subst (λ (t : Option (ℕ × ℕ)). Looks seats entries n rests' t) (sym tells.1) (subst (λ (l : List (List Kept)). Looks seats entries n l told) (sym tells.0) lefts_look),
-      subst (λ (l : List (List Kept)). AreStopped n m l) (sym tells.0) stopped,
-    )
+looks_taken seats entries n m rests lefts rests' None told told' many is same looks left tells = grind (arith, stands_left)
 looks_taken seats entries n m rests lefts rests' (Some w) told told' many is same looks left tells =
     let inside : w < length lefts = (let b = left.0 in omega (arith, b, same)) in
     let stands : (v : ℕ) → v < w → Stands entries n v (kept_by seats v) (left_of lefts v) = λ v low.
@@ -106,15 +77,15 @@ looks_stepped seats entries es e n m rests mids rests' None told told' cut cut_o
           let first : left_of rests v ≡ stepped.kept ∷ stepped.tail = subst (λ (x : ℕ). left_of rests x ≡ stepped.kept ∷ stepped.tail) own.1 stepped.first in
           let rest : left_of mids v ≡ stepped.tail = subst (λ (x : ℕ). left_of mids x ≡ stepped.tail) own.1 (stepped_same e.worker rests mids stepped) in
           subst (λ (l : List Kept). Stands entries (suc n) v (kept_by seats v) l) (sym rest)
-          (stands_step entries es e n v (kept_by seats v) stepped.tail stepped.kept cut cut_on many own.0 stepped.bare
+          (stands_step _ _ _ _ _ _ _ _ cut cut_on many own.0 stepped.bare
           (subst (λ (l : List Kept). Stands entries n v (kept_by seats v) l) first (looks.stands v lower)))
       | inr other ↦
           let unmoved : left_of mids v ≡ left_of rests v = elim (leb_tells (suc e.worker) (length rests)) [
-            | inl looked_at ↦ stepped_other e.worker v rests mids (step.0 looked_at.1) other.1
+            | inl looked_at ↦ stepped_other _ _ _ _ (step.0 looked_at.1) other.1
             | inr past ↦ ap (λ (l : List (List Kept)). left_of l v) (step.1 (let p = past.1 in omega (arith, p)))
           ] in
           subst (λ (l : List Kept). Stands entries (suc n) v (kept_by seats v) l) (sym unmoved)
-          (stands_past entries es e n v m (kept_by seats v) (left_of rests v) cut cut_on inside other.0 (stopped v lower) (looks.stands v lower))
+          (stands_past _ _ _ _ _ m _ _ cut cut_on inside other.0 (stopped v lower) (looks.stands v lower))
     ] in
     let mids_look : Looks seats entries (suc n) mids told = record {
       few = (let f = looks.few in omega (arith, f, same));
@@ -130,12 +101,11 @@ looks_stepped seats entries es e n m rests mids rests' (Some w) told told' cut c
       | inl clash ↦ (let o = step.own in let c = clash.1 in absurd (omega (arith, o, c, low)))
       | inr other ↦ other.0
     ] in
-    stands_past entries es e n v m (kept_by seats v) (left_of rests v) cut cut_on inside apart (stopped v lower) (looks.stands v lower) in
+    stands_past _ _ _ _ _ m _ _ cut cut_on inside apart (stopped v lower) (looks.stands v lower) in
     let here = looks.stands w step.below in
     let i = length (kept_by seats w) - length (left_of rests w) in
-    let wrong = wrong_here entries n w (kept_by seats w) (left_of rests w) here i refl
-    (held_wrong entries es e n w m (kept_by seats w) (left_of rests w) here cut own (stopped w step.below) step.no_recorded) in
-    looks_told seats entries (suc n) w i rests rests' told' step.below looks.few stands wrong (tells.0 ∙ ap (λ (l : List (List Kept)). take w l) step.same)
+    let wrong = wrong_here _ n _ _ _ here _ refl (held_wrong _ _ _ _ _ m (kept_by seats w) _ here cut own (stopped w step.below) step.no_recorded) in
+    looks_told _ _ _ _ _ _ _ _ step.below looks.few stands wrong (tells.0 ∙ ap (λ (l : List (List Kept)). take w l) step.same)
     (tells.1 ∙ ap (λ (l : List (List Kept)). Some (w, length (kept_by seats w) - length (left_of l w))) step.same)
 
 -- after the journal
@@ -149,9 +119,8 @@ looks_last seats entries n m rests rests' None told told' none end looks stopped
 looks_last seats entries n m rests rests' (Some w) told told' none end looks stopped left tells =
     let here = looks.stands w left.0 in
     let i = length (kept_by seats w) - length (left_of rests w) in
-    let wrong = wrong_here entries n w (kept_by seats w) (left_of rests w) here i refl
-    (left_is_wrong entries n w m (kept_by seats w) (left_of rests w) here none end (stopped w left.0) left.2) in (
-      looks_told seats entries n w i rests rests' told' left.0 looks.few (λ v low. looks.stands v (let b = left.0 in omega (arith, low, b))) wrong tells.0 tells.1,
+    let wrong = wrong_here _ n _ _ _ here _ refl (left_is_wrong _ _ w m (kept_by seats w) _ here none end (stopped w left.0) left.2) in (
+      looks_told _ _ _ _ _ _ _ _ left.0 looks.few (λ v low. looks.stands v (let b = left.0 in omega (arith, low, b))) wrong tells.0 tells.1,
       λ v. ap (λ (l : List (List Kept)). left_of l v) tells.0 ∙ cut_empty v,
     )
   where
@@ -170,9 +139,7 @@ right_below seats entries n rests told looks empty v low k =
 -- beyond the seats there is no call
 none_beyond : (seats : List (List Kept)) (v k : ℕ) (kept : Kept) → length seats ≤ v → slice_get (kept_by seats v) k ≡ Some kept → ⊥
 none_beyond seats v k kept past at =
-    let none : kept_by seats v ≡ [] = get_or_past seats v [] past in
-    let within = slice_get_within (kept_by seats v) k kept at in
-    omega (arith, within, ap (λ (l : List Kept). length l) none)
+    omega (arith, slice_get_within (kept_by seats v) k kept at, ap (λ (l : List Kept). length l) (get_or_past seats v [] past))
 
 -- where nothing was told all reads are right
 pub looks_right : (seats : List (List Kept)) (entries : List Entry) (n : ℕ) (rests : List (List Kept)) → Looks seats entries n rests None
@@ -187,9 +154,8 @@ pub looks_wrong : (seats : List (List Kept)) (entries : List Entry) (n w i : ℕ
     → ((v : ℕ) → left_of rests v ≡ []) → (w < length seats) × ReadDiffers seats entries w i
 looks_wrong seats entries n w i rests looks empty =
     let is : w ≡ length rests = looks.telling.0 in
-    let inside = looks.telling.1 in
     let wrong : Wrong entries w (kept_by seats w) i = subst (λ (k : ℕ). Wrong entries k (kept_by seats k) i) (sym is) looks.telling.2 in (
-      omega (arith, is, inside),
+      omega (arith, is, looks.telling.1),
       record {
         right_below = λ v low k. right_below seats entries n rests (Some (w, i)) looks empty v (omega (arith, low, is)) k;
         right_before = wrong.right;

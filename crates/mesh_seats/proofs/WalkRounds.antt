@@ -14,8 +14,7 @@ use Rattle.mesh_seats.proofs.BuiltHistories.{ComesTo, comes_more, comes_to_end, 
 -- the items of a vector whose slice was written
 pub written_back : {X : Type 0} (items new : List X) (len : ℕ) → len ≡ length items → length new ≡ length items → take len (new ++ drop (length new) items) ≡ new
 written_back {X = X} items new len is same =
-    let many : length new ≡ len = omega (arith, is, same) in
-    subst (λ (k : ℕ). take k (new ++ drop (length new) items) ≡ new) many (take-append_seam new (drop (length new) items))
+    subst (λ (k : ℕ). take k (new ++ drop (length new) items) ≡ new) (omega (arith, is, same)) (take-append_seam new (drop (length new) items))
 
 -- the elements past a place are those that are left
 drop_many : {X : Type 0} (xs : List X) (n : ℕ) → n ≤ length xs → length xs ≡ n + length (drop n xs)
@@ -63,16 +62,12 @@ few_seen items slice most many top is few same below = omega (arith, ap (λ (l :
 pub found_left : (n : ℕ) (m : Memory) (slice lefts items : List (List Kept)) (len : ℕ) (wrong : Option ℕ) → slice ≡ items → len ≡ length items → length lefts ≡ length slice
     → AreLeft n m slice lefts wrong → IfSome wrong (λ w. w < length (take len (lefts ++ drop (length lefts) items)))
 found_left n m slice lefts items len None is ok many left = tt
-found_left n m slice lefts items len (Some w) is ok many left =
-    let same : length slice ≡ length items = ap (λ (l : List (List Kept)). length l) is in
-    subst (λ (l : List (List Kept)). w < length l) (sym (written_back items lefts len ok (many ∙ same))) (omega (arith, many, left.0))
+found_left n m slice lefts items len (Some w) is ok many left = grind (arith, written_back)
 
 pub found_step : (worker : ℕ) (slice mids items : List (List Kept)) (len : ℕ) (early : Option ℕ) → slice ≡ items → len ≡ length items → length mids ≡ length slice
     → IsStep worker slice mids early → IfSome early (λ w. w < length (take len (mids ++ drop (length mids) items)))
 found_step worker slice mids items len None is ok many step = tt
-found_step worker slice mids items len (Some w) is ok many step =
-    let same : length slice ≡ length items = ap (λ (l : List (List Kept)). length l) is in
-    subst (λ (l : List (List Kept)). w < length l) (sym (written_back items mids len ok (many ∙ same))) (omega (arith, many, step.below))
+found_step worker slice mids items len (Some w) is ok many step = grind (arith, written_back)
 
 -- what holds before each entry
 pub record Goes (seats : List (List Kept)) (entries : List Entry) (n : ℕ) (plain : Memory) (rests : List (List Kept)) (history : List Entry) (told : Option (ℕ × ℕ)) : Type 0 where
@@ -93,14 +88,7 @@ pub taken_in : (seats : List (List Kept)) (n : ℕ) (plain : Memory) (rests slic
     (told told' : Option (ℕ × ℕ)) → slice ≡ rests → len ≡ length rests → length lefts ≡ length slice → AreLeft n plain slice lefts wrong
     → (wrong ≡ None → AreTaken n 0 plain slice lefts history history') → Tells seats wrong (take len (lefts ++ drop (length lefts) rests)) rests' told told'
     → Takes seats n plain rests lefts rests' history history' wrong told told'
-taken_in seats n plain rests slice lefts rests' len history history' wrong told told' is ok many left taken tells =
-    let same : length lefts ≡ length rests = many ∙ ap (λ (l : List (List Kept)). length l) is in
-    record {
-      left = subst (λ (l : List (List Kept)). AreLeft n plain l lefts wrong) is left;
-      taken = λ none. subst (λ (l : List (List Kept)). AreTaken n 0 plain l lefts history history') is (taken none);
-      many = same;
-      tells = subst (λ (l : List (List Kept)). Tells seats wrong l rests' told told') (written_back rests lefts len ok same) tells;
-    }
+taken_in seats n plain rests slice lefts rests' len history history' wrong told told' is ok many left taken tells = grind (arith, written_back)
 
 -- one entry more
 pub goes_on : (seats : List (List Kept)) (entries : List Entry) (entry : Entry) (n : ℕ) (plain plain' : Memory) (rests lefts rests' mids rests'' : List (List Kept))

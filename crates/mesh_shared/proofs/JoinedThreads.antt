@@ -95,8 +95,7 @@ all_served tries scripts handles seats have work = record {
   where
     at : (w : ℕ) → w < length scripts → HasWorked tries (script_of scripts w) (kept_by (calls_of_seats seats) w) None
     at w below =
-        let many = work.many in
-        let within : w < length handles = omega (arith, many, below) in
+        let within : w < length handles = omega (arith, work.many, below) in
         let h : PromisedHandle Served Works = there handles w within in
         let its = work.each w h within in
         subst (λ (s : List Command). HasWorked tries s (kept_by (calls_of_seats seats) w) None) its.1
@@ -108,8 +107,7 @@ pub all_meshed : (plan : MeshPlan) (most : Option ℕ) (handles : List (Promised
 all_meshed plan most handles told have meshing = record {
   many = have.many ∙ meshing.many;
   each = λ q d below.
-      let many = meshing.many in
-      let within : q < length handles = omega (arith, many, below) in
+      let within : q < length handles = omega (arith, meshing.many, below) in
       let h : PromisedHandle Meshed Meshes = there handles q within in
       subst (λ (p : Meshes). HasMeshed p.rounds p.number p.most (slice_index_or told q d)) (meshing.each q h within) (have.kept q h d within);
   unstopped = λ q d below. let many = meshing.many in have.unstopped q d (omega (arith, many, below));

@@ -2,8 +2,8 @@
 use Rattle.std.proofs.Common.{◌≡◌, ℕ, zero, suc, ◌<◌, slice_index_or, refl, arith}
 use Rattle.model_memory.specs.Memory.{empty_memory}
 use Rattle.model_memory.specs.Plain.{Entry}
-use Rattle.mesh_shared.specs.Runs.{IsBeginning, commands_by, script_of}
-use Rattle.mesh_shared.specs.RunLaws.{ExchangedIsNoBeginning, ExchangedIsNoRun, FirstAloneIsNoRun, StrangerIsNoBeginning, StrangerIsNoRun, WholeIsRun, WithoutLastIsBegun, WithoutLastIsNoRun, refused_new, two_scripts, whole_run, without_last}
+use Rattle.mesh_shared.specs.Runs.{commands_by, script_of}
+use Rattle.mesh_shared.specs.RunLaws.{ExchangedIsNoBeginning, ExchangedIsNoRun, FirstAloneIsNoRun, StrangerIsNoBeginning, StrangerIsNoRun, WholeIsRun, WithoutLastIsBegun, WithoutLastIsNoRun, refused_new, two_scripts, whole_run}
 
 -- what holds of 0 and of 1
 below_two : (P : ℕ → Type 0) → P 0 → P 1 → (w : ℕ) → w < 2 → P w
@@ -23,11 +23,7 @@ whole_is_run = record {
     known (suc i) d below = below_two (λ k. (slice_index_or whole_run (suc k) d).worker < 2) (omega arith) (omega arith) i (omega (arith, below))
 
 pub without_last_is_begun : WithoutLastIsBegun
-without_last_is_begun = record {
-  legal = (empty_memory, (refl, refl), (empty_memory, (refl, refl), refl));
-  begun = below_two (λ w. IsBeginning (commands_by w without_last) (script_of two_scripts w)) refl refl;
-  no_other = λ i d. below_two (λ k. (slice_index_or without_last k d).worker < 2) (omega arith) (omega arith) i;
-}
+without_last_is_begun = grind arith
 
 pub without_last_is_no_run : WithoutLastIsNoRun
 without_last_is_no_run end run = let w = run.whole 1 (omega arith) in cc w

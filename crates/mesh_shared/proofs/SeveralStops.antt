@@ -26,12 +26,6 @@ one_more [] None = refl
 one_more [] (Some stop) = refl
 one_more (s ∷ ss) stop = ap (λ (e : Option Stop). either_stop s e) (one_more ss stop) ∙ either_three s (first_stop ss) stop
 
--- a beginning of the ends, and the next one
-pub next_end : (before : Option Stop) (ends : List (Option Stop)) (k : ℕ) (d : Option Stop) → k < length ends
-    → first_stop (before ∷ take (k + 1) ends) ≡ either_stop (first_stop (before ∷ take k ends)) (slice_index_or ends k d)
-next_end before ends k d below =
-    ap (λ (l : List (Option Stop)). first_stop (before ∷ l)) (take_more ends k d below) ∙ one_more (before ∷ take k ends) (slice_index_or ends k d)
-
 -- all ends of a list, and those of a beginning of another, and the next one
 pub next_other_end : {A : Type 0} (end_of : A → Option Stop) (before : Option Stop) (ends : List (Option Stop)) (others : List A) (k : ℕ) (d : A) → k < length others
     → first_stop (before ∷ ends ++ map end_of (take (k + 1) others)) ≡ either_stop (first_stop (before ∷ ends ++ map end_of (take k others))) (end_of (slice_index_or others k d))

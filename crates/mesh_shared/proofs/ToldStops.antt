@@ -58,11 +58,7 @@ low_behind : (end : Option Stop) (told : Option Stop) (stop other : Stop) → ei
     → ((b : Stop) → told ≡ Some b → place_of b ≤ place_of other) → place_of stop ≤ place_of other
 low_behind None told stop other is some low = low stop is
 low_behind (Some a) None stop other is some low = absurd (some refl)
-low_behind (Some a) (Some b) stop other is some low =
-    let same : first_of a b ≡ stop = cc is in
-    let one : place_of (first_of a b) ≤ place_of b = (first_low a b).1 in
-    let two : place_of b ≤ place_of other = low b refl in
-    subst (λ (s : Stop). place_of s ≤ place_of other) same (omega (arith, one, two))
+low_behind (Some a) (Some b) stop other is some low = grind (arith, first_low)
 
 pub told_is_first : ToldIsFirst
 told_is_first [] stop other i is at = absurd (cc at)

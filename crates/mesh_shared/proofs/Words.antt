@@ -6,11 +6,7 @@ use Rattle.mesh_seats.proofs.BuiltHistories.{drop_all}
 
 -- as many as there are, or 256
 few_words : (xs : List ℕ) (n : ℕ) → n ≡ min (length xs) 256 → take n xs ≡ take 256 xs
-few_words xs n is = elim (leb_tells 256 (length xs)) [
-  | inl many ↦ (let m = many.1 in let same : n ≡ 256 = omega (arith, is, m) in ap (λ (k : ℕ). take k xs) same)
-  | inr few ↦ (let f = few.1 in let all : length xs ≤ n = omega (arith, is, f) in let all' : length xs ≤ 256 = omega (arith, f) in
-      take_all n xs all ∙ sym (take_all 256 xs all'))
-]
+few_words xs n is = grind (arith, leb_tells 256 (length xs), take_all n xs, take_all 256 xs)
 
 -- nothing of nothing
 take_none : (n : ℕ) → take {A = ℕ} n [] ≡ []
@@ -21,10 +17,8 @@ pub words_cut : (words : List ℕ) (round first end : ℕ) → first ≡ min (le
     → take (end - first) (drop first words) ≡ take 256 (drop (256 * round) words)
 words_cut words round first end begins ends = elim (leb_tells (256 * round) (length words)) [
   | inl within ↦ (
-      let w = within.1 in
-      let same : first ≡ 256 * round = omega (arith, begins, w) in
-      let long = length-drop first words in
-      few_words (drop first words) (end - first) (omega (arith, ends, long)) ∙ ap (λ (k : ℕ). take 256 (drop k words)) same)
+      let same : first ≡ 256 * round = omega (arith, begins, within.1) in
+      few_words (drop first words) (end - first) (omega (arith, ends, length-drop first words)) ∙ ap (λ (k : ℕ). take 256 (drop k words)) same)
   | inr past ↦ (
       let p = past.1 in
       let all : length words ≤ first = omega (arith, begins, p) in

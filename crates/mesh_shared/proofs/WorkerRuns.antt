@@ -1,5 +1,5 @@
 -- What a run of scripts leaves: a worker's commands, one more at a time.
-use Rattle.std.proofs.Common.{◌≡◌, ℕ, zero, suc, ◌+◌, ◌<◌, ◌≤◌, List, [], ◌∷◌, ◌++◌, Option, None, length, map, take, slice_index_or, Bor, ap, subst, refl, sym, ◌∙◌, arith}
+use Rattle.std.proofs.Common.{◌≡◌, ℕ, zero, suc, ◌+◌, ◌<◌, ◌≤◌, List, [], ◌∷◌, ◌++◌, Option, None, length, map, take, slice_index_or, Bor, ap, refl, sym, ◌∙◌, arith}
 use Rattle.std.specs.List.{All}
 use Rattle.std.proofs.lemmas.List.Elements.{All-cons}
 use Rattle.std.proofs.lemmas.List.{map-append, take_all, take_more}
@@ -29,27 +29,17 @@ begins k script commands is = is ∙ taken_again k script ∙ ap (λ (l : List C
 pub call_answered : (k : ℕ) (d : Command) (script : List Command) (old new : Seat) (command : Command) (reply : Reply)
     → commands_in old.calls ≡ take k script → k < length script → command ≡ slice_index_or script k d → Keeps old new command reply
     → commands_in new.calls ≡ take (k + 1) script
-call_answered k d script old new command reply is below at keeps =
-    let one : Kept = record { command = command; reply = reply; seen = keeps.0 } in
-    let grown : new.calls ≡ old.calls ++ one ∷ [] = rw keeps.1 refl in
-    ap commands_in grown ∙ map-append (λ (kept : Kept). kept.command) old.calls (one ∷ [])
-    ∙ ap (λ (l : List Command). l ++ command ∷ []) is ∙ ap (λ (c : Command). take k script ++ c ∷ []) at ∙ sym (take_more script k d below)
+call_answered k d script old new command reply is below at keeps = grind (arith, map-append, take_more)
 
 -- a worker that ended before its script's end
 pub worked_partly : (tries : Option ℕ) (k : ℕ) (script : List Command) (old new : Seat) (stop : Option Stop)
     → commands_in old.calls ≡ take k script → new ≡ old → (tries ≡ None → stop ≡ None → ⊥) → HasWorked tries script new.calls stop
-worked_partly tries k script old new stop is same stopped = record {
-  begun = begins k script (commands_in new.calls) (ap (λ (s : Seat). commands_in s.calls) same ∙ is);
-  whole = λ no_end none. absurd (stopped no_end none);
-}
+worked_partly tries k script old new stop is same stopped = grind (arith, begins)
 
 -- a worker that came to its script's end
 pub worked_wholly : (tries : Option ℕ) (k : ℕ) (script : List Command) (calls : List Kept) (stop : Option Stop)
     → commands_in calls ≡ take k script → length script ≤ k → HasWorked tries script calls stop
-worked_wholly tries k script calls stop is past = record {
-  begun = begins k script (commands_in calls) is;
-  whole = λ no_end none. is ∙ take_all k script past;
-}
+worked_wholly tries k script calls stop is past = grind (arith, take_all)
 
 -- the seat that a worker gave back
 pub seat_there : (served : List Served) (w : ℕ) → w < length served
@@ -95,17 +85,8 @@ commands_are w history calls is = ap (λ (l : List Call). map (λ (call : Call).
 -- what served seats leave of a run
 pub run_begun : (tries : Option ℕ) (scripts : List (List Command)) (seats : List Seat) (count : ℕ) (entries history : List Entry) (end : Memory)
     → AreServed tries scripts seats → count ≡ length scripts → IsEnd count seats entries history end → HasBegun scripts history end
-run_begun tries scripts seats count entries history end served many ended = record {
-  legal = ended.legal;
-  begun = λ w below. subst (λ (commands : List Command). IsBeginning commands (script_of scripts w))
-      (sym (commands_are w history _ (ended.calls w (omega (arith, below, many))))) (served.begun w below);
-  no_other = subst (λ (n : ℕ). All (λ entry. entry.worker < n) history) many ended.no_other;
-}
+run_begun tries scripts seats count entries history end served many ended = grind (arith, commands_are)
 
 pub run_whole : (tries : Option ℕ) (scripts : List (List Command)) (seats : List Seat) (count : ℕ) (entries history : List Entry) (end : Memory)
     → tries ≡ None → AreServed tries scripts seats → count ≡ length scripts → IsEnd count seats entries history end → HasRun scripts history end
-run_whole tries scripts seats count entries history end no_end served many ended = record {
-  legal = ended.legal;
-  whole = λ w below. commands_are w history _ (ended.calls w (omega (arith, below, many))) ∙ served.whole no_end w below;
-  no_other = subst (λ (n : ℕ). All (λ entry. entry.worker < n) history) many ended.no_other;
-}
+run_whole tries scripts seats count entries history end no_end served many ended = grind (arith, commands_are)

@@ -46,8 +46,7 @@ lines_more job n line more =
 output_after : (job : Job) (n : ℕ) → output job ≡ lines_up_to job n ++ lines_of (answers_from job (state_up_to job n) (drop n job.plan))
 output_after job n =
     ap (λ lines. lines_of (answers_from job (opening job) lines)) (sym (take-append-drop n job.plan))
-    ∙ ap (λ told. lines_of told) (answers_after job (opening job) (take n job.plan) (drop n job.plan))
-    ∙ lines_after (answers_from job (opening job) (take n job.plan)) (answers_from job (state_up_to job n) (drop n job.plan))
+    ∙ ap (λ told. lines_of told) (answers_after job (opening job) (take n job.plan) (drop n job.plan)) ∙ lines_after _ _
 
 -- a job stands where its line was answered
 next_at : (job : Job) (n : ℕ) (line : Line) (book : Book) (places text text' : List ℕ) → take (n + 1) job.plan ≡ take n job.plan ++ line ∷ []

@@ -28,8 +28,4 @@ pub spelt_by_table : (bytes : List ℕ) → ((i : ℕ) → slice_index_or bytes 
 unfolding encode_with
 spelt_by_table [] below = refl
 spelt_by_table (b ∷ rest) below =
-    let small : b < 256 = below 0 in
-    let high : slice_index lower_digits (b / 16) ≡ hex_digit (b / 16) = table_digit (b / 16) (omega (arith, small)) in
-    let low : slice_index lower_digits (b % 16) ≡ hex_digit (b % 16) = table_digit (b % 16) (omega arith) in
-    let later = spelt_by_table rest (λ i. below (suc i)) in
-    rw (high, low, later) refl
+    rw (table_digit (b / 16) (omega (arith, below 0)), table_digit (b % 16) (omega arith), (spelt_by_table rest (λ i. below (suc i)))) refl

@@ -17,9 +17,7 @@ use Rattle.mesh_text.specs.Histories.{call_line, count_line, history_text, told_
 -- one more part is begun
 pub begun_more : (n : ℕ) (parts : List (Vec ℕ Global)) (part : Vec ℕ Global) → map vec_items parts ≡ map worker_line (range_with_len 0 n)
     → part.items ≡ worker_line n → map vec_items (parts ++ part ∷ []) ≡ map worker_line (range_with_len 0 (n + 1))
-begun_more n parts part so_far is =
-    map-append vec_items parts (part ∷ []) ∙ ap (λ (texts : List (List ℕ)). texts ++ part.items ∷ []) so_far
-    ∙ ap (λ (text : List ℕ). map worker_line (range_with_len 0 n) ++ text ∷ []) is ∙ sym (map-range_with_len_more worker_line 0 n n (omega arith))
+begun_more n parts part so_far is = grind (arith, map-append vec_items parts (part ∷ []), map-range_with_len_more worker_line 0 n n (omega arith))
 
 -- the parts where there is no entry
 pub parts_none : (workers : List ℕ) → map worker_line workers ≡ map (worker_text []) workers
@@ -41,9 +39,8 @@ part_own history entry w own =
 -- and after one of another worker
 part_other : (history : List Entry) (entry : Entry) (w : ℕ) → nat_eq entry.worker w ≡ false → worker_text (history ++ entry ∷ []) w ≡ worker_text history w
 part_other history entry w other =
-    let last : calls_of w (entry ∷ []) ≡ [] = rw other refl in
     ap (λ (calls : List Call). worker_line w ++ flat_map call_line calls)
-    (calls_append w history (entry ∷ []) ∙ ap (λ (calls : List Call). calls_of w history ++ calls) last ∙ append-nil (calls_of w history))
+    (calls_append w history (entry ∷ []) ∙ ap (λ (calls : List Call). calls_of w history ++ calls) (rw other refl) ∙ append-nil (calls_of w history))
 
 -- there are as many parts as workers
 pub as_many : (f : ℕ → List ℕ) (n : ℕ) (parts : List (Vec ℕ Global)) → map vec_items parts ≡ map f (range_with_len 0 n) → length parts ≡ n
@@ -87,5 +84,4 @@ pub whole_text : (workers : ℕ) (history : List Entry) (parts : List (Vec ℕ G
     → map vec_items parts ≡ map (worker_text history) (range_with_len 0 workers) → text ≡ flat_map vec_items parts ++ count_line (length history)
     → text ≡ history_text workers history
 unfolding history_text
-whole_text workers history parts text is joined =
-    joined ∙ ap (λ (front : List ℕ). front ++ count_line (length history)) (parts_joined (worker_text history) (range_with_len 0 workers) parts is)
+whole_text workers history parts text is joined = joined ∙ ap (λ (front : List ℕ). front ++ count_line (length history)) (parts_joined _ _ _ is)

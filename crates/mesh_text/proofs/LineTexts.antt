@@ -24,8 +24,7 @@ counted_is words say (Err refusal) spelt = refl
 pub told_on : {E : Type 0} (r : Result (Unit {0}) E) (job : Job) (call : State → Next) (from to : Book) (places : List ℕ) (given : Answer) (old new : List ℕ)
     → ((state : State) → IsAt job state from places → IsNextAt job (call state) to places given) → OnOk r (new ≡ old ++ answer_text given)
     → OnOk r ((state : State) → IsAt job state from places → IsTold job (call state) to places old new)
-told_on r job call from to places given old new is added =
-    on_ok_weaker r (λ text state at. told_at job (call state) to places given old new (is state at) text) added
+told_on r job call from to places given old new is added = on_ok_weaker r (λ text state at. told_at _ _ _ _ _ _ _ (is state at) text) added
 
 -- and so is the answer of one that counts
 pub counted_on : {E : Type 0} (r : Result (Unit {0}) E) (job : Job) (call : State → Next) (from to : Book) (places words : List ℕ) (say : ℕ → Answer) (count : Result ℕ Refusal)

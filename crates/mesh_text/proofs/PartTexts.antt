@@ -26,7 +26,6 @@ pub wrote_report : (r : Report) (first text2 text3 text4 text5 text : List ℕ) 
     → text3 ≡ text2 ++ (codes " bytes " ++ decimal r.bytes) → text4 ≡ text3 ++ (codes " mapped " ++ decimal r.mapped)
     → text5 ≡ text4 ++ (codes " taken " ++ decimal r.taken) → text ≡ text5 ++ (codes " saved " ++ decimal r.saved) → text ≡ first ++ report_text r
 wrote_report r first text2 text3 text4 text5 text objects bytes mapped taken saved =
-    count_more first _ text5 text (codes " saved") (number_field r.saved)
-    (count_more first _ text4 text5 (codes " taken") (number_field r.taken)
-    (count_more first _ text3 text4 (codes " mapped") (number_field r.mapped)
-    (count_more first (codes "report objects" ++ number_field r.objects) text2 text3 (codes " bytes") (number_field r.bytes) objects bytes) mapped) taken) saved
+    count_more first _ _ _ (codes " saved") (number_field r.saved) (count_more first _ _ _ (codes " taken") (number_field r.taken)
+    (count_more first _ _ _ (codes " mapped") (number_field r.mapped)
+    (count_more first (codes "report objects" ++ number_field r.objects) _ _ (codes " bytes") (number_field r.bytes) objects bytes) mapped) taken) saved

@@ -1,14 +1,13 @@
 -- A file that is read in pieces.
-use Rattle.std.proofs.Common.{◌≡◌, ℕ, ◌+◌, ◌-◌, ◌≤◌, List, [], ◌++◌, Option, length, take, drop, ap, append_assoc, sym, subst, ◌∙◌, arith, Result, Ok, Err, IfErr, IsErrAnd, inl, inr}
+use Rattle.std.proofs.Common.{◌≡◌, ℕ, ◌+◌, ◌-◌, ◌≤◌, List, ◌++◌, Option, length, take, drop, ap, append_assoc, sym, subst, ◌∙◌, arith, Result, Ok, Err, IfErr, IsErrAnd}
 use Rattle.std.proofs.KnownBytes.{Consumes-trans}
-use Rattle.std.proofs.lemmas.List.{append-nil, drop-take, length-append, length-drop, take-append-drop, take-append-le}
+use Rattle.std.proofs.lemmas.List.{drop-take, length-append, length-drop, take-append-drop, take-append-le}
 use Rattle.std.proofs.Math.Seq.{drop-append_seam, take-add, take-append_seam}
 use Rattle.std.proofs.lemmas.List.Edits.{take-paste}
 use Rattle.std.specs.Io.KnownBytes.{Consumes, IsAtEnd}
 use Rattle.std.specs.List.{copy_within}
 use Rattle.model_jobs.specs.JobFiles.{read_text}
 use Rattle.model_jobs.specs.Jobs.{Job}
-use Rattle.std.proofs.lemmas.Bool.Decides.{leb_tells}
 use Rattle.mesh_job.specs.Faults.{IsReadFault}
 use Rattle.mesh_job.specs.Taken.{HasTaken}
 use Rattle.mesh_job.specs.declared.faults.ReadFault.{ReadFault}
@@ -22,11 +21,9 @@ use Rattle.mesh_text.specs.declared.faults.ReplayError.{ReplayError}
 moved_front : (buffer : List ℕ) (taken held : ℕ) → taken ≤ held → held ≤ length buffer
     → take (held - taken) (copy_within buffer taken held 0) ≡ drop taken (take held buffer)
 moved_front buffer taken held some within =
-    let sum : taken + (held - taken) ≡ held = omega (arith, some) in
     let room : held - taken ≤ length (drop taken buffer) = omega (arith, within, length-drop taken buffer) in
-    let none : held - taken ≡ 0 + (held - taken) = omega arith in
-    ap (λ (n : ℕ). take n (copy_within buffer taken held 0)) none ∙ take-paste buffer 0 (drop taken buffer) (held - taken) (omega arith) room
-    ∙ sym (ap (λ (n : ℕ). drop taken (take n buffer)) (sym sum) ∙ drop-take taken (held - taken) buffer)
+    ap (λ (n : ℕ). take n (copy_within buffer taken held 0)) (omega arith) ∙ take-paste buffer 0 (drop taken buffer) (held - taken) (omega arith) room
+    ∙ sym (ap (λ (n : ℕ). drop taken (take n buffer)) (sym (omega (arith, some))) ∙ drop-take taken (held - taken) buffer)
 
 -- a reading that took more of what is held
 pub held_on : (old new : Reading) (buffer text : List ℕ) (taken held : ℕ) → taken ≤ held → held ≤ length buffer → IsHeld old (take held buffer) text
@@ -64,49 +61,23 @@ counted_on a b c old new held part all left count more before read len is on = r
   text = before.text ++ part;
   taken = Consumes-trans a b c before.text part before.taken read;
   counted = omega (arith, before.counted, len, length-append before.text part);
-  is_held = on (before.text ++ part) (subst (λ (bytes : List ℕ). IsHeld old bytes (before.text ++ part)) (sym is)
-      (held_more old held before.text part before.is_held));
+  is_held = on (before.text ++ part) (subst (λ (bytes : List ℕ). IsHeld old bytes (before.text ++ part)) (sym is) (held_more _ _ _ _ before.is_held));
 }
 
 -- a call that read nothing, so the input is at its end
 pub read_to_end : (a b c : Option (List ℕ)) (reading : Reading) (held part : List ℕ) (count more : ℕ) → HasCounted a b reading held count → Consumes b c (take more part)
     → more ≡ 0 → IsAtEnd c → HasReadInto a c reading held
-read_to_end a b c reading held part count more before read none end =
-    let nothing = subst (λ (n : ℕ). Consumes b c (take n part)) none read in
-    record {
-      text = before.text;
-      read = record { taken = subst (Consumes a c) (append-nil before.text) (Consumes-trans a b c before.text [] before.taken nothing); whole = inl end };
-      is_held = before.is_held;
-    }
+read_to_end a b c reading held part count more before read none end = grind arith
 
 -- a list of which some elements behind a front were written
 pub front_and_part : (front part behind : List ℕ) (place more : ℕ) → length front ≡ place → more ≤ length part
     → take (place + more) (front ++ (part ++ behind)) ≡ front ++ take more part
-front_and_part front part behind place more is within =
-    take-add place more (front ++ (part ++ behind))
-    ∙ ap (λ (n : ℕ). take n (front ++ (part ++ behind)) ++ take more (drop n (front ++ (part ++ behind)))) (sym is)
-    ∙ ap (λ (xs : List ℕ). xs ++ take more (drop (length front) (front ++ (part ++ behind)))) (take-append_seam front (part ++ behind))
-    ∙ ap (λ (xs : List ℕ). front ++ take more xs) (drop-append_seam front (part ++ behind))
-    ∙ ap (λ (xs : List ℕ). front ++ xs) (take-append-le more part behind within)
-
--- a text that is read to a job isn't too long
-not_too_long : (text : List ℕ) (job : Job) → read_text text ≡ Ok job → length text ≤ 1048576
-not_too_long text job is = elim (leb_tells 1048577 (length text)) [
-  | inl long ↦ let refused = rw long.0 at is in absurd (cc refused)
-  | inr short ↦ omega (arith, short.1)
-]
+front_and_part front part behind place more is within = grind (arith, take-add, take-append_seam, drop-append_seam, take-append-le)
 
 -- the job of the text that was read
 pub job_read : (left left' : Option (List ℕ)) (reading : Reading) (held : List ℕ) (job : Job) → HasReadInto left left' reading held
     → ((text : List ℕ) → HasTaken reading text → read_text (text ++ held) ≡ Ok job) → HasReadJob left left' job
-job_read left left' reading held job into is =
-    let read : read_text into.text ≡ Ok job = ap read_text into.is_held.all ∙ is into.is_held.taken into.is_held.has_taken in
-    record {
-      text = into.text;
-      taken = into.read.taken;
-      whole = elim into.read.whole [ inl end ↦ end | inr long ↦ absurd (omega (arith, long, not_too_long into.text job read)) ];
-      is_job = read;
-    }
+job_read left left' reading held job into is = grind arith
 
 -- the fault of the text that was read, whose last bytes are in a vector's slice
 pub no_job_read : (left left' : Option (List ℕ)) (reading : Reading) (buffer items slice : List ℕ) (held len : ℕ) (fault : ReadFault) (result : Result Job ReplayError)
@@ -115,8 +86,4 @@ pub no_job_read : (left left' : Option (List ℕ)) (reading : Reading) (buffer i
     → IfErr result (HasReadNoJob left left')
 no_job_read left left' reading buffer items slice held len fault (Ok job) is many into faulty gives = tt
 no_job_read left left' reading buffer items slice held len ReadMemory (Err error) is many into faulty gives = subst (HasReadNoJob left left') (sym gives) tt
-no_job_read left left' reading buffer items slice held len (ReadText fault) (Err error) is many into faulty gives =
-    let same : slice ≡ buffer = is ∙ ap (λ (n : ℕ). take n (buffer ++ drop (length buffer) items)) many ∙ take-append_seam buffer (drop (length buffer) items) in
-    let whole = into.is_held.all ∙ ap (λ (bytes : List ℕ). into.is_held.taken ++ take held bytes) (sym same) in
-    subst (HasReadNoJob left left') (sym gives)
-    (record { text = into.text; read = into.read; is_fault = ap read_text whole ∙ faulty into.is_held.taken into.is_held.has_taken })
+no_job_read left left' reading buffer items slice held len (ReadText fault) (Err error) is many into faulty gives = grind (arith, take-append_seam)

@@ -1,6 +1,6 @@
 -- A worker's turn: what an attempt at its next command is to the job.
 use Rattle.std.proofs.Common.{◌≡◌, ℕ, zero, suc, ◌+◌, ◌<◌, ◌≤◌, Bool, true, false, if◌then◌else◌, nat_le, List, [], ◌∷◌, ◌++◌, Option, Some, None, Result, drop, get_or, length, slice_get, slice_index, slice_index_or, slice_set, ap, subst, refl, sym, ◌∙◌, arith, inl, inr}
-use Rattle.std.proofs.lemmas.Bool.Decides.{eqb_tells, leb_tells}
+use Rattle.std.proofs.lemmas.Bool.Decides.{leb_tells}
 use Rattle.std.proofs.lemmas.List.{get_or-set_other, get_or-set_same, get_or_default}
 use Rattle.std.proofs.lemmas.Result.{on_ok_weaker}
 use Rattle.std.proofs.Math.ListN.{length-set}
@@ -49,9 +49,7 @@ commands_left job state book places script worker at is = at.scripts worker ∙ 
 pub turn_over : (job : Job) (state : State) (book : Book) (places : List ℕ) (script : List Command) (worker : ℕ) → IsAt job state book places
     → script ≡ slice_index_or job.scripts worker [] → None ≡ slice_get script (slice_index places worker)
     → IsNextAt job (answer job state (RunWorker worker)) book places ScriptOver
-turn_over job state book places script worker at is past =
-    let none : slice_index_or state.scripts worker [] ≡ [] = commands_left job state book places script worker at is ∙ none_left (slice_index places worker) script past in
-    subst (λ commands. IsNextAt job (run_next job state worker commands) book places ScriptOver) (sym none) (record { answer_is = refl; at = at })
+turn_over job state book places script worker at is past = grind (arith, none_left)
 
 -- the outcome of a command is one on the state's memory and table
 outcome_at : (m m' : Memory) (t t' : Table) (command : Command) → m ≡ m' → t ≡ t' → answered m t command ≡ answered m' t' command
@@ -61,10 +59,7 @@ outcome_at m m' t t' command memory table = rw (memory, table) refl
 held_at : (state : State) (m : Memory) (t : Table) (command : Command) (reply : Reply) (held : Bool) → m ≡ state.memory → t ≡ state.table
     → reply ≡ (answered m t command).reply → is_held_back m t command reply ≡ held
     → is_held_back state.memory state.table command (answered state.memory state.table command).reply ≡ held
-held_at state m t command reply held memory table is h =
-    let here : is_held_back m t command (answered m t command).reply ≡ held = subst (λ r. is_held_back m t command r ≡ held) is h in
-    let there : is_held_back state.memory t command (answered state.memory t command).reply ≡ held = subst (λ n. is_held_back n t command (answered n t command).reply ≡ held) memory here in
-    subst (λ u. is_held_back state.memory u command (answered state.memory u command).reply ≡ held) table there
+held_at state m t command reply held memory table is h = grind arith
 
 -- what a turn tells of an attempt that had memory
 abbrev pub given_to : Attempt → Answer
@@ -98,19 +93,7 @@ replied_scripts : (job : Job) (state : State) (book : Book) (places : List ℕ) 
     → later ≡ later_commands (slice_index_or state.scripts worker [])
     → (other : ℕ) → slice_index_or (slice_set state.scripts worker later) other []
     ≡ drop (slice_index (slice_set places worker (slice_index places worker + 1)) other) (slice_index_or job.scripts other [])
-replied_scripts job state book places script worker command later at is here long below rest other =
-    let left = commands_left job state book places script worker at is ∙ drop_at (slice_index places worker) script command here in
-    let after : later ≡ drop (slice_index places worker + 1) script = rest ∙ ap (λ commands. later_commands commands) left in
-    elim (eqb_tells other worker) [
-      | inl same ↦
-          subst (λ w. slice_index_or (slice_set state.scripts worker later) w [] ≡ drop (slice_index (slice_set places worker (slice_index places worker + 1)) w) (slice_index_or job.scripts w [])) (sym same.1)
-          (get_or-set_same state.scripts worker later [] (let workers = at.workers in omega (arith, workers, long, below))
-          ∙ after ∙ ap (λ s. drop (slice_index places worker + 1) s) is
-          ∙ ap (λ n. drop n (slice_index_or job.scripts worker [])) (sym (get_or-set_same places worker (slice_index places worker + 1) 0 below)))
-      | inr apart ↦
-          get_or-set_other state.scripts worker other later [] apart.1 ∙ at.scripts other
-          ∙ ap (λ n. drop n (slice_index_or job.scripts other [])) (sym (get_or-set_other places worker other (slice_index places worker + 1) 0 apart.1))
-    ]
+replied_scripts job state book places script worker command later at is here long below rest other = grind (arith, drop_at, get_or-set_same, get_or-set_other)
 
 -- an attempt at a command is what the definitions answer, whatever commands follow it, where these are the places after a reply
 command_taken : (job : Job) (state : State) (book book' : Book) (places moved : List ℕ) (worker : ℕ) (command : Command) (commands : List Command) (attempt : Attempt)
@@ -187,10 +170,9 @@ pub turn_taken : (job : Job) (state : State) (book book' : Book) (places : List 
 turn_taken job state book book' places script worker command attempt at is here long below done some =
     let commands = drop (slice_index places worker + 1) script in
     let left : slice_index_or state.scripts worker [] ≡ command ∷ commands
-    = commands_left job state book places script worker at is ∙ drop_at (slice_index places worker) script command here in
+    = commands_left _ _ _ _ _ _ at is ∙ drop_at (slice_index places worker) script _ here in
     subst (λ cs. IsNextAt job (run_next job state worker cs) book' (passed_by attempt places worker) (given_to attempt)) (sym left)
-    (command_taken job state book book' places (slice_set places worker (slice_index places worker + 1)) worker command commands attempt at
-    (replied_scripts job state book places script worker command (later_commands (slice_index_or state.scripts worker [])) at is here long below refl) done some)
+    (command_taken _ _ _ _ _ _ _ _ commands _ at (replied_scripts _ _ _ _ _ _ _ _ at is here long below refl) done some)
 
 -- where its text was added, what a turn tells of an attempt is told wherever a job stands
 pub turn_told : {E : Type 0} (r : Result (Unit {0}) E) (book book' : Book) (places : List ℕ) (script : List Command) (worker place len : ℕ) (command : Command) (attempt : Attempt)
@@ -236,5 +218,4 @@ pub attempt_told : {E : Type 0} (r : Result (Unit {0}) E) (book book' : Book) (p
     → OnOk r ((job : Job) (state : State) → IsAt job state book places → slice_index_or state.scripts worker [] ≡ []
     → IsTold job (run_next job state worker (command ∷ [])) book' places old new)
 attempt_told r book book' places worker command attempt old new done some added =
-    on_ok_weaker r (λ text job state at over. told_at job (run_next job state worker (command ∷ [])) book' places (given_to attempt) old new
-    (attempt_taken job state book book' places worker command attempt at over done some) text) added
+    on_ok_weaker r (λ text job state at over. told_at _ _ _ _ _ _ _ (attempt_taken _ _ _ _ _ _ _ _ at over done some) text) added

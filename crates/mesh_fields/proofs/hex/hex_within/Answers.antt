@@ -1,4 +1,4 @@
-use Rattle.std.proofs.Common.{◌≤◌, Ok, length, sym, ◌∙◌, ap, rules, arith, inl, inr}
+use Rattle.std.proofs.Common.{Ok, sym, ◌∙◌, ap, rules, arith, inl, inr}
 use Rattle.std.proofs.lemmas.Bool.{true≢false}
 use Rattle.mesh_fields.proofs.HexFields.{hex_spelt, leading_zero, no_digit, not_digits, too_great}
 use Rattle.mesh_fields.proofs.hex.hex_within.Goals as goal
@@ -21,7 +21,6 @@ returns-then-value-most-clause-value c = λ more fits. sym (too_great more c.arg
 
 pub returns-clause-value : goal.returns-clause-value
 returns-clause-value c = λ more fits.
-    let some : 1 ≤ length c.args.field.now = search rules in
-    let spelt = hex_spelt more c.args.most c.args.field.now fits some
+    let spelt = hex_spelt more c.args.most c.args.field.now fits (search rules)
     (λ leads. true≢false (sym (c.has_leading_zero.ensures.1 leads) ∙ c.if-has_leading_zero.false)) c.in-Some.ensures.digits (omega (arith, c.in-Some.ensures.value)) in
     ap Ok c.in-Some.ensures.value ∙ sym spelt

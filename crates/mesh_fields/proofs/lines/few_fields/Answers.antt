@@ -12,8 +12,7 @@ returns-then-text-end-eq10-clause-split c =
     let short : c.min-most.result ≤ 1025 = search rules in
     let before : c.field_end-end.result < c.min-most.result = omega (arith, c.field_end-end.ensures.most, c.if-end-most.false) in
     subst (λ fields. IsSplit c.args.text.now fields (take (length c.args.text.now - (c.field_end-end.result + 1)) (drop (c.field_end-end.result + 1) c.args.text.now)))
-    (sym c.in-Ok.ensures.ok)
-    (line_split c.args.text.now _ (texts c.loop-start.fields.items) c.loop-start.start c.field_end-end.result 0 c.field_end-end.ensures.least
+    (sym c.in-Ok.ensures.ok) (line_split _ _ _ _ _ _ c.field_end-end.ensures.least
     (omega (arith, before, whole)) (omega (arith, before, short)) c.if-text-end-eq10.true (take_rest c.args.text.now (c.field_end-end.result + 1))
     c.loop-start.invariant.begun c.field_end-end.ensures.bytes)
 

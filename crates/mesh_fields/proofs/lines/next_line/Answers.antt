@@ -1,13 +1,10 @@
-use Rattle.std.proofs.Common.{◌≡◌, [], ◌∷◌, sym, rules}
+use Rattle.std.proofs.Common.{sym, rules}
 use Rattle.std.proofs.lemmas.Result.{err_from_is_err_and}
-use Rattle.mesh_fields.specs.Lines.{text_lines}
 use Rattle.mesh_fields.proofs.LineSteps.{bytes_fault, short_and_printable, unended_fault}
 use Rattle.mesh_fields.proofs.lines.next_line.Goals as goal
 
 pub returns-then-text-gt-MAX_LINE_BYTES-clause-err : goal.returns-then-text-gt-MAX_LINE_BYTES-clause-err
-returns-then-text-gt-MAX_LINE_BYTES-clause-err c =
-    let one : text_lines c.args.text.now ≡ c.args.text.now ∷ [] = search rules in
-    unended_fault c.args.text.now one c.if-text-gt-MAX_LINE_BYTES.true
+returns-then-text-gt-MAX_LINE_BYTES-clause-err c = unended_fault c.args.text.now (search rules) c.if-text-gt-MAX_LINE_BYTES.true
 
 pub returns-in_err-check_bytes-clause-err : goal.returns-in_err-check_bytes-clause-err
 returns-in_err-check_bytes-clause-err c =

@@ -16,5 +16,4 @@ returns-clause-err c =
 
 pub returns-then-is_word-clause-ok : goal.returns-then-is_word-clause-ok
 returns-then-is_word-clause-ok c =
-    attempt_by_word c.args.workers c.args.fields.now _ c.in-len1-up.len_at_least c.requires.filled (sym c.is_word.ensures ∙ c.if-is_word.true)
-    ∙ sym c.in_ok-attempt.ensures.value
+    attempt_by_word _ _ _ c.in-len1-up.len_at_least c.requires.filled (sym c.is_word.ensures ∙ c.if-is_word.true) ∙ sym c.in_ok-attempt.ensures.value

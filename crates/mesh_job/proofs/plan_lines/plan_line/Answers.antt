@@ -1,5 +1,4 @@
-use Rattle.std.proofs.Common.{rules, ◌≡◌, Ok, IfOk, IfErr, true, codes, subst, sym}
-use Rattle.model_jobs.specs.JobFiles.{are_same}
+use Rattle.std.proofs.Common.{rules, ◌≡◌, Ok, IfOk, IfErr, subst, sym}
 use Rattle.mesh_fields.specs.Lines.{texts}
 use Rattle.mesh_job.specs.Plan.{line_of}
 use Rattle.mesh_job.specs.Reading.{IsFaultOfStep}
@@ -8,12 +7,10 @@ use Rattle.mesh_job.proofs.plan_lines.plan_line.Goals as goal
 
 pub returns-then-is_word-clause-ok : goal.returns-then-is_word-clause-ok
 returns-then-is_word-clause-ok c =
-    let same : are_same c.args.word.now (codes "pair") ≡ true = search rules in
     subst (λ read. IfOk c.pair_of.result (λ line. read ≡ Ok (line_of line)))
-    (sym (pair_chosen c.args.version c.args.workers c.args.word.now (texts c.args.fields.now) same)) c.pair_of.ensures.ok
+    (sym (pair_chosen c.args.version c.args.workers c.args.word.now (texts c.args.fields.now) (search rules))) c.pair_of.ensures.ok
 
 pub returns-then-is_word-clause-err : goal.returns-then-is_word-clause-err
 returns-then-is_word-clause-err c =
-    let same : are_same c.args.word.now (codes "pair") ≡ true = search rules in
     subst (λ read. IfErr c.pair_of.result (IsFaultOfStep read))
-    (sym (pair_chosen c.args.version c.args.workers c.args.word.now (texts c.args.fields.now) same)) c.pair_of.ensures.err
+    (sym (pair_chosen c.args.version c.args.workers c.args.word.now (texts c.args.fields.now) (search rules))) c.pair_of.ensures.err

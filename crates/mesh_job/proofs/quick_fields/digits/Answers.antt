@@ -1,29 +1,22 @@
-use Rattle.std.proofs.Common.{◌<◌, ◌≤◌, arith, length, rules, sym, ◌∙◌}
+use Rattle.std.proofs.Common.{◌≤◌, arith, rules, sym, ◌∙◌}
 use Rattle.std.proofs.lemmas.List.{take_rest}
 use Rattle.mesh_job.proofs.QuickFields.{one_fits, one_read, value_spelt}
 use Rattle.mesh_job.proofs.quick_fields.digits.Goals as goal
 
 pub overflow_mul-value : goal.overflow_mul-value
 overflow_mul-value c =
-    let few : c.loop-place.place < 19 = search rules in
-    let within : c.loop-place.place < length c.args.text.now = search rules in
     let digit = sym c.is_decimal_digit.ensures ∙ c.if-is_decimal_digit.true in
-    omega (arith, one_fits c.args.text.now c.loop-place.place c.loop-place.value within few digit c.loop-place.invariant.read)
+    omega (arith, one_fits c.args.text.now c.loop-place.place c.loop-place.value (search rules) (search rules) digit c.loop-place.invariant.read)
 
 pub overflow_add-value : goal.overflow_add-value
-overflow_add-value c =
-    let few : c.loop-place.place < 19 = search rules in
-    let within : c.loop-place.place < length c.args.text.now = search rules in
-    let digit = sym c.is_decimal_digit.ensures ∙ c.if-is_decimal_digit.true in
-    omega (arith, one_fits c.args.text.now c.loop-place.place c.loop-place.value within few digit c.loop-place.invariant.read, c.from.ensures)
+overflow_add-value c = grind (arith, one_fits)
 
 pub loop-place-preserved : goal.loop-place-preserved
 loop-place-preserved c =
-    let within : c.loop-place.place < length c.args.text.now = search rules in
     let digit = sym c.is_decimal_digit.ensures ∙ c.if-is_decimal_digit.true in
     record {
       most = omega (arith, c.loop-place-test.true);
-      read = rw c.from.ensures (one_read c.args.text.now c.loop-place.place c.loop-place.value within digit c.loop-place.invariant.read);
+      read = rw c.from.ensures (one_read c.args.text.now c.loop-place.place c.loop-place.value (search rules) digit c.loop-place.invariant.read);
     }
 
 pub returns : goal.returns

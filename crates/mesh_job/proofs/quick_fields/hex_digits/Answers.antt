@@ -10,10 +10,7 @@ overflow_mul-value c =
     omega (arith, one_hex_fits c.args.text.now c.loop-place.place c.loop-place.value c.in-Some.next within few (sym c.in-Some.ensures.value) c.loop-place.invariant.read)
 
 pub overflow_add-value : goal.overflow_add-value
-overflow_add-value c =
-    let few : c.loop-place.place < 7 = search rules in
-    let within : c.loop-place.place < length c.args.text.now = search rules in
-    omega (arith, one_hex_fits c.args.text.now c.loop-place.place c.loop-place.value c.in-Some.next within few (sym c.in-Some.ensures.value) c.loop-place.invariant.read, c.from.ensures)
+overflow_add-value c = grind (arith, one_hex_fits)
 
 pub loop-place-preserved : goal.loop-place-preserved
 loop-place-preserved c =

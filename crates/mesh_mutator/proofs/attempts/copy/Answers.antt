@@ -18,23 +18,14 @@ pub returns-clause-performed : goal.returns-clause-performed
 returns-clause-performed c =
     let at : cell_at c.args.roots.now c.args.to ≡ Some c.in-Some.target = sym c.in-Some.ensures in
     let of : cell_at c.args.roots.now c.args.from ≡ Some c.in-Some-get.source = sym c.in-Some-get.ensures in
-    rw c.stored.ensures (store_performed c.args.heap.now c.copy.new.self c.args.roots.now
-    (Copy c.args.to c.args.to_off c.args.from c.args.from_off c.args.len)
-    (copied_at (plain_of c.args.heap.now) c.in-Some.target c.args.to_off c.in-Some-get.source c.args.from_off c.args.len)
-    (c.in-Some.target.addr + c.args.to_off) c.args.len c.copy.result refl
-    (copy_alike c.args.heap.now c.args.roots.now c.args.to c.args.to_off c.args.from c.args.from_off c.args.len c.in-Some.target c.in-Some-get.source
-    c.requires.rooted at of)
-    (copy_touches c.args.heap.now c.args.roots.now c.args.to c.args.to_off c.args.from c.args.from_off c.args.len c.in-Some.target c.in-Some-get.source
-    c.requires.rooted at of) tt (wrote c))
+    rw c.stored.ensures (store_performed _ _ _ _ _ _ _ _ refl (copy_alike c.args.heap.now _ _ _ _ _ _ _ _ c.requires.rooted at of)
+    (copy_touches c.args.heap.now _ _ _ _ _ _ _ _ c.requires.rooted at of) tt (wrote c))
 
 pub returns-clause-rooted : goal.returns-clause-rooted
 returns-clause-rooted c =
-    rooted_stored c.args.heap.now c.copy.new.self c.args.roots.now
-    (copied_at (plain_of c.args.heap.now) c.in-Some.target c.args.to_off c.in-Some-get.source c.args.from_off c.args.len) _ c.copy.result
-    (λ n is. copied_at_keeps (plain_of c.args.heap.now) n c.in-Some.target c.args.to_off c.in-Some-get.source c.args.from_off c.args.len is) (wrote c)
-    c.requires.rooted
+    rooted_stored c.args.heap.now c.copy.new.self _ _ _ c.copy.result
+    (λ n is. copied_at_keeps (plain_of c.args.heap.now) _ _ c.args.to_off _ c.args.from_off c.args.len is) (wrote c) c.requires.rooted
 
 pub returns-clause-serial : goal.returns-clause-serial
 returns-clause-serial c =
-    stored_serial c.args.heap.now c.copy.new.self
-    (copied_at (plain_of c.args.heap.now) c.in-Some.target c.args.to_off c.in-Some-get.source c.args.from_off c.args.len) _ c.copy.result (wrote c)
+    stored_serial c.args.heap.now c.copy.new.self _ _ c.copy.result (wrote c)

@@ -13,15 +13,11 @@ poked c = record { done = c.poke.ensures.done; blocked = c.poke.ensures.blocked;
 
 pub returns-clause-performed : goal.returns-clause-performed
 returns-clause-performed c =
-    rw c.stored.ensures (store_performed c.args.heap.now c.poke.new.self c.args.roots.now (Poke c.args.addr c.args.byte)
-    (stored_at_address (plain_of c.args.heap.now) c.args.addr c.args.byte) c.args.addr 1 c.poke.result refl
-    (poke_alike c.args.heap.now c.args.roots.now c.args.addr c.args.byte) (λ went. refl) tt (poked c))
+    rw c.stored.ensures (store_performed _ _ _ _ _ c.args.addr 1 _ refl (poke_alike c.args.heap.now _ _ _) (λ went. refl) tt (poked c))
 
 pub returns-clause-rooted : goal.returns-clause-rooted
 returns-clause-rooted c =
-    rooted_stored c.args.heap.now c.poke.new.self c.args.roots.now (stored_at_address (plain_of c.args.heap.now) c.args.addr c.args.byte) _ c.poke.result
-    (λ n is. stored_at_address_keeps (plain_of c.args.heap.now) n c.args.addr c.args.byte is) (poked c) c.requires
+    rooted_stored c.args.heap.now c.poke.new.self _ _ _ c.poke.result (λ n is. stored_at_address_keeps _ _ c.args.addr c.args.byte is) (poked c) c.requires
 
 pub returns-clause-serial : goal.returns-clause-serial
-returns-clause-serial c =
-    stored_serial c.args.heap.now c.poke.new.self (stored_at_address (plain_of c.args.heap.now) c.args.addr c.args.byte) _ c.poke.result (poked c)
+returns-clause-serial c = stored_serial c.args.heap.now c.poke.new.self _ _ c.poke.result (poked c)

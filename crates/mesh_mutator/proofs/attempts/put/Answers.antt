@@ -15,11 +15,8 @@ wrote c = record { done = c.write.ensures.done; blocked = c.write.ensures.blocke
 pub returns-in-Some-clause-performed : goal.returns-in-Some-clause-performed
 returns-in-Some-clause-performed c =
     let at : cell_at c.args.roots.now c.args.cell ≡ Some c.in-Some.object = sym c.in-Some.ensures in
-    rw c.stored.ensures (store_performed c.args.heap.now c.write.new.self c.args.roots.now (Put c.args.cell c.args.off (record { items = c.args.bytes.now }))
-    (stored_at (plain_of c.args.heap.now) c.in-Some.object c.args.off c.args.bytes.now) (c.in-Some.object.addr + c.args.off) (length c.args.bytes.now)
-    c.write.result refl
-    (put_alike c.args.heap.now c.args.roots.now c.args.cell c.args.off c.args.bytes.now c.in-Some.object c.requires.rooted at)
-    (put_touches c.args.heap.now c.args.roots.now c.args.cell c.args.off c.args.bytes.now c.in-Some.object c.requires.rooted at) tt (wrote c))
+    rw c.stored.ensures (store_performed _ _ _ _ _ _ _ _ refl (put_alike c.args.heap.now _ _ _ _ _ c.requires.rooted at)
+    (put_touches c.args.heap.now _ _ _ _ _ c.requires.rooted at) tt (wrote c))
 
 pub returns-in-Some-clause-rooted : goal.returns-in-Some-clause-rooted
 returns-in-Some-clause-rooted c =
@@ -28,9 +25,7 @@ returns-in-Some-clause-rooted c =
 
 pub returns-in-Some-clause-serial : goal.returns-in-Some-clause-serial
 returns-in-Some-clause-serial c =
-    stored_serial c.args.heap.now c.write.new.self (stored_at (plain_of c.args.heap.now) c.in-Some.object c.args.off c.args.bytes.now) _ c.write.result
-    (wrote c)
+    stored_serial c.args.heap.now c.write.new.self _ _ c.write.result (wrote c)
 
 pub returns-in-None-clause-performed : goal.returns-in-None-clause-performed
-returns-in-None-clause-performed c =
-    put_empty c.args.heap.now c.args.roots.now c.args.cell c.args.off c.args.bytes.now (sym c.in-None.ensures)
+returns-in-None-clause-performed c = put_empty _ _ _ _ _ (sym c.in-None.ensures)

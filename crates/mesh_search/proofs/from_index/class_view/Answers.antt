@@ -21,9 +21,9 @@ loop-number-preserved c =
     let group : GroupEntry = c.unwrap-group.result.now in
     let at : group_at c.args.spans.now.groups n ≡ Some group = sym c.group.ensures ∙ ap option_copied c.unwrap-group.ensures in
     let is : c.new.result ≡ record { number = n; occupied = map is_some group.slots }
-    = candidate_is c.new.result n (map is_some group.slots) c.new.ensures.number (c.new.ensures.occupied ∙ c.copied.ensures ∙ c.occupied.ensures) in
+    = candidate_is _ _ _ c.new.ensures.number (c.new.ensures.occupied ∙ c.copied.ensures ∙ c.occupied.ensures) in
     let least = c.in-Some.ensures.least in
-    let partial = partial_is c.args.class n group (c.sound.ensures.each n group at) (ap (λ (o : Option GroupEntry). is_partial o c.args.class) (sym at) ∙ least.passes) in
+    let partial = partial_is _ _ _ (c.sound.ensures.each n group at) (ap (λ (o : Option GroupEntry). is_partial o c.args.class) (sym at) ∙ least.passes) in
     let next = subst (λ (o : Option GroupEntry). IsSomeAnd o (λ g. candidates_from c.args.spans.now c.args.class c.loop-number.from
     ≡ table_group c.args.spans.now.spans n g ∷ candidates_from c.args.spans.now c.args.class (n + 1))) at c.in-Some.ensures.next in
     let inv = c.loop-number.invariant in
@@ -32,15 +32,11 @@ loop-number-preserved c =
     let low : n < 65536 = least.below in
     let fits : c.new.result.number < 65536 = omega (arith, low, number) in
     let items = c.in_ok-push.ensures.items in
-    let long = ap length items in
-    let more : length (c.loop-number.candidates.items ++ c.new.result ∷ []) ≡ length c.loop-number.candidates.items + 1 = length-append c.loop-number.candidates.items (c.new.result ∷ []) in
     let few = inv.3 in (
-      rw items (all_more _ c.loop-number.candidates.items c.new.result (table_group c.args.spans.now.spans n group) _ _ is inv.0 next),
-      rw items (view_more c.args.class c.loop-number.from c.loop-number.candidates.items c.new.result inv.1 inv.2 few above fits
-          (subst (λ (x : Candidate). IsCandidate c.args.class x) (sym is) partial)),
-      rw items (subst (λ (m : ℕ). AreBelow (c.loop-number.candidates.items ++ c.new.result ∷ []) (m + 1)) number
-          (below_more c.loop-number.candidates.items c.new.result c.loop-number.from inv.2 above)),
-      omega (arith, long, more, few, above, number),
+      rw items (all_more _ _ _ _ _ _ is inv.0 next),
+      rw items (view_more _ _ _ _ inv.1 inv.2 few above fits (subst (λ (x : Candidate). IsCandidate c.args.class x) (sym is) partial)),
+      rw items (subst (λ (m : ℕ). AreBelow (c.loop-number.candidates.items ++ c.new.result ∷ []) (m + 1)) number (below_more _ _ _ inv.2 above)),
+      omega (arith, ap length items, length-append c.loop-number.candidates.items (c.new.result ∷ []), few, above, number),
       omega (arith, low),
     )
 

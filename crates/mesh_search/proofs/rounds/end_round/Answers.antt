@@ -13,18 +13,15 @@ add_pairs-requires-clause-left c =
 pub add_pairs-requires-clause-right : goal.add_pairs-requires-clause-right
 add_pairs-requires-clause-right c =
     let long = answers_long c.args.round c.args.view.now c.args.left.now.items c.args.right.now.items c.args.answers.now c.requires.answers c.requires.even in
-    let even = c.requires.even in
-    let same = ap length c.as_slice-2.ensures.value in omega (arith, long, even, same)
+    let same = ap length c.as_slice-2.ensures.value in omega (arith, long, c.requires.even, same)
 
 pub left_over-requires : goal.left_over-requires
 left_over-requires c =
-    answers_long c.args.round c.args.view.now c.args.left.now.items c.args.right.now.items c.args.answers.now c.requires.answers c.requires.even
-    ∙ sym (ap length c.as_slice-then-len-before.ensures.value)
+    answers_long _ c.args.view.now _ _ _ c.requires.answers c.requires.even ∙ sym (ap length c.as_slice-then-len-before.ensures.value)
 
 pub right_over-requires-clause-answers : goal.right_over-requires-clause-answers
 right_over-requires-clause-answers c =
-    answers_long c.args.round c.args.view.now c.args.left.now.items c.args.right.now.items c.args.answers.now c.requires.answers c.requires.even
-    ∙ c.requires.even ∙ sym (ap length c.as_slice-then-len-before-2.ensures.value)
+    answers_long _ c.args.view.now _ _ _ c.requires.answers c.requires.even ∙ c.requires.even ∙ sym (ap length c.as_slice-then-len-before-2.ensures.value)
 
 left_is : (c : goal.After-drop-right) → c.in_ok-left.field-0.items ≡ unmeshed c.args.answers.now c.args.left.now.items
 left_is c = c.in_ok-left.ensures ∙ ap (λ (xs : List ℕ). unmeshed c.args.answers.now xs) c.as_slice-then-len-before.ensures.value
@@ -36,13 +33,11 @@ right_is c =
 
 pub returns-in_ok-right-clause-left : goal.returns-in_ok-right-clause-left
 returns-in_ok-right-clause-left c =
-    ap (λ (xs : List ℕ). chosen c.args.view.now xs) (left_is c)
-    ∙ left_stays c.args.round c.args.view.now c.args.left.now.items c.args.right.now.items c.args.answers.now c.requires.answers c.requires.even c.requires.once
+    ap (λ (xs : List ℕ). chosen c.args.view.now xs) (left_is c) ∙ left_stays _ c.args.view.now _ _ _ c.requires.answers c.requires.even c.requires.once
 
 pub returns-in_ok-right-clause-right : goal.returns-in_ok-right-clause-right
 returns-in_ok-right-clause-right c =
-    ap (λ (xs : List ℕ). chosen c.args.view.now xs) (right_is c)
-    ∙ right_stays c.args.round c.args.view.now c.args.left.now.items c.args.right.now.items c.args.answers.now c.requires.answers c.requires.even c.requires.once
+    ap (λ (xs : List ℕ). chosen c.args.view.now xs) (right_is c) ∙ right_stays _ c.args.view.now _ _ _ c.requires.answers c.requires.even c.requires.once
 
 pub returns-in_ok-right-clause-even : goal.returns-in_ok-right-clause-even
 returns-in_ok-right-clause-even c =
@@ -53,9 +48,7 @@ returns-in_ok-right-clause-even c =
     ap length (left_is c) ∙ unmeshed_even (length ys - c.args.round % length ys) bs xs ys long (long ∙ c.requires.even) ∙ sym (ap length (right_is c))
 
 pub returns-in_ok-right-clause-bound : goal.returns-in_ok-right-clause-bound
-returns-in_ok-right-clause-bound c =
-    let few = unmeshed_few c.args.answers.now c.args.left.now.items in
-    let same = ap length (left_is c) in omega (arith, few, same)
+returns-in_ok-right-clause-bound c = let same = ap length (left_is c) in omega (arith, unmeshed_few c.args.answers.now c.args.left.now.items, same)
 
 -- where no pair is new all candidates stay
 stay : (c : goal.Else-len-before) (xs : List Candidate)
@@ -67,13 +60,8 @@ stay c xs =
     = c.in_ok-add_pairs.ensures
     ∙ ap (λ (ls : List ℕ). c.args.pairs.now.items ++ pairs_of_round c.args.round (chosen view ls) (chosen view c.as_slice-2.result.now)) c.as_slice.ensures.value
     ∙ ap (λ (rs : List ℕ). c.args.pairs.now.items ++ pairs_of_round c.args.round (chosen view c.args.left.now.items) (chosen view rs)) c.as_slice-2.ensures.value in
-    let before = c.len-before.ensures in
-    let after = c.len.ensures in
-    let old = c.args.pairs.now.ok.0 in
-    let new = c.add_pairs.new.pairs.ok.0 in
-    let few = c.if-len-before.false in
     all_stay (pairs_of_round c.args.round (chosen view c.args.left.now.items) (chosen view c.args.right.now.items)) c.args.pairs.now.items c.add_pairs.new.pairs.items xs more
-    (omega (arith, before, after, old, new, few))
+    (omega (arith, c.len-before.ensures, c.len.ensures, c.args.pairs.now.ok.0, c.add_pairs.new.pairs.ok.0, c.if-len-before.false))
 
 pub returns-else-len-before-clause-left : goal.returns-else-len-before-clause-left
 returns-else-len-before-clause-left c = stay c (chosen c.args.view.now c.args.left.now.items)

@@ -10,21 +10,16 @@ loop-j-preserved c =
     let j : ℕ = c.loop-j.j in
     let test = c.loop-j-test.true in
     let long = c.requires in
-    let below : j < length c.args.places.now = omega arith in
-    let told : j < length c.args.answers.now = omega arith in
     let before : List ℕ = c.loop-j.kept.items in
     let later : List ℕ = unmeshed (drop (j + 1) c.args.answers.now) (drop (j + 1) c.args.places.now) in
-    let more = unmeshed_more c.args.answers.now c.args.places.now j told below in
+    let more = unmeshed_more c.args.answers.now c.args.places.now j (omega arith) (omega arith) in
     elim c.if-not-answers-j.branch [
       | then-not-answers-j+in_ok-push w ↦
           let x : ℕ = slice_index c.args.places.now j in
-          let stays : slice_index_or c.args.answers.now j false ≡ false = w.if-not-answers-j.true in
-          let now : c.if-not-answers-j.kept.items ≡ before ++ x ∷ [] = rw w.kept-is w.in_ok-push.ensures.items in
-          ap (λ (ys : List ℕ). ys ++ later) now ∙ append_assoc before (x ∷ []) later
-          ∙ ap (λ (ys : List ℕ). before ++ ys) (sym (more ∙ ap (λ (b : Bool). cond b later (x ∷ later)) stays)) ∙ c.loop-j.invariant
+          ap (λ (ys : List ℕ). ys ++ later) (rw w.kept-is w.in_ok-push.ensures.items) ∙ append_assoc before (x ∷ []) later
+          ∙ ap (λ (ys : List ℕ). before ++ ys) (sym (more ∙ ap (λ (b : Bool). cond b later (x ∷ later)) w.if-not-answers-j.true)) ∙ c.loop-j.invariant
       | else-not-answers-j w ↦
           let goes : slice_index_or c.args.answers.now j false ≡ true = w.if-not-answers-j.false in
-          let now : c.if-not-answers-j.kept.items ≡ before = rw w.kept-is refl in
-          ap (λ (ys : List ℕ). ys ++ later) now
+          ap (λ (ys : List ℕ). ys ++ later) (rw w.kept-is refl)
           ∙ ap (λ (ys : List ℕ). before ++ ys) (sym (more ∙ ap (λ (b : Bool). cond b later (slice_index c.args.places.now j ∷ later)) goes)) ∙ c.loop-j.invariant
     ]

@@ -12,18 +12,14 @@ returns c =
     let bs : List Bool = c.args.answers.now in
     let n : ℕ = length xs in
     let s : ℕ = c.args.round % n in
-    let some = c.requires.some in
-    let long = c.requires.answers in
-    let below : s < n = mod-lt c.args.round (omega (arith, some)) in
+    let below : s < n = mod-lt c.args.round (omega (arith, c.requires.some)) in
     let behind = length-drop (n - s) bs in
-    let after = length-drop s xs in
     let before = length-take s xs in
-    let a : take (length bs - (n - s)) (drop (n - s) bs) ≡ drop (n - s) bs = take_all (length bs - (n - s)) (drop (n - s) bs) (omega (arith, behind)) in
-    let b : take (n - s) (drop s xs) ≡ drop s xs = take_all (n - s) (drop s xs) (omega (arith, after)) in
+    let b : take (n - s) (drop s xs) ≡ drop s xs = take_all (n - s) (drop s xs) (omega (arith, length-drop s xs)) in
     let first : c.keep_unmeshed.new.kept.items ≡ unmeshed (drop (n - s) bs) (take s xs)
     = c.in_ok-keep_unmeshed.ensures ∙ ap (λ (ys : List ℕ). ys ++ unmeshed (take (length bs - (n - s)) (drop (n - s) bs)) (take s xs)) c.in_ok-kept.ensures.items
-    ∙ ap (λ (cs : List Bool). unmeshed cs (take s xs)) a in
+    ∙ ap (λ (cs : List Bool). unmeshed cs (take s xs)) (take_all (length bs - (n - s)) (drop (n - s) bs) (omega (arith, behind))) in
     c.in_ok-keep_unmeshed-2.ensures ∙ ap (λ (ys : List ℕ). ys ++ unmeshed (take (n - s) bs) (take (n - s) (drop s xs))) first
     ∙ ap (λ (ys : List ℕ). unmeshed (drop (n - s) bs) (take s xs) ++ unmeshed (take (n - s) bs) ys) b
-    ∙ sym (unmeshed-append (drop (n - s) bs) (take (n - s) bs) (take s xs) (drop s xs) (omega (arith, behind, before, long, below)))
+    ∙ sym (unmeshed-append (drop (n - s) bs) (take (n - s) bs) (take s xs) (drop s xs) (omega (arith, behind, before, c.requires.answers, below)))
     ∙ ap (λ (ys : List ℕ). unmeshed (rotated (n - s) bs) ys) (take-append-drop s xs)

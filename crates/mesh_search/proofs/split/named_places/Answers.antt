@@ -7,18 +7,10 @@ use Rattle.mesh_search.proofs.split.named_places.Goals as goal
 
 pub push_reserved-requires : goal.push_reserved-requires
 push_reserved-requires c =
-    let few = few_named c.args.view.now c.args.numbers.now c.requires in
-    let test = c.loop-k-test.true in
-    let end = c.loop-k.auto.k-end in
-    let inv = c.loop-k.invariant in
-    omega (arith, inv, test, end, few)
+    omega (arith, c.loop-k.invariant, c.loop-k-test.true, c.loop-k.auto.k-end, few_named c.args.view.now c.args.numbers.now c.requires)
 
 pub returns-clause-few : goal.returns-clause-few
-returns-clause-few c =
-    let few = few_named c.args.view.now c.args.numbers.now c.requires in
-    let end = c.loop-k.auto.k-end in
-    let inv = c.loop-k.invariant in
-    omega (arith, inv, end, few)
+returns-clause-few c = omega (arith, c.loop-k.invariant, c.loop-k.auto.k-end, few_named c.args.view.now c.args.numbers.now c.requires)
 
 pub returns-clause-once : goal.returns-clause-once
 returns-clause-once c =

@@ -13,10 +13,9 @@ returns-clause-value c =
     let words : List ℕ = c.args.words.now in
     let numbers : List ℕ = range_with_len 0 (length view.candidates) in
     let places : c.as_slice.result.now ≡ numbers = c.as_slice.ensures.value ∙ c.in_ok-places.ensures.value in
-    let all : chosen view numbers ≡ view.candidates = all_places view.candidates no_candidate 0 [] refl in
     IfOk-weaker c.shuffle.result _ (λ v. chosen view v.items ≡ shuffle view.candidates words)
     (λ v is. ap (λ (ps : List ℕ). chosen view ps) (is ∙ ap (λ (ps : List ℕ). shuffle ps words) places) ∙ map-shuffle (candidate_at view) numbers words
-    ∙ ap (λ (cs : List Candidate). shuffle cs words) all)
+    ∙ ap (λ (cs : List Candidate). shuffle cs words) (all_places view.candidates no_candidate 0 [] refl))
     c.shuffle.ensures.value
 
 pub returns-clause-once : goal.returns-clause-once

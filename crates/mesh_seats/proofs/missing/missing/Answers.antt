@@ -1,4 +1,4 @@
-use Rattle.std.proofs.Common.{◌≤◌, length, refl, sym, ◌∙◌, arith, inl, inr}
+use Rattle.std.proofs.Common.{◌≤◌, length, refl, sym, arith, inl, inr}
 use Rattle.model_memory.specs.SeatLaws.{AreSeatedBelow, HasStranger}
 use Rattle.mesh_seats.specs.Seat.{numbers_of}
 use Rattle.mesh_seats.proofs.MadeSeats.{no_stranger, numbers_many}
@@ -24,11 +24,7 @@ returns-clause-missing c =
     sym ((c.missing_seat_is_least.ensures.none c.args.count numbers c.args.journal.now.entries).1 (seated, no_stranger c.args.count numbers c.args.journal.now.entries few (c.if-has_stranger.ensures.none refl)))
 
 pub returns-clause-many : goal.returns-clause-many
-returns-clause-many c _ =
-    let numbers = numbers_of c.args.seats.now in
-    let seated : AreSeatedBelow numbers c.args.count = λ k below. c.loop-w.invariant k (let past = c.loop-w-test.false in omega (arith, below, past)) in
-    let few : length numbers ≤ c.args.count = (let l = c.if-seats-count.false in let many = numbers_many c.args.seats.now in omega (arith, l, many)) in
-    sym (numbers_many c.args.seats.now) ∙ seated_many c.args.count numbers seated few
+returns-clause-many c _ = grind (arith, numbers_many c.args.seats.now, seated_many c.args.count)
 
 pub returns-clause-known : goal.returns-clause-known
 returns-clause-known c _ = c.if-has_stranger.ensures.none refl

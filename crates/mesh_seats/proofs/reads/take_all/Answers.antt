@@ -20,11 +20,10 @@ loop-w-preserved c =
     let stops : StopsAt c.args.n m false c.of.result =
     subst (λ (b : Bool). StopsAt c.args.n m b c.of.result) c.if-wrong.false (subst (λ (left : List Kept). StopsAt c.args.n m c.in_ok-calls.wrong left) (sym c.of.ensures) c.in_ok-calls.ensures.stops) in
     let here : IsLeft c.args.n m false (left_of c.args.rests.now c.loop-w.w) c.of.result =
-    subst (λ (l : List Kept). IsLeft c.args.n m false l c.of.result) was (is_left c.args.n c.loop-w.w m false c.calls.result.now c.of.result c.loop-w.history.items c.take_reads.new.history.items taken stops) in
+    subst (λ (l : List Kept). IsLeft c.args.n m false l c.of.result) was (is_left _ _ _ _ _ _ _ _ taken stops) in
     record {
-      taken = taken_up_to_more c.args.n c.loop-w.w m c.args.rests.now c.loop-w.rests c.calls.result.now c.of.result c.args.history.now.items c.loop-w.history.items c.take_reads.new.history.items
-          below c.loop-w.invariant.taken is taken;
-      left = left_more c.args.n c.loop-w.w m c.args.rests.now c.loop-w.rests c.of.result inside c.loop-w.invariant.left here;
+      taken = taken_up_to_more _ _ _ _ _ _ _ _ _ _ below c.loop-w.invariant.taken is taken;
+      left = left_more _ _ _ _ _ _ inside c.loop-w.invariant.left here;
     }
 
 pub returns-clause-left : goal.returns-clause-left

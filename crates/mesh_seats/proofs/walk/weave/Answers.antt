@@ -25,8 +25,7 @@ loop-n-preserved c =
     let rests = c.loop-n.rests.items in
     let entry : Entry = record { worker = c.next.inside.worker; command = c.next.inside.command; reply = c.next.inside.reply } in
     let many = c.len-n-end.ensures.value in
-    let within = c.loop-n-test.true in
-    let below : c.loop-n.n < length c.args.journal.now.entries = omega (arith, many, within) in
+    let below : c.loop-n.n < length c.args.journal.now.entries = omega (arith, many, c.loop-n-test.true) in
     let at : slice_index_or c.args.journal.now.entries c.loop-n.n entry ≡ entry = sym (c.entry-next.ensures entry) ∙ sym c.next.view_is in
     let known : entry.worker < length seats =
     (let k = subst (λ (e : Entry). e.worker < length c.args.seats.now) at (c.requires.known c.loop-n.n entry below) in let m = calls_many c.args.seats.now in omega (arith, k, m)) in
@@ -51,14 +50,11 @@ returns c =
     let seats = calls_of_seats c.args.seats.now in
     let entries = c.args.journal.now.entries in
     let end : length entries ≡ c.loop-n.n = (let m = c.len-n-end.ensures.value in let a = c.loop-n-test.false in let b = c.loop-n.auto.n-end in omega (arith, m, a, b)) in
-    let takes = taken_in seats c.len.result c.loop-n.plain c.loop-n.rests.items c.as_mut_slice-2.result.now c.take_all-2.new.rests c.tell-2.new.rests.items c.loop-n.rests.len
-    c.loop-n.history.items c.take_all-2.new.history.items c.in_ok-wrong-2.wrong c.loop-n.told c.tell-2.new.told c.as_mut_slice-2.ensures.value c.loop-n.rests.ok.0
+    let takes = taken_in _ _ _ _ _ _ _ _ _ _ _ _ _ c.as_mut_slice-2.ensures.value c.loop-n.rests.ok.0
     c.in_ok-wrong-2.ensures.length c.in_ok-wrong-2.ensures.left c.in_ok-wrong-2.ensures.taken c.tell-2.ensures in
     let first : IsFirstLeft c.tell-2.new.rests.items c.first_left-late.result =
     subst (λ (l : List (List Kept)). IsFirstLeft l c.first_left-late.result) c.as_slice.ensures.value c.first_left-late.ensures in
-    let ends = goes_to_end seats entries c.loop-n.n c.len.result c.loop-n.plain c.loop-n.rests.items c.take_all-2.new.rests c.tell-2.new.rests.items c.tell-3.new.rests.items
-    c.loop-n.history.items c.take_all-2.new.history.items c.in_ok-wrong-2.wrong c.first_left-late.result c.loop-n.told c.tell-2.new.told c.tell-3.new.told end
-    (c.len.ensures.value ∙ end) c.loop-n.invariant takes first c.tell-3.ensures in
+    let ends = goes_to_end _ _ _ _ _ _ _ _ _ _ _ _ _ _ _ _ end (c.len.ensures.value ∙ end) c.loop-n.invariant takes first c.tell-3.ensures in
     let out = ended (λ whole. whole.items) seats entries c.loop-n.n c.tell-3.new.rests.items c.take_all-2.new.history.items c.tell-3.new.told c.unless_told.result ends
     c.unless_told.ensures.ok c.unless_told.ensures.fault in
     record { walked = out.0; right = out.1.0; kept = search rules; fault = out.1.1 }
@@ -68,18 +64,16 @@ tell-requires-clause-as_many c = few_taken c.loop-n.rests.items _ c.loop-n.rests
 
 pub tell-requires-in-loop-n-clause-as_many : goal.tell-requires-in-loop-n-clause-as_many
 tell-requires-in-loop-n-clause-as_many c =
-    let few = few_told (calls_of_seats c.args.seats.now) c.loop-n.rests.items _ c.tell.new.rests.items c.in_ok-wrong.wrong c.loop-n.told c.tell.new.told c.loop-n.rests.len _
-    c.loop-n.rests.ok.0 c.loop-n.invariant.looks.few c.tell.ensures in
-    few_taken c.tell.new.rests.items _ c.tell.new.rests.len _ _ c.tell.new.rests.ok.0 few (calls_many c.args.seats.now)
+    let few = few_told _ _ _ _ _ _ _ _ _ c.loop-n.rests.ok.0 c.loop-n.invariant.looks.few c.tell.ensures in
+    few_taken c.tell.new.rests.items _ c.tell.new.rests.len _ _ c.tell.new.rests.ok.0 few (calls_many _)
 
 pub tell-requires-2-clause-as_many : goal.tell-requires-2-clause-as_many
 tell-requires-2-clause-as_many c = few_taken c.loop-n.rests.items _ c.loop-n.rests.len _ _ c.loop-n.rests.ok.0 c.loop-n.invariant.looks.few (calls_many c.args.seats.now)
 
 pub tell-requires-3-clause-as_many : goal.tell-requires-3-clause-as_many
 tell-requires-3-clause-as_many c =
-    let few = few_told (calls_of_seats c.args.seats.now) c.loop-n.rests.items _ c.tell-2.new.rests.items c.in_ok-wrong-2.wrong c.loop-n.told c.tell-2.new.told c.loop-n.rests.len _
-    c.loop-n.rests.ok.0 c.loop-n.invariant.looks.few c.tell-2.ensures in
-    subst (λ (n : ℕ). length c.tell-2.new.rests.items ≤ n) (calls_many c.args.seats.now) few
+    let few = few_told _ _ _ _ _ _ _ _ _ c.loop-n.rests.ok.0 c.loop-n.invariant.looks.few c.tell-2.ensures in
+    subst (λ (n : ℕ). length c.tell-2.new.rests.items ≤ n) (calls_many _) few
 
 pub take_all-requires : goal.take_all-requires
 take_all-requires c = record { few = few_seen c.loop-n.rests.items c.as_mut_slice.result.now _ _ _ c.as_mut_slice.ensures.value c.loop-n.invariant.looks.few (calls_many c.args.seats.now) c.requires.few }
@@ -89,15 +83,12 @@ take_all-requires-2 c = record { few = few_seen c.loop-n.rests.items c.as_mut_sl
 
 pub tell-requires-clause-below : goal.tell-requires-clause-below
 tell-requires-clause-below c =
-    found_left c.loop-n.n c.loop-n.plain c.as_mut_slice.result.now c.take_all.new.rests c.loop-n.rests.items c.loop-n.rests.len c.in_ok-wrong.wrong c.as_mut_slice.ensures.value
-    c.loop-n.rests.ok.0 c.in_ok-wrong.ensures.length c.in_ok-wrong.ensures.left
+    found_left _ _ _ _ _ _ _ c.as_mut_slice.ensures.value c.loop-n.rests.ok.0 c.in_ok-wrong.ensures.length c.in_ok-wrong.ensures.left
 
 pub tell-requires-in-loop-n-clause-below : goal.tell-requires-in-loop-n-clause-below
 tell-requires-in-loop-n-clause-below c =
-    found_step c.next.inside.worker c.as_mut_slice-in-loop-n.result.now c.step-early.new.rests c.tell.new.rests.items c.tell.new.rests.len c.step-early.result
-    c.as_mut_slice-in-loop-n.ensures.value c.tell.new.rests.ok.0 c.step-early.ensures.length c.step-early.ensures.step
+    found_step _ _ _ _ _ _ c.as_mut_slice-in-loop-n.ensures.value c.tell.new.rests.ok.0 c.step-early.ensures.length c.step-early.ensures.step
 
 pub tell-requires-2-clause-below : goal.tell-requires-2-clause-below
 tell-requires-2-clause-below c =
-    found_left c.len.result c.loop-n.plain c.as_mut_slice-2.result.now c.take_all-2.new.rests c.loop-n.rests.items c.loop-n.rests.len c.in_ok-wrong-2.wrong c.as_mut_slice-2.ensures.value
-    c.loop-n.rests.ok.0 c.in_ok-wrong-2.ensures.length c.in_ok-wrong-2.ensures.left
+    found_left _ _ _ _ _ _ _ c.as_mut_slice-2.ensures.value c.loop-n.rests.ok.0 c.in_ok-wrong-2.ensures.length c.in_ok-wrong-2.ensures.left

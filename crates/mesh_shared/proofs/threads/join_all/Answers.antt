@@ -3,8 +3,7 @@ use Rattle.mesh_shared.proofs.JoinedThreads.{have_meshed, have_served, none_of_a
 use Rattle.mesh_shared.proofs.threads.join_all.Goals as goal
 
 pub returns-clause-started : goal.returns-clause-started
-returns-clause-started g c =
-    (none_of_all c.args.refused c.as_slice.result.now c.in-Ok-join_promised.meshed.items c.as_slice-2.result.now c.in-Ok.served.items c.as_slice.ensures.value c.as_slice-2.ensures.value c.in_default.ensures).0
+returns-clause-started g c = (none_of_all _ _ _ _ _ c.as_slice.ensures.value c.as_slice-2.ensures.value c.in_default.ensures).0
 
 pub returns-clause-served : goal.returns-clause-served
 returns-clause-served g c =
@@ -17,9 +16,8 @@ returns-clause-served g c =
 
 pub returns-clause-meshed : goal.returns-clause-meshed
 returns-clause-meshed g c =
-    let long = c.in-Ok-join_promised.meshed.ok.0 in
     let joined = c.in-Ok-join_promised.ensures.len in
     let handles = c.args.meshers.ok.0 in
-    have_meshed c.args.meshers.items c.in-Ok-join_promised.meshed.items (omega (arith, long, joined, handles))
+    have_meshed c.args.meshers.items c.in-Ok-join_promised.meshed.items (omega (arith, c.in-Ok-join_promised.meshed.ok.0, joined, handles))
     (none_of_all c.args.refused c.as_slice.result.now c.in-Ok-join_promised.meshed.items c.as_slice-2.result.now c.in-Ok.served.items c.as_slice.ensures.value c.as_slice-2.ensures.value c.in_default.ensures).1
     (λ q d below. let kept = (c.in-Ok-join_promised.ensures.each q d (omega (arith, handles, below))).1 in (kept.handle, kept.handle_is, kept.kept))

@@ -2,7 +2,6 @@ use Rattle.std.proofs.Common.{◌≡◌, [], ℕ, length, map, vec_len, List, Bo
 use Rattle.std.proofs.lemmas.List.{length-map}
 use Rattle.std.specs.List.{All}
 use Rattle.model_words.specs.declared.commands.Command.{Command}
-use Rattle.mesh_mutator.specs.Book.{memory_in}
 use Rattle.mesh_seats.specs.Seat.{Seat}
 use Rattle.mesh_shared.proofs.WorkerRuns.{opened_empty, opened_many, run_begun, run_whole}
 use Rattle.mesh_shared.proofs.threads.run.Goals as goal
@@ -21,15 +20,11 @@ returns-clause-begun g c =
     let counted : length c.as_slice.result.now ≡ vec_len c.in_ok-counts.counts = ap (λ (l : List ℕ). length l) c.as_slice.ensures.value ∙ sym c.in_ok-counts.counts.ok.0 in
     let many : c.in_ok-shared.shared.seats ≡ length (map (λ (script : Bor (List Command)). script.now) c.args.scripts.now)
     = c.in_ok-shared.ensures.count ∙ counted ∙ c.in_ok-counts.ensures ∙ sym (length-map c.args.scripts.now (λ (script : Bor (List Command)). script.now)) in
-    let ended = c.in_ok-ended.ensures.ended in
-    run_begun c.args.patience.tries (map (λ (script : Bor (List Command)). script.now) c.args.scripts.now) c.in_ok-service.service.seats.items c.in_ok-shared.shared.seats ended.0
-    c.in_ok-ended.ended.history.items (memory_in c.in_ok-ended.ended.heap c.in_ok-ended.ended.roots) c.in_ok-service.ensures.served many ended.1
+    run_begun _ _ _ _ _ _ _ c.in_ok-service.ensures.served many c.in_ok-ended.ensures.ended.1
 
 pub returns-clause-whole : goal.returns-clause-whole
 returns-clause-whole g c no_end =
     let counted : length c.as_slice.result.now ≡ vec_len c.in_ok-counts.counts = ap (λ (l : List ℕ). length l) c.as_slice.ensures.value ∙ sym c.in_ok-counts.counts.ok.0 in
     let many : c.in_ok-shared.shared.seats ≡ length (map (λ (script : Bor (List Command)). script.now) c.args.scripts.now)
     = c.in_ok-shared.ensures.count ∙ counted ∙ c.in_ok-counts.ensures ∙ sym (length-map c.args.scripts.now (λ (script : Bor (List Command)). script.now)) in
-    let ended = c.in_ok-ended.ensures.ended in
-    run_whole c.args.patience.tries (map (λ (script : Bor (List Command)). script.now) c.args.scripts.now) c.in_ok-service.service.seats.items c.in_ok-shared.shared.seats ended.0
-    c.in_ok-ended.ended.history.items (memory_in c.in_ok-ended.ended.heap c.in_ok-ended.ended.roots) no_end c.in_ok-service.ensures.served many ended.1
+    run_whole _ _ _ _ _ _ _ no_end c.in_ok-service.ensures.served many c.in_ok-ended.ensures.ended.1

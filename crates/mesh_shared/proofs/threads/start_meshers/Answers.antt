@@ -15,12 +15,9 @@ loop-number-preserved g c =
       λ started q d below. elim c.match-spawn_with.branch [
         | in-Ok w ↦ (
             let before : c.loop-number.refused ≡ None = sym w.refused-is ∙ started in
-            let many = was.2 before in
-            let long = c.loop-number.meshers.ok.0 in
-            one_mesher_more c.args.plan.now.rounds c.args.most c.loop-number.number c.loop-number.meshers.items c.match-spawn_with.meshers.items
-            w.in-Ok.handle (omega (arith, many, long))
+            one_mesher_more _ _ _ _ _ _ (omega (arith, was.2 before, c.loop-number.meshers.ok.0))
             (ap (λ (v : Vec (PromisedHandle Meshed Meshes) Global). v.items) w.meshers-is ∙ w.push_reserved.ensures.items)
-            w.in-Ok.ensures.ok (was.3 before) q d below)
+            w.in-Ok.ensures.ok (was.3 before) _ _ below)
         | in-Err w ↦ absurd (cc (sym w.refused-is ∙ started))
       ],
     )

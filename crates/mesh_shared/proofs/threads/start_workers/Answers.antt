@@ -10,13 +10,12 @@ use Rattle.mesh_shared.proofs.threads.start_workers.Goals as goal
 pub loop-seat-preserved : goal.loop-seat-preserved
 loop-seat-preserved g c =
     let was = c.loop-seat.invariant in
-    let step = c.in-Some.ensures.steps in
     let scripts : List (List Command) = map (λ (script : Bor (List Command)). script.now) c.args.scripts.now in
     let ok = c.loop-seat.workers.ok in
     let P : ℕ → PromisedHandle Served Works → Type 0 = λ i h. (h.promise.tries ≡ c.args.tries) × (h.promise.script.now ≡ script_of scripts i) in
     let at : c.len.result ≡ length c.loop-seat.workers.items = c.len.ensures ∙ ok.0 in
     let below : length c.loop-seat.workers.items < length c.args.scripts.now
-    = (let many = was.0 in let rest = step.1 in let long = ok.0 in omega (arith, many, rest, long)) in
+    = (let many = was.0 in let rest = c.in-Some.ensures.steps.1 in let long = ok.0 in omega (arith, many, rest, long)) in
     let here : c.index-scripts-len.result.now ≡ script_of scripts (length c.loop-seat.workers.items)
     = ap (λ (s : Bor (List Command)). s.now) (c.index-scripts-len.is ∙ ap (λ (k : ℕ). slice_index_or c.args.scripts.now k c.index-scripts-len.result) at)
     ∙ sym (script_there c.args.scripts.now (length c.loop-seat.workers.items) c.index-scripts-len.result below) in

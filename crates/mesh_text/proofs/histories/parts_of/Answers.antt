@@ -8,13 +8,7 @@ use Rattle.mesh_text.proofs.HistoryParts.{as_many, parts_more, parts_none}
 use Rattle.mesh_text.proofs.histories.parts_of.Goals as goal
 
 pub index_mut-requires : goal.index_mut-requires
-index_mut-requires c =
-    let history : List Entry = c.args.history.now in
-    let below : (get_or history c.loop-entry.entry-index c.entry-item.result).worker < c.args.workers
-    = All-get_or (λ (e : Entry). e.worker < c.args.workers) history c.loop-entry.entry-index c.entry-item.result c.loop-entry-test.true c.requires in
-    let same : c.entry.inside.worker ≡ (get_or history c.loop-entry.entry-index c.entry-item.result).worker = ap (λ (e : Entry). e.worker) (c.entry.view_is ∙ c.entry-item.is) in
-    let many = as_many (worker_text (take c.loop-entry.entry-index history)) c.args.workers c.loop-entry.parts.items c.loop-entry.invariant in
-    omega (arith, below, same, many, c.loop-entry.parts.ok.0)
+index_mut-requires c = grind (arith, as_many)
 
 pub loop-entry-init : goal.loop-entry-init
 loop-entry-init c = c.in_ok-parts.ensures ∙ parts_none (range_with_len 0 c.args.workers)
@@ -30,6 +24,5 @@ loop-entry-preserved c =
     omega (arith, inside, ap (λ (e : Entry). e.worker) at)) in
     let next : take i history ++ entry ∷ [] ≡ take (i + 1) history
     = ap (λ (e : Entry). take i history ++ e ∷ []) at ∙ sym (take_more history i c.entry-item.result c.loop-entry-test.true) in
-    parts_more (take i history) entry c.args.workers c.loop-entry.parts.items c.index_mut.result.now c.add_told.new.text below c.loop-entry.invariant
-    c.index_mut.ensures.value c.in_ok-add_told.ensures
+    parts_more _ _ _ _ _ _ below c.loop-entry.invariant c.index_mut.ensures.value c.in_ok-add_told.ensures
     ∙ ap (λ (entries : List Entry). map (worker_text entries) (range_with_len 0 c.args.workers)) next

@@ -15,5 +15,4 @@ loop-place-preserved c =
     (c.in_ok-add_entry.ensures ∙ ap (λ (entry : Entry). c.loop-place.text.items ++ entry_line entry) (c.entry.ensures c.entry.result))
 
 pub returns : goal.returns
-returns c =
-    all_recorded c.args.journal.now.entries c.loop-place.place c.loop-place.text.items (let count = c.len-place-end.ensures.value in omega (arith, count)) c.loop-place.invariant
+returns c = all_recorded _ _ _ (let count = c.len-place-end.ensures.value in omega (arith, count)) c.loop-place.invariant

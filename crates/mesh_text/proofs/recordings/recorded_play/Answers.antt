@@ -12,5 +12,4 @@ returns c =
     (λ text is.
     is
     ∙ ap (λ (entries : List Entry). recorded_text entries)
-    (c.journal.ensures.entries ∙ ap (λ (book : Book). book.entries) c.book.ensures ∙ journal_is c.args.job.now c.play_all.new.turns c.in_ok-play_all.ensures))
-    c.recorded_journal.ensures
+    (c.journal.ensures.entries ∙ ap (λ (book : Book). book.entries) c.book.ensures ∙ journal_is _ _ c.in_ok-play_all.ensures)) c.recorded_journal.ensures

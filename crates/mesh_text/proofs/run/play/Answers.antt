@@ -17,8 +17,7 @@ use Rattle.mesh_text.proofs.run.play.Goals.{then-len-ge-CHUNK_BYTES+in_ok-write_
 pub answer-requires-clause-fits : goal.answer-requires-clause-fits
 answer-requires-clause-fits g c =
     let line : PlanLine = c.line-item.result in
-    subst (λ (j : Job). IsValidLine j.version (length j.scripts) (line_of line)) c.job.view_is
-    (line_fits c.job.inside.version (length c.job.inside.scripts) c.lines-line-items.result.now c.job.inside.plan c.loop-line.line-index line line c.lines-line-items.ensures
+    subst (λ (j : Job). IsValidLine j.version (length j.scripts) (line_of line)) c.job.view_is (line_fits _ _ _ _ _ _ _ c.lines-line-items.ensures
     c.job.invariant.plan_fits c.loop-line-test.true c.line-item.is)
 
 pub answer-requires-clause-workers : goal.answer-requires-clause-workers
@@ -26,8 +25,7 @@ answer-requires-clause-workers g c = c.loop-line.invariant.workers
 
 pub loop-line-preserved : goal.loop-line-preserved
 loop-line-preserved g c =
-    let line = line_gathered c.args.job.now c.loop-line.line-index c.lines-line-items.result.now c.line-item.result c.answer.new.self.book c.answer.new.self.next.items
-    (g.O.Sink.written c.args.output.now) (g.O.Sink.written c.loop-line.output) c.loop-line.text.items c.answer.new.text.items c.extend_from_slice.new.self.items
+    let line = line_gathered _ _ _ _ _ _ _ _ _ _ _
     (c.lines-line-items.ensures ∙ ap (λ (j : Job). j.plan) c.job.view_is) c.loop-line-test.true c.line-item.is
     (c.in_ok-answer.ensures.told (state_up_to c.args.job.now c.loop-line.line-index) c.loop-line.invariant.at) c.loop-line.invariant.gathered c.in_ok-extend_from_slice.ensures.items in
     let workers = c.in_ok-answer.ensures.workers ∙ c.loop-line.invariant.workers in
@@ -39,7 +37,7 @@ loop-line-preserved g c =
             workers = workers;
             fresh = ap (λ o. g.O.Sink.has_failed o) w.output-is ∙ w.in_ok-write_lines.ensures.fails;
             at = line.1;
-            gathered = rw (w.output-is, w.text-is, w.clear.ensures.items) (all_written c.args.job.now (c.loop-line.line-index + 1) _ _ _ c.extend_from_slice.new.self.items line.0 wrote);
+            gathered = rw (w.output-is, w.text-is, w.clear.ensures.items) (all_written _ _ _ _ _ _ line.0 wrote);
           }
       | else-len-ge-CHUNK_BYTES w ↦ record {
         workers = workers;
@@ -51,9 +49,7 @@ loop-line-preserved g c =
 
 pub returns-in_err-write_lines-clause-beginning : goal.returns-in_err-write_lines-clause-beginning
 returns-in_err-write_lines-clause-beginning g c is =
-    part_written c.args.job.now (c.loop-line.line-index + 1) _ _ _ c.extend_from_slice.new.self.items
-    (line_gathered c.args.job.now c.loop-line.line-index c.lines-line-items.result.now c.line-item.result c.answer.new.self.book c.answer.new.self.next.items
-    (g.O.Sink.written c.args.output.now) (g.O.Sink.written c.loop-line.output) c.loop-line.text.items c.answer.new.text.items c.extend_from_slice.new.self.items
+    part_written _ _ _ _ _ _ (line_gathered _ _ _ _ _ _ _ _ _ _ _
     (c.lines-line-items.ensures ∙ ap (λ (j : Job). j.plan) c.job.view_is) c.loop-line-test.true c.line-item.is
     (c.in_ok-answer.ensures.told (state_up_to c.args.job.now c.loop-line.line-index) c.loop-line.invariant.at) c.loop-line.invariant.gathered c.in_ok-extend_from_slice.ensures.items).0
     (subst (λ bytes. AppendsBeginning (g.O.Sink.written c.loop-line.output) (g.O.Sink.written c.write_lines.new.output) bytes) c.as_slice.ensures.value c.in_err-write_lines.ensures.err)
@@ -62,9 +58,8 @@ pub returns-clause-whole : goal.returns-clause-whole
 returns-clause-whole g c =
     let job : Job = c.args.job.now in
     let all : take c.loop-line.line-index job.plan ≡ job.plan
-    = all_lines c.lines-line-items.result.now job.plan c.loop-line.line-index (c.lines-line-items.ensures ∙ ap (λ (j : Job). j.plan) c.job.view_is) c.loop-line-test.false in
-    on_ok_weaker c.write_lines-2.result
-    (λ wrote. output_written job c.loop-line.line-index _ _ _ c.loop-line.text.items all c.loop-line.invariant.gathered
+    = all_lines _ _ _ (c.lines-line-items.ensures ∙ ap (λ (j : Job). j.plan) c.job.view_is) c.loop-line-test.false in
+    on_ok_weaker c.write_lines-2.result (λ wrote. output_written _ _ _ _ _ _ all c.loop-line.invariant.gathered
     (subst (λ bytes. Appends (g.O.Sink.written c.loop-line.output) (g.O.Sink.written c.write_lines-2.new.output) bytes) c.as_slice-2.ensures.value wrote))
     c.write_lines-2.ensures.ok
 

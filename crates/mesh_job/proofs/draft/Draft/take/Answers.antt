@@ -1,4 +1,4 @@
-use Rattle.std.proofs.Common.{◌≡◌, ◌≤◌, ◌-◌, ◌∙◌, ap, arith, drop, false, get_or, length, refl, subst, sym, take, ℕ, List, [], ◌∷◌, Bor, Ok, Result}
+use Rattle.std.proofs.Common.{◌≡◌, ◌≤◌, ◌-◌, arith, drop, false, get_or, length, subst, sym, take, ℕ, List, [], ◌∷◌, Bor, Ok, Result}
 use Rattle.std.proofs.lemmas.List.{take_all}
 use Rattle.std.specs.List.{list_any}
 use Rattle.std.specs.Prelude.{IfErr, OnOk}
@@ -16,10 +16,7 @@ taken : (d : Draft) (all : List (Bor (List ℕ))) (other : Bor (List ℕ)) (sect
     → d.section ≡ section
     → take_fields (draft_of d) (texts all) ≡ take_in (section_of section) (draft_of d) (get_or all 0 other).now (texts (take (length all - 1) (drop 1 all)))
 taken d [] other section some filled is = absurd (omega (arith, some))
-taken d (word ∷ rest) other section some filled is =
-    let count : length (word ∷ rest) - 1 ≡ length rest = omega arith in
-    let later : take (length (word ∷ rest) - 1) rest ≡ rest = take_all (length (word ∷ rest) - 1) rest (omega (arith, count)) in
-    rw (later, filled) (ap (λ (s : Section). take_in (section_of s) (draft_of d) word.now (texts rest)) is)
+taken d (word ∷ rest) other section some filled is = grind (arith, take_all)
 
 pub returns-in-Worker-clause-ok : goal.returns-in-Worker-clause-ok
 returns-in-Worker-clause-ok c =
@@ -42,8 +39,4 @@ returns-in-Plan-clause-err c =
     subst (λ (read : Result PlainDraft FaultKind). IfErr c.take_in_plan.result (IsFaultOfStep read)) (sym is) c.take_in_plan.ensures.err
 
 pub returns-in_ok-take_header-in_default-section : goal.returns-in_ok-take_header-in_default-section
-returns-in_ok-take_header-in_default-section c = record {
-  draft = c.in_ok-take_header-in_default-section.ensures.draft;
-  ok = taken c.args.self.now c.args.fields.now _ _ c.in-len1-up.len_at_least c.requires.filled refl ∙ c.in_ok-take_header-in_default-section.ensures.ok;
-  err = tt;
-}
+returns-in_ok-take_header-in_default-section c = grind (arith, taken)

@@ -14,9 +14,8 @@ pub returns-in_err-fields-clause-err : goal.returns-in_err-fields-clause-err
 returns-in_err-fields-clause-err c =
     let p = err_from_is_err_and c.from_residual-in_err-fields.result c.from_residual-in_err-fields.ensures.1 in
     let line : IsLine c.args.text.now c.in-Some.line.now c.in-Some.rest.now = search rules in
-    let none = no_fields (draft_of c.args.self.now) (line_fields c.in-Some.line.now) c.in_err-fields.ensures.err c.requires.going in
-    rw (p.1, p.2, c.in_err-fields.ensures.kind) (line_fault c.args.text.now c.in-Some.line.now c.in-Some.rest.now (draft_of c.args.self.now)
-    (LineKind Word) line c.requires.going none)
+    let none = no_fields (draft_of c.args.self.now) _ c.in_err-fields.ensures.err c.requires.going in
+    rw (p.1, p.2, c.in_err-fields.ensures.kind) (line_fault _ _ _ (draft_of c.args.self.now) (LineKind Word) line c.requires.going none)
 
 pub returns-in_err-take-clause-err : goal.returns-in_err-take-clause-err
 returns-in_err-take-clause-err c =
@@ -24,8 +23,7 @@ returns-in_err-take-clause-err c =
     let line : IsLine c.args.text.now c.in-Some.line.now c.in-Some.rest.now = search rules in
     let fields : texts c.as_slice.result.now ≡ line_fields c.in-Some.line.now = ap texts c.as_slice.ensures.value ∙ c.in_ok-fields.ensures.fields in
     let told = subst (λ fs. IsFaultOfStep (take_fields (draft_of c.args.self.now) fs) c.in_err-take.field-0.0) fields c.in_err-take.ensures.err in
-    rw (p.1, p.2) (line_fault c.args.text.now c.in-Some.line.now c.in-Some.rest.now (draft_of c.args.self.now) c.in_err-take.field-0.0
-    line c.requires.going told)
+    rw (p.1, p.2) (line_fault _ _ _ _ _ line c.requires.going told)
 
 pub returns-clause-ok : goal.returns-clause-ok
 returns-clause-ok c =

@@ -13,13 +13,11 @@ returns-in_err-take-clause-err c =
     let split = c.in-Some.ensures.split in
     let fields : texts c.as_slice.result.now ≡ line_fields split.line = ap texts c.as_slice.ensures.value ∙ split.has_fields in
     let told = subst (λ fs. IsFaultOfStep (take_fields (draft_of c.args.self.now) fs) c.in_err-take.field-0.0) fields c.in_err-take.ensures.err in
-    rw (p.1, p.2) (line_fault c.args.text.now split.line c.in-Some.rest.now (draft_of c.args.self.now) c.in_err-take.field-0.0
-    (split_is_line c.args.text.now c.in-Some.rest.now _ split) c.requires.going told)
+    rw (p.1, p.2) (line_fault c.args.text.now split.line c.in-Some.rest.now (draft_of c.args.self.now) _ (split_is_line _ _ _ split) c.requires.going told)
 
 pub returns-in-Some-clause-ok : goal.returns-in-Some-clause-ok
 returns-in-Some-clause-ok c =
     let split = c.in-Some.ensures.split in
     let fields : texts c.as_slice.result.now ≡ line_fields split.line = ap texts c.as_slice.ensures.value ∙ split.has_fields in
     let taken = subst (λ fs. take_fields (draft_of c.args.self.now) fs ≡ Ok (draft_of c.take.new.self)) fields c.in_ok-take.ensures.ok in
-    line_taken c.args.text.now split.line c.in-Some.rest.now (draft_of c.args.self.now) (draft_of c.take.new.self)
-    (split_is_line c.args.text.now c.in-Some.rest.now _ split) c.requires.going taken
+    line_taken _ split.line _ _ _ (split_is_line _ _ _ split) c.requires.going taken

@@ -10,5 +10,4 @@ pub returns-in_ok-push_line-clause-ok : goal.returns-in_ok-push_line-clause-ok
 returns-in_ok-push_line-clause-ok c =
     let no_worker : (are_same c.args.word.now (codes "worker") && nat_lt (c.args.worker + 1) c.args.self.now.workers) ≡ false = search (rules, tests) in
     let no_plan : (are_same c.args.word.now (codes "plan") && nat_eq (c.args.worker + 1) c.args.self.now.workers) ≡ false = search (rules, tests) in
-    command_taken (draft_of c.args.self.now) c.args.worker c.args.word.now (texts c.args.fields.now) c.push_line.new.script no_worker no_plan
-    c.in_ok-push_line.ensures.ok
+    command_taken (draft_of c.args.self.now) c.args.worker c.args.word.now (texts c.args.fields.now) _ no_worker no_plan c.in_ok-push_line.ensures.ok

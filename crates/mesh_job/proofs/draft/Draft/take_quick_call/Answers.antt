@@ -1,13 +1,10 @@
 use Rattle.std.proofs.Common.{◌≡◌, List, ◌++◌, ◌∷◌, [], ap, map, rules, subst, sym, ◌∙◌}
 use Rattle.std.proofs.lemmas.List.{map-append}
-use Rattle.model_words.specs.declared.commands.Command.{Command}
-use Rattle.model_jobs.specs.JobFiles.{InPlan, InScript, has_ended}
+use Rattle.model_jobs.specs.JobFiles.{InPlan, has_ended}
 use Rattle.model_jobs.specs.Jobs.{Line}
-use Rattle.model_jobs.specs.Texts.{command_text, line_text}
 use Rattle.mesh_job.specs.Draft.{HasAllBefore, draft_of, section_of}
 use Rattle.mesh_job.specs.Plan.{line_of}
 use Rattle.mesh_job.specs.Reading.{IsReadOn}
-use Rattle.mesh_job.proofs.QuickLines.{valid_in_range}
 use Rattle.mesh_job.proofs.TextLines.{spelt_line_taken}
 use Rattle.mesh_job.proofs.draft.Draft.take_quick_call.Goals as goal
 
@@ -17,9 +14,7 @@ returns-clause-some c =
     let before = subst (λ section. HasAllBefore section c.args.self.now) c.requires.section c.requires.draft in
     let line = c.in-Some.line in
     let taken = c.lines_read_back.ensures.line (draft_of c.args.self.now) (line_of line) here before.0.2 c.in-Some.ensures.valid in
-    let pushed : c.push.new.self.items ≡ c.args.self.now.plan.items ++ line ∷ [] = search rules in
     let lines : map line_of c.push.new.self.items ≡ map line_of c.args.self.now.plan.items ++ line_of line ∷ [] =
-    ap (map line_of) pushed ∙ map-append line_of c.args.self.now.plan.items (line ∷ []) in
+    ap (map line_of) (search rules) ∙ map-append line_of c.args.self.now.plan.items (line ∷ []) in
     subst (λ (plan : List Line). IsReadOn (draft_of c.args.self.now) c.args.text.now (record (draft_of c.args.self.now) { plan = plan }) c.in-Some.rest.now)
-    (sym lines) (spelt_line_taken c.args.text.now (line_text (line_of line)) c.in-Some.rest.now (draft_of c.args.self.now) _
-    c.in-Some.ensures.spelt (ap has_ended here) taken)
+    (sym lines) (spelt_line_taken _ _ _ _ _ c.in-Some.ensures.spelt (ap has_ended here) taken)

@@ -1,8 +1,7 @@
-use Rattle.std.proofs.Common.{◌≡◌, ℕ, true, refl, List, ◌++◌, ◌∷◌, [], ap, rules, subst, sym}
+use Rattle.std.proofs.Common.{◌≡◌, ℕ, true, refl, List, ap, rules, subst, sym}
 use Rattle.std.proofs.lemmas.Bool.{true≢false}
 use Rattle.model_words.specs.declared.commands.Command.{Command}
 use Rattle.model_jobs.specs.JobFiles.{InScript, has_ended}
-use Rattle.model_jobs.specs.Texts.{command_text}
 use Rattle.mesh_job.specs.Draft.{draft_of, is_in_script, section_of}
 use Rattle.mesh_job.specs.declared.draft.Section.{Section}
 use Rattle.mesh_job.specs.declared.draft.Section.TheVariants.{Version, Pages, History, Workers, FirstWorker, Worker, Plan, Ended}
@@ -31,9 +30,7 @@ push-requires c = valid_in_range c.args.self.now.version c.in-Some.command (c.in
 
 pub returns-clause-some : goal.returns-clause-some
 returns-clause-some c =
-    let here = in_script c.args.self.now.section c.requires.section in
+    let here = in_script _ c.requires.section in
     let taken = c.lines_read_back.ensures.command (draft_of c.args.self.now) here.worker c.in-Some.command here.is (c.in-Some.ensures.valid c.args.self.now.version) in
-    let pushed : c.push.new.self ≡ c.args.self.now.script ++ c.in-Some.command ∷ [] = search rules in
     subst (λ (script : List Command). IsReadOn (draft_of c.args.self.now) c.args.text.now (record (draft_of c.args.self.now) { script = script }) c.in-Some.rest.now)
-    (sym pushed) (spelt_line_taken c.args.text.now (command_text c.in-Some.command) c.in-Some.rest.now (draft_of c.args.self.now) _
-    c.in-Some.ensures.spelt (ap has_ended here.is) taken)
+    (sym (search rules)) (spelt_line_taken _ _ _ _ _ c.in-Some.ensures.spelt (ap has_ended here.is) taken)

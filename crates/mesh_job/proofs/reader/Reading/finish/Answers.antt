@@ -7,8 +7,7 @@ use Rattle.mesh_job.proofs.reader.Reading.finish.Goals as goal
 pub returns-in-Some-clause-fault : goal.returns-in-Some-clause-fault
 returns-in-Some-clause-fault c = λ text taken.
     let short : bytes_taken c.args.self + length c.args.rest.now ≤ 1048576 = search rules in
-    file_fault c.take.new.self text c.args.rest.now c.in_ok-take.field-0 c.in-Some.fault
-    (omega (arith, short, taken.count, length-append text c.args.rest.now)) (c.in_ok-take.ensures.taken text taken) c.in-Some.is
+    file_fault _ _ _ _ _ (omega (arith, short, taken.count, length-append text c.args.rest.now)) (c.in_ok-take.ensures.taken text taken) c.in-Some.is
 
 pub returns-then-not-has_ended-clause-fault : goal.returns-then-not-has_ended-clause-fault
 returns-then-not-has_ended-clause-fault c = λ text taken.

@@ -16,5 +16,4 @@ returns-clause-ok c =
     let old = c.self.inside in
     let packed = c.pack_command-packed.ensures in
     let keeps = rw c.reserve-2.ensures.items at packed.kept.all in
-    rw (c.push_reserved.ensures.items, c.reserve.ensures.items, ← c.self.view_is)
-    (view_pushed old.bytes.items c.pack_command-packed.new.kept.items old.commands.items c.pack_command-packed.result c.args.command.now c.self.invariant keeps packed.command)
+    rw (c.push_reserved.ensures.items, c.reserve.ensures.items, ← c.self.view_is) (view_pushed _ _ _ _ _ c.self.invariant keeps packed.command)

@@ -14,8 +14,7 @@ invariant_of-self c =
     let short = c.is_full.ensures.free c.if-is_full.false in
     let done = c.perform-attempt.ensures.performed in
     rw c.push.ensures (
-    IsBook_answered (book_of c.self.inside.heap c.self.inside.roots c.self.inside.journal) c.perform-attempt.new.heap c.perform-attempt.new.roots c.args.worker
-    c.args.command.now c.in-Done.reply c.answered_is_step.ensures c.legal_histories.ensures.goes_on c.sound.ensures c.self.invariant short
+    IsBook_answered _ _ _ _ _ _ c.answered_is_step.ensures c.legal_histories.ensures.goes_on c.sound.ensures c.self.invariant short
     (rw c.in-Done.is at done) c.perform-attempt.ensures.rooted c.perform-attempt.ensures.cells c.perform-attempt.ensures.serials
     )
 
@@ -23,36 +22,30 @@ pub returns-in-Done : goal.returns-in-Done
 returns-in-Done c =
     let short = c.is_full.ensures.free c.if-is_full.false in
     let done = c.perform-attempt.ensures.performed in
-    let book = book_of c.self.inside.heap c.self.inside.roots c.self.inside.journal in
-    let attempt = attempt_answered book c.perform-attempt.new.heap c.perform-attempt.new.roots c.args.worker c.args.command.now c.in-Done.reply
-    c.perform-attempt.result short c.in-Done.is done in
+    let attempt = attempt_answered _ _ _ _ _ _ _ short c.in-Done.is done in
     rw (← c.self.view_is, c.push.ensures) (record {
       attempt = attempt;
       entry = adds_entry _ _ _ _ _ attempt;
       full = (
-        λ full. absurd (not_full book c.perform-attempt.new.heap c.perform-attempt.new.roots c.args.command.now c.perform-attempt.result done full),
+        λ full. absurd (not_full (book_of c.self.inside.heap c.self.inside.roots c.self.inside.journal) _ _ _ _ done full),
         λ past. absurd (omega (arith, short, past)),
       );
     })
 
 pub invariant_of-self-in_default : goal.invariant_of-self-in_default
 invariant_of-self-in_default c =
-    let same = unrecorded_same (book_of c.self.inside.heap c.self.inside.roots c.self.inside.journal) c.perform-attempt.new.heap c.perform-attempt.new.roots
-    c.args.command.now c.perform-attempt.result c.in_default.not-Done c.perform-attempt.ensures.performed in
-    subst (λ (b : Book). IsBook b) (sym same) c.self.invariant
+    subst (λ (b : Book). IsBook b) (sym (unrecorded_same _ _ _ _ _ c.in_default.not-Done c.perform-attempt.ensures.performed)) c.self.invariant
 
 pub returns-in_default : goal.returns-in_default
 returns-in_default c =
     let short = c.is_full.ensures.free c.if-is_full.false in
     let done = c.perform-attempt.ensures.performed in
-    let book = book_of c.self.inside.heap c.self.inside.roots c.self.inside.journal in
-    let attempt = attempt_unrecorded book c.perform-attempt.new.heap c.perform-attempt.new.roots c.args.worker c.args.command.now c.perform-attempt.result
-    short c.in_default.not-Done done in
+    let attempt = attempt_unrecorded _ _ _ _ _ _ short c.in_default.not-Done done in
     rw (← c.self.view_is) (record {
       attempt = attempt;
       entry = adds_entry _ _ _ _ _ attempt;
       full = (
-        λ full. absurd (not_full book c.perform-attempt.new.heap c.perform-attempt.new.roots c.args.command.now c.perform-attempt.result done full),
+        λ full. absurd (not_full (book_of c.self.inside.heap c.self.inside.roots c.self.inside.journal) _ _ _ _ done full),
         λ past. absurd (omega (arith, short, past)),
       );
     })

@@ -10,14 +10,11 @@ invariant_of-self c =
     let second = c.pack_reply-reply.ensures in
     let pushed = c.push_reserved.ensures in
     let was = c.self.invariant in
-    let first_few = first.kept.all.few in
-    let second_few = second.kept.all.few in
     let longer : length c.push_reserved.new.self.items ≡ length old.entries.items + 1 = ap length pushed.items ∙ length-append old.entries.items _ in (
-      rw pushed.items (all_within old.bytes.items c.pack_command-command.new.kept.items c.pack_reply-reply.new.kept.items old.entries.items
-          (record { worker = c.args.worker; command = c.pack_command-command.result; reply = c.pack_reply-reply.result }) first.kept.all second.kept.all was.0 first.within second.within),
+      rw pushed.items (all_within _ _ _ _ _ first.kept.all second.kept.all was.0 first.within second.within),
       omega (arith, was.1, pushed.capacity),
       omega (arith, was.2, first.kept.capacity, second.kept.capacity),
-      omega (arith, was.3, first_few, second_few, longer),
+      omega (arith, was.3, first.kept.all.few, second.kept.all.few, longer),
       grind (arith, common_steps),
       was.5,
     )

@@ -6,8 +6,7 @@ use Rattle.mesh_plain.proofs.plain.Plain.answer_at.Goals as goal
 
 pub returns-in-New-clause-follows : goal.returns-in-New-clause-follows
 returns-in-New-clause-follows c =
-    rw c.in-New.is (at_word c.answer_new.result (λ w r. Follows (plain c.args.self.now c.args.address (New c.in-New.cell c.in-New.len w)) c.args.self.now r c.answer_new.new.self)
-    c.in-New.field-2 c.answer_new.ensures.follows)
+    rw c.in-New.is (at_word _ _ c.in-New.field-2 c.answer_new.ensures.follows)
 
 pub returns-in_default-clause-follows : goal.returns-in_default-clause-follows
 returns-in_default-clause-follows c =

@@ -10,9 +10,8 @@ if_ok P Q (Err e) f h = h
 
 pub returns : goal.returns
 returns g c =
-    let plan = c.args.self.now.plan.now in
     if_ok _ _ c.own_of.result
     (λ own is. record {
       table = table_of_book c.deref.result.now;
-      is_own = is ∙ ap (λ (l : List View). own_views plan.meshers c.args.self.now.number l) c.in_ok-views.ensures;
+      is_own = is ∙ ap (λ (l : List View). own_views c.args.self.now.plan.now.meshers c.args.self.now.number l) c.in_ok-views.ensures;
     }) c.own_of.ensures

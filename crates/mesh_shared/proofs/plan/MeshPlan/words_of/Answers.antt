@@ -5,5 +5,4 @@ use Rattle.mesh_shared.proofs.plan.MeshPlan.words_of.Goals as goal
 
 pub returns : goal.returns
 returns c =
-    words_cut c.as_slice-all.result.now c.args.round c.min-first.result c.min-end.result c.min-first.ensures c.min-end.ensures
-    ∙ ap (λ (l : List ℕ). words_in l c.args.round) c.as_slice-all.ensures.value
+    words_cut _ _ _ _ c.min-first.ensures c.min-end.ensures ∙ ap (λ (l : List ℕ). words_in l c.args.round) c.as_slice-all.ensures.value

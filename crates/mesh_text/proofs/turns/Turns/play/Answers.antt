@@ -2,7 +2,6 @@ use Rattle.std.proofs.Common.{◌∙◌, ap, length, subst}
 use Rattle.std.proofs.lemmas.Result.{on_ok_weaker}
 use Rattle.model_jobs.specs.JobFiles.{IsValidLine}
 use Rattle.model_jobs.specs.Jobs.{Job}
-use Rattle.mesh_job.specs.declared.plan.PlanLine.{PlanLine}
 use Rattle.mesh_job.specs.Plan.{line_of}
 use Rattle.mesh_text.specs.Turns.{state_up_to}
 use Rattle.mesh_text.proofs.AnswerLines.{line_played}
@@ -11,11 +10,9 @@ use Rattle.mesh_text.proofs.turns.Turns.play.Goals as goal
 
 pub answer-requires-clause-fits : goal.answer-requires-clause-fits
 answer-requires-clause-fits c =
-    let line : PlanLine = c.index-lines-place.result in
     let plan = c.lines.ensures ∙ ap (λ (j : Job). j.plan) c.job.view_is in
-    subst (λ (j : Job). IsValidLine j.version (length j.scripts) (line_of line)) c.job.view_is
-    (line_fits c.job.inside.version (length c.job.inside.scripts) c.lines.result.now c.job.inside.plan c.args.place line line c.lines.ensures c.job.invariant.plan_fits
-    (within_lines c.lines.result.now c.args.job.now.plan c.args.place plan c.requires.within) c.index-lines-place.is)
+    subst (λ (j : Job). IsValidLine j.version (length j.scripts) (line_of c.index-lines-place.result)) c.job.view_is
+    (line_fits _ _ _ _ _ _ _ c.lines.ensures c.job.invariant.plan_fits (within_lines _ _ _ plan c.requires.within) c.index-lines-place.is)
 
 pub returns-clause-stands : goal.returns-clause-stands
 returns-clause-stands c =
@@ -23,8 +20,7 @@ returns-clause-stands c =
     on_ok_weaker c.answer.result
     (λ told. record {
       workers = c.answer.ensures.workers ∙ c.requires.stands.workers;
-      at = (line_played c.args.job.now c.args.place c.lines.result.now c.index-lines-place.result c.index-lines-place.result _ _ c.clear.new.self.items c.answer.new.text.items plan
-          (within_lines c.lines.result.now c.args.job.now.plan c.args.place plan c.requires.within) c.index-lines-place.is
+      at = (line_played _ _ _ _ _ _ _ _ _ plan (within_lines _ _ _ plan c.requires.within) c.index-lines-place.is
           (told (state_up_to c.args.job.now c.args.place) c.requires.stands.at) c.clear.ensures.items).at;
     })
     c.answer.ensures.told
@@ -32,8 +28,6 @@ returns-clause-stands c =
 pub returns-clause-told : goal.returns-clause-told
 returns-clause-told c =
     let plan = c.lines.ensures ∙ ap (λ (j : Job). j.plan) c.job.view_is in
-    on_ok_weaker c.answer.result
-    (λ told. (line_played c.args.job.now c.args.place c.lines.result.now c.index-lines-place.result c.index-lines-place.result _ _ c.clear.new.self.items c.answer.new.text.items plan
-    (within_lines c.lines.result.now c.args.job.now.plan c.args.place plan c.requires.within) c.index-lines-place.is
+    on_ok_weaker c.answer.result (λ told. (line_played _ _ _ _ _ _ _ _ _ plan (within_lines _ _ _ plan c.requires.within) c.index-lines-place.is
     (told (state_up_to c.args.job.now c.args.place) c.requires.stands.at) c.clear.ensures.items).told)
     c.answer.ensures.told
