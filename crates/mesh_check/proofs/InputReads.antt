@@ -51,15 +51,6 @@ read_all times old new bytes left left' left'' before read none at_end = record 
   led = subst (λ (all : List ℕ). Leads old new all) (sym (ap (λ (more : List ℕ). before.text ++ more) none)) (subst (λ (all : List ℕ). Leads old new all) (sym (append-nil before.text)) before.led);
 }
 
--- or more reads than are made
-pub read_long : (times : ℕ) (old new : Judging) (left left' : Option (List ℕ)) → HasReadOn times old new left left' → 2 ^ 64 ≤ times + 1 → HasReadAll old new left left'
-read_long times old new left left' before many = record {
-  text = before.text;
-  taken = before.taken;
-  whole = inr (let counted = before.counted in omega (arith, counted, many));
-  led = before.led;
-}
-
 -- something found in a read
 pub found_more : (times : ℕ) (old mid : Judging) (bytes : List ℕ) (left left' left'' : Option (List ℕ)) (o : Outcome) → HasReadOn times old mid left left'
     → Consumes left' left'' bytes → Ends mid bytes o → HasFound old left left'' o

@@ -52,9 +52,8 @@ only_answer old new command wanted other answered r st =
 told_answer : (old new : Tracked) (command : Command) (reply wanted : Reply) (reason : Reason) → is_new command ≡ false → IsAnswered old new command wanted
     → IsDifference reply wanted reason → Tells old command reply reason
 told_answer old new command reply wanted (Differs told) other answered is = λ r st.
-    subst (λ (w : Reply). IsOnly r command w × (is_refusal reply ≡ true → is_refusal w ≡ true)) (sym is.0) (only_answer old new command wanted other answered r st, is.1)
-told_answer old new command reply wanted LiveRefused other answered is = λ r st.
-    (is.0, (wanted, is.1, only_answer old new command wanted other answered r st))
+    subst (λ (w : Reply). IsOnly r command w × (is_refusal reply ≡ true → is_refusal w ≡ true)) (sym is.0) (only_answer old new _ _ other answered _ st, is.1)
+told_answer old new command reply wanted LiveRefused other answered is = λ r st. (is.0, (wanted, is.1, only_answer old new _ _ other answered _ st))
 told_answer old new command reply wanted NoObject other answered is = absurd is
 told_answer old new command reply wanted reason other answered is = absurd is
 

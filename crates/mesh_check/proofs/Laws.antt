@@ -26,9 +26,7 @@ not_both_read lines line read kind h h' = let both : Ok read ≡ Err kind = sym 
 -- and stops for one reason
 one_stop : (lines : ℕ) (r : Recorded) (line : List ℕ) (o o' : Outcome) → IsStopLine lines r line o → IsStopLine lines r line o' → o ≡ o'
 one_stop lines r line o o' (inl a) (inl b) =
-    let both : Err a.1.0 ≡ Err b.1.0 = sym a.1.1 ∙ b.1.1 in
-    let same : a.1.0 ≡ b.1.0 = cc both in
-    a.1.2 ∙ ap (λ (kind : FaultKind). Faulty (fault_at (lines + 1) kind)) same ∙ sym b.1.2
+    a.1.2 ∙ ap (λ (kind : FaultKind). Faulty (fault_at (lines + 1) kind)) (cc (sym a.1.1 ∙ b.1.1)) ∙ sym b.1.2
 one_stop lines r line o o' (inl a) (inr (inl b)) = absurd (not_both_read lines line b.1.0 a.1.0 b.1.1 a.1.1)
 one_stop lines r line o o' (inl a) (inr (inr b)) = absurd (true≢false (sym b.0 ∙ a.0))
 one_stop lines r line o o' (inr (inl a)) (inl b) = absurd (not_both_read lines line a.1.0 b.1.0 a.1.1 b.1.1)
@@ -137,8 +135,7 @@ wrong_from n r (first ∷ next ∷ more) line some (inl (inl faulty)) = let is :
 wrong_from n r (first ∷ next ∷ more) line some (inl (inr (inr full))) = let is : Wrong line ≡ Faulty too_long = full.1 in absurd (cc is)
 wrong_from n r (first ∷ next ∷ more) line some (inl (inr (inl wrong))) =
     let entry = entry_of_read n first wrong.1.0 some wrong.1.1 in
-    let is : Wrong line ≡ Wrong (n + 1) = wrong.1.3 in
-    let same : line ≡ n + 1 = cc is in record {
+    let same : line ≡ n + 1 = cc wrong.1.3 in record {
       lines = [];
       wrong = first;
       later = next ∷ more;
@@ -154,7 +151,6 @@ wrong_from n r (first ∷ next ∷ more) line some (inl (inr (inl wrong))) =
     }
 wrong_from n r (first ∷ next ∷ more) line some (inr on) =
     let entry = entry_of_read n first on.1.1.0 some on.1.1.1 in
-    let step : RecordedStep any_allocator r entry.entry.command entry.entry.reply on.0 = subst (λ (read : LineRead). LeadsTo r read on.0) entry.is_read on.1.1.2 in
     let behind = wrong_from (n + 1) on.0 (next ∷ more) line (omega arith) on.2 in
     let number = behind.number in record {
       lines = first ∷ behind.lines;
@@ -164,7 +160,7 @@ wrong_from n r (first ∷ next ∷ more) line some (inr on) =
       entries = entry.entry ∷ behind.entries;
       are_entries = (entry.is_entry, behind.are_entries);
       leads = behind.leads;
-      runs = (on.0, step, behind.runs);
+      runs = (on.0, (subst (λ (read : LineRead). LeadsTo r read on.0) entry.is_read on.1.1.2), behind.runs);
       entry = behind.entry;
       is_entry = behind.is_entry;
       no_step = behind.no_step;
@@ -182,8 +178,7 @@ wrong_in r text (rest ∷ []) line start is h = absurd (none_wrong rest line h)
 wrong_in r text (first ∷ next ∷ more) line start is (inl (inl faulty)) = let same : Wrong line ≡ Faulty _ = faulty.1.2 in absurd (cc same)
 wrong_in r text (first ∷ next ∷ more) line start is (inl (inr (inr full))) = let same : Wrong line ≡ Faulty too_long = full.1 in absurd (cc same)
 wrong_in r text (first ∷ next ∷ more) line start is (inl (inr (inl wrong))) =
-    let head = head_of_read first wrong.1.0 wrong.1.1 in
-    absurd (wrong.1.2 r (subst (λ (read : LineRead). LeadsTo r read r) (sym head.1) refl))
+    absurd (wrong.1.2 r (subst (λ (read : LineRead). LeadsTo r read r) (sym (head_of_read first wrong.1.0 wrong.1.1).1) refl))
 wrong_in r text (first ∷ next ∷ more) line start is (inr on) =
     let head = head_of_read first on.1.1.0 on.1.1.1 in
     let stays : on.0 ≡ r = subst (λ (read : LineRead). LeadsTo r read on.0) head.1 on.1.1.2 in
@@ -227,10 +222,9 @@ legal_from : (n : ℕ) (r : Recorded) (left : List (List ℕ)) (k : ℕ) → 1 �
 legal_from n r [] k some few h = absurd h
 legal_from n r (rest ∷ []) k some few h =
     let is = if_legal (is_full n) (is_empty rest) (nat_eq n 0) (n - 1) k _ _ _ h in
-    let none = nothing_left rest is.0 in
     let same = is.1 in record {
       lines = [];
-      split = ap (λ (bytes : List ℕ). bytes ∷ []) none;
+      split = ap (λ (bytes : List ℕ). bytes ∷ []) (nothing_left rest is.0);
       entries = [];
       are_entries = tt;
       end = r;
@@ -243,9 +237,7 @@ legal_from n r (first ∷ next ∷ more) k some few (inl (inr (inl wrong))) = le
 legal_from n r (first ∷ next ∷ more) k some few (inl (inr (inr full))) = let is : Legal k ≡ Faulty too_long = full.1 in absurd (cc is)
 legal_from n r (first ∷ next ∷ more) k some few (inr on) =
     let entry = entry_of_read n first on.1.1.0 some on.1.1.1 in
-    let step : RecordedStep any_allocator r entry.entry.command entry.entry.reply on.0 = subst (λ (read : LineRead). LeadsTo r read on.0) entry.is_read on.1.1.2 in
-    let below = below_full n on.1.0 in
-    let behind = legal_from (n + 1) on.0 (next ∷ more) k (omega arith) (omega (arith, below)) on.2 in
+    let behind = legal_from (n + 1) on.0 (next ∷ more) k (omega arith) (omega (arith, below_full n on.1.0)) on.2 in
     let count = behind.count in
     let few' = behind.few in record {
       lines = first ∷ behind.lines;
@@ -253,7 +245,7 @@ legal_from n r (first ∷ next ∷ more) k some few (inr on) =
       entries = entry.entry ∷ behind.entries;
       are_entries = (entry.is_entry, behind.are_entries);
       end = behind.end;
-      runs = (on.0, step, behind.runs);
+      runs = (on.0, (subst (λ (read : LineRead). LeadsTo r read on.0) entry.is_read on.1.1.2), behind.runs);
       count = omega (arith, count);
       few = omega (arith, few');
     }
@@ -275,7 +267,6 @@ legal_in r text (first ∷ next ∷ more) k start is (inr on) =
     let head = head_of_read first on.1.1.0 on.1.1.1 in
     let stays : on.0 ≡ r = subst (λ (read : LineRead). LeadsTo r read on.0) head.1 on.1.1.2 in
     let behind = legal_from 1 on.0 (next ∷ more) k (omega arith) (omega arith) on.2 in
-    let count = behind.count in
     let few = behind.few in (
       behind.entries,
       record {
@@ -286,7 +277,7 @@ legal_in r text (first ∷ next ∷ more) k start is (inr on) =
         are_entries = behind.are_entries;
         few = omega (arith, few);
       },
-      omega (arith, count),
+      omega (arith, behind.count),
       (behind.end, subst (λ (from : Recorded). RecordedRuns any_allocator from behind.entries behind.end) (stays ∙ start) behind.runs),
     )
 
@@ -304,8 +295,7 @@ ends_legal false true k f f' h = absurd (true≢false h)
 from_legal : (n : ℕ) (r end : Recorded) (lines : List (List ℕ)) (entries : List Entry) → 1 ≤ n → length entries + n ≤ 4294967295 → AreEntries lines entries
     → RecordedRuns any_allocator r entries end → IsJudged n r (lines ++ [] ∷ []) (Legal (length entries + n - 1))
 from_legal n r end [] [] some few are run =
-    let same : 0 + n - 1 ≡ n - 1 = omega arith in
-    ap (λ (k : ℕ). Legal k) same ∙ ends_legal (is_full n) (nat_eq n 0) (n - 1) too_long (fault_at 1 _) not_none
+    ap (λ (k : ℕ). Legal k) (omega arith) ∙ ends_legal (is_full n) (nat_eq n 0) (n - 1) too_long (fault_at 1 _) not_none
   where
     not_none : nat_eq n 0 ≡ false
     not_none = elim (eqb_tells n 0) [ inl none ↦ (let is = none.1 in absurd (omega (arith, is, some))) | inr other ↦ other.0 ]
@@ -314,9 +304,8 @@ from_legal n r end (line ∷ lines) [] some few are run = absurd are
 from_legal n r end (line ∷ lines) (entry ∷ entries) some few are run =
     let taken = right_line n r run.0 line entry some (omega (arith, few)) are.0 run.1 in
     let behind = from_legal (n + 1) run.0 end lines entries (omega arith) (omega (arith, few)) are.1 run.2 in
-    let same : length entries + (n + 1) - 1 ≡ suc (length entries) + n - 1 = omega arith in
     judged_on n r run.0 line (lines ++ [] ∷ []) (Legal (suc (length entries) + n - 1)) (some_lines lines []) taken
-    (subst (λ (k : ℕ). IsJudged (n + 1) run.0 (lines ++ [] ∷ []) (Legal k)) same behind)
+    (subst (λ (k : ℕ). IsJudged (n + 1) run.0 (lines ++ [] ∷ []) (Legal k)) (omega arith) behind)
 
 -- the head is taken
 head_taken : (r : Recorded) (head : List ℕ) → head_in head ≡ Ok tt → IsTakenLine 0 r head r
@@ -328,9 +317,8 @@ legal_text text n h = legal_in (nothing_recorded any_allocator) text (text_lines
 pub text_legal : (text : List ℕ) (n : ℕ) → IsLegalText text n → IsVerdict text (Legal n)
 text_legal text n legal =
     let history = legal.1 in
-    let few = history.few in
     let start = nothing_recorded any_allocator in
-    let behind = from_legal 1 start legal.3.0 history.lines legal.0 (omega arith) (omega (arith, few)) history.are_entries legal.3.1 in
+    let behind = from_legal 1 start legal.3.0 history.lines legal.0 (omega arith) (omega (arith, history.few)) history.are_entries legal.3.1 in
     let many : length legal.0 + 1 - 1 ≡ n = (let l = legal.2 in omega (arith, l)) in
     subst (λ (lines : List (List ℕ)). IsJudged 0 start lines (Legal n)) (sym history.split)
     (judged_on 0 start start history.head (history.lines ++ [] ∷ []) (Legal n) (some_lines history.lines []) (head_taken start history.head history.is_head)

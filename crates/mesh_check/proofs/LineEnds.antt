@@ -146,16 +146,14 @@ judged_here lines r line (next ∷ later) o some stop = inl stop
 pub line_leads : (old new : Judging) (kept : List ℕ) → old.begun.items ≡ kept → Takes old.judge new.judge kept → new.begun.items ≡ [] → Leads old new (10 ∷ [])
 line_leads old new kept same takes none r begun at =
     let taken = takes r at.stands in
-    let line = kept_of old.begun.items begun at.kept.front in
-    let read : line_in old.judge.lines kept ≡ line_in old.judge.lines begun = ap (line_in old.judge.lines) (sym same) ∙ kept_line old.judge.lines old.begun.items begun line in
+    let line = kept_of _ _ at.kept.front in
+    let read : line_in old.judge.lines kept ≡ line_in old.judge.lines begun = ap (line_in old.judge.lines) (sym same) ∙ kept_line _ _ _ line in
     let here : IsTakenLine old.judge.lines r begun taken.0 = (taken.1.0, (taken.1.1.0, sym read ∙ taken.1.1.1, taken.1.1.2)) in record {
       left = taken.0;
       begins = [];
       at = record { stands = taken.2; kept = subst (λ (bytes : List ℕ). IsKept bytes []) (sym none) none_kept };
-      back = λ more o h.
-          subst (λ (lines : List (List ℕ)). IsJudged old.judge.lines r lines o) (sym (line_then begun more at.kept.unended))
-          (judged_on old.judge.lines r taken.0 begun (text_lines more) o (some_part 10 more) here
-          (subst (λ (n : ℕ). IsJudged n taken.0 (text_lines more) o) taken.3 h));
+      back = λ more o h. subst (λ (lines : List (List ℕ)). IsJudged old.judge.lines r lines o) (sym (line_then _ _ at.kept.unended))
+          (judged_on _ _ _ begun _ o (some_part 10 more) here (subst (λ (n : ℕ). IsJudged n taken.0 (text_lines more) o) taken.3 h));
     }
 
 -- something is found in it
@@ -319,8 +317,7 @@ long_judged lines r (b ∷ bs) (next ∷ later) over = inl (stop (is_full lines)
 -- bytes of a line that are too many end a text there
 pub long_ends : (j : Judging) → 1024 < length j.begun.items → Ends j [] (end_of j.judge.lines j.begun.items)
 long_ends j over r begun at more =
-    let alone = slice_split_none (λ b. nat_eq b 10) begun at.kept.unended in
-    let line = unended_more begun more alone in
+    let line = unended_more begun more (slice_split_none (λ b. nat_eq b 10) begun at.kept.unended) in
     let grows : length j.begun.items ≤ length begun = (let len = ap (λ (bytes : List ℕ). length bytes) at.kept.front in omega (arith, len, length-take 1025 begun)) in
     let long : 1024 < length (begun ++ line.behind) = omega (arith, over, grows, length-append begun line.behind) in
     let same = kept_rest j.judge.lines j.begun.items (begun ++ line.behind) (Long over long) in

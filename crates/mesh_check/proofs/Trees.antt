@@ -57,8 +57,7 @@ module _ (s g : ℕ → Option ℕ) (given : ℕ → Bool) (count : ℕ) (r : Re
     started = λ q x h. let was = before q x h in ap s (sym was.2) ∙ st.started q was.0 was.1;
     starts_of = λ a q h. let was = st.starts_of a q h in elim (eqb_tells q n) [
       | inl same ↦
-          let old : Some was.0 ≡ Some o = sym was.1 ∙ ap f same.1 ∙ at in
-          let is : was.0 ≡ o = cc old in
+          let is : was.0 ≡ o = cc (sym was.1 ∙ ap f same.1 ∙ at) in
           (p, ap f' same.1 ∙ set.0, address ∙ ap (λ (x : Object). x.address) (sym is) ∙ was.2)
       | inr other ↦ (was.0, set.1 q other.1 ∙ was.1, was.2)
     ];
@@ -71,8 +70,7 @@ module _ (s g : ℕ → Option ℕ) (given : ℕ → Bool) (count : ℕ) (r : Re
       before : (q : ℕ) (x : Object) → f' q ≡ Some x → (y : Object) × (f q ≡ Some y) × (y.address ≡ x.address) × (length y.bytes ≡ length x.bytes)
       before q x h = elim (eqb_tells q n) [
         | inl same ↦
-            let old : Some p ≡ Some x = sym set.0 ∙ ap f' (sym same.1) ∙ h in
-            let is : p ≡ x = cc old in
+            let is : p ≡ x = cc (sym set.0 ∙ ap f' (sym same.1) ∙ h) in
             (o, ap f same.1 ∙ at, sym address ∙ ap (λ (y : Object). y.address) is, sym len ∙ ap (λ (y : Object). length y.bytes) is)
         | inr other ↦ (x, sym (set.1 q other.1) ∙ h, refl, refl)
       ]
@@ -90,16 +88,14 @@ module _ (s g : ℕ → Option ℕ) (given : ℕ → Bool) (count : ℕ) (r : Re
         let was = before q x h in
         let there = st.started q x was.1 in
         unset.1 x.address (λ same.
-        let both : Some q ≡ Some n = sym there ∙ ap s same ∙ st.started n o at in
-        let is : q ≡ n = cc both in was.0 is) ∙ there;
+        let is : q ≡ n = cc (sym there ∙ ap s same ∙ st.started n o at) in was.0 is) ∙ there;
     starts_of = λ a q h. elim (eqb_tells a o.address) [
       | inl same ↦ let none : None ≡ Some q = sym unset.0 ∙ ap s' (sym same.1) ∙ h in absurd (cc none)
       | inr other ↦
           let was = st.starts_of a q (sym (unset.1 a other.1) ∙ h) in (
             was.0,
             set.1 q (λ same.
-                let old : Some was.0 ≡ Some o = sym was.1 ∙ ap f same ∙ at in
-                let is : was.0 ≡ o = cc old in
+                let is : was.0 ≡ o = cc (sym was.1 ∙ ap f same ∙ at) in
                 other.1 (sym was.2 ∙ ap (λ (x : Object). x.address) is)) ∙ was.1,
             was.2,
           )
@@ -144,8 +140,7 @@ module _ (s g : ℕ → Option ℕ) (given : ℕ → Bool) (count : ℕ) (r : Re
     serials = λ q. list_any-append (λ other. nat_eq other q) r.serials (serial ∷ []) ∙ one_more (was_given r.serials q) (given q) (nat_eq serial q) (st.serials q) ∙ sym (told q);
     started = λ q x h. elim (eqb_tells q count) [
       | inl same ↦
-          let is = new_is q x same.1 h in
-          ap s' (ap (λ (y : Object). y.address) (sym is)) ∙ started.0 ∙ ap (λ (n : ℕ). Some n) (sym same.1)
+          ap s' (ap (λ (y : Object). y.address) (sym (new_is q x same.1 h))) ∙ started.0 ∙ ap (λ (n : ℕ). Some n) (sym same.1)
       | inr other ↦
           let was = old_is q x other.1 h in
           started.1 x.address (λ same. let has = within_has x address (omega (arith, same)) (let b = st.filled q x was in omega (arith, same, b)) in
@@ -153,8 +148,7 @@ module _ (s g : ℕ → Option ℕ) (given : ℕ → Bool) (count : ℕ) (r : Re
     ];
     starts_of = λ a q h. elim (eqb_tells a address) [
       | inl same ↦
-          let at : Some count ≡ Some q = sym started.0 ∙ ap s' (sym same.1) ∙ h in
-          let is : count ≡ q = cc at in (new, ap f' (sym is) ∙ set.0, sym same.1)
+          let is : count ≡ q = cc (sym started.0 ∙ ap s' (sym same.1) ∙ h) in (new, ap f' (sym is) ∙ set.0, sym same.1)
       | inr other ↦
           let was = st.starts_of a q (sym (started.1 a other.1) ∙ h) in
           (was.0, set.1 q (λ same. let below = old_below q was.0 was.1 in omega (arith, below, same)) ∙ was.1, was.2)
@@ -203,8 +197,7 @@ module _ (s g : ℕ → Option ℕ) (given : ℕ → Bool) (count : ℕ) (r : Re
       meets : (q : ℕ) (x : Object) → f q ≡ Some x → (z : ℕ) → has_address new z ≡ true → has_address x z ≡ true → ⊥
       meets q x h z there has =
           let within = has_within new z there in
-          let l = length-replicate {A = ℕ} len 0 in
-          true≢false (sym has ∙ apart_of_new q x h z within.0 (let t = within.1 in omega (arith, t, l)))
+          true≢false (sym has ∙ apart_of_new q x h z within.0 (let t = within.1 in omega (arith, t, length-replicate {A = ℕ} len 0)))
 
       object_there : (q : ℕ) → slice_index_or (r.memory.objects ++ Some new ∷ []) q None ≡ f' q
       object_there q = elim (eqb_tells q count) [
@@ -213,9 +206,8 @@ module _ (s g : ℕ → Option ℕ) (given : ℕ → Bool) (count : ℕ) (r : Re
           | inl inside ↦ get_or_append_left r.memory.objects (Some new ∷ []) None q inside.1 ∙ st.object q ∙ sym (set.1 q other.1)
           | inr past ↦ elim (leb_tells (suc (length r.memory.objects)) q) [
             | inl above ↦
-                let l = length_push r.memory.objects (Some new) in
                 let behind = above.1 in
-                get_or_past (r.memory.objects ++ Some new ∷ []) q None (omega (arith, l, behind))
+                get_or_past (r.memory.objects ++ Some new ∷ []) q None (omega (arith, length_push r.memory.objects (Some new), behind))
                 ∙ sym (get_or_past r.memory.objects q None (omega (arith, behind))) ∙ st.object q ∙ sym (set.1 q other.1)
             | inr not ↦ absurd (other.1 (let n = st.count in let p = past.1 in let a = not.1 in omega (arith, n, p, a)))
           ]
@@ -236,20 +228,16 @@ holding_is f s g given count r address n o st at has =
 only_nearest : (f : ℕ → Option Object) (s g : ℕ → Option ℕ) (given : ℕ → Bool) (count : ℕ) (r : Recorded) (b n k x : ℕ) (o p : Object) → StandsFor f s g given count r
     → f n ≡ Some o → o.address ≡ b → f k ≡ Some p → p.address ≤ b → b ≤ x → has_address p x ≡ true → o ≡ p
 only_nearest f s g given count r b n k x o p st at is at' below above has =
-    let within = has_within p x has in
-    let some = st.filled n o at in
-    let here = within_has o b (omega (arith, is)) (omega (arith, is, some)) in
-    let there = within_has p b below (let t = within.1 in omega (arith, t, above)) in
-    let same = st.apart n k o p at at' b here there in
+    let there = within_has p b below (let t = (has_within p x has).1 in omega (arith, t, above)) in
+    let same = st.apart n k o p at at' b (within_has o b (omega (arith, is)) (omega (arith, is, st.filled n o at))) there in
     let both : Some o ≡ Some p = sym at ∙ ap f same ∙ at' in cc both
 
 -- no object lies where none begins below
 pub none_below : (f : ℕ → Option Object) (s g : ℕ → Option ℕ) (given : ℕ → Bool) (count : ℕ) (r : Recorded) (address : ℕ) → StandsFor f s g given count r
     → IsNearest s address None → (k x : ℕ) (p : Object) → f k ≡ Some p → x ≤ address → has_address p x ≡ false
 none_below f s g given count r address st none k x p at below = lacks p x (λ within.
-    let there = st.started k p at in
     let missing = none p.address (let w = within.0 in omega (arith, w, below)) in
-    let both : Some k ≡ None = sym there ∙ missing in cc both)
+    let both : Some k ≡ None = sym (st.started k p at) ∙ missing in cc both)
 
 -- nor behind the one that begins nearest below
 pub none_behind : (f : ℕ → Option Object) (s g : ℕ → Option ℕ) (given : ℕ → Bool) (count : ℕ) (r : Recorded) (address n : ℕ) (o : Object) → StandsFor f s g given count r
@@ -257,13 +245,11 @@ pub none_behind : (f : ℕ → Option Object) (s g : ℕ → Option ℕ) (given 
 none_behind f s g given count r address n o st near at k x p at' past below = lacks p x (λ within.
     let b = near.0 in
     let found = st.starts_of b n near.2 in
-    let found_is : Some found.0 ≡ Some o = sym found.1 ∙ at in
-    let same : found.0 ≡ o = cc found_is in
+    let same : found.0 ≡ o = cc (sym found.1 ∙ at) in
     let start : o.address ≡ b = ap (λ (y : Object). y.address) (sym same) ∙ found.2 in
     let first = near.3 p.address k (let w = within.0 in omega (arith, w, below)) (st.started k p at') in
     let is = only_nearest f s g given count r b n k x o p st at start at' first (omega (arith, past, start)) (within_has p x within.0 within.1) in
-    let len : o.address + length o.bytes ≡ p.address + length p.bytes = ap (λ (y : Object). y.address + length y.bytes) is in
-    let end = within.1 in omega (arith, len, past, end))
+    let end = within.1 in omega (arith, (ap (λ (y : Object). y.address + length y.bytes) is), past, end))
 
 -- where no object has an address, none is found
 pub stray_is : (m : Memory) (address : ℕ) → ((k : ℕ) (p : Object) → object_of m k ≡ Some p → has_address p address ≡ false) → holding m address ≡ Err Stray
@@ -277,10 +263,8 @@ none_past f s g given count r address n o st near at lacking k p at' =
   where
     start : o.address ≤ address
     start = let found = st.starts_of near.0 n near.2 in
-        let found_is : Some found.0 ≡ Some o = sym found.1 ∙ at in
-        let same : found.0 ≡ o = cc found_is in
-        let is : o.address ≡ near.0 = ap (λ (y : Object). y.address) (sym same) ∙ found.2 in
-        let first = near.1 in omega (arith, is, first)
+        let same : found.0 ≡ o = cc (sym found.1 ∙ at) in
+        let first = near.1 in omega (arith, (ap (λ (y : Object). y.address) (sym same) ∙ found.2), first)
 
     past : o.address + length o.bytes ≤ address
     past = elim (leb_tells (suc address) (o.address + length o.bytes)) [
@@ -293,21 +277,17 @@ pub nearest_starts : (f : ℕ → Option Object) (s g : ℕ → Option ℕ) (giv
     → IsNearest s address (Some n) → f n ≡ Some o → o.address ≤ address
 nearest_starts f s g given count r address n o st near at =
     let found = st.starts_of near.0 n near.2 in
-    let found_is : Some found.0 ≡ Some o = sym found.1 ∙ at in
-    let same : found.0 ≡ o = cc found_is in
-    let is : o.address ≡ near.0 = ap (λ (y : Object). y.address) (sym same) ∙ found.2 in
-    let first = near.1 in omega (arith, is, first)
+    let same : found.0 ≡ o = cc (sym found.1 ∙ at) in
+    let first = near.1 in omega (arith, (ap (λ (y : Object). y.address) (sym same) ∙ found.2), first)
 
 -- a range is not vacant that an object reaches into
 pub not_vacant : (f : ℕ → Option Object) (s g : ℕ → Option ℕ) (given : ℕ → Bool) (count : ℕ) (r : Recorded) (address len n : ℕ) (o : Object) → StandsFor f s g given count r
     → f n ≡ Some o → 1 ≤ len → o.address < address + len → address < o.address + length o.bytes → IsVacantRange r.memory address len → ⊥
 not_vacant f s g given count r address len n o st at some below behind vacant = elim (leb_tells o.address address) [
   | inl from ↦
-      let has = within_has o address from.1 behind in
-      true≢false (sym has ∙ vacant n address o (st.object n ∙ at) (omega arith) (omega (arith, some)))
+      true≢false (sym (within_has o address from.1 behind) ∙ vacant n address o (st.object n ∙ at) (omega arith) (omega (arith, some)))
   | inr later ↦
-      let filled = st.filled n o at in
-      let has = within_has o o.address (omega arith) (omega (arith, filled)) in
+      let has = within_has o o.address (omega arith) (omega (arith, st.filled n o at)) in
       true≢false (sym has ∙ vacant n o.address o (st.object n ∙ at) (let l = later.1 in omega (arith, l)) below)
 ]
 

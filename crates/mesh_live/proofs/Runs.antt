@@ -291,14 +291,6 @@ pub nothing_read : (left : Option (List ℕ)) → Consumes left left []
 nothing_read None = tt
 nothing_read (Some xs) = refl
 
-pub none_fed : (session : Session) (kept : List ℕ) (left written : Option (List ℕ)) → IsSession session → kept ≡ [] → HasReadOn 0 session session kept left left written written
-none_fed session kept left written sound none = record {
-  text = [];
-  taken = nothing_read left;
-  counted = omega arith;
-  told = subst (λ k. HasTaken false session session [] k [] written written) (sym none) (nothing_taken session [] written sound [] none_kept);
-}
-
 -- one read more, whose bytes were taken
 pub read_more : (times : ℕ) (over : Bool) (old mid new : Session) (kept kept' bytes : List ℕ) (left left' left'' written written' written'' : Option (List ℕ))
     → HasReadOn times old mid kept left left' written written' → Consumes left' left'' bytes → 1 ≤ length bytes
@@ -332,15 +324,5 @@ read_all times old new kept bytes left left' left'' written written' before read
   taken = subst (λ text. Consumes left left'' text) (ap (λ (b : List ℕ). before.text ++ b) none ∙ append-nil before.text)
       (Consumes-trans left left' left'' before.text bytes before.taken read);
   whole = λ over. inl at_end;
-  told = before.told;
-}
-
--- more was read than can be counted
-pub read_long : (times : ℕ) (old new : Session) (kept : List ℕ) (left left' written written' : Option (List ℕ))
-    → HasReadOn times old new kept left left' written written' → 2 ^ 64 ≤ times + 1 → HasFed false old new kept left left' written written'
-read_long times old new kept left left' written written' before many = record {
-  text = before.text;
-  taken = before.taken;
-  whole = λ over. inr (let counted = before.counted in omega (arith, counted, many));
   told = before.told;
 }

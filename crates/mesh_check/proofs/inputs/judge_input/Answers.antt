@@ -17,18 +17,15 @@ returns-in_err-finish-in-None-clause-fault g c =
     let left = g.I.Source.remaining in
     let fault = c.in_err-finish-in-None.field-0.0 in
     handed_on c.from_residual-in_err-finish-in-None.result (replay_error_of fault) (HasNotJudged (left c.args.input.now) (left c.read_input.new.input))
-    c.from_residual-in_err-finish-in-None.ensures.1
-    (closed_fault c.args.judging.now c.read_input.new.judging (left c.args.input.now) (left c.read_input.new.input) fault c.requires.at c.requires.lines
+    c.from_residual-in_err-finish-in-None.ensures.1 (closed_fault _ _ _ _ _ c.requires.at c.requires.lines
     (c.in_ok-verdict.ensures.ended (none_is _ c.in-None.is)) c.in_err-finish-in-None.ensures.fault)
 
 pub returns-in-Some-clause-judged : goal.returns-in-Some-clause-judged
 returns-in-Some-clause-judged g c =
     let left = g.I.Source.remaining in
-    found_judged c.args.judging.now (left c.args.input.now) (left c.read_input.new.input) (outcome_of c.in-Some.verdict) c.requires.at c.requires.lines
-    (some_holds _ _ _ c.in-Some.is c.in_ok-verdict.ensures.found)
+    found_judged _ _ _ _ c.requires.at c.requires.lines (some_holds _ _ _ c.in-Some.is c.in_ok-verdict.ensures.found)
 
 pub returns-in_ok-finish-in-None-clause-judged : goal.returns-in_ok-finish-in-None-clause-judged
 returns-in_ok-finish-in-None-clause-judged g c =
     let left = g.I.Source.remaining in
-    closed_judged c.args.judging.now c.read_input.new.judging (left c.args.input.now) (left c.read_input.new.input) (outcome_of c.in_ok-finish-in-None.field-0)
-    c.requires.at c.requires.lines (c.in_ok-verdict.ensures.ended (none_is _ c.in-None.is)) c.in_ok-finish-in-None.ensures.found
+    closed_judged _ _ _ _ _ c.requires.at c.requires.lines (c.in_ok-verdict.ensures.ended (none_is _ c.in-None.is)) c.in_ok-finish-in-None.ensures.found

@@ -12,16 +12,13 @@ returns-in_err-verdict-clause-fault g c =
     let left = g.I.Source.remaining in
     let fault = c.in_err-verdict.field-0.0 in
     handed_on c.from_residual-in_err-verdict.result (replay_error_of fault) (HasFoundFault c.args.judging.now (left c.args.input.now) (left c.read_some.new.input))
-    c.from_residual-in_err-verdict.ensures.1
-    (fault_more c.loop-read._read c.args.judging.now c.loop-read.judging (take c.in_ok-count.count c.read_some.new.buf) (left c.args.input.now) (left c.loop-read.input)
-    (left c.read_some.new.input) fault c.loop-read.invariant.read c.in_ok-count.ensures.bytes c.in_err-verdict.ensures.fault)
+    c.from_residual-in_err-verdict.ensures.1 (fault_more _ _ _ _ _ _
+    _ _ c.loop-read.invariant.read c.in_ok-count.ensures.bytes c.in_err-verdict.ensures.fault)
 
 pub returns-in-Some-clause-found : goal.returns-in-Some-clause-found
 returns-in-Some-clause-found g c =
     let left = g.I.Source.remaining in
-    found_more c.loop-read._read c.args.judging.now c.loop-read.judging (take c.in_ok-count.count c.read_some.new.buf) (left c.args.input.now) (left c.loop-read.input)
-    (left c.read_some.new.input) (outcome_of c.in-Some.verdict) c.loop-read.invariant.read c.in_ok-count.ensures.bytes
-    (some_holds _ _ _ c.in-Some.is c.in_ok-verdict.ensures.found)
+    found_more _ _ _ _ _ _ _ _ c.loop-read.invariant.read c.in_ok-count.ensures.bytes (some_holds _ _ _ c.in-Some.is c.in_ok-verdict.ensures.found)
 
 pub loop-read-preserved : goal.loop-read-preserved
 loop-read-preserved g c =
@@ -33,6 +30,5 @@ loop-read-preserved g c =
       sound = c.in_ok-verdict.ensures.sound none;
       room = search rules;
       input = search rules;
-      read = read_more c.loop-read._read c.args.judging.now c.loop-read.judging c.take.new.self bytes (left c.args.input.now) (left c.loop-read.input)
-          (left c.read_some.new.input) c.loop-read.invariant.read c.in_ok-count.ensures.bytes some (c.in_ok-verdict.ensures.leads none);
+      read = read_more _ _ _ _ _ _ _ _ c.loop-read.invariant.read c.in_ok-count.ensures.bytes some (c.in_ok-verdict.ensures.leads none);
     }

@@ -9,9 +9,8 @@ returns c =
     let found = c.range.ensures.in_range tt in
     let there = found.3 entry c.next_back.new.self c.in_ok-number.ensures.steps in (
       entry.0,
-      at_most entry.0 c.args.address there.0.1,
+      at_most _ _ there.0.1,
       there.1,
-      λ q k below at.
-          not_less entry.0 q (found.4 entry c.next_back.new.self c.in_ok-number.ensures.steps q (tt, not_greater q c.args.address below)
+      λ q k below at. not_less _ _ (found.4 entry c.next_back.new.self c.in_ok-number.ensures.steps q (tt, not_greater _ _ below)
           (subst (λ (o : Option ℕ). IsSome o) (sym at) refl)),
     )

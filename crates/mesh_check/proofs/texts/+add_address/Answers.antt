@@ -5,5 +5,4 @@ use Rattle.mesh_check.proofs.texts.+add_address.Goals as goal
 pub returns : goal.returns
 returns t c =
     let high : 16 ≤ c.args.address = omega (arith, c.if-address-lt16.false) in
-    digits_told c.args.text.now.items c.add_address.new.text.items c.push-2.new.self.items c.args.address c.digit-2.result high c.ranges.address.fits
-    c.in_ok-add_address.ensures c.digit-2.ensures c.in_ok-push-2.ensures.items
+    digits_told _ _ _ _ _ high c.ranges.address.fits c.in_ok-add_address.ensures c.digit-2.ensures c.in_ok-push-2.ensures.items

@@ -6,6 +6,5 @@ use Rattle.mesh_check.proofs.texts.add_reason.Goals as goal
 pub returns-in_ok-extend_from_slice-in-Overlaps : goal.returns-in_ok-extend_from_slice-in-Overlaps
 returns-in_ok-extend_from_slice-in-Overlaps c =
     let before = c.extend_from_slice-in-Overlaps.new.self.items in
-    on_ok_weaker c.add_decimal.result (λ told.
-    overlaps_told c.args.text.now.items before c.add_decimal.new.text.items c.in-Overlaps.serial c.args.reason.now c.in-Overlaps.is
+    on_ok_weaker c.add_decimal.result (λ told. overlaps_told _ _ _ _ _ c.in-Overlaps.is
     c.in_ok-extend_from_slice-in-Overlaps.ensures.items (told ∙ ap (λ (n : ℕ). before ++ decimal n) c.from.ensures)) c.add_decimal.ensures

@@ -16,16 +16,14 @@ returns-clause-copied c =
     let fits' = sym c.if-ends_outside-2.ensures in
     let bytes : c.load.result.items ≡ slice_range out_of.bytes c.args.from.1 (c.args.from.1 + c.args.len)
     = c.load.ensures ∙ ap (λ (o : Object). slice_range o.bytes c.args.from.1 (c.args.from.1 + c.args.len)) c.out_of.view_is in
-    let len : length c.load.result.items ≡ c.args.len
-    = ap (λ (all : List ℕ). length all) bytes ∙ range_length out_of.bytes c.args.from.1 c.args.len (inside out_of c.args.from.1 c.args.len fits') in
-    let within = inside into c.args.to.1 c.args.len fits in (
+    let within = inside into _ _ fits in (
       into,
       c.in_ok-into.ensures.live,
-      omega (arith, len, within),
+      omega (arith, (ap (λ (all : List ℕ). length all) bytes ∙ range_length _ _ _ (inside out_of _ _ fits')), within),
       λ r st.
           subst (λ (all : List ℕ). plain r.memory 0 (CopyBytes c.args.to.0 c.args.to.1 c.args.from.0 c.args.from.1 c.args.len)
           ≡ Ok (Done, with_object r.memory target (Some (record into { bytes = overwritten into.bytes c.args.to.1 all })))) (sym bytes)
-          (copy_done r.memory c.args.to.0 c.args.to.1 c.args.from.0 c.args.from.1 c.args.len target c.in_ok-source.source into out_of
+          (copy_done _ _ _ _ _ _ _ _ _ _
           (c.in_ok-target.ensures.held r st) (c.in_ok-source.ensures.held r st) (st.object target ∙ c.in_ok-into.ensures.live)
           (st.object c.in_ok-source.source ∙ c.in_ok-out_of.ensures.live) fits fits'),
     )

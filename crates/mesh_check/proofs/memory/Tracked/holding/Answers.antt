@@ -12,5 +12,4 @@ returns-then-not-has_address-clause-refusal c = λ r st.
     (sym c.if-not-has_address.ensures) k p (sym (st.object k) ∙ at))
 
 pub returns-clause-held : goal.returns-clause-held
-returns-clause-held c = λ r st.
-    holding_is _ _ _ _ _ r c.args.address c.in-Some.number c.in-Some-get.object.now st (sym c.in-Some-get.ensures.value) (sym c.if-not-has_address.ensures)
+returns-clause-held c = λ r st. holding_is _ _ _ _ _ _ _ _ _ st (sym c.in-Some-get.ensures.value) (sym c.if-not-has_address.ensures)

@@ -10,5 +10,4 @@ returns-clause-wrong c =
 
 pub returns-clause-told : goal.returns-clause-told
 returns-clause-told c =
-    told_difference c.args.self.now c.answer.new.self (plain_command c.args.command.now) (plain_reply c.args.reply.now) (plain_reply c.in_ok-wanted.wanted)
-    c.difference.result c.requires.other c.in_ok-wanted.ensures.answered c.difference.ensures.told
+    told_difference c.args.self.now c.answer.new.self _ _ _ _ c.requires.other c.in_ok-wanted.ensures.answered c.difference.ensures.told

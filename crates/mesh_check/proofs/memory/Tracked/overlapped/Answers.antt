@@ -13,15 +13,13 @@ returns-then-ends_behind-clause-some c = λ r st vacant.
     let object = c.in_ok-object.object.now in
     let at = sym c.in_ok-object.ensures.value in
     let last = c.from.ensures in let some = c.requires.some in
-    let first = nearest_starts _ _ _ _ _ r (c.args.address + c.from.result) c.in_ok-number.number object st c.in_ok-number.ensures at in
-    not_vacant _ _ _ _ _ r c.args.address c.args.len c.in_ok-number.number object st at some (omega (arith, first, last, some))
-    (behind_by_test c.args.address _ (sym c.if-ends_behind.ensures)) vacant
+    let first = nearest_starts _ _ _ _ _ _ _ _ _ st c.in_ok-number.ensures at in
+    not_vacant _ _ _ _ _ _ _ _ _ _ st at some (omega (arith, first, last, some)) (behind_by_test _ _ (sym c.if-ends_behind.ensures)) vacant
 
 pub returns-else-ends_behind-clause-none : goal.returns-else-ends_behind-clause-none
 returns-else-ends_behind-clause-none c = λ none r st k x p at from to.
     let object = c.in_ok-object.object.now in
     let at' = sym c.in_ok-object.ensures.value in
     let last = c.from.ensures in let some = c.requires.some in
-    let end = before_by_test c.args.address _ (sym c.if-ends_behind.ensures) in
-    none_behind _ _ _ _ _ r (c.args.address + c.from.result) c.in_ok-number.number object st c.in_ok-number.ensures at' k x p (sym (st.object k) ∙ at)
-    (omega (arith, end, from)) (omega (arith, to, last, some))
+    let end = before_by_test _ _ (sym c.if-ends_behind.ensures) in
+    none_behind _ _ _ _ _ _ _ _ _ st c.in_ok-number.ensures at' _ _ _ (sym (st.object k) ∙ at) (omega (arith, end, from)) (omega (arith, to, last, some))

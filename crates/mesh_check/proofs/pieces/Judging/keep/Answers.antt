@@ -21,5 +21,4 @@ returns-clause-kept c = kept c
 
 pub returns-clause-leads : goal.returns-clause-leads
 returns-clause-leads c =
-    on_ok_weaker c.extend_from_slice.result (λ all.
-    keep_leads c.args.self.now (record { judge = c.args.self.now.judge; begun = c.extend_from_slice.new.self }) c.args.bytes.now refl all c.requires.unended) (kept c)
+    on_ok_weaker c.extend_from_slice.result (λ all. keep_leads _ _ _ refl all c.requires.unended) (kept c)

@@ -29,34 +29,28 @@ pub returns-in-Some-2-clause-found : goal.returns-in-Some-2-clause-found
 returns-in-Some-2-clause-found c =
     let led = c.loop-line.invariant.led in
     let line = c.in-Some.line.now in
-    let o = outcome_of c.in-Some-2.verdict in
-    let cut = cut_piece c.args.piece.now led.0 c.loop-line.rest.now line c.in-Some.behind.now led.1 c.in-Some.ensures.some in
-    subst (λ (piece : List ℕ). Ends c.args.self.now piece o) (sym cut)
-    (ends_early c.args.self.now (led.0 ++ (line ++ 10 ∷ [])) c.in-Some.behind.now o
-    (ends_on c.args.self.now c.loop-line.self led.0 (line ++ 10 ∷ []) o led.2 (some_holds _ _ _ c.in-Some-2.is c.in_ok-verdict.ensures.found)))
+    let cut = cut_piece _ _ _ _ c.in-Some.behind.now led.1 c.in-Some.ensures.some in
+    subst (λ (piece : List ℕ). Ends c.args.self.now piece (outcome_of c.in-Some-2.verdict)) (sym cut) (ends_early _ _ _ _
+    (ends_on _ _ _ _ _ led.2 (some_holds _ _ _ c.in-Some-2.is c.in_ok-verdict.ensures.found)))
 
 pub returns-in_err-verdict-clause-fault : goal.returns-in_err-verdict-clause-fault
 returns-in_err-verdict-clause-fault c =
     let led = c.loop-line.invariant.led in
     let line = c.in-Some.line.now in
     let fault = c.in_err-verdict.field-0.0 in
-    let cut = cut_piece c.args.piece.now led.0 c.loop-line.rest.now line c.in-Some.behind.now led.1 c.in-Some.ensures.some in
+    let cut = cut_piece _ _ _ _ c.in-Some.behind.now led.1 c.in-Some.ensures.some in
     handed_on c.from_residual.result fault (EndsIn c.args.self.now c.args.piece.now) c.from_residual.ensures.1
-    (subst (λ (piece : List ℕ). EndsIn c.args.self.now piece fault) (sym cut)
-    (ends_in_early c.args.self.now (led.0 ++ (line ++ 10 ∷ [])) c.in-Some.behind.now fault
-    (ends_in_on c.args.self.now c.loop-line.self led.0 (line ++ 10 ∷ []) fault led.2 c.in_err-verdict.ensures.fault)))
+    (subst (λ (piece : List ℕ). EndsIn c.args.self.now piece fault) (sym cut) (ends_in_early _ _ _ _
+    (ends_in_on _ _ _ _ _ led.2 c.in_err-verdict.ensures.fault)))
 
 pub returns-clause-leads : goal.returns-clause-leads
 returns-clause-leads c = λ _.
     let led = c.loop-line.invariant.led in
-    subst (λ (piece : List ℕ). Leads c.args.self.now c.keep.new.self piece) (sym led.1)
-    (leads_on c.args.self.now c.loop-line.self c.keep.new.self led.0 c.loop-line.rest.now led.2 c.in_ok-keep.ensures.leads)
+    subst (λ (piece : List ℕ). Leads c.args.self.now c.keep.new.self piece) (sym led.1) (leads_on _ _ _ _ _ led.2 c.in_ok-keep.ensures.leads)
 
 pub returns-then-len-gt-MAX_LINE_BYTES-clause-fault : goal.returns-then-len-gt-MAX_LINE_BYTES-clause-fault
 returns-then-len-gt-MAX_LINE_BYTES-clause-fault c =
     let led = c.loop-line.invariant.led in
     let all : Leads c.args.self.now c.keep.new.self c.args.piece.now
-    = subst (λ (piece : List ℕ). Leads c.args.self.now c.keep.new.self piece) (sym led.1)
-    (leads_on c.args.self.now c.loop-line.self c.keep.new.self led.0 c.loop-line.rest.now led.2 c.in_ok-keep.ensures.leads) in
-    let over : 1024 < length c.keep.new.self.begun.items = omega (arith, c.if-len-gt-MAX_LINE_BYTES.true, c.len.ensures, c.keep.new.self.begun.ok.0) in
-    long_fault c.args.self.now c.keep.new.self c.args.piece.now c.long_line.result over c.long_line.ensures all
+    = subst (λ (piece : List ℕ). Leads c.args.self.now c.keep.new.self piece) (sym led.1) (leads_on _ _ _ _ _ led.2 c.in_ok-keep.ensures.leads) in
+    long_fault _ _ _ _ (omega (arith, c.if-len-gt-MAX_LINE_BYTES.true, c.len.ensures, c.keep.new.self.begun.ok.0)) c.long_line.ensures all
