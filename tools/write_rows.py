@@ -2,9 +2,9 @@
 """Writes the crate mesh_rows, and the tables of mesh_run_tests and mesh_explore_tests, from the files under jobs/rows and jobs/explore.
 
 Each folder there is a subject, and each NAME.job in it a row: NAME.out has the lines that the job is answered, or NAME.err the fault of a file
-that is no job. In mesh_rows a subject becomes a spec file, and a function whose clauses are its rows; in mesh_run_tests
-the rows become tables, one a subject. The smaller explorations under jobs/explore become a table of mesh_explore_tests. Run it from the top of the
-repository after a row was added or changed; what it writes is committed.
+that is no job. In mesh_rows a subject becomes a spec file, and a function whose clauses are its rows; in mesh_run_tests the rows become tables, one
+a subject. The smaller explorations under jobs/explore become a table of mesh_explore_tests. Run it from the top of the repository after a row was
+added or changed; what it writes is committed.
 """
 import pathlib
 import re
