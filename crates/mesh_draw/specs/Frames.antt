@@ -6,15 +6,15 @@ use Rattle.model_heap.specs.Table.{Mesh, Progress, Made, Report, Unwinding, grou
 use Rattle.mesh_layout.specs.Meshes.{mesh_from}
 use Rattle.mesh_steps.specs.Heap.{Heap, arena_of, index_of, map_of, table_of}
 use Rattle.mesh_steps.specs.Shown.{home_at, lead_at, member_at, object_at, released_of}
-use Rattle.mesh_picture.specs.declared.frame.Counts.{Counts}
-use Rattle.mesh_picture.specs.declared.frame.Frame.{Frame}
-use Rattle.mesh_picture.specs.declared.frame.Home.{Home}
-use Rattle.mesh_picture.specs.declared.frame.Lead.{Lead}
-use Rattle.mesh_picture.specs.declared.frame.Member.{Member}
-use Rattle.mesh_picture.specs.declared.frame.MeshProgress.{MeshProgress}
-use Rattle.mesh_picture.specs.declared.frame.MeshProgress.TheVariants as shown
-use Rattle.mesh_picture.specs.declared.frame.Object.{Object}
-use Rattle.mesh_picture.specs.declared.frame.RunningMesh.{RunningMesh}
+use Rattle.mesh_cards.specs.declared.frame.Counts.{Counts}
+use Rattle.mesh_cards.specs.declared.frame.Frame.{Frame}
+use Rattle.mesh_cards.specs.declared.frame.Home.{Home}
+use Rattle.mesh_cards.specs.declared.frame.Lead.{Lead}
+use Rattle.mesh_cards.specs.declared.frame.Member.{Member}
+use Rattle.mesh_cards.specs.declared.frame.MeshProgress.{MeshProgress}
+use Rattle.mesh_cards.specs.declared.frame.MeshProgress.TheVariants as shown
+use Rattle.mesh_cards.specs.declared.frame.Object.{Object}
+use Rattle.mesh_cards.specs.declared.frame.RunningMesh.{RunningMesh}
 
 -- what a function lists for each number below another, one after the other
 abbrev pub below : {A : Type 0} → ℕ → (ℕ → List A) → List A

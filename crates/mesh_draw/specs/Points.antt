@@ -6,7 +6,7 @@ use Rattle.mesh_mutator.specs.Book.{Book}
 use Rattle.mesh_steps.specs.Always.{HasReadOnlyOfMeshes}
 use Rattle.mesh_text.specs.Turns.{IsAt, lines_up_to, state_up_to}
 use Rattle.mesh_draw.specs.Frames.{IsFrame}
-use Rattle.mesh_picture.specs.declared.frame.Frame.{Frame}
+use Rattle.mesh_cards.specs.declared.frame.Frame.{Frame}
 
 -- what there is to show once so many lines of the plan are played: the answer to the last of them, and the heap where the job stands then
 pub record IsPoint (job : Job) (played : ℕ) (answer : List ℕ) (frame : Frame) : Type 0 where

@@ -1,10 +1,7 @@
 pub mod FileEnds
-pub mod LiveFields
 pub mod ManyFields
 pub mod PackedScripts
 pub mod PlanReadings
-pub mod QuickFields
-pub mod QuickLines
 pub mod ScriptLines
 pub mod Takes
 pub mod TextLines

@@ -6,6 +6,17 @@ use Rattle.model_words.specs.declared.commands.Command.{Command}
 use Rattle.model_words.specs.declared.faults.FaultKind.{FaultKind}
 use Rattle.model_jobs.specs.JobFiles.{Draft, are_same, script_line}
 use Rattle.mesh_job.specs.Draft.{with_line}
+use Rattle.model_words.specs.Commands.{IsInRange}
+use Rattle.model_words.specs.declared.commands.Command.TheVariants.{Put, Get, Copy as CopyBytes}
+use Rattle.model_words.specs.declared.versions.Version.{Version}
+use Rattle.model_jobs.specs.JobFiles.{IsValidCommand}
+
+-- a command whose numbers are in their ranges may be handed to a heap
+pub valid_in_range : (version : Version) (command : Command) → IsValidCommand version command → IsInRange command
+valid_in_range version (Put cell off bytes) valid = valid.2
+valid_in_range version (Get cell off len) valid = (valid.2, valid.3)
+valid_in_range version (CopyBytes to to_off from from_off len) valid = (valid.5, valid.6)
+valid_in_range version command valid = tt
 
 -- a command behind a script is one behind that of the draft
 script_taken : (draft : Draft) (script : List Command) (read : Result Command FaultKind) → (read >>= λ command. Ok (draft.script ++ command ∷ [])) ≡ Ok script

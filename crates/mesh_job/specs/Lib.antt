@@ -1,9 +1,6 @@
 pub mod Draft
 pub mod Faults
 pub mod Job
-pub mod LiveLines
-pub mod Plan
-pub mod Reading
 pub mod Scripts
 pub mod Taken
 pub use Rattle.model_words.specs.Commands

@@ -8,23 +8,16 @@
 #![tactic(auto)]
 
 mod command_list;
-mod commands;
 mod draft;
 mod faults;
 mod job;
-mod live_lines;
-mod plan;
-mod plan_lines;
-mod quick;
-mod quick_fields;
 mod reader;
 mod script;
 
 pub use command_list::Commands;
-pub use faults::{LineFault, ReadFault};
+pub use faults::ReadFault;
 pub use job::{Job, Scripts};
-pub use live_lines::{LiveLine, read_live_line};
+pub use mesh_lines::{LineFault, LiveLine, Plan, PlanLine, Search, read_live_line};
 pub use model_words::{Command, FaultKind, TextFault, Version};
-pub use plan::{Plan, PlanLine, Search};
 pub use reader::{MAX_FILE_BYTES, Reading, read_file};
 pub use script::Script;

@@ -1,8 +1,8 @@
 //! Where each virtual page leads, drawn.
-use crate::frame::{Frame, Lead};
-use crate::layout::{LABELS, PAGE_HEIGHT};
 use crate::pages::{GROUP_COLOURS, Scene};
-use crate::parts::lead_of;
+use mesh_cards::frame::{Frame, Lead};
+use mesh_cards::layout::{LABELS, PAGE_HEIGHT};
+use mesh_cards::parts::{group_of, lead_of};
 use mesh_svg::{Look, Text, add_path};
 
 /// How far an arrow goes straight at both ends.
@@ -77,18 +77,6 @@ fn line_rule(lead: &Lead, changed: bool) -> &'static str {
         (true, false) => "hold",
         (false, true) => "bold",
         (true, true) => "bold hold",
-    }
-}
-
-/// The group whose member a virtual page is of.
-fn group_of(frame: &Frame, page: u32) -> u32 {
-    let member = frame
-        .members
-        .iter()
-        .find(|m| m.first <= page && page - m.first < m.class.pages());
-    match member {
-        Some(member) => member.group,
-        None => 0,
     }
 }
 

@@ -5,26 +5,17 @@
 //! text to a buffer as they come.
 #![tactic(auto)]
 
-mod alike;
 mod arrows;
-mod frame;
-mod gathering;
-mod layout;
 mod legend;
-mod lettering;
-mod measure;
 mod mesh_bar;
-mod numbers;
 mod objects;
 mod occupancy;
 mod pages;
-mod parts;
 mod picture;
-mod pills;
 mod style;
 
-pub use frame::{Counts, Frame, Home, Lead, Member, MeshProgress, Object, RunningMesh};
-pub use gathering::Line;
-pub use measure::Measure;
+pub use mesh_cards::frame::{Counts, Frame, Home, Lead, Member, MeshProgress, Object, RunningMesh};
+pub use mesh_cards::gathering::Line;
+pub use mesh_cards::measure::Measure;
 pub use mesh_svg::Text;
 pub use picture::{Header, Picture};

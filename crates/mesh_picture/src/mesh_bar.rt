@@ -1,10 +1,10 @@
 //! The bars of running meshes, drawn.
-use crate::alike::members_of;
-use crate::frame::{Frame, MeshProgress, RunningMesh};
-use crate::layout::BAR;
-use crate::lettering::{Face, Label};
-use crate::numbers::share;
-use crate::pills::INDENT;
+use mesh_cards::alike::members_of;
+use mesh_cards::frame::{Frame, MeshProgress, RunningMesh};
+use mesh_cards::layout::BAR;
+use mesh_cards::lettering::{Face, Label};
+use mesh_cards::numbers::share;
+use mesh_cards::pills::INDENT;
 use mesh_svg::{Area, Look, Text, add_rect};
 
 /// The room for a mesh's name.

@@ -1,12 +1,13 @@
 //! The map of occupancy, drawn: a row for each group.
-use crate::frame::{Frame, Lead, Member, Object, RunningMesh};
-use crate::layout::{MAX_ROWS, ROW};
-use crate::lettering::{Face, Label};
-use crate::numbers::{narrow, share};
 use crate::pages::{GROUP_COLOURS, Scene};
+use mesh_cards::frame::{Frame, RunningMesh};
+use mesh_cards::layout::{MAX_ROWS, ROW};
+use mesh_cards::lettering::{Face, Label};
+use mesh_cards::numbers::{narrow, share};
+use mesh_cards::rows::Row;
 use mesh_class::Class;
 use mesh_svg::{Area, Look, Text, add_rect};
-use std::alloc::{AllocError, Global};
+use std::alloc::AllocError;
 
 /// The width of a group's slots.
 const SLOTS: u32 = 2_560;
@@ -25,66 +26,6 @@ const COUNT: u32 = 5_460;
 const HELD: u32 = 5_560;
 
 const MESH: u32 = 6_240;
-
-/// A group, as its row shows it.
-#[derive(Drop)]
-struct Row {
-    group: u32,
-    class: Class,
-    members: u32,
-    slots: Vec<u32>,
-    read_only: bool,
-}
-
-impl Row {
-    /// No group yet.
-    fn new(alloc: Global) -> Row {
-        Row {
-            group: 0,
-            class: Class::default(),
-            members: 0,
-            slots: Vec::new(alloc),
-            read_only: false,
-        }
-    }
-
-    /// Whether a member is of another group.
-    fn ends_before(&self, member: &Member) -> bool {
-        self.members == 0 || self.group != member.group
-    }
-
-    /// Begins with a member's group.
-    fn begin(&mut self, member: &Member) {
-        self.group = member.group;
-        self.class = member.class;
-        self.members = 0;
-        self.slots.clear();
-        self.read_only = false;
-    }
-
-    /// Adds a member with its leads and objects.
-    fn add(&mut self, leads: &[Lead], objects: &[Object]) -> Result<(), AllocError> {
-        self.members = self.members.saturating_add(1);
-        self.read_only = self.read_only || leads.iter().any(|l| l.read_only);
-        for object in objects {
-            self.slots.push(object.slot)?;
-        }
-        Ok(())
-    }
-}
-
-/// How many groups a frame has.
-pub(crate) fn groups_of(frame: &Frame) -> u32 {
-    let mut count = 0u32;
-    let mut last = None;
-    for member in frame.members.as_slice() {
-        if last != Some(member.group) {
-            count = count.saturating_add(1);
-        }
-        last = Some(member.group);
-    }
-    count
-}
 
 /// The first of some items, and those behind them.
 fn split<T>(items: &[T], count: usize) -> (&[T], &[T]) {

@@ -1,11 +1,11 @@
 //! The virtual and the physical pages of a frame, drawn.
-use crate::frame::{Frame, Member};
-use crate::layout::{LABELS, LANE, Layout, PAGE_HEIGHT, Shown};
-use crate::lettering::{Face, Label};
 use crate::objects::{draw_grid, draw_parts};
-use crate::parts::{Contents, held_by, lead_of, member_parts};
+use mesh_cards::frame::{Frame, Member};
+use mesh_cards::layout::{LABELS, LANE, Layout, PAGE_HEIGHT, Shown};
+use mesh_cards::lettering::{Face, Label};
+use mesh_cards::parts::{Contents, held_by, held_otherwise, lead_of, member_parts};
 use mesh_svg::{Area, Look, Text, add_path, add_rect};
-use std::alloc::{AllocError, Global};
+use std::alloc::AllocError;
 
 /// How many colours groups have.
 pub(crate) const GROUP_COLOURS: u32 = 8;
@@ -222,7 +222,7 @@ pub(crate) fn draw_physical(text: &mut Text, scene: &Scene) -> Result<(), AllocE
         let now = held_by(text.alloc(), scene.now, page)?;
         draw_contents(text, &now, area);
         draw_page_number(text, page, area);
-        if has_other_contents(text.alloc(), scene, page, &now)? {
+        if held_otherwise(text.alloc(), scene.before, page, &now)? {
             draw_change(text, area);
         }
     }
@@ -238,21 +238,5 @@ fn draw_contents(text: &mut Text, held: &Contents, area: Area) {
         add_rect(text, Look::of("no"), area, 30);
         let line = area.y.saturating_add(area.h / 2).saturating_add(35);
         Label::middle(Face::Label, "soft", area.middle(), line).add(text, b"free")
-    }
-}
-
-/// Whether a physical page held something else before.
-fn has_other_contents(
-    alloc: Global,
-    scene: &Scene,
-    page: u32,
-    now: &Contents,
-) -> Result<bool, AllocError> {
-    match scene.before {
-        None => Ok(false),
-        Some(before) => {
-            let was = held_by(alloc, before, page)?;
-            Ok(was.taken != now.taken || was.parts.as_slice() != now.parts.as_slice())
-        }
     }
 }

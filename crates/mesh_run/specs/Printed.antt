@@ -1,7 +1,7 @@
 -- What a replay has read and written when it ends, and when it stops, by what it prints.
 use Rattle.mesh_run.specs.Runs.{Moves, MovesBy}
-use Rattle.mesh_run.specs.declared.printed.Printed.{Printed}
-use Rattle.mesh_run.specs.declared.printed.Printed.TheVariants.{Answers, History}
+use Rattle.mesh_command_line.specs.declared.printed.Printed.{Printed}
+use Rattle.mesh_command_line.specs.declared.printed.Printed.TheVariants.{Answers, History}
 use Rattle.mesh_text.specs.Recordings.{HasReplayedRecorded, HasStoppedRecorded}
 use Rattle.mesh_text.specs.Replay.{HasReplayed, HasStopped}
 use Rattle.mesh_text.specs.declared.faults.ReplayError.{ReplayError}

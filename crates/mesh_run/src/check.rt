@@ -5,8 +5,8 @@ ghost use Rattle.mesh_run.specs.Runs.{HasFailed, IsSound};
 
 use crate::Devices;
 use crate::runs::{status_of, tell_error};
-use crate::status::{DONE, FAILED};
 use mesh_check::{Verdict, check, verdict_line};
+use mesh_command_line::status::{DONE, FAILED};
 use mesh_text::{ReplayError, Sink, Source, write_lines};
 use std::alloc::Global;
 

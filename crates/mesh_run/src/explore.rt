@@ -7,8 +7,8 @@ ghost use Rattle.mesh_run.specs.Runs.{IsSound};
 
 use crate::fault_line::{Line, line_of, line_with};
 use crate::runs::{status_of, tell};
-use crate::status::{DONE, FAILED, FAULTY};
 use crate::{Devices, ExploreArgs};
+use mesh_command_line::status::{DONE, FAILED, FAULTY};
 use mesh_outcomes::{ExploreError, ExploreOptions, explore};
 use mesh_text::{Sink, Source};
 use std::alloc::Global;

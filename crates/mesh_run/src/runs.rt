@@ -9,8 +9,8 @@ ghost use Rattle.mesh_run.specs.Status.{status_of_error};
 ghost use Rattle.mesh_text.specs.declared.faults.ReplayError.{ReplayError};
 
 use crate::fault_line::line_of;
-use crate::status::{DONE, FAILED, FAULTY};
 use crate::{Devices, Printed, Stop};
+use mesh_command_line::status::{DONE, FAILED, FAULTY};
 use mesh_text::{ReplayError, Sink, Source, replay, replay_recorded, write_all};
 use std::alloc::Global;
 

@@ -14,8 +14,8 @@ ghost use Rattle.mesh_text.specs.declared.faults.ReplayError.{ReplayError};
 use crate::fault_line::threads_line_of;
 use crate::runs::{status_of, tell};
 use crate::shuffle_words::words;
-use crate::status::{DONE, FAILED, FAULTY};
 use crate::{Devices, Printed, ThreadsArgs, ThreadsError};
+use mesh_command_line::status::{DONE, FAILED, FAULTY};
 use mesh_mutator::{Book, Entry};
 use mesh_shared::{Ended, MeshPlan, NoGate, run_threads};
 use mesh_text::{

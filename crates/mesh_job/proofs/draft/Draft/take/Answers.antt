@@ -6,7 +6,7 @@ use Rattle.model_jobs.specs.JobFiles.{Draft as PlainDraft, is_empty, take_fields
 use Rattle.model_words.specs.declared.faults.FaultKind.{FaultKind}
 use Rattle.mesh_fields.specs.Lines.{texts}
 use Rattle.mesh_job.specs.Draft.{draft_of, section_of}
-use Rattle.mesh_job.specs.Reading.{IsFaultOfStep}
+use Rattle.mesh_lines.specs.Reading.{IsFaultOfStep}
 use Rattle.mesh_job.specs.declared.draft.Draft.{Draft}
 use Rattle.mesh_job.specs.declared.draft.Section.{Section}
 use Rattle.mesh_job.proofs.draft.Draft.take.Goals as goal

@@ -1,0 +1,180 @@
+//! The lines above a frame, and when a frame is due.
+use crate::alike::{are_alike, copy_of, empty_frame, shows_nothing};
+use crate::frame::Frame;
+use crate::numbers::narrow;
+use crate::pills::{Tone, is_step, tone_of};
+use std::alloc::{AllocError, Global};
+
+/// The most captions above one frame. What lies between the first ones and the last one is counted.
+pub const MAX_CAPTIONS: usize = 12;
+
+/// The most letters of a line's words.
+const MAX_WORDS: usize = 60;
+
+/// The most letters of an answer.
+const MAX_ANSWER: usize = 72;
+
+/// A line of a plan that was played.
+#[derive(Clone, Copy)]
+pub struct Line<'a> {
+    /// Its number, counted from 1.
+    pub number: u32,
+    /// Its words. A long text is cut, and what is no letter of ASCII is a question mark.
+    pub words: &'a [u8],
+    /// Its answer, likewise. Its first word tells its colour.
+    pub answer: &'a [u8],
+}
+
+/// A line of the plan with its answer, or several of them that say the same.
+#[derive(Drop)]
+pub struct Caption {
+    /// The first line's number.
+    pub from: u32,
+    /// The last line's number.
+    pub to: u32,
+    /// How many lines they are.
+    pub times: u32,
+    /// The words.
+    pub words: Vec<u8>,
+    /// The last answer.
+    pub answer: Vec<u8>,
+    /// What kind of answer it is.
+    pub tone: Tone,
+}
+
+/// The lines that have come since the last frame, and that frame.
+pub struct Gathering {
+    /// The captions, in their order.
+    pub captions: Vec<Caption>,
+    /// How many lines are left out before the last caption.
+    pub hidden: u32,
+    /// The last frame that was shown, with its meshes as they are now.
+    pub last: Frame,
+    /// Whether a frame was shown yet.
+    pub begun: bool,
+    alloc: Global,
+}
+
+#[rattlefmt::skip]
+impl Drop for Gathering {
+    fn drop(self) { let Gathering { captions: _, hidden: _, last: _, begun: _, alloc: _ } = self; }
+}
+
+impl Gathering {
+    /// No lines, and no frame.
+    pub fn new(alloc: Global) -> Gathering {
+        Gathering {
+            captions: Vec::new(alloc),
+            hidden: 0,
+            last: empty_frame(alloc),
+            begun: false,
+            alloc,
+        }
+    }
+
+    /// Adds a line with its answer.
+    pub fn add(&mut self, line: &Line<'_>) -> Result<(), AllocError> {
+        let caption = Caption {
+            from: line.number,
+            to: line.number,
+            times: 1,
+            words: cut(self.alloc, line.words, MAX_WORDS)?,
+            answer: cut(self.alloc, line.answer, MAX_ANSWER)?,
+            tone: tone_of(line.answer),
+        };
+        let Some(earlier) = self.captions.pop() else {
+            return Ok(self.captions.push(caption)?);
+        };
+        if repeats(&earlier, &caption) {
+            return Ok(self.captions.push(joined(earlier, caption))?);
+        }
+        if self.captions.len() < MAX_CAPTIONS - 1 {
+            self.captions.push(earlier)?;
+        } else {
+            self.hidden = self.hidden.saturating_add(earlier.times);
+        }
+        Ok(self.captions.push(caption)?)
+    }
+
+    /// Whether a frame differs from the last one that was shown.
+    pub fn is_due(&self, frame: &Frame) -> bool {
+        if self.begun {
+            !are_alike(&self.last, frame)
+        } else {
+            !shows_nothing(frame)
+        }
+    }
+
+    /// Takes over how far the meshes have come where the picture is the same.
+    pub fn keep_up(&mut self, frame: &Frame) -> Result<(), AllocError> {
+        self.last.meshes = frame.meshes.clone()?;
+        self.last.counts = frame.counts;
+        Ok(())
+    }
+
+    /// A frame was shown with all lines until now.
+    pub fn shown(&mut self, frame: &Frame) -> Result<(), AllocError> {
+        self.last = copy_of(frame)?;
+        self.begun = true;
+        self.captions.clear();
+        self.hidden = 0;
+        Ok(())
+    }
+
+    /// How many lines of text stand above a frame.
+    pub fn height(&self) -> u32 {
+        narrow(self.captions.len()).saturating_add(self.hidden.min(1))
+    }
+}
+
+/// Whether a line says the same as the one before it and is answered in the same way.
+fn repeats(earlier: &Caption, later: &Caption) -> bool {
+    earlier.words.as_slice() == later.words.as_slice()
+        && earlier.tone == later.tone
+        && has_same_answer(earlier, later)
+}
+
+/// Whether two answers are the same; of steps, which count those to come, the first words decide.
+fn has_same_answer(earlier: &Caption, later: &Caption) -> bool {
+    if is_step(later.answer.as_slice()) {
+        first_word(earlier.answer.as_slice()) == first_word(later.answer.as_slice())
+    } else {
+        earlier.answer.as_slice() == later.answer.as_slice()
+    }
+}
+
+/// The first word of an answer.
+fn first_word(answer: &[u8]) -> &[u8] {
+    match answer.iter().position(|b| *b == b' ') {
+        Some(end) => &answer[..end.min(answer.len())],
+        None => answer,
+    }
+}
+
+/// A caption of two that say the same.
+fn joined(earlier: Caption, later: Caption) -> Caption {
+    Caption {
+        from: earlier.from,
+        to: later.to,
+        times: earlier.times.saturating_add(1),
+        words: earlier.words,
+        answer: later.answer,
+        tone: later.tone,
+    }
+}
+
+/// The first letters of a text, with two dots where there are more, and a question mark for what is no letter of ASCII.
+pub fn cut(alloc: Global, words: &[u8], most: usize) -> Result<Vec<u8>, AllocError> {
+    let mut all = Vec::new(alloc);
+    for byte in words.iter().take(most) {
+        all.push(if (32..127).contains(byte) {
+            *byte
+        } else {
+            b'?'
+        })?;
+    }
+    if words.len() > most {
+        all.extend_from_slice(b"..")?;
+    }
+    Ok(all)
+}

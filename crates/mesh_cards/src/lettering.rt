@@ -1,0 +1,209 @@
+//! Labels: text of a width that does not depend on the reader's fonts.
+use crate::numbers::share;
+use mesh_svg::{Look, Text, add_attribute, add_look};
+
+/// The kinds of lettering.
+#[derive(Clone, Copy)]
+pub enum Face {
+    /// The title.
+    Title,
+    /// A note in a line of its own.
+    Note,
+    /// A note that stands out.
+    Strong,
+    /// A line of the plan.
+    Line,
+    /// A line's number.
+    Number,
+    /// An answer.
+    Pill,
+    /// A label.
+    Label,
+    /// A label that stands out.
+    Name,
+    /// A small label.
+    Small,
+    /// A small label that stands out.
+    Mark,
+    /// An object's serial.
+    Serial,
+    /// An object's serial where there is little room.
+    Tight,
+}
+
+impl Face {
+    /// The rule of the style.
+    fn rule(self) -> &'static str {
+        match self {
+            Face::Title => "ft",
+            Face::Note => "fn",
+            Face::Strong => "fs",
+            Face::Line => "fl",
+            Face::Number => "fm",
+            Face::Pill => "fp",
+            Face::Label => "fa",
+            Face::Name => "fb",
+            Face::Small => "fi",
+            Face::Mark => "fk",
+            Face::Serial => "fo",
+            Face::Tight => "fq",
+        }
+    }
+
+    /// The height of its letters; the style has the same numbers.
+    fn size(self) -> u32 {
+        match self {
+            Face::Title => 170,
+            Face::Note | Face::Strong => 110,
+            Face::Line => 115,
+            Face::Number | Face::Label | Face::Name => 100,
+            Face::Pill | Face::Serial => 105,
+            Face::Small | Face::Mark => 90,
+            Face::Tight => 75,
+        }
+    }
+
+    /// The width of a letter, in hundredths of the height.
+    fn percent(self, byte: u8) -> u32 {
+        match self {
+            Face::Line | Face::Number | Face::Pill => 60,
+            Face::Title | Face::Strong | Face::Name | Face::Mark => plain_percent(
+                byte,
+            ).saturating_add(8),
+            _ => plain_percent(byte),
+        }
+    }
+}
+
+/// The width of a letter of ordinary lettering, in hundredths of the height. What continues a letter of several bytes has none.
+fn plain_percent(byte: u8) -> u32 {
+    match byte {
+        b'i' | b'j' | b'l' | b'.' | b',' | b':' | b';' | b'|' | b'\'' | b'!' => 30,
+        b' ' | b'f' | b't' | b'r' | b'(' | b')' | b'-' | b'/' => 38,
+        b'm' | b'w' | b'M' | b'W' => 90,
+        b'=' | b'+' => 80,
+        b'A'..=b'Z' => 68,
+        128..=191 => 0,
+        192..=255 => 82,
+        _ => 61,
+    }
+}
+
+/// How wide words are.
+pub fn width_of(face: Face, words: &[u8]) -> u32 {
+    let mut hundredths = 0u32;
+    for byte in words {
+        if !(128..=191).contains(byte) {
+            hundredths = hundredths.saturating_add(face.percent(*byte));
+        }
+    }
+    share(face.size(), hundredths, 100)
+}
+
+/// Which point of its words a label's place is.
+#[derive(Clone, Copy)]
+pub enum Anchor {
+    /// Their start.
+    Start,
+    /// Their middle.
+    Middle,
+    /// Their end.
+    End,
+}
+
+/// How and where words stand.
+#[derive(Clone, Copy)]
+pub struct Label {
+    /// Their lettering.
+    pub face: Face,
+    /// Their colour.
+    pub ink: Look,
+    /// Which point of them stands at the place.
+    pub anchor: Anchor,
+    /// The place, from the left.
+    pub x: u32,
+    /// The line that they stand on.
+    pub y: u32,
+    /// The greatest width that they may take.
+    pub room: u32,
+}
+
+/// No bound on a label's width.
+pub const ANY: u32 = u32::MAX;
+
+impl Label {
+    /// Words that start at a place.
+    pub fn start(face: Face, ink: &'static str, x: u32, y: u32) -> Label {
+        Label {
+            face,
+            ink: Look::of(ink),
+            anchor: Anchor::Start,
+            x,
+            y,
+            room: ANY,
+        }
+    }
+
+    /// Words that end at a place.
+    pub fn end(face: Face, ink: &'static str, x: u32, y: u32) -> Label {
+        Label {
+            anchor: Anchor::End,
+            ..Label::start(face, ink, x, y)
+        }
+    }
+
+    /// Words with a place in their middle.
+    pub fn middle(face: Face, ink: &'static str, x: u32, y: u32) -> Label {
+        Label {
+            anchor: Anchor::Middle,
+            ..Label::start(face, ink, x, y)
+        }
+    }
+
+    /// The same in another colour.
+    pub fn inked(self, ink: Look) -> Label {
+        Label { ink, ..self }
+    }
+
+    /// The same with a bound on the width.
+    pub fn within(self, room: u32) -> Label {
+        Label { room, ..self }
+    }
+
+    /// Adds words.
+    pub fn add(self, text: &mut Text, words: &[u8]) {
+        text.add(b"<text");
+        add_look(text, self.ink.with(self.face.rule()));
+        add_attribute(text, "x", self.x);
+        add_attribute(text, "y", self.y);
+        add_anchor(text, self.anchor);
+        let width = width_of(self.face, words).min(self.room).max(1);
+        add_attribute(text, "textLength", width);
+        text.add(b" lengthAdjust=\"spacingAndGlyphs\">");
+        text.add_escaped(words);
+        text.add(b"</text>\n");
+    }
+
+    /// Adds words that were put together.
+    pub fn add_text(self, text: &mut Text, words: &Text) {
+        self.add(text, words.bytes());
+        text.share_refusal(words);
+    }
+
+    /// Adds words and a number behind them.
+    pub fn add_numbered(self, text: &mut Text, words: &str, number: u32) {
+        let mut all = text.empty();
+        all.add(words.as_bytes());
+        all.add_number(number);
+        self.add_text(text, &all);
+    }
+}
+
+/// Adds which point of its words a label's place is, where it is not their start.
+fn add_anchor(text: &mut Text, anchor: Anchor) {
+    match anchor {
+        Anchor::Start => {}
+        Anchor::Middle => text.add(b" text-anchor=\"middle\""),
+        Anchor::End => text.add(b" text-anchor=\"end\""),
+    }
+}

@@ -1,0 +1,159 @@
+//! What has to be known before the first element is written.
+use crate::frame::Frame;
+use crate::gathering::{Gathering, Line};
+use crate::layout::{Extent, Layout, MAX_PAGES, Shown, pages_of};
+use crate::numbers::narrow;
+use crate::parts::groups_of;
+use crate::pills::caption_width;
+use std::alloc::{AllocError, Global};
+
+/// What is known of a picture from its points.
+#[derive(Drop)]
+pub struct Measure {
+    gathering: Gathering,
+    spans: Vec<Shown>,
+    physical: u32,
+    widest: u32,
+    extents: Vec<Extent>,
+    lines: Option<(u32, u32)>,
+}
+
+/// What a picture is drawn by.
+#[derive(Drop)]
+pub struct Measured {
+    /// Where things stand.
+    pub layout: Layout,
+    /// How high each row of cards is.
+    pub rows: Vec<u32>,
+    /// The numbers of the first and of the last line, if there is one.
+    pub lines: Option<(u32, u32)>,
+}
+
+impl Measure {
+    /// Nothing is known yet.
+    pub fn new(alloc: Global) -> Measure {
+        Measure {
+            gathering: Gathering::new(alloc),
+            spans: Vec::new(alloc),
+            physical: 0,
+            widest: 0,
+            extents: Vec::new(alloc),
+            lines: None,
+        }
+    }
+
+    /// Takes in a line of the plan, and what the heap looks like behind it. An error is an allocation failure.
+    pub fn point(&mut self, line: &Line<'_>, frame: &Frame) -> Result<(), AllocError> {
+        let first = match self.lines {
+            Some((first, _)) => first,
+            None => line.number,
+        };
+        self.lines = Some((first, line.number));
+        self.gathering.add(line)?;
+        if self.gathering.is_due(frame) {
+            self.measure(frame)?;
+            self.gathering.shown(frame)
+        } else {
+            self.gathering.keep_up(frame)
+        }
+    }
+
+    /// Measures a frame that is due.
+    fn measure(&mut self, frame: &Frame) -> Result<(), AllocError> {
+        self.extents.push(extent_of(&self.gathering, frame))?;
+        self.widest = self.widest.max(widest_of(&self.gathering)?);
+        self.physical = self.physical.max(physical_of(frame));
+        add_spans(&mut self.spans, frame)
+    }
+
+    /// What the picture is drawn by, with so many columns if that is asked.
+    pub fn finish(mut self, columns: Option<u32>) -> Result<Measured, AllocError> {
+        if !self.gathering.captions.is_empty() {
+            self.extents.push(last_extent(&self.gathering))?;
+            self.widest = self.widest.max(widest_of(&self.gathering)?);
+        }
+        self.spans.sort_unstable_by_key(|s| s.first);
+        let layout = Layout::new(
+            self.spans,
+            self.physical,
+            self.widest,
+            narrow(self.extents.len()),
+            columns,
+        );
+        let rows = row_heights(&layout, self.extents.as_slice(), *self.extents.allocator())?;
+        Ok(Measured {
+            layout,
+            rows,
+            lines: self.lines,
+        })
+    }
+}
+
+/// What a frame needs room for, below the lines that were gathered.
+fn extent_of(gathering: &Gathering, frame: &Frame) -> Extent {
+    Extent {
+        lines: gathering.height(),
+        meshes: narrow(frame.meshes.len()),
+        groups: groups_of(frame),
+    }
+}
+
+/// What the last frame needs room for, below lines that change nothing.
+fn last_extent(gathering: &Gathering) -> Extent {
+    extent_of(gathering, &gathering.last)
+}
+
+/// The greatest width of the captions that were gathered.
+fn widest_of(gathering: &Gathering) -> Result<u32, AllocError> {
+    let mut widest = 0u32;
+    for caption in gathering.captions.as_slice() {
+        widest = widest.max(caption_width(caption)?);
+    }
+    Ok(widest)
+}
+
+/// How many physical pages have to be shown for a frame.
+fn physical_of(frame: &Frame) -> u32 {
+    let mut count = 0u32;
+    for home in frame.homes.as_slice() {
+        if home.taken {
+            count = count.max(home.page.saturating_add(1));
+        }
+    }
+    count
+}
+
+/// Adds the spans of a frame that are not known yet, while they may still be drawn page by page.
+fn add_spans(spans: &mut Vec<Shown>, frame: &Frame) -> Result<(), AllocError> {
+    for member in frame.members.as_slice() {
+        let known = spans.iter().any(|s| s.first == member.first);
+        if !known && pages_of(spans.as_slice()) <= MAX_PAGES {
+            spans.push(Shown {
+                first: member.first,
+                class: member.class,
+                x: 0,
+            })?;
+        }
+    }
+    Ok(())
+}
+
+/// How high each row of cards is: as high as its highest card.
+fn row_heights(layout: &Layout, extents: &[Extent], alloc: Global) -> Result<Vec<u32>, AllocError> {
+    let mut rows = Vec::new(alloc);
+    let mut column = 0u32;
+    let mut highest = 0u32;
+    for extent in extents {
+        highest = highest.max(layout.height(extent));
+        column = column.saturating_add(1);
+        if column >= layout.columns {
+            rows.push(highest)?;
+            column = 0;
+            highest = 0;
+        }
+    }
+    if column > 0 {
+        rows.push(highest)?;
+    }
+    Ok(rows)
+}

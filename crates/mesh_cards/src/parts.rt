@@ -1,0 +1,211 @@
+//! What lies in a page: the parts of objects.
+use crate::alike::copied_slots;
+use crate::frame::{Frame, Home, Lead, Member, Object, RunningMesh};
+use mesh_class::Class;
+use std::alloc::{AllocError, Global};
+
+/// The bytes of a page.
+const PAGE_BYTES: u32 = 4_096;
+
+/// How an object's bytes in a page are used.
+#[derive(Clone, Copy, PartialEq, Eq)]
+pub enum State {
+    /// The object is read and written here.
+    Live,
+    /// They are a copy, to which the object is not mapped yet.
+    Copied,
+    /// The object is not mapped to them any more.
+    Old,
+}
+
+/// The part of an object's slot that lies in one page.
+#[derive(Clone, Copy, PartialEq, Eq)]
+pub struct Part {
+    /// The object's serial.
+    pub serial: u32,
+    /// The bytes of a slot.
+    pub size: u32,
+    /// Its first byte in the page.
+    pub from: u32,
+    /// Where the object's bytes end.
+    pub filled: u32,
+    /// Where the slot's bytes end.
+    pub to: u32,
+    /// How the bytes are used.
+    pub state: State,
+}
+
+/// What a physical page holds.
+#[derive(Drop)]
+pub struct Contents {
+    /// Whether it is taken.
+    pub taken: bool,
+    /// The parts of objects in it.
+    pub parts: Vec<Part>,
+}
+
+/// The part of an object that lies in the page at a place of its span.
+fn part_of(object: &Object, class: Class, place: u32, state: State) -> Option<Part> {
+    let from = object.slot.saturating_mul(class.size());
+    let to = from.saturating_add(class.size());
+    let filled = from.saturating_add(object.len).min(to);
+    let low = place.saturating_mul(PAGE_BYTES);
+    let high = low.saturating_add(PAGE_BYTES);
+    if to <= low || from >= high {
+        return None;
+    }
+    Some(Part {
+        serial: object.serial,
+        size: class.size(),
+        from: from.saturating_sub(low),
+        filled: filled.min(high).saturating_sub(low),
+        to: to.min(high).saturating_sub(low),
+        state,
+    })
+}
+
+/// Adds the parts that a member's objects in the slots below one have in the page at a place of the span.
+fn add_parts(
+    parts: &mut Vec<Part>,
+    frame: &Frame,
+    member: &Member,
+    place: u32,
+    below: u32,
+    state: State,
+) -> Result<(), AllocError> {
+    for object in frame.objects.as_slice() {
+        if object.member == member.first && object.slot < below {
+            add_part(parts, object, member.class, place, state)?;
+        }
+    }
+    Ok(())
+}
+
+/// Adds the part that an object has in the page at a place of its span, if it has one.
+fn add_part(
+    parts: &mut Vec<Part>,
+    object: &Object,
+    class: Class,
+    place: u32,
+    state: State,
+) -> Result<(), AllocError> {
+    if let Some(part) = part_of(object, class, place, state) {
+        parts.push(part)?;
+    }
+    Ok(())
+}
+
+/// Where a virtual page leads.
+pub fn lead_of(frame: &Frame, page: u32) -> Option<&Lead> {
+    frame.leads.iter().find(|l| l.page == page)
+}
+
+/// What lies in a page of a member.
+pub fn member_parts(
+    alloc: Global,
+    frame: &Frame,
+    member: &Member,
+    place: u32,
+) -> Result<Vec<Part>, AllocError> {
+    let mut parts = Vec::new(alloc);
+    add_parts(&mut parts, frame, member, place, u32::MAX, State::Live)?;
+    Ok(parts)
+}
+
+/// What a physical page holds.
+pub fn held_by(alloc: Global, frame: &Frame, page: u32) -> Result<Contents, AllocError> {
+    let mut parts = Vec::new(alloc);
+    let Some(home) = frame.homes.iter().find(|h| h.page == page && h.taken) else {
+        return Ok(Contents {
+            taken: false,
+            parts,
+        });
+    };
+    add_group(&mut parts, frame, home, home.group, u32::MAX, State::Old)?;
+    for mesh in frame.meshes.as_slice() {
+        add_copies(&mut parts, frame, home, mesh)?;
+    }
+    Ok(Contents { taken: true, parts })
+}
+
+/// Adds what a mesh has copied to a page, if the page is of its destination.
+fn add_copies(
+    parts: &mut Vec<Part>,
+    frame: &Frame,
+    home: &Home,
+    mesh: &RunningMesh,
+) -> Result<(), AllocError> {
+    if mesh.destination != home.group {
+        return Ok(());
+    }
+    let below = copied_slots(frame, mesh);
+    add_group(parts, frame, home, mesh.source, below, State::Copied)
+}
+
+/// Adds what the members of a group have in a page, in the slots below one: live where they are mapped to it, else in a state.
+fn add_group(
+    parts: &mut Vec<Part>,
+    frame: &Frame,
+    home: &Home,
+    group: u32,
+    below: u32,
+    unmapped: State,
+) -> Result<(), AllocError> {
+    for member in frame.members.as_slice() {
+        if member.group == group {
+            let state = state_in(frame, member, home, unmapped);
+            add_parts(parts, frame, member, home.place, below, state)?;
+        }
+    }
+    Ok(())
+}
+
+/// How a member's bytes in a page are used: live where the member is mapped to it, else in a state.
+fn state_in(frame: &Frame, member: &Member, home: &Home, unmapped: State) -> State {
+    let page = member.first.saturating_add(home.place);
+    match lead_of(frame, page) {
+        Some(lead) if lead.to == home.page => State::Live,
+        _ => unmapped,
+    }
+}
+
+/// How many groups a frame has.
+pub fn groups_of(frame: &Frame) -> u32 {
+    let mut count = 0u32;
+    let mut last = None;
+    for member in frame.members.as_slice() {
+        if last != Some(member.group) {
+            count = count.saturating_add(1);
+        }
+        last = Some(member.group);
+    }
+    count
+}
+
+/// The group whose member a virtual page is of.
+pub fn group_of(frame: &Frame, page: u32) -> u32 {
+    let member = frame
+        .members
+        .iter()
+        .find(|m| m.first <= page && page - m.first < m.class.pages());
+    match member {
+        Some(member) => member.group,
+        None => 0,
+    }
+}
+
+/// Whether a physical page held something else in the frame before, if there was one.
+pub fn held_otherwise(
+    alloc: Global,
+    before: Option<&Frame>,
+    page: u32,
+    now: &Contents,
+) -> Result<bool, AllocError> {
+    match before {
+        None => Ok(false),
+        Some(before) => {
+            let was = held_by(alloc, before, page)?;
+            Ok(was.taken != now.taken || was.parts.as_slice() != now.parts.as_slice())
+        }
+    }
+}

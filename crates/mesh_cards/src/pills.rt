@@ -1,0 +1,168 @@
+//! The lines above a frame, drawn.
+use crate::gathering::{Caption, Gathering};
+use crate::lettering::{Face, Label, width_of};
+use mesh_svg::{Area, Look, Text, add_rect};
+use std::alloc::AllocError;
+
+/// What an answer says of a line.
+#[derive(Clone, Copy, PartialEq, Eq)]
+pub enum Tone {
+    /// It was done.
+    Done,
+    /// It is to be tried again.
+    Blocked,
+    /// It was refused, or could not be tried.
+    Refused,
+    /// The mesher did something.
+    Mesher,
+}
+
+impl Tone {
+    /// The rule of the style.
+    fn rule(self) -> &'static str {
+        match self {
+            Tone::Done => "pd",
+            Tone::Blocked => "pb",
+            Tone::Refused => "pr",
+            Tone::Mesher => "pm",
+        }
+    }
+}
+
+/// What an answer says of a line.
+pub fn tone_of(answer: &[u8]) -> Tone {
+    if answer.starts_with(b"blocked") {
+        Tone::Blocked
+    } else if says_refused(answer) {
+        Tone::Refused
+    } else if is_of_mesher(answer) {
+        Tone::Mesher
+    } else {
+        Tone::Done
+    }
+}
+
+/// Whether an answer says that nothing was done.
+fn says_refused(answer: &[u8]) -> bool {
+    answer.starts_with(b"refused")
+        || answer.starts_with(b"over")
+        || answer.starts_with(b"history full")
+}
+
+/// Whether an answer is one of the mesher's that tells of something done.
+fn is_of_mesher(answer: &[u8]) -> bool {
+    is_step(answer)
+        || answer.starts_with(b"left ")
+        || answer.starts_with(b"meshed ")
+        || answer.starts_with(b"swept ")
+        || answer.starts_with(b"found ")
+}
+
+/// Whether an answer tells of a step.
+pub fn is_step(answer: &[u8]) -> bool {
+    answer.starts_with(b"protect ")
+        || answer.starts_with(b"copy ")
+        || answer.starts_with(b"remap ")
+        || answer.starts_with(b"unprotect ")
+        || answer.starts_with(b"release ")
+}
+
+/// From one caption to the next.
+pub const LINE: u32 = 190;
+
+/// Where the words of captions begin, from a card's left side.
+pub const INDENT: u32 = 620;
+
+/// Between words and answer.
+const SPACE: u32 = 120;
+
+/// Between an answer and the sides of its pill.
+const PAD: u32 = 70;
+
+/// What stands beside the first caption: the counts.
+const BESIDE: u32 = 1_800;
+
+/// How wide a card has to be for a caption. An error is an allocation failure.
+pub fn caption_width(caption: &Caption) -> Result<u32, AllocError> {
+    let words = width_of(Face::Line, told(caption).whole()?);
+    let answer = width_of(Face::Pill, caption.answer.as_slice());
+    Ok(
+        words
+            .saturating_add(answer)
+            .saturating_add(INDENT + SPACE + 2 * PAD + BESIDE),
+    )
+}
+
+/// The words of a caption, with how many lines say them.
+fn told(caption: &Caption) -> Text {
+    let mut words = Text::new(*caption.words.allocator());
+    words.add(caption.words.as_slice());
+    if caption.times > 1 {
+        words.add(" ×".as_bytes());
+        words.add_number(caption.times);
+    }
+    words
+}
+
+/// Draws the captions of a frame into a card with this left upper corner.
+pub fn draw_captions(text: &mut Text, gathering: &Gathering, x: u32, y: u32) {
+    let count = gathering.captions.len();
+    let mut top = y;
+    for (index, caption) in gathering.captions.iter().enumerate() {
+        if index.saturating_add(1) == count && gathering.hidden > 0 {
+            draw_hidden(text, gathering.hidden, x, top);
+            top = top.saturating_add(LINE);
+        }
+        draw_caption(text, caption, x, top);
+        top = top.saturating_add(LINE);
+    }
+}
+
+/// Draws how many lines are left out.
+fn draw_hidden(text: &mut Text, hidden: u32, x: u32, y: u32) {
+    let mut words = text.empty();
+    words.add(b".. and ");
+    words.add_number(hidden);
+    words.add(b" more lines");
+    let (left, line) = (x.saturating_add(INDENT), y.saturating_add(200));
+    Label::start(Face::Note, "soft", left, line).add_text(text, &words);
+}
+
+/// Draws a caption.
+fn draw_caption(text: &mut Text, caption: &Caption, x: u32, y: u32) {
+    let line = y.saturating_add(200);
+    draw_line_number(text, caption, x.saturating_add(INDENT - 100), line);
+    let words = told(caption);
+    let left = x.saturating_add(INDENT);
+    Label::start(Face::Line, "ink", left, line).add_text(text, &words);
+    let after = left
+        .saturating_add(width_of(Face::Line, words.bytes()))
+        .saturating_add(SPACE);
+    draw_pill(text, caption, after, y);
+}
+
+/// Draws the numbers of a caption's lines, which end at a place.
+fn draw_line_number(text: &mut Text, caption: &Caption, x: u32, y: u32) {
+    let mut words = text.empty();
+    words.add_number(caption.from);
+    if caption.to != caption.from {
+        words.add("–".as_bytes());
+        words.add_number(caption.to);
+    }
+    Label::end(Face::Number, "soft", x, y)
+        .within(INDENT - 160)
+        .add_text(text, &words);
+}
+
+/// Draws a caption's answer.
+fn draw_pill(text: &mut Text, caption: &Caption, x: u32, y: u32) {
+    let area = Area {
+        x,
+        y: y.saturating_add(80),
+        w: width_of(Face::Pill, caption.answer.as_slice()).saturating_add(2 * PAD),
+        h: 160,
+    };
+    add_rect(text, Look::of(caption.tone.rule()), area, 80);
+    let (left, line) = (x.saturating_add(PAD), y.saturating_add(198));
+    Label::start(Face::Pill, "pt", left, line).add(text, caption.answer.as_slice());
+}

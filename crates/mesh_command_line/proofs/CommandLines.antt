@@ -1,0 +1,156 @@
+-- What `clap`'s contracts say of the program's command line.
+use Rattle.std.proofs.Common.{◌≡◌, true, false, List, [], ◌∷◌, ◌++◌, Option, None, Some, Result, Ok, Err, IfErr, option_map, ap, refl, subst, sym, ◌∙◌, inl, inr}
+use Rattle.std.specs.Box.{box_value}
+use Rattle.std.specs.Fmt.{digits}
+use Rattle.std.specs.List.{slice_split}
+use Rattle.std.specs.Prelude.{codes, nat_eq, option_and_then}
+use Rattle.clap.specs.Words.{App, FailsBy, HasKind, IsAmong, Row, Text, fault_of, first_of, first_value, is_simple, is_simple_and_free, kind_of, found_of, rows_of, subcommand_name_of, subcommand_of, subcommand_rows_of, takes}
+use Rattle.clap.specs.declared.error.Error.{Error}
+use Rattle.clap.specs.declared.parser.matches.ArgMatches.{ArgMatches}
+use Rattle.clap.specs.declared.parser.matches.ArgMatches.TheViews.{out-ArgMatches, out-SubCommand}
+use Rattle.clap.specs.declared.parser.matches.Found.{Found}
+use Rattle.clap.proofs.OnLiterals.{clap_on_literals}
+use Rattle.clap.proofs.WalkLemmas.{first_value-rows}
+use Rattle.mesh_command_line.specs.CommandLine.{Asked, IsSaidOf, asked, asked_by, asked_in, asked_of, is_taken, kinds_of, check_of, draw_of, explore_of, live_of, meshrun_app, replay_of, threads_of}
+use Rattle.mesh_command_line.specs.declared.printed.Printed.TheVariants.{Answers, History}
+
+-- the command line is one whose matches and faults `clap` tells
+pub is_told : is_simple_and_free meshrun_app ≡ true
+unfolding clap_on_literals
+is_told = refl
+
+pub has_matches : is_simple meshrun_app ≡ true
+unfolding clap_on_literals
+has_matches = refl
+
+-- what `clap` says of words
+said_of : (words : List Text) (app : App) (error : Error) → app ≡ meshrun_app → HasKind (fault_of app words) error → IsSaidOf words (kind_of error)
+unfolding kinds_of
+said_of words app error is (inl memory) = inl memory
+said_of words app error is (inr kind) = inr (inl (subst (λ a. IsAmong (kind_of error) (fault_of a words)) is kind))
+
+pub said_by : {T : Type 0} (words : List Text) (app : App) (result : Result T Error) → app ≡ meshrun_app → FailsBy (fault_of app words) result
+    → IfErr result (λ error. IsSaidOf words (kind_of error))
+said_by words app (Ok matches) is told = tt
+said_by words app (Err error) is told = said_of words app error is told
+
+-- words that the program takes fail for want of memory alone
+pub taken_of : (words : List Text) (app : App) → app ≡ meshrun_app → is_taken words ≡ true → takes app words ≡ true
+unfolding is_taken
+taken_of words app is taken = ap (λ a. takes a words) is ∙ taken
+
+-- what `clap`'s matches ask for
+pub asked_of_matches : (words : List Text) (app : App) (found : Option (Text × List Row)) → app ≡ meshrun_app → found ≡ subcommand_of app words
+    → asked_in found ≡ asked words
+unfolding asked
+asked_of_matches words app found is rows = ap asked_in (rows ∙ ap (λ a. subcommand_of a words) is)
+
+first_parts : {X A B : Type 0} (f : X → A × B) (o : Option X) → option_map (λ x. (f x).0) o ≡ option_map (λ p. p.0) (option_map f o)
+first_parts f None = refl
+first_parts f (Some x) = refl
+
+-- the name of the subcommand that was met, beside its rows
+name_of_rows : (matches : ArgMatches) (name : Text) → Some name ≡ subcommand_name_of matches → Some name ≡ option_map (λ p. p.0) (subcommand_rows_of matches)
+name_of_rows matches name is = is ∙ first_parts (λ b. ((out-SubCommand (box_value b)).name.now, rows_of (found_of (out-SubCommand (box_value b)).matches))) (out-ArgMatches matches).subcommand
+
+-- what a subcommand that was met asks for, by its name and its rows
+met : (found : Option (Text × List Row)) (name : Text) (rows : List Row) → Some name ≡ option_map (λ p. p.0) found → Some rows ≡ option_map (λ p. p.1) found
+    → asked_in found ≡ asked_by name rows
+met None name rows named has = absurd (cc named)
+met (Some found) name rows named has =
+    let name_is : name ≡ found.0 = cc named in
+    let rows_are : rows ≡ found.1 = cc has in
+    rw (name_is, rows_are) refl
+
+-- and by its name and its matches
+pub asked_by_matches : (matches : ArgMatches) (name : Text) (found : Found) → Some name ≡ subcommand_name_of matches
+    → Some (rows_of found) ≡ option_map (λ p. p.1) (subcommand_rows_of matches) → asked_by name (rows_of found) ≡ asked_in (subcommand_rows_of matches)
+asked_by_matches matches name found named has = sym (met (subcommand_rows_of matches) name (rows_of found) (name_of_rows matches name named) has)
+
+-- what it asks for with the file that its matches have
+pub asked_of_file : (name : Text) (found : Found) (file : Option Text) → file ≡ first_value found (codes "FILE")
+    → option_and_then (asked_of name (rows_of found)) file ≡ option_and_then (asked_of name (rows_of found)) (first_of (codes "FILE") (rows_of found))
+asked_of_file name found file is = ap (option_and_then (asked_of name (rows_of found))) (is ∙ first_value-rows found (codes "FILE"))
+
+-- where the command's name is a known one, and this is what that one asks for
+pub asked_of_known : (name known : Text) (found : Found) (file : Text) (asked : Option Asked) → name ≡ known → Some file ≡ first_value found (codes "FILE")
+    → asked ≡ asked_of known (rows_of found) file → asked ≡ option_and_then (asked_of name (rows_of found)) (first_of (codes "FILE") (rows_of found))
+asked_of_known name known found file asked is has asks =
+    asks ∙ sym (ap (λ text. asked_of text (rows_of found) file) is) ∙ asked_of_file name found (Some file) has
+
+-- the words of a command line: behind the program's name those of a text, with a space between two
+abbrev spoken : Text → List Text
+spoken text = codes "meshrun" ∷ slice_split (λ b. nat_eq b 32) text
+
+-- a command line of the program that asks for this
+abbrev Asks : Text → Asked → Type 0
+Asks text what = (is_taken (spoken text) ≡ true) × (asked (spoken text) ≡ Some what)
+
+-- the answers of a replay are printed, or, with `--history` before the file or behind it, its history
+replays_are_asked :
+    Asks (codes "replay hello.job") (replay_of (codes "hello.job") Answers)
+    × Asks (codes "replay --history hello.job") (replay_of (codes "hello.job") History)
+unfolding clap_on_literals asked is_taken
+replays_are_asked = ((refl, refl), (refl, refl))
+
+-- without `--meshers` one thread meshes; options stand in any order, and take the most that they may
+threads_are_asked :
+    Asks (codes "threads a.job --probe 2 --rounds 3 --workers 4 --seed 5")
+    (threads_of (codes "a.job") (record { probe = 2; rounds = 3; workers = 4; seed = 5; meshers = 1 }) Answers)
+    × Asks (codes "threads --meshers=10 --seed=18446744073709551615 --workers=16 a.job --rounds=1000 --history --probe=64")
+    (threads_of (codes "a.job") (record { probe = 64; rounds = 1000; workers = 16; seed = 18446744073709551615; meshers = 10 }) History)
+unfolding clap_on_literals asked is_taken
+threads_are_asked = ((refl, refl), (refl, refl))
+
+-- a picture is of the whole plan, in as many columns as fit, or of a part of it from a line to another, in the most columns
+pictures_are_asked :
+    Asks (codes "draw a.job") (draw_of (codes "a.job") (record { from = 1; to = 1048576; columns = 0 }))
+    × Asks (codes "draw --to=1048576 a.job --columns=64 --from 12") (draw_of (codes "a.job") (record { from = 12; to = 1048576; columns = 64 }))
+unfolding clap_on_literals asked is_taken
+pictures_are_asked = ((refl, refl), (refl, refl))
+
+-- a session is of the largest sizes; smaller ones may be asked for, and a journal with no room
+sessions_are_asked :
+    Asks (codes "live") (live_of (record { pages = 4096; history = 65536; workers = 64 }))
+    × Asks (codes "live --workers=1 --history 0 --pages=1") (live_of (record { pages = 1; history = 0; workers = 1 }))
+unfolding clap_on_literals asked is_taken
+sessions_are_asked = ((refl, refl), (refl, refl))
+
+-- `check` asks whether a history is legal, and `-` is a file's name to the command line
+judgements_are_asked : Asks (codes "check a.history") (check_of (codes "a.history")) × Asks (codes "check -") (check_of (codes "-"))
+unfolding clap_on_literals asked is_taken
+judgements_are_asked = ((refl, refl), (refl, refl))
+
+-- one mesh is never cancelled, and explored for all outcomes, of at most 100,000 states; two meshes come in their order, between other options
+explorations_are_asked :
+    Asks (codes "explore a.job --mesh 1:0")
+    (explore_of (codes "a.job") (record { meshes = record { source = 1; destination = 0 } ∷ []; cancel = None; states = 100000; witness = None }))
+    × Asks (codes "explore --mesh=65535:0 --states 1 --cancel=1000 a.job --mesh 3:2 --witness=0")
+    (explore_of (codes "a.job") (record {
+      meshes = record { source = 65535; destination = 0 } ∷ record { source = 3; destination = 2 } ∷ [];
+      cancel = Some 1000;
+      states = 1;
+      witness = Some 0;
+    }))
+unfolding clap_on_literals asked is_taken digits
+explorations_are_asked = ((refl, refl), (refl, refl))
+
+-- the flag has no value, 17 threads make no search, there is no line 0, a session has no file, a picture isn't of a history, and a mesh has to be given
+are_refused :
+    (is_taken (spoken (codes "replay hello.job --history=no")) ≡ false)
+    × (is_taken (spoken (codes "threads a.job --probe=2 --rounds=3 --workers=17 --seed=5")) ≡ false)
+    × (is_taken (spoken (codes "draw a.job --from=0")) ≡ false)
+    × (is_taken (spoken (codes "live a.job")) ≡ false)
+    × (is_taken (spoken (codes "draw a.job --history")) ≡ false)
+    × (is_taken (spoken (codes "explore a.job")) ≡ false)
+unfolding clap_on_literals is_taken
+are_refused = (refl, refl, refl, refl, refl, refl)
+
+-- a group has one spelling, and none is above 65,535: such words ask for nothing
+abbrev AsksNothing : Text → Type 0
+AsksNothing pair = asked (spoken (codes "explore a.job --mesh " ++ pair)) ≡ None
+
+misspelt_asks_nothing : AsksNothing (codes "01:0") × AsksNothing (codes "1:+0") × AsksNothing (codes "65536:0") × AsksNothing (codes "1")
+    × AsksNothing (codes "1:0:2")
+unfolding clap_on_literals asked digits
+misspelt_asks_nothing = (refl, refl, refl, refl, refl)

@@ -1,0 +1,5 @@
+pub mod CommandLines
+pub mod CommandsBuilt
+pub mod ExplorationsRead
+pub mod NumbersRead
+pub mod Subcommands

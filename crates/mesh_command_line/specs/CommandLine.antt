@@ -1,0 +1,298 @@
+-- The command line as `clap` reads it, and how the program stops where it asks for no run.
+use Rattle.std.specs.Prelude.{◌≡◌, ◌⊎◌, ◌&&◌, ℕ, Bool, true, List, [], ◌∷◌, Option, Some, None, Result, Ok, Err, codes, if◌then◌else◌, is_some, length, nat_eq, nat_le, option_and_then, option_map}
+use Rattle.std.specs.Cow.{cow_str_bytes}
+use Rattle.std.specs.List.{slice_split}
+use Rattle.std.specs.Str.{bytes_eq}
+use Rattle.std.specs.Str.Parse.{digits_value, without_leading_plus}
+use Rattle.clap.specs.ValueTests.{is_unsigned_in}
+use Rattle.clap.specs.Words.{App, IsAmong, Kinds, Row, Rule, Text, all_of, fault_of, first_of, new_app, new_rule, one_of, subcommand_of, takes, with_rule, with_subcommand}
+use Rattle.clap.specs.declared.builder.action.ArgAction.TheVariants.{Append, SetTrue}
+use Rattle.clap.specs.declared.builder.value_parser.ValueParser.TheVariants.{Unsigned}
+use Rattle.clap.specs.declared.error.kind.ErrorKind.{ErrorKind}
+use Rattle.clap.specs.declared.error.kind.ErrorKind.TheVariants.{DisplayHelp, DisplayVersion, OutOfMemory, ValueValidation}
+use Rattle.model_jobs.specs.JobFiles.{short_in}
+use Rattle.model_jobs.specs.Texts.{ended}
+use Rattle.mesh_command_line.specs.Meshes.{pairs_of}
+use Rattle.model_words.specs.declared.faults.FaultKind.{FaultKind}
+use Rattle.mesh_command_line.specs.declared.command_line.Args.{Args}
+use Rattle.mesh_command_line.specs.declared.command_line.Args.TheVariants.{Check, Draw, Explore, Live, Replay, Threads}
+use Rattle.mesh_command_line.specs.declared.command_line.Stop.{Stop}
+use Rattle.mesh_command_line.specs.declared.draw_args.DrawArgs.{DrawArgs}
+use Rattle.mesh_command_line.specs.declared.explore_args.ExploreArgs.{ExploreArgs}
+use Rattle.mesh_explore.specs.declared.pair.MeshPair.{MeshPair}
+use Rattle.mesh_command_line.specs.declared.live_args.LiveArgs.{LiveArgs}
+use Rattle.mesh_command_line.specs.declared.printed.Printed.{Printed}
+use Rattle.mesh_command_line.specs.declared.printed.Printed.TheVariants.{Answers, History}
+use Rattle.mesh_command_line.specs.declared.threads_args.ThreadsArgs.{ThreadsArgs}
+
+-- ---- what the program takes
+
+-- the file
+abbrev pub file_rule : Rule
+file_rule = record (new_rule (codes "FILE")) { required = true }
+
+-- an option of this name with a number from the least to the most, one value as help shows it
+abbrev pub number_rule : Text → ℕ → ℕ → Rule
+number_rule name least most = record (new_rule name) { long = Some name; parser = Some (Unsigned least most); value_names = 1 }
+
+-- one that has to be given
+abbrev pub required_number : Text → ℕ → ℕ → Rule
+required_number name least most = record (number_rule name least most) { required = true }
+
+-- one that is the default where it isn't given
+abbrev pub number_or : Text → ℕ → ℕ → Text → Rule
+number_or name least most default = record (number_rule name least most) { defaults = default ∷ [] }
+
+-- a flag of this name
+abbrev pub flag_rule : Text → Rule
+flag_rule name = record (new_rule name) { long = Some name; action = Some SetTrue }
+
+-- the option that asks for a mesh: it has to be given, and each time it is given adds a value, one as help shows it
+abbrev pub mesh_rule : Rule
+mesh_rule = record (new_rule (codes "mesh")) { long = Some (codes "mesh"); action = Some Append; required = true; value_names = 1 }
+
+-- `replay FILE [--history]`
+abbrev pub replay_app : App
+replay_app = with_rule (with_rule (new_app (codes "replay")) file_rule) (flag_rule (codes "history"))
+
+-- `threads FILE --probe T --rounds R --workers N --seed S [--meshers M] [--history]`
+abbrev pub threads_app : App
+threads_app = with_rule (with_rule (with_rule (with_rule (with_rule (with_rule (with_rule (new_app (codes "threads")) file_rule)
+    (required_number (codes "probe") 0 64)) (required_number (codes "rounds") 0 1000)) (required_number (codes "workers") 1 16))
+    (required_number (codes "seed") 0 18446744073709551615)) (number_or (codes "meshers") 1 10 (codes "1")))
+    (flag_rule (codes "history"))
+
+-- `draw FILE [--from N] [--to N] [--columns N]`
+abbrev pub draw_app : App
+draw_app = with_rule (with_rule (with_rule (with_rule (new_app (codes "draw")) file_rule)
+    (number_or (codes "from") 1 1048576 (codes "1"))) (number_or (codes "to") 1 1048576 (codes "1048576")))
+    (number_or (codes "columns") 0 64 (codes "0"))
+
+-- `live [--pages P] [--history H] [--workers N]`
+abbrev pub live_app : App
+live_app = with_rule (with_rule (with_rule (new_app (codes "live")) (number_or (codes "pages") 1 4096 (codes "4096")))
+    (number_or (codes "history") 0 65536 (codes "65536"))) (number_or (codes "workers") 1 64 (codes "64"))
+
+-- `explore FILE --mesh SRC:DST [--mesh ..] [--cancel AFTER] [--states N] [--witness K]`
+abbrev pub explore_app : App
+explore_app = with_rule (with_rule (with_rule (with_rule (with_rule (new_app (codes "explore")) file_rule) mesh_rule)
+    (number_rule (codes "cancel") 0 1000)) (number_or (codes "states") 1 10000000 (codes "100000"))) (number_rule (codes "witness") 0 1000000)
+
+-- `check FILE`
+abbrev pub check_app : App
+check_app = with_rule (new_app (codes "check")) file_rule
+
+-- the program alone: it has a version, wants a subcommand, and shows its help without a word
+abbrev pub bare_app : App
+bare_app = let app = new_app (codes "meshrun") in
+    record app { top = record app.top { has_version = true; subcommand_required = true; arg_required_else_help = true } }
+
+-- `meshrun replay FILE ..`, `meshrun threads FILE ..`, `meshrun draw FILE ..`, `meshrun live ..`, `meshrun explore FILE ..` and `meshrun check FILE`
+abbrev pub meshrun_app : App
+meshrun_app =
+    with_subcommand (with_subcommand (with_subcommand (with_subcommand (with_subcommand (with_subcommand bare_app replay_app.top) threads_app.top) draw_app.top)
+    live_app.top) explore_app.top) check_app.top
+
+-- ---- what words ask for
+
+-- the numbers that threads are asked for: how many rounds of tries a search makes at most, how many times each mesher searches and meshes, how many
+-- threads make a search, what the words of the shuffles are made from, and how many threads mesh
+pub record Numbers : Type 0 where
+  pub probe : ℕ
+  pub rounds : ℕ
+  pub workers : ℕ
+  pub seed : ℕ
+  pub meshers : ℕ
+
+-- what of a plan is to be drawn: its lines from the first to the last of these, in so many columns, 0 being as many as fit
+pub record Shown : Type 0 where
+  pub from : ℕ
+  pub to : ℕ
+  pub columns : ℕ
+
+-- the sizes of a session: its pages, the entries that its journal has room for, and its workers
+pub record SessionSizes : Type 0 where
+  pub pages : ℕ
+  pub history : ℕ
+  pub workers : ℕ
+
+-- the meshes that are to be explored, after how many steps each is cancelled, how many states are kept at most, and the outcome that is printed as a job file
+pub record Explored : Type 0 where
+  pub meshes : List MeshPair
+  pub cancel : Option ℕ
+  pub states : ℕ
+  pub witness : Option ℕ
+
+-- a replay of the job file at this path, its scripts run by threads with these numbers, each of which prints this, a picture of what is shown of its
+-- plan, or what is left of its scripts explored; a session of these sizes; or a judgement of the recorded history at this path
+pub data Asked : Type 0 where
+  replay_of : Text → Printed → Asked
+  threads_of : Text → Numbers → Printed → Asked
+  draw_of : Text → Shown → Asked
+  explore_of : Text → Explored → Asked
+  live_of : SessionSizes → Asked
+  check_of : Text → Asked
+
+-- the number of this text, where `clap` takes it as one in the range
+abbrev pub number_of : ℕ → ℕ → Text → Option ℕ
+number_of least most text = if is_unsigned_in least most text then Some (digits_value 10 (without_leading_plus text)) else None
+
+-- the number in the range that the matches have for the option of this name
+abbrev pub number_in : Text → ℕ → ℕ → List Row → Option ℕ
+number_in name least most rows = option_and_then (number_of least most) (one_of name rows)
+
+-- what the value of the flag `--history` asks to be printed: it is `true` where the flag is given
+abbrev pub printed_by : Text → Printed
+printed_by value = if bytes_eq value (codes "true") then History else Answers
+
+-- what the matches have to be printed
+abbrev pub printed_in : List Row → Option Printed
+printed_in rows = option_map printed_by (first_of (codes "history") rows)
+
+-- the numbers that the matches have for `threads`
+abbrev pub numbers_in : List Row → Option Numbers
+numbers_in rows =
+    option_and_then (λ probe. option_and_then (λ rounds. option_and_then (λ workers. option_and_then (λ seed.
+    option_map (λ meshers. record { probe = probe; rounds = rounds; workers = workers; seed = seed; meshers = meshers })
+    (number_in (codes "meshers") 1 10 rows)) (number_in (codes "seed") 0 18446744073709551615 rows)) (number_in (codes "workers") 1 16 rows))
+    (number_in (codes "rounds") 0 1000 rows)) (number_in (codes "probe") 0 64 rows)
+
+-- what the matches have for `draw`
+abbrev pub shown_in : List Row → Option Shown
+shown_in rows =
+    option_and_then (λ from. option_and_then (λ to. option_map (λ columns. record { from = from; to = to; columns = columns })
+    (number_in (codes "columns") 0 64 rows)) (number_in (codes "to") 1 1048576 rows)) (number_in (codes "from") 1 1048576 rows)
+
+-- the number in the range that the matches have for the option of this name, where it is given
+abbrev pub given_in : Text → ℕ → ℕ → List Row → Option (Option ℕ)
+given_in name least most rows = if is_some (first_of name rows) then option_map Some (number_in name least most rows) else Some None
+
+-- two groups, each in the one spelling of its number
+abbrev pub pair_from : Result ℕ FaultKind → Result ℕ FaultKind → Option MeshPair
+pair_from (Ok source) (Ok destination) = Some (record { source = source; destination = destination })
+pair_from (Ok source) (Err kind) = None
+pair_from (Err kind) destination = None
+
+-- the pair of groups that two parts are
+abbrev pub pair_in : List Text → Option MeshPair
+pair_in (source ∷ destination ∷ []) = pair_from (short_in source) (short_in destination)
+pair_in parts = None
+
+-- the pair of groups that a text is, with a colon between them
+abbrev pub pair_of : Text → Option MeshPair
+pair_of text = pair_in (slice_split (λ b. nat_eq b 58) text)
+
+-- the pairs that texts are
+abbrev pub pairs_in : List Text → Option (List MeshPair)
+pairs_in [] = Some []
+pairs_in (text ∷ texts) = option_and_then (λ pair. option_map (λ pairs. pair ∷ pairs) (pairs_in texts)) (pair_of text)
+
+-- the meshes that the matches have: one to ten
+abbrev pub meshes_in : List Row → Option (List MeshPair)
+meshes_in rows =
+    option_and_then (λ texts. if nat_le 1 (length texts) && nat_le (length texts) 10 then pairs_in texts else None) (all_of (codes "mesh") rows)
+
+-- what the matches have for `explore`
+abbrev pub explored_in : List Row → Option Explored
+explored_in rows =
+    option_and_then (λ meshes. option_and_then (λ cancel. option_and_then (λ states.
+    option_map (λ witness. record { meshes = meshes; cancel = cancel; states = states; witness = witness })
+    (given_in (codes "witness") 0 1000000 rows)) (number_in (codes "states") 1 10000000 rows)) (given_in (codes "cancel") 0 1000 rows)) (meshes_in rows)
+
+-- the sizes that the matches have for `live`
+abbrev pub sizes_in : List Row → Option SessionSizes
+sizes_in rows =
+    option_and_then (λ pages. option_and_then (λ history. option_map (λ workers. record { pages = pages; history = history; workers = workers })
+    (number_in (codes "workers") 1 64 rows)) (number_in (codes "history") 0 65536 rows)) (number_in (codes "pages") 1 4096 rows)
+
+-- what a subcommand of this name with these matches asks for, on the file
+abbrev pub asked_of : Text → List Row → Text → Option Asked
+asked_of name rows file =
+    if bytes_eq name (codes "replay") then option_map (replay_of file) (printed_in rows)
+    else (if bytes_eq name (codes "threads") then option_and_then (λ numbers. option_map (threads_of file numbers) (printed_in rows)) (numbers_in rows)
+    else (if bytes_eq name (codes "draw") then option_map (draw_of file) (shown_in rows)
+    else (if bytes_eq name (codes "explore") then option_map (explore_of file) (explored_in rows)
+    else (if bytes_eq name (codes "check") then Some (check_of file) else None))))
+
+-- what a subcommand of this name with these matches asks for: a session needs no file
+abbrev pub asked_by : Text → List Row → Option Asked
+asked_by name rows =
+    if bytes_eq name (codes "live") then option_map live_of (sizes_in rows) else option_and_then (asked_of name rows) (first_of (codes "FILE") rows)
+
+-- what a subcommand's name and matches ask for
+abbrev pub asked_in : Option (Text × List Row) → Option Asked
+asked_in None = None
+asked_in (Some found) = asked_by found.0 found.1
+
+-- what words ask for
+unfoldable pub asked : List Text → Option Asked
+asked words = asked_in (subcommand_of meshrun_app words)
+
+-- the words are a command line of the program
+unfoldable pub is_taken : List Text → Bool
+is_taken words = takes meshrun_app words
+
+-- the kinds of fault, or of a call for help, that the words may have
+unfoldable pub kinds_of : List Text → Kinds
+kinds_of words = fault_of meshrun_app words
+
+-- the numbers that were read
+abbrev pub numbers_of : ThreadsArgs → Numbers
+numbers_of args = record { probe = args.probe; rounds = args.rounds; workers = args.workers; seed = args.seed; meshers = args.meshers }
+
+-- what was read of what is to be drawn
+abbrev pub shown_of : DrawArgs → Shown
+shown_of args = record { from = args.from; to = args.to; columns = args.columns }
+
+-- what was read of what is to be explored
+abbrev pub explored_of : ExploreArgs → Explored
+explored_of args = record { meshes = pairs_of args.meshes; cancel = args.cancel; states = args.states; witness = args.witness }
+
+-- the sizes that were read
+abbrev pub sizes_of : LiveArgs → SessionSizes
+sizes_of args = record { pages = args.pages; history = args.history; workers = args.workers }
+
+-- what the program was told to do
+abbrev pub asking : Args → Asked
+asking (Replay path printed) = replay_of path.now printed
+asking (Threads path args printed) = threads_of path.now (numbers_of args) printed
+asking (Draw path args) = draw_of path.now (shown_of args)
+asking (Explore path args) = explore_of path.now (explored_of args)
+asking (Live args) = live_of (sizes_of args)
+asking (Check path) = check_of path.now
+
+-- the words ask for this
+abbrev pub IsAsked : List Text → Args → Type 0
+IsAsked words args = asked words ≡ Some (asking args)
+
+-- what may be said of the words: want of memory, a fault of theirs or a call for help, or, where they ask for nothing, that a value can't be read
+abbrev pub IsSaidOf : List Text → ErrorKind → Type 0
+IsSaidOf words kind =
+    (kind ≡ OutOfMemory) ⊎ (IsAmong kind (kinds_of words) ⊎ ((asked words ≡ None) × (kind ≡ ValueValidation)))
+
+-- of words that are a command line of the program it says only want of memory, or that they ask for nothing
+abbrev pub IsAllowedOf : List Text → ErrorKind → Type 0
+IsAllowedOf words kind = is_taken words ≡ true → (kind ≡ OutOfMemory) ⊎ (asked words ≡ None)
+
+-- ---- how the program stops
+
+-- the exit status for a kind of what `clap` says
+abbrev pub status_of_kind : ErrorKind → ℕ
+status_of_kind OutOfMemory = 1
+status_of_kind DisplayHelp = 0
+status_of_kind DisplayVersion = 0
+status_of_kind other = 2
+
+-- the program stops for want of memory
+pub record IsOutOfMemory (stop : Stop) : Type 0 where
+  pub status : stop.status ≡ 1
+  pub text : cow_str_bytes stop.text ≡ ended (codes "out of memory")
+
+-- the program stops because the words of its command line are no text
+pub record IsNoText (stop : Stop) : Type 0 where
+  pub status : stop.status ≡ 2
+  pub text : cow_str_bytes stop.text ≡ ended (codes "error: the command line is not UTF-8 text")
+
+-- the program stops for want of memory, or with the status for what `clap` says of the words
+abbrev pub IsStopAt : List Text → Stop → Type 0
+IsStopAt words stop = IsOutOfMemory stop ⊎ ((kind : ErrorKind) × IsSaidOf words kind × (stop.status ≡ status_of_kind kind))

@@ -1,0 +1,7 @@
+pub mod CommandLine
+pub mod DrawArgs
+pub mod ExploreArgs
+pub mod LiveArgs
+pub mod Meshes
+pub mod Subcommands
+pub mod ThreadsArgs

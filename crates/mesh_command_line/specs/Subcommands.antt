@@ -1,0 +1,30 @@
+-- The table of the subcommands, as `clap` is told it.
+use Rattle.std.specs.Prelude.{List, [], ◌∷◌, codes}
+use Rattle.clap.specs.Words.{App, Rule, new_app, with_rule, with_subcommand}
+use Rattle.mesh_command_line.specs.CommandLine.{file_rule, flag_rule, mesh_rule, number_or, number_rule, required_number}
+use Rattle.mesh_command_line.specs.declared.command_line.Argument.{Argument}
+use Rattle.mesh_command_line.specs.declared.command_line.Argument.TheVariants.{Default, File, Meshes, Optional, Recorded, Required}
+use Rattle.mesh_command_line.specs.declared.command_line.Subcommand.{Subcommand}
+
+-- what `clap` is told of what may stand behind a subcommand's name
+abbrev pub argument_rule : Argument → Rule
+argument_rule (File help) = file_rule
+argument_rule Meshes = mesh_rule
+argument_rule (Required option) = required_number option.name.now option.least option.most
+argument_rule (Default option default) = number_or option.name.now option.least option.most default.now
+argument_rule (Optional option) = number_rule option.name.now option.least option.most
+argument_rule (Recorded help) = flag_rule (codes "history")
+
+-- a command with these arguments behind those that it has
+abbrev pub with_arguments : App → List Argument → App
+with_arguments app [] = app
+with_arguments app (argument ∷ arguments) = with_arguments (with_rule app (argument_rule argument)) arguments
+
+-- the command of a subcommand
+abbrev pub subcommand_app : Subcommand → App
+subcommand_app subcommand = with_arguments (new_app subcommand.name.now) subcommand.arguments.now
+
+-- a command with these subcommands behind those that it has
+abbrev pub with_subcommands : App → List Subcommand → App
+with_subcommands app [] = app
+with_subcommands app (subcommand ∷ subcommands) = with_subcommands (with_subcommand app (subcommand_app subcommand).top) subcommands

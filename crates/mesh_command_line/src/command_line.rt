@@ -1,0 +1,616 @@
+//! The command line.
+ghost use Rattle.std.specs.Prelude.{◌≡◌, ◌≢◌, ◌⊎◌, ◌≤◌, ◌<◌, ◌^◌, None, Some, true, IfErr, IfOk, IfSome, codes, length, map, option_and_then, option_map};
+ghost use Rattle.std.specs.IoError.{error_kind};
+ghost use Rattle.std.specs.declared.io.ErrorKind.TheVariants.{OutOfMemory as IoOutOfMemory};
+ghost use Rattle.clap.specs.Words.{app_of, first_of, found_of, kind_of, rows_of, rule_of, subcommand_rows_of};
+ghost use Rattle.mesh_command_line.specs.Meshes.{pairs_of};
+ghost use Rattle.mesh_command_line.specs.Subcommands.{argument_rule, subcommand_app, with_subcommands};
+ghost use Rattle.mesh_command_line.specs.CommandLine.{IsAllowedOf, IsAsked, IsNoText, IsOutOfMemory, IsSaidOf, IsStopAt, asked, asked_in, asked_of, asking, explored_in, explored_of, flag_rule, given_in, is_taken, mesh_rule, meshes_in, meshrun_app, number_in, number_rule, numbers_in, numbers_of, pair_of, pairs_in, printed_in, shown_in, shown_of, sizes_in, sizes_of, status_of_kind};
+
+use crate::meshes::MOST_MESHES;
+use crate::status::{DONE, FAILED, FAULTY};
+use crate::{DrawArgs, ExploreArgs, LiveArgs, Meshes, Printed, ThreadsArgs};
+use clap::builder::ValueParser;
+use clap::error::ErrorKind;
+use clap::{Arg, ArgAction, ArgMatches, Command, Error};
+use mesh_explore::MeshPair;
+use mesh_fields::lines::cut;
+use mesh_fields::numbers::number32;
+use std::alloc::{AllocError, Global};
+use std::borrow::CowStr;
+use std::convert::AsStr;
+use std::io;
+
+/// The file, as the command line and the help call it.
+const FILE: &str = "FILE";
+
+/// The flag that asks for a recorded history.
+const RECORDED: &str = "history";
+
+/// The option that asks for a mesh.
+const MESH: &str = "mesh";
+
+/// What help calls the two groups of a mesh.
+const GROUPS: &str = "SRC:DST";
+
+/// What is said of meshes that can't be read: `clap` has refused all else that asks for nothing.
+const UNREAD_MESHES: &str =
+    "--mesh wants SRC:DST, two group numbers from 0 to 65535, and is given 1 to 10 times\n";
+
+/// What stands between the two groups.
+const BETWEEN: u8 = b':';
+
+/// The greatest number of a group.
+const LAST_GROUP: u32 = 65535;
+
+/// An option with a number.
+#[derive(Clone, Copy)]
+struct NumberOption {
+    name: &'static str,
+    // What help calls the number.
+    value: &'static str,
+    least: u64,
+    most: u64,
+    help: &'static str,
+}
+
+const PROBE: NumberOption = NumberOption {
+    name: "probe",
+    value: "T",
+    least: 0,
+    most: 64,
+    help: "How many rounds of tries a search makes at most, 0 to 64",
+};
+
+const ROUNDS: NumberOption = NumberOption {
+    name: "rounds",
+    value: "R",
+    least: 0,
+    most: 1000,
+    help: "How many times each mesher searches and meshes, 0 to 1000",
+};
+
+const WORKERS: NumberOption = NumberOption {
+    name: "workers",
+    value: "N",
+    least: 1,
+    most: 16,
+    help: "How many threads make a search, 1 to 16",
+};
+
+const SEED: NumberOption = NumberOption {
+    name: "seed",
+    value: "S",
+    least: 0,
+    most: u64::MAX,
+    help: "What the words of the shuffles are made from, 0 to 18446744073709551615",
+};
+
+const MESHERS: NumberOption = NumberOption {
+    name: "meshers",
+    value: "M",
+    least: 1,
+    most: 10,
+    help: "How many threads mesh, 1 to 10",
+};
+
+const FROM: NumberOption = NumberOption {
+    name: "from",
+    value: "N",
+    least: 1,
+    most: 1048576,
+    help: "The first line of the plan that is drawn, 1 to 1048576",
+};
+
+const TO: NumberOption = NumberOption {
+    name: "to",
+    value: "N",
+    least: 1,
+    most: 1048576,
+    help: "The last line of the plan that is drawn, 1 to 1048576",
+};
+
+const COLUMNS: NumberOption = NumberOption {
+    name: "columns",
+    value: "N",
+    least: 0,
+    most: 64,
+    help: "How many columns the picture has, 1 to 64, or 0 for as many as fit",
+};
+
+const PAGES: NumberOption = NumberOption {
+    name: "pages",
+    value: "P",
+    least: 1,
+    most: 4096,
+    help: "How many physical pages the heap has, 1 to 4096",
+};
+
+const HISTORY: NumberOption = NumberOption {
+    name: "history",
+    value: "H",
+    least: 0,
+    most: 65536,
+    help: "How many entries the journal has room for, 0 to 65536",
+};
+
+const SESSION_WORKERS: NumberOption = NumberOption {
+    name: "workers",
+    value: "N",
+    least: 1,
+    most: 64,
+    help: "How many workers there are, 1 to 64",
+};
+
+const CANCEL: NumberOption = NumberOption {
+    name: "cancel",
+    value: "AFTER",
+    least: 0,
+    most: 1000,
+    help: "Cancel each mesh after so many of its steps, 0 to 1000",
+};
+
+const STATES: NumberOption = NumberOption {
+    name: "states",
+    value: "N",
+    least: 1,
+    most: 10000000,
+    help: "How many states are kept at most, 1 to 10000000",
+};
+
+const WITNESS: NumberOption = NumberOption {
+    name: "witness",
+    value: "K",
+    least: 0,
+    most: 1000000,
+    help: "Print a job file that leads to outcome K, 0 to 1000000, in place of what is told of all",
+};
+
+/// What may stand behind the name of a subcommand.
+#[derive(Clone, Copy)]
+enum Argument {
+    /// The file, with what help says of it.
+    File(&'static str),
+    /// The meshes.
+    Meshes,
+    /// An option with a number that has to be given.
+    Required(NumberOption),
+    /// An option with a number that is the default where it isn't given.
+    Default(NumberOption, &'static str),
+    /// An option with a number that may be left out.
+    Optional(NumberOption),
+    /// The flag that asks for a recorded history, with what help says of it.
+    Recorded(&'static str),
+}
+
+/// A subcommand: its name, what help says of it, and what may stand behind it.
+#[derive(Clone, Copy)]
+struct Subcommand {
+    name: &'static str,
+    about: &'static str,
+    arguments: &'static [Argument],
+}
+
+/// The subcommands, in the order in which help shows them.
+const SUBCOMMANDS: &[Subcommand] = &[
+    Subcommand {
+        name: "replay",
+        about: "Run a job file's plan and print one answer a line",
+        arguments: &[
+            Argument::File("The job file to replay"),
+            Argument::Recorded("Print the journal as a recorded history in place of the answers"),
+        ],
+    },
+    Subcommand {
+        name: "threads",
+        about: "Run a job file's scripts, a thread each, while others mesh, and print their answers",
+        arguments: &[
+            Argument::File("The job file; its plan is not used"),
+            Argument::Required(PROBE),
+            Argument::Required(ROUNDS),
+            Argument::Required(WORKERS),
+            Argument::Required(SEED),
+            Argument::Default(MESHERS, "1"),
+            Argument::Recorded(
+                "Print the history of all threads as a recorded history in place of each worker's answers",
+            ),
+        ],
+    },
+    Subcommand {
+        name: "draw",
+        about: "Draw a job file's plan as an SVG picture and print it",
+        arguments: &[
+            Argument::File("The job file to draw"),
+            Argument::Default(FROM, "1"),
+            Argument::Default(TO, "1048576"),
+            Argument::Default(COLUMNS, "0"),
+        ],
+    },
+    Subcommand {
+        name: "live",
+        about: "Answer the lines of standard input one by one, on a fresh heap",
+        arguments: &[
+            Argument::Default(PAGES, "4096"),
+            Argument::Default(HISTORY, "65536"),
+            Argument::Default(SESSION_WORKERS, "64"),
+        ],
+    },
+    Subcommand {
+        name: "explore",
+        about: "Run what a job file's plan leaves of its scripts in every interleaving with meshes, and print all answers",
+        arguments: &[
+            Argument::File("The job file; its plan is the setting"),
+            Argument::Meshes,
+            Argument::Optional(CANCEL),
+            Argument::Default(STATES, "100000"),
+            Argument::Optional(WITNESS),
+        ],
+    },
+    Subcommand {
+        name: "check",
+        about: "Judge a recorded history by the plain memory and say whether it is legal",
+        arguments: &[Argument::File("The recorded history, or - for standard input")],
+    },
+];
+
+/// The version that `--version` tells.
+const VERSION: &str = "0.1.0";
+
+/// What the command line asks for.
+#[derive(Clone, Copy, PartialEq, Eq)]
+pub enum Args<'a> {
+    /// `replay FILE [--history]`: replay the job file at this path, and print this.
+    Replay(&'a str, Printed),
+    /// `threads FILE .. [--history]`: run the scripts of the job file at this path by threads, with these numbers, and print this.
+    Threads(&'a str, ThreadsArgs, Printed),
+    /// `draw FILE ..`: draw the plan of the job file at this path, with these lines and columns.
+    Draw(&'a str, DrawArgs),
+    /// `live ..`: answer the lines of standard input, on a heap of these sizes.
+    Live(LiveArgs),
+    /// `explore FILE --mesh SRC:DST ..`: explore what is left of the scripts of the job file at this path, with these meshes and numbers.
+    Explore(&'a str, ExploreArgs),
+    /// `check FILE`: judge the recorded history at this path, or at `-` that of standard input.
+    Check(&'a str),
+}
+
+/// Why the program ends before it begins, and what it says.
+#[derive(Drop)]
+pub struct Stop {
+    /// The exit status: 0 for help and for the version, 2 for a fault of the command line, 1 for an allocation failure.
+    pub status: u8,
+    /// What to print, with its line ends: help and version on standard output, the rest on standard error.
+    pub text: CowStr<'static, Global>,
+}
+
+/// What the words of a command line ask for, the program's name first.
+///
+/// The words are read by `clap`, which words the texts of help, version and faults. The file is the word as it was given, a
+/// number is what `clap` reads as a `u64`: decimal digits, perhaps after a plus; and a mesh is two group numbers with a colon between them, each
+/// in its one spelling.
+pub fn arguments<'a, S: AsStr>(alloc: Global, words: &'a [S]) -> Result<Args<'a>, Stop>
+    ensures asked { IfOk result (IsAsked (map S.text words.now)) }
+    ensures stop { IfErr result (IsStopAt (map S.text words.now)) }
+    ensures passes { IfErr result (λ stop. is_taken (map S.text words.now) ≡ true → IsOutOfMemory stop ⊎ (asked (map S.text words.now) ≡ None)) }
+    ensures small { IfErr result (λ stop. stop.status ≤ 2) }
+{
+    match read_words(alloc, words) {
+        Ok(args) => Ok(args),
+        Err(error) => Err(stop_of(alloc, &error)),
+    }
+}
+
+/// What the words ask for, or what `clap` says of them.
+fn read_words<'a, S: AsStr>(alloc: Global, words: &'a [S]) -> Result<Args<'a>, Error>
+    ensures asked { IfOk result (IsAsked (map S.text words.now)) }
+    ensures kinds { IfErr result (λ error. IsSaidOf (map S.text words.now) (kind_of error)) }
+    ensures passes { IfErr result (λ error. IsAllowedOf (map S.text words.now) (kind_of error)) }
+{
+    let mut command = meshrun_command(alloc)?;
+    read_by(&mut command, words)
+}
+
+/// The same, by the program's command.
+fn read_by<'a, S: AsStr>(command: &mut Command<'a>, words: &'a [S]) -> Result<Args<'a>, Error>
+    requires { app_of command.old ≡ meshrun_app }
+    ensures asked { IfOk result (IsAsked (map S.text words.now)) }
+    ensures kinds { IfErr result (λ error. IsSaidOf (map S.text words.now) (kind_of error)) }
+    ensures passes { IfErr result (λ error. IsAllowedOf (map S.text words.now) (kind_of error)) }
+{
+    let matches = matches_of(command, words)?;
+    match asked_for(&matches) {
+        Some(args) => Ok(args),
+        None => Err(command.error(ErrorKind::ValueValidation, UNREAD_MESHES)?),
+    }
+}
+
+/// What `clap` makes of the words.
+fn matches_of<'a, S: AsStr>(
+    command: &mut Command<'a>,
+    words: &'a [S],
+) -> Result<ArgMatches<'a>, Error>
+    requires { app_of command.old ≡ meshrun_app }
+    ensures asked { IfOk result (λ matches. asked_in (subcommand_rows_of matches) ≡ asked (map S.text words.now)) }
+    ensures kinds { IfErr result (λ error. IsSaidOf (map S.text words.now) (kind_of error)) }
+    ensures passes { IfErr result (λ error. IsAllowedOf (map S.text words.now) (kind_of error)) }
+{
+    command.try_get_matches_from_mut(words)
+}
+
+/// The command that the matches name, with its file and its numbers.
+fn asked_for<'a>(matches: &ArgMatches<'a>) -> Option<Args<'a>>
+    ensures { option_map asking result ≡ asked_in (subcommand_rows_of matches.now) }
+{
+    let (name, matches) = matches.subcommand()?;
+    match name {
+        "live" => Some(Args::Live(sizes(matches)?)),
+        _ => asked_of(name, matches),
+    }
+}
+
+/// The command of this name with the file that its matches have, its numbers and its flag.
+fn asked_of<'a>(name: &str, matches: &ArgMatches<'a>) -> Option<Args<'a>>
+    ensures { option_map asking result ≡ option_and_then (asked_of name.now (rows_of (found_of matches.now))) (first_of (codes "FILE") (rows_of (found_of matches.now))) }
+{
+    let file = matches.get_str(FILE)?;
+    match name {
+        "replay" => Some(Args::Replay(file, printed(matches)?)),
+        "threads" => Some(Args::Threads(file, numbers(matches)?, printed(matches)?)),
+        "draw" => Some(Args::Draw(file, shown(matches)?)),
+        "explore" => Some(Args::Explore(file, explored(matches)?)),
+        "check" => Some(Args::Check(file)),
+        _ => None,
+    }
+}
+
+/// What is to be printed. The value of the flag is `true` where it is given, and `false` where it isn't.
+fn printed<'a>(matches: &ArgMatches<'a>) -> Option<Printed>
+    ensures { result ≡ printed_in (rows_of (found_of matches.now)) }
+{
+    match matches.get_str(RECORDED)? {
+        "true" => Some(Printed::History),
+        _ => Some(Printed::Answers),
+    }
+}
+
+/// The numbers that threads are asked for.
+fn numbers<'a>(matches: &ArgMatches<'a>) -> Option<ThreadsArgs>
+    ensures { option_map numbers_of result ≡ numbers_in (rows_of (found_of matches.now)) }
+{
+    Some(ThreadsArgs {
+        probe: number(matches, PROBE)? as u32,
+        rounds: number(matches, ROUNDS)? as u32,
+        workers: number(matches, WORKERS)? as u32,
+        seed: number(matches, SEED)?,
+        meshers: number(matches, MESHERS)? as u32,
+    })
+}
+
+/// What of a plan is to be drawn, and in how many columns.
+fn shown<'a>(matches: &ArgMatches<'a>) -> Option<DrawArgs>
+    ensures { option_map shown_of result ≡ shown_in (rows_of (found_of matches.now)) }
+{
+    Some(DrawArgs {
+        from: number(matches, FROM)? as u32,
+        to: number(matches, TO)? as u32,
+        columns: number(matches, COLUMNS)? as u32,
+    })
+}
+
+/// The meshes that are to be explored, and with what numbers.
+fn explored<'a>(matches: &ArgMatches<'a>) -> Option<ExploreArgs>
+    ensures { option_map explored_of result ≡ explored_in (rows_of (found_of matches.now)) }
+{
+    Some(ExploreArgs {
+        meshes: meshes(matches)?,
+        cancel: number_if_given(matches, CANCEL)?,
+        states: number(matches, STATES)? as u32,
+        witness: number_if_given(matches, WITNESS)?,
+    })
+}
+
+/// The meshes that are asked for: one to ten, each of which is a pair of groups.
+fn meshes<'a>(matches: &ArgMatches<'a>) -> Option<Meshes>
+    ensures value { option_map pairs_of result ≡ meshes_in (rows_of (found_of matches.now)) }
+    ensures some { IfSome result (λ meshes. 1 ≤ meshes.count) }
+{
+    let texts = matches.get_strs(MESH)?;
+    if texts.is_empty() || MOST_MESHES < texts.len() {
+        return None;
+    }
+    pairs(texts)
+}
+
+/// The pairs of groups that these texts are.
+fn pairs(texts: &[&str]) -> Option<Meshes>
+    requires { length texts.now ≤ 10 }
+    ensures pairs { option_map pairs_of result ≡ pairs_in (map (λ text. text.now) texts.now) }
+    ensures all { IfSome result (λ meshes. meshes.count ≡ length texts.now) }
+{
+    let mut meshes = Meshes::none();
+    let mut rest = texts;
+    while let [text, behind @ ..] = rest {
+        meshes.add(pair(text)?);
+        rest = behind;
+    }
+    Some(meshes)
+}
+
+/// The pair of groups that a text is: two numbers, each in its one spelling, with a colon between them.
+fn pair(text: &str) -> Option<MeshPair>
+    ensures { result ≡ pair_of text.now }
+{
+    let (source, behind) = cut(text.as_bytes(), BETWEEN)?;
+    if cut(behind, BETWEEN).is_some() {
+        return None;
+    }
+    Some(MeshPair {
+        source: number32(source, 0, LAST_GROUP).ok()?,
+        destination: number32(behind, 0, LAST_GROUP).ok()?,
+    })
+}
+
+/// The sizes of the session that is asked for.
+fn sizes<'a>(matches: &ArgMatches<'a>) -> Option<LiveArgs>
+    ensures { option_map sizes_of result ≡ sizes_in (rows_of (found_of matches.now)) }
+{
+    Some(LiveArgs {
+        pages: number(matches, PAGES)? as u32,
+        history: number(matches, HISTORY)? as u32,
+        workers: number(matches, SESSION_WORKERS)? as u32,
+    })
+}
+
+/// The number that an option was given, where it is one that the option takes.
+fn number<'a>(matches: &ArgMatches<'a>, option: NumberOption) -> Option<u64>
+    ensures value { result ≡ number_in option.name.now option.least option.most (rows_of (found_of matches.now)) }
+    ensures range { IfSome result (λ number. (option.least ≤ number) × (number ≤ option.most)) }
+{
+    let number = matches.get_one::<u64>(option.name)?;
+    if option.least <= number && number <= option.most {
+        Some(number)
+    } else {
+        None
+    }
+}
+
+/// The number that an option was given, where it was given one. None where that is no number that the option takes.
+fn number_if_given<'a>(matches: &ArgMatches<'a>, option: NumberOption) -> Option<Option<u32>>
+    requires { option.most < 2 ^ 32 }
+    ensures value { result ≡ given_in option.name.now option.least option.most (rows_of (found_of matches.now)) }
+    ensures range { IfSome result (λ given. IfSome given (λ number. (option.least ≤ number) × (number ≤ option.most))) }
+{
+    match matches.get_str(option.name) {
+        Some(_) => Some(Some(number(matches, option)? as u32)),
+        None => Some(None),
+    }
+}
+
+/// The program's command line: a command with its subcommands, help and version.
+fn meshrun_command<'a>(alloc: Global) -> Result<Command<'a>, AllocError>
+    ensures { IfOk result (λ command. app_of command ≡ meshrun_app) }
+{
+    let command = Command::new(alloc, "meshrun")
+        .about("A modelled heap that is compacted by meshing")
+        .version(VERSION)
+        .subcommand_required(true)
+        .arg_required_else_help(true);
+    with_subcommands(alloc, command, SUBCOMMANDS)
+}
+
+/// A command with these subcommands behind those that it has.
+fn with_subcommands<'a>(
+    alloc: Global,
+    command: Command<'a>,
+    subcommands: &[Subcommand],
+) -> Result<Command<'a>, AllocError>
+    ensures { IfOk result (λ new. app_of new ≡ with_subcommands (app_of command.entry) subcommands.now) }
+{
+    let mut command = command;
+    let mut rest = subcommands;
+    while let [subcommand, behind @ ..] = rest {
+        command = command.subcommand(subcommand_of(alloc, subcommand)?)?;
+        rest = behind;
+    }
+    Ok(command)
+}
+
+/// What `clap` is told of a subcommand.
+fn subcommand_of<'a>(alloc: Global, subcommand: &Subcommand) -> Result<Command<'a>, AllocError>
+    ensures { IfOk result (λ command. app_of command ≡ subcommand_app subcommand.now) }
+{
+    let mut command = Command::new(alloc, subcommand.name).about(subcommand.about);
+    let mut rest = subcommand.arguments;
+    while let [argument, behind @ ..] = rest {
+        command = command.arg(argument_of(alloc, argument))?;
+        rest = behind;
+    }
+    Ok(command)
+}
+
+/// What `clap` is told of what may stand behind a subcommand's name.
+fn argument_of<'a>(alloc: Global, argument: &Argument) -> Arg<'a>
+    ensures { rule_of result ≡ argument_rule argument.now }
+{
+    match *argument {
+        Argument::File(help) => Arg::new(alloc, FILE).required(true).help(help),
+        Argument::Meshes => mesh(alloc),
+        Argument::Required(option) => number_option(alloc, option).required(true),
+        Argument::Default(option, default) => number_option(alloc, option).default_value(default),
+        Argument::Optional(option) => number_option(alloc, option),
+        Argument::Recorded(help) => recorded(alloc).help(help),
+    }
+}
+
+/// The flag that asks for a recorded history.
+fn recorded<'a>(alloc: Global) -> Arg<'a>
+    ensures { rule_of result ≡ flag_rule (codes "history") }
+{
+    Arg::new(alloc, RECORDED)
+        .long(RECORDED)
+        .action(ArgAction::SetTrue)
+}
+
+/// The option that asks for a mesh, and has to be given once or more.
+fn mesh<'a>(alloc: Global) -> Arg<'a>
+    ensures { rule_of result ≡ mesh_rule }
+{
+    Arg::new(alloc, MESH)
+        .long(MESH)
+        .value_name(GROUPS)
+        .action(ArgAction::Append)
+        .required(true)
+        .help("A mesh of group SRC into group DST, each 0 to 65535; 1 to 10 times")
+}
+
+/// An option with a number.
+fn number_option<'a>(alloc: Global, option: NumberOption) -> Arg<'a>
+    ensures { rule_of result ≡ number_rule option.name.now option.least option.most }
+{
+    Arg::new(alloc, option.name)
+        .long(option.name)
+        .value_name(option.value)
+        .value_parser(ValueParser::unsigned(option.least, option.most))
+        .help(option.help)
+}
+
+/// How the program stops where the system doesn't give it the words of its command line: they are no text, or memory was refused.
+pub fn unread_words(error: &io::Error) -> Stop
+    ensures memory { error_kind error.now ≡ IoOutOfMemory → IsOutOfMemory result }
+    ensures other { error_kind error.now ≢ IoOutOfMemory → IsNoText result }
+{
+    if error.kind() == io::ErrorKind::OutOfMemory {
+        return out_of_memory();
+    }
+    Stop {
+        status: FAULTY,
+        text: CowStr::Borrowed("error: the command line is not UTF-8 text\n"),
+    }
+}
+
+/// How the program stops for this error.
+fn stop_of(alloc: Global, error: &Error) -> Stop
+    ensures stop { IsOutOfMemory result ⊎ (result.status ≡ status_of_kind (kind_of error.now)) }
+    ensures memory { kind_of error.now ≡ ErrorKind.OutOfMemory → IsOutOfMemory result }
+{
+    if error.kind() == ErrorKind::OutOfMemory {
+        return out_of_memory();
+    }
+    let status = if error.use_stderr() { FAULTY } else { DONE };
+    match error.to_string(alloc) {
+        Ok(text) => Stop {
+            status,
+            text: CowStr::Owned(text),
+        },
+        Err(_) => out_of_memory(),
+    }
+}
+
+/// How the program stops where an allocation failed.
+fn out_of_memory() -> Stop
+    ensures { IsOutOfMemory result }
+{
+    Stop {
+        status: FAILED,
+        text: CowStr::Borrowed("out of memory\n"),
+    }
+}

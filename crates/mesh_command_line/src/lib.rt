@@ -1,0 +1,22 @@
+//! The command line of the program `meshrun`: what its words ask for.
+//!
+//! `arguments` reads the words by `clap`, and gives what they ask for (`Args`) or why the program stops (`Stop`). Nothing here opens a file or prints.
+#![tactic(auto)]
+
+mod command_line;
+mod draw_args;
+mod explore_args;
+mod live_args;
+mod meshes;
+mod printed;
+pub mod status;
+mod threads_args;
+
+pub use command_line::{Args, Stop, arguments, unread_words};
+pub use draw_args::DrawArgs;
+pub use explore_args::ExploreArgs;
+pub use live_args::LiveArgs;
+pub use mesh_explore::MeshPair;
+pub use meshes::Meshes;
+pub use printed::Printed;
+pub use threads_args::ThreadsArgs;

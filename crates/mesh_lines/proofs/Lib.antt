@@ -1,0 +1,4 @@
+pub mod LiveFields
+pub mod Pairs
+pub mod QuickFields
+pub mod QuickLines

@@ -1,0 +1,39 @@
+//! The command lines of a job.
+ghost use Rattle.std.specs.Prelude.{◌≡◌, IfOk};
+ghost use Rattle.model_words.specs.Commands.{IsInRange};
+ghost use Rattle.model_jobs.specs.JobFiles.{command_in};
+ghost use Rattle.mesh_fields.specs.Commands.{IsWithin, plain_command};
+ghost use Rattle.mesh_fields.specs.Lines.{texts};
+
+use mesh_fields::commands;
+use mesh_fields::commands::{Dialect, SpeltCommand};
+use model_words::{Command, FaultKind, Version};
+
+/// The command of a line with this word and these fields. WORD where the version has no such command, or another number of fields.
+pub fn command_of(version: Version, word: &[u8], fields: &[&[u8]]) -> Result<Command, FaultKind>
+    ensures value { result ≡ command_in version word.now (texts fields.now) }
+    ensures in_range { IfOk result IsInRange }
+{
+    let spelt = commands::command_of(Dialect::Job(version), word, fields)?;
+    Ok(narrowed(spelt))
+}
+
+/// The command that a job's line asks for: its cells have 8 bits, and its addresses 32.
+fn narrowed(spelt: SpeltCommand) -> Command
+    requires { IsWithin 255 268435455 spelt }
+    ensures { result ≡ plain_command spelt }
+{
+    match spelt {
+        SpeltCommand::New(cell, len, word) => Command::New(cell as u8, len, word),
+        SpeltCommand::Put(cell, off, bytes) => Command::Put(cell as u8, off, bytes),
+        SpeltCommand::Get(cell, off, len) => Command::Get(cell as u8, off, len),
+        SpeltCommand::Free(cell) => Command::Free(cell as u8),
+        SpeltCommand::Alias(to, from) => Command::Alias(to as u8, from as u8),
+        SpeltCommand::Addr(cell) => Command::Addr(cell as u8),
+        SpeltCommand::Peek(address) => Command::Peek(address as u32),
+        SpeltCommand::Poke(address, byte) => Command::Poke(address as u32, byte),
+        SpeltCommand::Copy(to, to_off, from, from_off, len) => {
+            Command::Copy(to as u8, to_off, from as u8, from_off, len)
+        }
+    }
+}

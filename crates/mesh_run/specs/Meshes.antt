@@ -1,8 +1,0 @@
--- The meshes that an exploration makes.
-use Rattle.std.specs.Prelude.{List, take}
-use Rattle.mesh_explore.specs.declared.pair.MeshPair.{MeshPair}
-use Rattle.mesh_run.specs.declared.meshes.Meshes.{Meshes}
-
--- the meshes in their order
-abbrev pub pairs_of : Meshes → List MeshPair
-pairs_of meshes = take meshes.count meshes.pairs
