@@ -1,8 +1,8 @@
-use Rattle.std.proofs.Common.{◌≡◌, ℕ, ◌+◌, ◌-◌, ◌++◌, ◌∷◌, [], List, Vec, Global, take, drop, ap, sym, ◌∙◌, arith}
+use Rattle.std.proofs.Common.{◌≡◌, ℕ, ◌++◌, ◌∷◌, [], List, Vec, Global, take, drop, ap, sym, ◌∙◌, arith}
 use Rattle.std.specs.List.{flat_map}
 use Rattle.std.specs.Vec.{vec_items}
 use Rattle.std.proofs.Math.Seq.{take-add}
-use Rattle.std.proofs.lemmas.List.{append-nil}
+use Rattle.std.proofs.lemmas.List.{append-nil, take_all}
 use Rattle.std.proofs.lemmas.List.Concat.{flat_map-append}
 use Rattle.mesh_search.proofs.blocks.blocks_of.Goals as goal
 
@@ -23,3 +23,6 @@ loop-from-preserved c =
           ∙ ap (λ (xs : List ℕ). take from list ++ xs) (append-nil block.items ∙ is) ∙ sym (take-add from size list),
       omega arith,
     )
+
+pub returns : goal.returns
+returns c = c.loop-from.invariant.0 ∙ take_all c.loop-from.from c.args.list.now c.loop-from-test.false

@@ -5,6 +5,9 @@ use Rattle.mesh_search.proofs.PairedTries.{all_stay}
 use Rattle.mesh_search.proofs.Unmeshed.{answers_long, left_stays, right_stays, unmeshed_even, unmeshed_few}
 use Rattle.mesh_search.proofs.rounds.end_round.Goals as goal
 
+pub add_pairs-requires-clause-answers : goal.add_pairs-requires-clause-answers
+add_pairs-requires-clause-answers c = rw (c.as_slice.ensures.value, c.as_slice-2.ensures.value) c.requires.answers
+
 pub add_pairs-requires-clause-left : goal.add_pairs-requires-clause-left
 add_pairs-requires-clause-left c =
     let long = answers_long c.args.round c.args.view.now c.args.left.now.items c.args.right.now.items c.args.answers.now c.requires.answers c.requires.even in
@@ -30,6 +33,9 @@ right_is : (c : goal.After-drop-right) → c.in_ok-right.field-0.items
     ≡ unmeshed (rotated (length c.args.right.now.items - c.args.round % length c.args.right.now.items) c.args.answers.now) c.args.right.now.items
 right_is c =
     c.in_ok-right.ensures ∙ ap (λ (xs : List ℕ). unmeshed (rotated (length xs - c.args.round % length xs) c.args.answers.now) xs) c.as_slice-then-len-before-2.ensures.value
+
+pub returns-in_ok-right-clause-pairs : goal.returns-in_ok-right-clause-pairs
+returns-in_ok-right-clause-pairs c = rw (c.as_slice.ensures.value, c.as_slice-2.ensures.value) at c.in_ok-add_pairs.ensures
 
 pub returns-in_ok-right-clause-left : goal.returns-in_ok-right-clause-left
 returns-in_ok-right-clause-left c =

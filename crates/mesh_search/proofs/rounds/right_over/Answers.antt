@@ -6,6 +6,12 @@ use Rattle.mesh_search.specs.Views.{unmeshed}
 use Rattle.mesh_search.proofs.Unmeshed.{unmeshed-append}
 use Rattle.mesh_search.proofs.rounds.right_over.Goals as goal
 
+taken_long : (n s : ℕ) (bs : List Bool) → length bs ≡ n → n - s ≡ length (take (n - s) bs)
+taken_long n s bs long = omega (arith, length-take (n - s) bs)
+
+pub slice_bounds-keep_unmeshed-end-4 : goal.slice_bounds-keep_unmeshed-end-4
+slice_bounds-keep_unmeshed-end-4 c = taken_long (length c.args.right.now) _ c.args.answers.now c.requires.answers
+
 pub returns : goal.returns
 returns c =
     let xs : List ℕ = c.args.right.now in

@@ -28,3 +28,6 @@ returns-clause-whole g c no_end =
     let many : c.in_ok-shared.shared.seats ≡ length (map (λ (script : Bor (List Command)). script.now) c.args.scripts.now)
     = c.in_ok-shared.ensures.count ∙ counted ∙ c.in_ok-counts.ensures ∙ sym (length-map c.args.scripts.now (λ (script : Bor (List Command)). script.now)) in
     run_whole _ _ _ _ _ _ _ no_end c.in_ok-service.ensures.served many c.in_ok-ended.ensures.ended.1
+
+pub returns-clause-meshed : goal.returns-clause-meshed
+returns-clause-meshed g c = c.in_ok-service.ensures.meshed

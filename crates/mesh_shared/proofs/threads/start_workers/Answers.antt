@@ -1,6 +1,8 @@
-use Rattle.std.proofs.Common.{rules, ◌≡◌, ◌<◌, ◌+◌, List, ℕ, length, map, slice_index_or, Bor, ap, subst, sym, ◌∙◌, arith}
+use Rattle.std.proofs.Common.{◌≡◌, ◌<◌, ◌≤◌, List, ℕ, suc, length, map, slice_index_or, Bor, ap, subst, sym, ◌∙◌, arith}
 use Rattle.std.specs.declared.thread.PromisedHandle.{PromisedHandle}
 use Rattle.model_words.specs.declared.commands.Command.{Command}
+use Rattle.std.proofs.lemmas.List.{length-map}
+use Rattle.mesh_seats.specs.Seat.{Seat}
 use Rattle.mesh_shared.specs.Runs.{script_of}
 use Rattle.mesh_shared.specs.declared.worker.Served.{Served}
 use Rattle.mesh_shared.specs.declared.worker.Works.{Works}
@@ -22,8 +24,34 @@ loop-seat-preserved g c =
     let last : P (length c.loop-seat.workers.items) c.in-Ok.handle
     = (ap (λ (p : Works). p.tries) c.in-Ok.ensures.ok, ap (λ (p : Works). p.script.now) c.in-Ok.ensures.ok ∙ here) in
     let more = each_and_one_more P c.loop-seat.workers.items c.in-Ok.handle (λ i d b. was.3 i d (let long = ok.0 in omega (arith, b, long))) last in (
-      search rules,
-      search rules,
-      (λ k d below. let h = was.2 (k + 1) d in grind rules),
-      λ i d b. subst (λ (l : List (PromisedHandle Served Works)). P i (slice_index_or l i d)) (sym c.push_reserved.ensures.items) (more i d (let one = c.push_reserved.ensures.len in let long = ok.0 in omega (arith, b, one, long))),
+      (let many = was.0 in let rest = c.in-Some.ensures.steps.1 in let one = c.push_reserved.ensures.len in omega (arith, many, rest, one)),
+      subst (λ (n : ℕ). length c.args.scripts.now ≤ n) (sym c.push_reserved.ensures.capacity) was.1,
+      (λ k d below. ap (λ (l : List Seat). (slice_index_or l (suc k) d).calls) (sym c.in-Some.ensures.steps.0)
+          ∙ was.2 (suc k) d (let rest = c.in-Some.ensures.steps.1 in omega (arith, below, rest))),
+      λ i d b. subst (λ (l : List (PromisedHandle Served Works)). P i (slice_index_or l i d)) (sym {A = List (PromisedHandle Served Works)} c.push_reserved.ensures.items) (more i d (let one = c.push_reserved.ensures.len in let long = ok.0 in omega (arith, b, one, long))),
     )
+
+pub bounds-scripts-len : goal.bounds-scripts-len
+bounds-scripts-len g c =
+    let many = c.loop-seat.invariant.0 in
+    let rest = c.in-Some.ensures.steps.1 in
+    let at = c.len.ensures in
+    omega (arith, many, rest, at)
+
+pub push_reserved-requires : goal.push_reserved-requires
+push_reserved-requires g c =
+    let many = c.loop-seat.invariant.0 in
+    let room = c.loop-seat.invariant.1 in
+    let rest = c.in-Some.ensures.steps.1 in
+    omega (arith, many, room, rest)
+
+pub returns : goal.returns
+returns g c started =
+    let was = c.loop-seat.invariant in
+    let many = was.0 in
+    let none_left = c.in-None.ensures.steps.0 in
+    let long = c.loop-seat.workers.ok.0 in
+    let all : length c.loop-seat.workers.items ≡ length c.args.scripts.now = omega (arith, many, none_left, long) in record {
+      many = all ∙ sym (length-map c.args.scripts.now (λ (script : Bor (List Command)). script.now));
+      each = λ w h below. was.3 w h (omega (arith, below, long));
+    }

@@ -1,4 +1,4 @@
-use Rattle.std.proofs.Common.{ℕ, List, map, ap, ◌∙◌}
+use Rattle.std.proofs.Common.{ℕ, List, length, map, ap, ◌∙◌}
 use Rattle.model_search.specs.Search.{Found, View, search}
 use Rattle.mesh_shared.proofs.mesher.Mesher.make_round.Goals as goal
 
@@ -10,3 +10,6 @@ returns-clause-searched g c =
           ∙ ap {B = List Found} (λ (l : List View). map (λ view. search view c.words_of.result.now plan.t) l) c.as_slice.ensures.value
           ∙ ap {B = List Found} (λ (words : List ℕ). map (λ view. search view words plan.t) c.in_ok-views.views.items) c.words_of.ensures;
     }
+
+pub returns-clause-whole : goal.returns-clause-whole
+returns-clause-whole g c none = c.mesh_all-whole.ensures.whole none ∙ ap (λ (l : List Found). length l) c.as_slice-3.ensures.value
