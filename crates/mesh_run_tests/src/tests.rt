@@ -44,6 +44,13 @@ impl Ran {
         }
     }
 
+    /// Whether the run wrote this, with this status.
+    fn wrote(&self, output: &[u8], errors: &str, status: u8) -> bool {
+        self.output.as_slice() == output
+            && self.errors.as_slice() == errors.as_bytes()
+            && self.status == status
+    }
+
     /// Asserts what the run of this case wrote, and its status.
     fn check<N: Display + Drop>(
         &self,
@@ -55,11 +62,15 @@ impl Ran {
     ) {
         check_text(rt, self.output.as_slice(), output, &case);
         check_text(rt, self.errors.as_slice(), errors.as_bytes(), &case);
-        assert_eq!(rt; self.status, status, "{case}");
+        assert!(rt;
+            self.status == status,
+            "{case}: the status is {}",
+            self.status
+        );
     }
 }
 
-/// Asserts that what the run of a case wrote is this.
+/// Asserts that the text of a case is this. One function asserts it for all: an `assert_eq!` is among the dearest lines to prove.
 fn check_text<N: Display>(rt: &impl Abort, text: &[u8], wanted: &[u8], case: &N) {
     assert_eq!(rt; text, wanted, "{case}");
 }

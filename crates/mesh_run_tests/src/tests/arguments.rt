@@ -1,9 +1,10 @@
 //! Command lines.
-use crate::tests::{ROW_END, fields};
+use crate::tests::{ROW_END, check_text, fields};
 use mesh_run::{
-    Args, DrawArgs, ExploreArgs, LiveArgs, MeshPair, Output, Printed, Stop, ThreadsArgs, arguments,
-    stop_run, unopened_run,
+    Args, DrawArgs, ExploreArgs, LiveArgs, Output, Printed, Stop, ThreadsArgs, arguments, stop_run,
+    unopened_run,
 };
+use std::alloc::{AllocError, Global};
 use std::process::Abort;
 
 /// Command lines that ask for help or for the version, and how the text that each prints begins. A row of a table is one line and what it asks for.
@@ -29,72 +30,69 @@ meshrun replay a b|error: #\
 meshrun replay --version|error: #\
 meshrun report|error: ";
 
-/// Command lines that replay `a.job`, or run its scripts in threads, and print its answers.
-static ANSWERED: &str = "\
-meshrun replay a.job#\
-meshrun threads a.job --probe 2 --rounds 3 --workers 4 --seed 5";
+/// Command lines that replay `a.job`, or run its scripts in threads, and what each asks for: the numbers, and whether answers are printed or a history.
+static PRINTED: &str = "\
+meshrun replay a.job|replay a.job answers#\
+meshrun threads a.job --probe 2 --rounds 3 --workers 4 --seed 5|threads a.job 2 3 4 5 1 answers#\
+meshrun replay a.job --history|replay a.job history#\
+meshrun replay --history a.job|replay a.job history#\
+meshrun threads a.job --probe 2 --rounds 3 --workers 4 --seed 5 --history|threads a.job 2 3 4 5 1 history#\
+meshrun threads --history a.job --probe 2 --rounds 3 --workers 4 --seed 5|threads a.job 2 3 4 5 1 history#\
+meshrun threads --probe=2 --rounds=3 --history --workers=4 --seed=5 --meshers=1 a.job|threads a.job 2 3 4 5 1 history";
 
-/// Command lines that do the same and print its history.
-static RECORDED: &str = "\
-meshrun replay a.job --history#\
-meshrun replay --history a.job#\
-meshrun threads a.job --probe 2 --rounds 3 --workers 4 --seed 5 --history#\
-meshrun threads --history a.job --probe 2 --rounds 3 --workers 4 --seed 5#\
-meshrun threads --probe=2 --rounds=3 --history --workers=4 --seed=5 --meshers=1 a.job";
-
-/// Command lines that judge a history, and the file that each is given.
+/// Command lines that judge a history, and the file that each is given, in such rows too.
 static CHECKED: &str = "\
-meshrun check a.history|a.history#\
-meshrun check -|-#\
-meshrun check replay|replay";
+meshrun check a.history|check a.history#\
+meshrun check -|check -#\
+meshrun check replay|check replay";
 
-/// Command lines, and the numbers that they ask for on `a.job`: probe, rounds, workers, seed and meshers.
+/// Command lines that run scripts in threads, and the numbers that they ask for: probe, rounds, workers, seed and meshers.
 static NUMBERS: &str = "\
-meshrun threads a.job --probe 2 --rounds 3 --workers 4 --seed 5 --meshers 6|2 3 4 5 6#\
-meshrun threads a.job --probe 2 --rounds 3 --workers 4 --seed 5|2 3 4 5 1#\
-meshrun threads a.job --probe 0 --rounds 3 --workers 4 --seed 5 --meshers 6|0 3 4 5 6#\
-meshrun threads a.job --probe 64 --rounds 3 --workers 4 --seed 5 --meshers 6|64 3 4 5 6#\
-meshrun threads a.job --probe 2 --rounds 0 --workers 4 --seed 5 --meshers 6|2 0 4 5 6#\
-meshrun threads a.job --probe 2 --rounds 1000 --workers 4 --seed 5 --meshers 6|2 1000 4 5 6#\
-meshrun threads a.job --probe 2 --rounds 3 --workers 1 --seed 5 --meshers 6|2 3 1 5 6#\
-meshrun threads a.job --probe 2 --rounds 3 --workers 16 --seed 5 --meshers 6|2 3 16 5 6#\
-meshrun threads a.job --probe 2 --rounds 3 --workers 4 --seed 0 --meshers 6|2 3 4 0 6#\
-meshrun threads a.job --probe 2 --rounds 3 --workers 4 --seed 18446744073709551615 --meshers 6|2 3 4 18446744073709551615 6#\
-meshrun threads a.job --probe 2 --rounds 3 --workers 4 --seed 5 --meshers 1|2 3 4 5 1#\
-meshrun threads a.job --probe 2 --rounds 3 --workers 4 --seed 5 --meshers 10|2 3 4 5 10#\
-meshrun threads --meshers=6 --seed=5 a.job --workers=4 --rounds=3 --probe=2|2 3 4 5 6#\
-meshrun threads a.job --probe +2 --rounds 003 --workers 4 --seed 5 --meshers 6|2 3 4 5 6";
+meshrun threads a.job --probe 2 --rounds 3 --workers 4 --seed 5 --meshers 6|threads a.job 2 3 4 5 6 answers#\
+meshrun threads a.job --probe 2 --rounds 3 --workers 4 --seed 5|threads a.job 2 3 4 5 1 answers#\
+meshrun threads a.job --probe 0 --rounds 3 --workers 4 --seed 5 --meshers 6|threads a.job 0 3 4 5 6 answers#\
+meshrun threads a.job --probe 64 --rounds 3 --workers 4 --seed 5 --meshers 6|threads a.job 64 3 4 5 6 answers#\
+meshrun threads a.job --probe 2 --rounds 0 --workers 4 --seed 5 --meshers 6|threads a.job 2 0 4 5 6 answers#\
+meshrun threads a.job --probe 2 --rounds 1000 --workers 4 --seed 5 --meshers 6|threads a.job 2 1000 4 5 6 answers#\
+meshrun threads a.job --probe 2 --rounds 3 --workers 1 --seed 5 --meshers 6|threads a.job 2 3 1 5 6 answers#\
+meshrun threads a.job --probe 2 --rounds 3 --workers 16 --seed 5 --meshers 6|threads a.job 2 3 16 5 6 answers#\
+meshrun threads a.job --probe 2 --rounds 3 --workers 4 --seed 0 --meshers 6|threads a.job 2 3 4 0 6 answers#\
+meshrun threads a.job --probe 2 --rounds 3 --workers 4 --seed 18446744073709551615 --meshers 6|threads a.job 2 3 4 18446744073709551615 6 answers#\
+meshrun threads a.job --probe 2 --rounds 3 --workers 4 --seed 5 --meshers 1|threads a.job 2 3 4 5 1 answers#\
+meshrun threads a.job --probe 2 --rounds 3 --workers 4 --seed 5 --meshers 10|threads a.job 2 3 4 5 10 answers#\
+meshrun threads --meshers=6 --seed=5 a.job --workers=4 --rounds=3 --probe=2|threads a.job 2 3 4 5 6 answers#\
+meshrun threads a.job --probe +2 --rounds 003 --workers 4 --seed 5 --meshers 6|threads a.job 2 3 4 5 6 answers";
 
 /// Command lines, and what they ask for to be drawn of `a.job`: the first line, the last one, and columns.
 static SHOWN: &str = "\
-meshrun draw a.job|1 1048576 0#\
-meshrun draw a.job --from 12 --to 34 --columns 5|12 34 5#\
-meshrun draw a.job --from 12|12 1048576 0#\
-meshrun draw a.job --to 34|1 34 0#\
-meshrun draw a.job --columns 5|1 1048576 5#\
-meshrun draw --columns=64 --to=1048576 a.job --from=1048576|1048576 1048576 64#\
-meshrun draw a.job --from 1 --to 1 --columns 0|1 1 0#\
-meshrun draw a.job --from +34 --to 0012 --columns 5|34 12 5";
+meshrun draw a.job|draw a.job 1 1048576 0#\
+meshrun draw a.job --from 12 --to 34 --columns 5|draw a.job 12 34 5#\
+meshrun draw a.job --from 12|draw a.job 12 1048576 0#\
+meshrun draw a.job --to 34|draw a.job 1 34 0#\
+meshrun draw a.job --columns 5|draw a.job 1 1048576 5#\
+meshrun draw --columns=64 --to=1048576 a.job --from=1048576|draw a.job 1048576 1048576 64#\
+meshrun draw a.job --from 1 --to 1 --columns 0|draw a.job 1 1 0#\
+meshrun draw a.job --from +34 --to 0012 --columns 5|draw a.job 34 12 5";
 
 /// Command lines, and the sizes of the session that they ask for: pages, entries and workers.
 static SIZES: &str = "\
-meshrun live|4096 65536 64#\
-meshrun live --pages 1 --history 0 --workers 1|1 0 1#\
-meshrun live --workers=2|4096 65536 2#\
-meshrun live --history=65536 --pages=4096 --workers=64|4096 65536 64";
+meshrun live|live 4096 65536 64#\
+meshrun live --pages 1 --history 0 --workers 1|live 1 0 1#\
+meshrun live --workers=2|live 4096 65536 2#\
+meshrun live --history=65536 --pages=4096 --workers=64|live 4096 65536 64";
 
 /// Command lines, and what they ask for to be explored of `a.job`: the meshes, and behind them their steps before a cancel, the most states, and the
 /// outcome that is printed, `-` where there is none.
 static EXPLORED: &str = "\
-meshrun explore a.job --mesh 1:0|1:0|- 100000 -#\
-meshrun explore --mesh=1:0 a.job --mesh=3:2|1:0 3:2|- 100000 -#\
-meshrun explore a.job --mesh 3:2 --cancel 4 --mesh 1:0 --states 5 --witness 6|3:2 1:0|4 5 6#\
-meshrun explore a.job --mesh 0:65535 --cancel 0 --states 1 --witness 0|0:65535|0 1 0#\
-meshrun explore a.job --mesh 65535:0 --cancel 1000 --states 10000000 --witness 1000000|65535:0|1000 10000000 1000000#\
-meshrun explore a.job --mesh 1:1 --mesh 1:1|1:1 1:1|- 100000 -#\
-meshrun explore a.job --witness +3 --states 0012 --mesh 1:0|1:0|- 12 3#\
-meshrun explore a.job --mesh 1:0 --witness 3|1:0|- 100000 3#\
-meshrun explore a.job --mesh 9:0 --mesh 8:1 --mesh 7:2 --mesh 6:3 --mesh 5:4 --mesh 4:5 --mesh 3:6 --mesh 2:7 --mesh 1:8 --mesh 0:9|9:0 8:1 7:2 6:3 5:4 4:5 3:6 2:7 1:8 0:9|- 100000 -";
+meshrun explore a.job --mesh 1:0|explore a.job 1:0 - 100000 -#\
+meshrun explore --mesh=1:0 a.job --mesh=3:2|explore a.job 1:0 3:2 - 100000 -#\
+meshrun explore a.job --mesh 3:2 --cancel 4 --mesh 1:0 --states 5 --witness 6|explore a.job 3:2 1:0 4 5 6#\
+meshrun explore a.job --mesh 0:65535 --cancel 0 --states 1 --witness 0|explore a.job 0:65535 0 1 0#\
+meshrun explore a.job --mesh 65535:0 --cancel 1000 --states 10000000 --witness 1000000|explore a.job 65535:0 1000 10000000 1000000#\
+meshrun explore a.job --mesh 1:1 --mesh 1:1|explore a.job 1:1 1:1 - 100000 -#\
+meshrun explore a.job --witness +3 --states 0012 --mesh 1:0|explore a.job 1:0 - 12 3#\
+meshrun explore a.job --mesh 1:0 --witness 3|explore a.job 1:0 - 100000 3#\
+meshrun explore a.job --mesh 9:0 --mesh 8:1 --mesh 7:2 --mesh 6:3 --mesh 5:4 --mesh 4:5 --mesh 3:6 --mesh 2:7 --mesh 1:8 --mesh 0:9|explore a.job 9:0 8:1 7:2 6:3 5:4 4:5 3:6 2:7 1:8 0:9 - 100000 -";
 
 /// Command lines with a fault, each of a command that has numbers or a flag, or of `check`.
 static FAULTY: &str = "\
@@ -181,31 +179,131 @@ meshrun check a.history b.history\n\
 meshrun check a.history --history\n\
 meshrun check a.history --version";
 
-/// What a command line asks for beside its file.
-#[derive(Clone, Copy)]
-enum Asked {
-    Replay(Printed),
-    Threads(ThreadsArgs, Printed),
-    Draw(DrawArgs),
-    Live(LiveArgs),
-    Explore(ExploreArgs),
-    Check,
+/// What a command line asks for, as the tables write it.
+fn asked(rt: &(impl Abort + AllocGlobal), line: &str) -> String {
+    let words: Vec<&str> = line.split(' ').collect(rt.alloc()).expect(rt, "memory");
+    match arguments(rt.alloc(), words.as_slice()) {
+        Ok(args) => written(rt.alloc(), &args).expect(rt, "memory"),
+        Err(stop) => panic!(rt; "{line}: {}", stop.text),
+    }
 }
 
-/// What a command line asks for, which must be of this file where it is of one.
-fn read_line(rt: &(impl Abort + AllocGlobal), line: &str, file: &str) -> Asked {
-    let words: Vec<&str> = line.split(' ').collect(rt.alloc()).expect(rt, "memory");
-    let (is_file, asked) = match arguments(rt.alloc(), words.as_slice()) {
-        Ok(Args::Replay(path, printed)) => (path == file, Asked::Replay(printed)),
-        Ok(Args::Threads(path, args, printed)) => (path == file, Asked::Threads(args, printed)),
-        Ok(Args::Draw(path, args)) => (path == file, Asked::Draw(args)),
-        Ok(Args::Live(args)) => (true, Asked::Live(args)),
-        Ok(Args::Explore(path, args)) => (path == file, Asked::Explore(args)),
-        Ok(Args::Check(path)) => (path == file, Asked::Check),
-        Err(stop) => panic!(rt; "{line}: {}", stop.text),
-    };
-    assert!(rt; is_file, "{line}");
-    asked
+/// What is asked for, written so.
+fn written(alloc: Global, args: &Args<'_>) -> Result<String, AllocError> {
+    let mut text = String::new(alloc);
+    match *args {
+        Args::Replay(path, printed) => add_replay(&mut text, path, printed)?,
+        Args::Threads(path, args, printed) => add_threads(&mut text, path, &args, printed)?,
+        Args::Draw(path, args) => add_picture(&mut text, path, &args)?,
+        Args::Live(args) => add_session(&mut text, &args)?,
+        Args::Explore(path, args) => add_exploration(&mut text, path, &args)?,
+        Args::Check(path) => write!(text, "check {path}")?,
+    }
+    Ok(text)
+}
+
+/// Writes a replay of a file.
+fn add_replay(text: &mut String, path: &str, printed: Printed) -> Result<(), AllocError> {
+    write!(text, "replay {path} {}", word_of(printed))
+}
+
+/// What is printed, in a word.
+fn word_of(printed: Printed) -> &'static str {
+    match printed {
+        Printed::Answers => "answers",
+        Printed::History => "history",
+    }
+}
+
+/// Writes a run of a file's scripts in threads.
+fn add_threads(
+    text: &mut String,
+    path: &str,
+    args: &ThreadsArgs,
+    printed: Printed,
+) -> Result<(), AllocError> {
+    write!(
+        text,
+        "threads {path} {} {} {}",
+        args.probe, args.rounds, args.workers
+    )?;
+    write!(text, " {} {} {}", args.seed, args.meshers, word_of(printed))
+}
+
+/// Writes a picture of a file's plan.
+fn add_picture(text: &mut String, path: &str, args: &DrawArgs) -> Result<(), AllocError> {
+    write!(
+        text,
+        "draw {path} {} {} {}",
+        args.from, args.to, args.columns
+    )
+}
+
+/// Writes a live session.
+fn add_session(text: &mut String, args: &LiveArgs) -> Result<(), AllocError> {
+    write!(
+        text,
+        "live {} {} {}",
+        args.pages, args.history, args.workers
+    )
+}
+
+/// Writes an exploration of a file.
+fn add_exploration(text: &mut String, path: &str, args: &ExploreArgs) -> Result<(), AllocError> {
+    write!(text, "explore {path}")?;
+    for pair in args.meshes.as_slice() {
+        write!(text, " {}:{}", pair.source, pair.destination)?;
+    }
+    add_if_given(text, args.cancel)?;
+    write!(text, " {}", args.states)?;
+    add_if_given(text, args.witness)
+}
+
+/// Writes a number that may be asked for.
+fn add_if_given(text: &mut String, number: Option<u32>) -> Result<(), AllocError> {
+    match number {
+        Some(number) => write!(text, " {number}"),
+        None => text.push_str(" -"),
+    }
+}
+
+/// Asserts what the command lines of a table ask for.
+fn check_lines(rt: &(impl Abort + AllocGlobal), table: &str) {
+    for row in table.split(ROW_END) {
+        let (line, wanted, _) = fields(row);
+        let read = asked(rt, line);
+        check_text(rt, read.as_str().as_bytes(), wanted.as_bytes(), &line);
+    }
+}
+
+#[test]
+fn reads_what_is_printed(rt: HostRuntime) {
+    check_lines(&rt, PRINTED);
+}
+
+#[test]
+fn reads_checks(rt: HostRuntime) {
+    check_lines(&rt, CHECKED);
+}
+
+#[test]
+fn reads_numbers(rt: HostRuntime) {
+    check_lines(&rt, NUMBERS);
+}
+
+#[test]
+fn reads_what_is_drawn(rt: HostRuntime) {
+    check_lines(&rt, SHOWN);
+}
+
+#[test]
+fn reads_what_is_explored(rt: HostRuntime) {
+    check_lines(&rt, EXPLORED);
+}
+
+#[test]
+fn reads_sizes(rt: HostRuntime) {
+    check_lines(&rt, SIZES);
 }
 
 /// Why a command line asks for no run.
@@ -217,52 +315,27 @@ fn stop_at(rt: &(impl Abort + AllocGlobal), line: &str) -> Stop {
     }
 }
 
-/// Asserts that command lines on `a.job` ask for this to be printed.
-fn check_printed(rt: &(impl Abort + AllocGlobal), table: &str, printed: Printed) {
-    for line in table.split(ROW_END) {
-        match read_line(rt, line, "a.job") {
-            Asked::Replay(read) | Asked::Threads(_, read) => assert!(rt; read == printed, "{line}"),
-            _ => panic!(rt; "another command: {line}"),
-        }
-    }
-}
-
-#[test]
-fn reads_what_is_printed(rt: HostRuntime) {
-    check_printed(&rt, ANSWERED, Printed::Answers);
-    check_printed(&rt, RECORDED, Printed::History);
-}
-
-#[test]
-fn reads_checks(rt: HostRuntime) {
-    for row in CHECKED.split(ROW_END) {
-        let (line, file, _) = fields(row);
-        let asked = read_line(&rt, line, file);
-        assert!(rt; matches!(asked, Asked::Check), "{line}");
-    }
-}
-
-/// Asserts that what stops before a run ends with this status, and prints a text that begins so where it is to.
-fn check_stop(rt: &(impl Abort + AllocGlobal), stop: &Stop, status: u8, text: &str) {
-    let mut output = Output::new(Vec::new(rt.alloc()));
-    let mut errors = Output::new(Vec::new(rt.alloc()));
-    assert_eq!(rt; stop_run(stop, &mut output, &mut errors), status, "{text}");
+/// Whether what stops before a run ends with this status, and prints a text that begins so where it is to, and nothing where it isn't.
+fn stops_so(alloc: Global, stop: &Stop, status: u8, text: &str) -> bool {
+    let mut output = Output::new(Vec::new(alloc));
+    let mut errors = Output::new(Vec::new(alloc));
+    let ended = stop_run(stop, &mut output, &mut errors);
     let (output, errors) = (output.into_inner(), errors.into_inner());
     let (told, other) = if status == 0 {
         (output, errors)
     } else {
         (errors, output)
     };
-    assert!(rt; told.starts_with(text.as_bytes()), "{text}");
-    assert!(rt; other.is_empty(), "{text}");
+    ended == status && told.starts_with(text.as_bytes()) && other.is_empty()
 }
 
 /// Asserts that command lines stop before a run, with this status and these texts.
 fn check_stops(rt: &(impl Abort + AllocGlobal), table: &str, status: u8) {
     for row in table.split(ROW_END) {
         let (line, text, _) = fields(row);
-        assert!(rt; !text.is_empty(), "no text: {line}");
-        check_stop(rt, &stop_at(rt, line), status, text);
+        let stop = stop_at(rt, line);
+        let is_told = !text.is_empty() && stops_so(rt.alloc(), &stop, status, text);
+        assert!(rt; is_told, "{line}: {}", stop.text);
     }
 }
 
@@ -272,114 +345,19 @@ fn stops_at_others(rt: HostRuntime) {
     check_stops(&rt, REFUSED, 2);
 }
 
-/// Asserts that a command line asks for these numbers.
-fn check_numbers(rt: &(impl Abort + AllocGlobal), line: &str, numbers: &str) {
-    let Asked::Threads(args, _) = read_line(rt, line, "a.job") else {
-        panic!(rt; "no threads: {line}");
-    };
-    let ThreadsArgs {
-        probe,
-        rounds,
-        workers,
-        seed,
-        meshers,
-    } = args;
-    let read = format!(in rt.alloc(); "{probe} {rounds} {workers} {seed} {meshers}");
-    assert_eq!(rt; read.expect(rt, "memory").as_str(), numbers, "{line}");
-}
-
-#[test]
-fn reads_numbers(rt: HostRuntime) {
-    for row in NUMBERS.split(ROW_END) {
-        let (line, numbers, _) = fields(row);
-        check_numbers(&rt, line, numbers);
-    }
-}
-
-/// Asserts that three numbers that a command line asks for are these.
-fn check_three(rt: &(impl Abort + AllocGlobal), line: &str, read: (u32, u32, u32), numbers: &str) {
-    let read = format!(in rt.alloc(); "{} {} {}", read.0, read.1, read.2);
-    assert_eq!(rt; read.expect(rt, "memory").as_str(), numbers, "{line}");
-}
-
-#[test]
-fn reads_what_is_drawn(rt: HostRuntime) {
-    for row in SHOWN.split(ROW_END) {
-        let (line, shown, _) = fields(row);
-        let Asked::Draw(args) = read_line(&rt, line, "a.job") else {
-            panic!(rt; "no picture: {line}");
-        };
-        check_three(&rt, line, (args.from, args.to, args.columns), shown);
-    }
-}
-
-/// Asserts that the meshes that a command line asks for are these, source and destination.
-fn check_meshes(rt: &(impl Abort + AllocGlobal), line: &str, pairs: &[MeshPair], meshes: &str) {
-    let mut words = meshes.split(' ');
-    for pair in pairs {
-        let read = format!(in rt.alloc(); "{}:{}", pair.source, pair.destination);
-        assert_eq!(rt;
-            Some(read.expect(rt, "memory").as_str()),
-            words.next(),
-            "{line}"
-        );
-    }
-    assert_eq!(rt; words.next(), None, "{line}");
-}
-
-/// A number that may be asked for, as the table writes it.
-fn written(rt: &(impl Abort + AllocGlobal), number: Option<u32>) -> String {
-    let text = match number {
-        Some(number) => format!(in rt.alloc(); "{number}"),
-        None => String::from_str(rt.alloc(), "-"),
-    };
-    text.expect(rt, "memory")
-}
-
-/// Asserts that an exploration has these numbers.
-fn check_explored(rt: &(impl Abort + AllocGlobal), line: &str, args: &ExploreArgs, numbers: &str) {
-    let cancel = written(rt, args.cancel);
-    let witness = written(rt, args.witness);
-    let read = format!(in rt.alloc(); "{} {} {}", cancel.as_str(), args.states, witness.as_str());
-    assert_eq!(rt; read.expect(rt, "memory").as_str(), numbers, "{line}");
-}
-
-#[test]
-fn reads_what_is_explored(rt: HostRuntime) {
-    for row in EXPLORED.split(ROW_END) {
-        let (line, meshes, numbers) = fields(row);
-        let Asked::Explore(args) = read_line(&rt, line, "a.job") else {
-            panic!(rt; "nothing explored: {line}");
-        };
-        check_meshes(&rt, line, args.meshes.as_slice(), meshes);
-        check_explored(&rt, line, &args, numbers);
-    }
-}
-
-#[test]
-fn reads_sizes(rt: HostRuntime) {
-    for row in SIZES.split(ROW_END) {
-        let (line, sizes, _) = fields(row);
-        let Asked::Live(args) = read_line(&rt, line, "") else {
-            panic!(rt; "no session: {line}");
-        };
-        check_three(&rt, line, (args.pages, args.history, args.workers), sizes);
-    }
-}
-
 #[test]
 fn refuses_faulty_numbers(rt: HostRuntime) {
     for line in FAULTY.split('\n') {
         let stop = stop_at(&rt, line);
-        assert_eq!(rt; stop.status, 2, "{line}");
-        assert!(rt; stop.text.as_str().starts_with("error: "), "{line}");
+        let is_refused = stop.status == 2 && stop.text.as_str().starts_with("error: ");
+        assert!(rt; is_refused, "{line}: {}", stop.text);
     }
 }
 
 #[test]
 fn tells_unopened_file(rt: HostRuntime) {
     let mut errors = Output::new(Vec::new(rt.alloc()));
-    assert_eq!(rt; unopened_run(&mut errors), 1);
+    assert!(rt; unopened_run(&mut errors) == 1);
     let errors = errors.into_inner();
-    assert_eq!(rt; errors.as_slice(), b"read fault\n".as_slice());
+    check_text(&rt, errors.as_slice(), b"read fault\n", &"unopened");
 }

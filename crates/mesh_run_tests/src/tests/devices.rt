@@ -228,11 +228,14 @@ impl io::Write for FailsFirst<'_> {
 fn a_failed_call_is_not_tried_again(rt: HostRuntime) {
     let mut input = Input::new(FailsFirst::new(MESH_FILE.as_bytes(), true));
     let mut byte = [0];
-    assert!(rt; input.read(&mut byte).is_err());
-    assert!(rt; input.read(&mut byte).is_err());
+    let reads = [
+        input.read(&mut byte).is_err(),
+        input.read(&mut byte).is_err(),
+    ];
     let mut output = Output::new(FailsFirst::new(b"", true));
-    assert!(rt; output.write(b"m").is_err());
-    assert!(rt; output.write(b"m").is_err());
+    let writes = [output.write(b"m").is_err(), output.write(b"m").is_err()];
+    assert!(rt; reads == [true; 2], "reads");
+    assert!(rt; writes == [true; 2], "writes");
 }
 
 #[test]

@@ -44,7 +44,7 @@ fn tells_faults_of_lengths(rt: HostRuntime) -> Result<(), Fail> {
 fn takes_no_beginning_of_a_file(rt: HostRuntime) {
     for count in 0..FIRST_FILE.len() {
         let run = replayed(rt.alloc(), &FIRST_FILE.as_bytes()[..count]);
-        assert_eq!(rt; run.output.as_slice(), b"".as_slice(), "of {count} bytes");
-        assert_eq!(rt; run.status, 2, "of {count} bytes");
+        let is_refused = run.output.is_empty() && run.status == 2;
+        assert!(rt; is_refused, "of {count} bytes");
     }
 }

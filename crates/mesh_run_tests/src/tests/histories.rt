@@ -1,6 +1,6 @@
 //! The text of a history: its answers, and as it is recorded.
 use crate::tests::faults::faulty_files;
-use crate::tests::{ROW_END, fields, replayed_from};
+use crate::tests::{ROW_END, check_text, fields, replayed_from};
 use mesh_mutator::{Command, Entry, Refusal, Reply};
 use mesh_run::{Input, Printed};
 use mesh_text::{history_lines, recorded_history};
@@ -16,9 +16,11 @@ fn a_history_is_told_worker_by_worker(rt: HostRuntime) -> Result<(), AllocError>
         Entry::of(0, &Command::Get(0, 0, 1), &Reply::Refused(Refusal::Freed)),
     ];
     let text = history_lines(rt.alloc(), 3, &history)?;
-    assert_eq!(rt;
+    check_text(
+        &rt,
         text.as_slice(),
-        b"worker 0\nat\nrefused 6 FREED\nworker 1\nobject\nbyte 00\ndone\nworker 2\nhistory 5\n".as_slice()
+        b"worker 0\nat\nrefused 6 FREED\nworker 1\nobject\nbyte 00\ndone\nworker 2\nhistory 5\n",
+        &"three workers",
     );
     Ok(())
 }
@@ -26,7 +28,12 @@ fn a_history_is_told_worker_by_worker(rt: HostRuntime) -> Result<(), AllocError>
 #[test]
 fn an_empty_history_is_told(rt: HostRuntime) -> Result<(), AllocError> {
     let text = history_lines(rt.alloc(), 1, &[])?;
-    assert_eq!(rt; text.as_slice(), b"worker 0\nhistory 0\n".as_slice());
+    check_text(
+        &rt,
+        text.as_slice(),
+        b"worker 0\nhistory 0\n",
+        &"one worker",
+    );
     Ok(())
 }
 
@@ -42,9 +49,11 @@ fn a_history_is_recorded_in_its_order(rt: HostRuntime) -> Result<(), AllocError>
         ),
     ];
     let text = recorded_history(rt.alloc(), &history)?;
-    assert_eq!(rt;
+    check_text(
+        &rt,
         text.as_slice(),
-        b"history 1\n1 new 0 16 7 -> object 0 at 1000\n0 poke 100f 0a -> done\n12 copy 0 1 2 3 4 -> refused 5 EMPTY\n".as_slice()
+        b"history 1\n1 new 0 16 7 -> object 0 at 1000\n0 poke 100f 0a -> done\n12 copy 0 1 2 3 4 -> refused 5 EMPTY\n",
+        &"three entries",
     );
     Ok(())
 }

@@ -1,5 +1,5 @@
 //! A live session: lines that are answered one by one.
-use crate::tests::{LENGTHS, fields, letters};
+use crate::tests::{LENGTHS, check_text, fields, letters};
 use mesh_live::{Sizes, live};
 use mesh_run::{Input, Output};
 use std::process::Abort;
@@ -103,5 +103,6 @@ fn check_session(rt: &(impl Abort + AllocGlobal), asked: &[u8], answers: &[u8]) 
     let mut output = Output::new(Vec::new(rt.alloc()));
     let ended = live(rt.alloc(), &SIZES, &mut input, &mut output);
     assert!(rt; ended.is_ok());
-    assert_eq!(rt; output.into_inner().as_slice(), answers);
+    let told = output.into_inner();
+    check_text(rt, told.as_slice(), answers, &"a session");
 }

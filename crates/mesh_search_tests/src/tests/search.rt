@@ -1,4 +1,6 @@
 //! The worked views and their searches, by calls.
+ghost use Rattle.std.specs.Prelude.{◌≡◌};
+
 use crate::tests::indexes::views_of;
 use mesh_search::{ClassView, Found, Pair, part, search_one, shuffle};
 use std::process::Abort;
@@ -44,9 +46,16 @@ fn views_have_their_candidates(rt: HostRuntime) {
     check_views(&rt, views.as_slice());
 }
 
+/// Asserts that there are so many.
+pub(crate) fn check_count(rt: &impl Abort, count: usize, wanted: usize)
+    ensures { count ≡ wanted }
+{
+    assert_eq!(rt; count, wanted);
+}
+
 /// Asserts that of the ten views the last one has the four groups, and the others have none.
 fn check_views(rt: &impl Abort, views: &[ClassView]) {
-    assert_eq!(rt; views.len(), 10);
+    check_count(rt, views.len(), 10);
     for k in 0..views.len() {
         check_numbers(rt, &views[k], if k == 9 { 4 } else { 0 });
     }
@@ -54,9 +63,9 @@ fn check_views(rt: &impl Abort, views: &[ClassView]) {
 
 /// Asserts that a view has so many candidates, and that their numbers ascend from 0.
 fn check_numbers(rt: &impl Abort, view: &ClassView, count: usize) {
-    assert_eq!(rt; view.len(), count);
+    check_count(rt, view.len(), count);
     for i in 0..view.len() {
-        assert_eq!(rt; view.number(i), i as u32);
+        assert!(rt; view.number(i) == i as u32);
     }
 }
 
@@ -70,7 +79,7 @@ fn check(
     pairs: &[Pair],
     probes: u64,
 ) {
-    assert_eq!(rt; views.len(), 10);
+    check_count(rt, views.len(), 10);
     let view = views.get(place).expect(rt, "a class");
     let found = search_one(rt.alloc(), view, words, t).expect(rt, "memory");
     assert!(rt;

@@ -2,7 +2,7 @@
 ghost use Rattle.std.specs.Prelude.{◌≤◌};
 
 use crate::tests::indexes::{SIZES, views_of};
-use crate::tests::search::{WORDS, WORKED, has_found, pair};
+use crate::tests::search::{WORDS, WORKED, check_count, has_found, pair};
 use mesh_search::{Actor, ClassView, Found, Gate, NoGate, Point, search, search_one};
 use rand_core::{Rng, SeedableRng};
 use rand_xoshiro::Xoshiro256PlusPlus;
@@ -319,6 +319,6 @@ fn check_meeting<R: Threads + Wait + Sync + Abort + AllocGlobal + Clock>(
 
 /// Asserts that the last of ten searches found the worked pairs.
 fn check_worked(rt: &impl Abort, found: &[Found]) {
-    assert_eq!(rt; found.len(), 10);
+    check_count(rt, found.len(), 10);
     assert!(rt; has_found(&found[9], &[pair(1, 2), pair(3, 0)], 4));
 }

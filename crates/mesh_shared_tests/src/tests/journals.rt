@@ -2,6 +2,7 @@
 ghost use Rattle.model_words.specs.Commands.{IsInRange};
 
 use crate::tests::calls::{Answer, Call, command_of, reply_of};
+use crate::tests::check_that;
 use mesh_mutator::{Attempt, Book, Command, Entry, Journal, Reply, reply_again};
 use model_words::Refusal;
 use std::process::Abort;
@@ -47,7 +48,7 @@ fn check_entry(rt: &impl Abort, book: &mut Book, command: &Command, reply: &Repl
 fn check_last(rt: &impl Abort, journal: &Journal, command: &Command, reply: &Reply) {
     let last = journal.len().checked_sub(1).expect(rt, "an entry");
     let entry = Entry::of(7, command, reply);
-    assert!(rt; journal.entry(last) == entry, "the entry of {command:?}");
+    check_that(rt, journal.entry(last) == entry, "the last entry tells it");
 }
 
 /// Asserts that the journal is full, and still tells the bytes of its store.
@@ -59,7 +60,7 @@ fn check_store(rt: &impl Abort, journal: &Journal) {
 fn check_second(rt: &impl Abort, journal: &Journal, put: &Command) {
     assert!(rt; journal.len() == 11, "the journal is full");
     let entry = Entry::of(7, put, &Reply::Done);
-    assert!(rt; journal.entry(1) == entry, "a store's bytes stay");
+    check_that(rt, journal.entry(1) == entry, "a store's bytes stay");
 }
 
 #[test]

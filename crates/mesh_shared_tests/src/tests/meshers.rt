@@ -5,6 +5,7 @@ ghost use Rattle.model_words.specs.Commands.{IsInRange};
 
 use crate::tests::calls::{Call, GROUPS, command_of};
 use crate::tests::gates::{Event, Hold, Holding, Mark};
+use crate::tests::{check_count, check_that};
 use mesh_class::class_of;
 use mesh_job::Commands;
 use mesh_mutator::{Book, Command, Entry, Reply};
@@ -296,6 +297,11 @@ fn seen_of(history: &[Entry], heap: &mut Heap) -> Seen {
     }
 }
 
+/// Asserts how many entries of the history are the first script's, and how many the second one's.
+fn check_entries(rt: &impl Abort, seen: &Seen, wanted: (usize, usize)) {
+    assert_eq!(rt; seen.entries, wanted);
+}
+
 /// A byte stored in each of the two objects.
 const STORES: &[Call] = &[Call::Put(1, 0, &[0xab]), Call::Put(2, 0, &[0xcd])];
 
@@ -342,8 +348,8 @@ static READ_IN_A_COPY: Course = Course {
 #[test]
 fn a_reader_runs_during_a_copy(rt: HostRuntime) {
     let seen = played(&rt, &READ_IN_A_COPY, None);
-    assert_eq!(rt; seen.entries, (10, 2));
-    assert_eq!(rt; seen.steps_left, 0);
+    check_entries(&rt, &seen, (10, 2));
+    check_that(&rt, seen.steps_left == 0, "no step is left");
 }
 
 /// Two reads of an empty cell, an object and a read of it.
@@ -376,7 +382,7 @@ static SEARCH_BESIDE: Course = Course {
 #[test]
 fn a_search_runs_beside_a_script(rt: HostRuntime) {
     let seen = played(&rt, &SEARCH_BESIDE, None);
-    assert_eq!(rt; seen.entries, (4, 0));
+    check_entries(&rt, &seen, (4, 0));
 }
 
 /// Three objects of half a page on an arena of one page.
@@ -398,8 +404,8 @@ static ONE_PAGE: Course = Course {
 #[test]
 fn a_book_of_one_page_has_no_second(rt: HostRuntime) {
     let seen = played(&rt, &ONE_PAGE, None);
-    assert_eq!(rt; seen.no_pages, 1);
-    assert_eq!(rt; seen.report.taken, 1);
+    check_count(&rt, seen.no_pages, 1);
+    check_that(&rt, seen.report.taken == 1, "one page is taken");
 }
 
 /// A read of an empty cell.
@@ -427,7 +433,7 @@ static TWO_READS: Course = Course {
 #[test]
 fn two_scripts_read_at_once(rt: HostRuntime) {
     let seen = played(&rt, &TWO_READS, None);
-    assert_eq!(rt; seen.entries, (1, 1));
+    check_entries(&rt, &seen, (1, 1));
 }
 
 /// Of sixteen objects of class 512 from cell 4 on all but two: those are the objects of two groups that can be meshed.
@@ -472,11 +478,9 @@ static TWO_COPIES: Course = Course {
 #[test]
 fn two_meshers_copy_at_once(rt: HostRuntime) {
     let seen = played(&rt, &TWO_COPIES, None);
-    assert_eq!(rt; seen.entries, (36, 0));
-    assert!(rt;
-        seen.report.mapped == 4 && seen.report.taken == 2,
-        "each class is on one page"
-    );
+    check_entries(&rt, &seen, (36, 0));
+    let Report { mapped, taken, .. } = seen.report;
+    check_that(&rt, mapped == 4 && taken == 2, "each class is on one page");
 }
 
 /// Six groups with one object each, three of them in each of the two slots.
@@ -502,7 +506,7 @@ fn every_pair_is_meshed(rt: HostRuntime) {
         taken: 3,
         saved: 3,
     };
-    assert!(rt; seen.report == report, "three pages are saved");
+    check_that(&rt, seen.report == report, "three pages are saved");
 }
 
 /// The search waits for the stores, and the reads wait for the mesh.
@@ -530,9 +534,13 @@ static NO_MESH: Course = Course {
 
 /// Asserts that all commands were answered, that both objects keep their bytes, also to the end, and that so many steps were left.
 fn check_abandoned(rt: &impl Abort, seen: &Seen, left: u32) {
-    assert_eq!(rt; seen.entries, (12, 0));
-    assert_eq!(rt; seen.keeps_bytes, (true, true));
-    assert_eq!(rt; seen.steps_left, left);
+    check_entries(rt, seen, (12, 0));
+    check_that(
+        rt,
+        seen.keeps_bytes == (true, true),
+        "both keep their bytes",
+    );
+    check_that(rt, seen.steps_left == left, "steps are left");
 }
 
 #[test]
@@ -570,5 +578,5 @@ static STORE_HELD_BACK: Course = Course {
 #[test]
 fn a_store_is_given_up(rt: HostRuntime) {
     let seen = played(&rt, &STORE_HELD_BACK, Some(2));
-    assert_eq!(rt; seen.entries, (10, 1));
+    check_entries(&rt, &seen, (10, 1));
 }

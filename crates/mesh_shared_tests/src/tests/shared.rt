@@ -3,6 +3,7 @@ ghost use Rattle.std.specs.Prelude.{◌≤◌, length};
 ghost use Rattle.model_words.specs.Commands.{IsInRange};
 
 use crate::tests::calls::{Answer, Call, GROUPS, command_of, reply_of};
+use crate::tests::{check_count, check_that};
 use arrayvec::ArrayVec;
 use mesh_class::{Class, class_of};
 use mesh_mutator::{Attempt, Book, Command, Reply};
@@ -160,12 +161,12 @@ fn work_beside<R: Abort + Threads + Wait + Sync>(
         || works(rt, shared, first, 0),
         || works(rt, shared, second, 1),
     );
-    assert!(rt; a && b, "each reads its bytes");
+    check_that(rt, a && b, "each reads its bytes");
 }
 
 #[test]
 fn two_threads_share_a_book(rt: HostRuntime) {
-    assert_eq!(rt; used(&rt, 16, 64, Usage::Threads).entries, 6);
+    check_count(&rt, used(&rt, 16, 64, Usage::Threads).entries, 6);
 }
 
 /// Asserts that a command of a seat is done, and answered so.
@@ -337,7 +338,7 @@ fn read_by_alias(rt: &(impl Abort + Wait), shared: &Shared, seat: &mut Seat) {
 
 #[test]
 fn reads_come_into_the_history(rt: HostRuntime) {
-    assert_eq!(rt; used(&rt, 16, 64, Usage::Alias).entries, 3);
+    check_count(&rt, used(&rt, 16, 64, Usage::Alias).entries, 3);
 }
 
 /// What is there before a mesher comes: two groups of class 2,048, each with one object.
@@ -409,7 +410,7 @@ fn play(
 ) {
     for (meshing, kind, count) in calls {
         let answer = meshed(rt, shared, class, *meshing);
-        assert_eq!(rt; answer, Ok((*kind, *count)), "of a {}", meshing.name());
+        check_that(rt, answer == Ok((*kind, *count)), meshing.name());
     }
 }
 
@@ -431,7 +432,7 @@ fn take_the_lock(rt: &(impl Abort + Wait), alloc: Global, shared: &Shared, seat:
     shared.call(rt, seat, &Command::Free(1));
     play(rt, shared, class, &SWEPT);
     let left = has_one_group(rt, alloc, shared, class).expect(rt, "memory");
-    assert!(rt; left, "group 1 is the only one");
+    check_that(rt, left, "group 1 is the only one");
 }
 
 #[test]
@@ -444,24 +445,25 @@ fn a_mesher_takes_the_lock(rt: HostRuntime) {
         saved: 0,
     };
     let closed = used(&rt, 16, 64, Usage::Mesher);
-    assert!(rt; closed.report == report, "one object is left");
+    check_that(&rt, closed.report == report, "one object is left");
 }
 
 /// Stores into the object of a read-only page.
 fn hold_back(rt: &(impl Abort + Wait), shared: &Shared, seat: &mut Seat) {
     let class = set_up(rt, shared, seat);
-    assert!(rt; !shared.book.read(rt).running(class), "no mesh runs");
+    let before = shared.book.read(rt).running(class);
     play(rt, shared, class, &CANCELLED[..2]);
-    assert!(rt; shared.book.read(rt).running(class), "a mesh runs");
+    let behind = shared.book.read(rt).running(class);
+    check_that(rt, !before && behind, "a mesh runs, and none did");
     let put = command_of(rt, Call::Put(2, 0, &[0x68]));
     let stored = shared.call(rt, seat, &put);
-    assert!(rt; stored == Attempt::Blocked, "the store is held back");
-    assert!(rt; seat.calls().len() == 6, "and isn't kept");
+    check_that(rt, stored == Attempt::Blocked, "the store is held back");
+    check_that(rt, seat.calls().len() == 6, "and isn't kept");
 }
 
 #[test]
 fn a_call_tells_that_it_is_held_back(rt: HostRuntime) {
-    assert_eq!(rt; used(&rt, 16, 64, Usage::HeldBack).entries, 6);
+    check_count(&rt, used(&rt, 16, 64, Usage::HeldBack).entries, 6);
 }
 
 /// Three objects of half a page.
@@ -477,15 +479,13 @@ fn fill(rt: &(impl Abort + Wait), shared: &Shared, seat: &mut Seat) {
         check(rt, shared, seat, *call, *answer, "one page");
     }
     let fourth = shared.call(rt, seat, &new_object(3));
-    assert!(rt;
-        fourth == Attempt::HistoryFull,
-        "there is room for three entries"
-    );
+    let is_full = fourth == Attempt::HistoryFull;
+    check_that(rt, is_full, "there is room for three entries");
 }
 
 #[test]
 fn the_book_is_the_one_handed_in(rt: HostRuntime) {
-    assert_eq!(rt; used(&rt, 1, 3, Usage::Full).entries, 3);
+    check_count(&rt, used(&rt, 1, 3, Usage::Full).entries, 3);
 }
 
 /// How often a reader looks for the other one, and for how many microseconds it sleeps after each look.
@@ -515,10 +515,10 @@ fn meet<R: Abort + Clock + Threads + Wait + Sync>(rt: &R, shared: &Shared) {
         || meets(rt, shared, &first, &second),
         || meets(rt, shared, &second, &first),
     );
-    assert!(rt; a && b, "both hold the lock");
+    check_that(rt, a && b, "both hold the lock");
 }
 
 #[test]
 fn two_reads_run_at_once(rt: HostRuntime) {
-    assert_eq!(rt; used(&rt, 16, 64, Usage::Readers).entries, 0);
+    check_count(&rt, used(&rt, 16, 64, Usage::Readers).entries, 0);
 }

@@ -1,5 +1,5 @@
 //! Stores and loads whose answers were worked out by hand.
-ghost use Rattle.std.specs.Prelude.{◌+◌, ◌≤◌, length};
+ghost use Rattle.std.specs.Prelude.{◌≡◌, ◌+◌, ◌≤◌, length};
 
 use super::SparseBytes;
 use std::process::Abort;
@@ -16,27 +16,41 @@ fn holds<R: Abort>(rt: &R, all: &SparseBytes, start: u32, bytes: &[u8])
     );
 }
 
+/// Bytes are stored from an offset on.
+fn stores<R: Abort>(rt: &R, all: &mut SparseBytes, start: u32, bytes: &[u8])
+    requires fits { start + length bytes.now ≤ length all.old }
+    requires few { length bytes.now ≤ 32 }
+    ensures { length all.new ≡ length all.old }
+{
+    assert!(rt; all.store(start, bytes).is_ok(), "from {start} on");
+}
+
+/// So many chunks are kept.
+fn keeps<R: Abort>(rt: &R, all: &SparseBytes, chunks: usize) {
+    assert_eq!(rt; all.chunks.len(), chunks);
+}
+
 #[test]
 fn bytes_that_were_never_stored_are_zeros(rt: HostRuntime) {
     let mut all = SparseBytes::new(rt.alloc(), 200);
     assert_eq!(rt; all.len(), 200);
     holds(&rt, &all, 0, &[0; 32]);
-    assert_eq!(rt; all.store(70, &[7]), Ok(()));
+    stores(&rt, &mut all, 70, &[7]);
     holds(&rt, &all, 50, &[0; 20]);
     holds(&rt, &all, 70, &[7, 0, 0]);
     holds(&rt, &all, 168, &[0; 32]);
-    assert_eq!(rt; all.chunks.len(), 1);
+    keeps(&rt, &all, 1);
 }
 
 #[test]
 fn bytes_are_stored_across_the_border_of_two_chunks(rt: HostRuntime) {
     let mut all = SparseBytes::new(rt.alloc(), 130);
-    assert_eq!(rt; all.store(62, &[1, 2, 3, 4, 5]), Ok(()));
+    stores(&rt, &mut all, 62, &[1, 2, 3, 4, 5]);
     holds(&rt, &all, 60, &[0, 0, 1, 2, 3, 4, 5, 0]);
-    assert_eq!(rt; all.store(63, &[6, 7]), Ok(()));
+    stores(&rt, &mut all, 63, &[6, 7]);
     holds(&rt, &all, 62, &[1, 6, 7, 4, 5]);
     holds(&rt, &all, 128, &[0, 0]);
-    assert_eq!(rt; all.chunks.len(), 2);
+    keeps(&rt, &all, 2);
 }
 
 /// The last byte of an object of so many is stored and loaded, and one chunk is kept then.
@@ -46,10 +60,10 @@ fn last_byte_takes_one_chunk<R: AllocGlobal + Abort>(rt: &R, len: u32)
     requires { 4 ≤ len }
 {
     let mut all = SparseBytes::new(rt.alloc(), len);
-    assert_eq!(rt; all.store(len - 1, &[9]), Ok(()));
+    stores(rt, &mut all, len - 1, &[9]);
     holds(rt, &all, len - 4, &[0, 0, 0, 9]);
     holds(rt, &all, 0, &[0]);
-    assert_eq!(rt; all.chunks.len(), 1);
+    keeps(rt, &all, 1);
 }
 
 #[test]

@@ -6,7 +6,7 @@ use crate::tests::calls::{
     BLOCKED, Call, DONE, NO_MEMORY, Told, UNMADE, freed, left, loaded, made, mesher_answer, number,
     refused, reported, running, stepped,
 };
-use crate::tests::heaps::{MAX_OBJECTS, class_at};
+use crate::tests::heaps::{MAX_OBJECTS, check_length, class_at};
 use arrayvec::ArrayVec;
 use mesh_mutator::{Attempt, Book};
 use model_words::{Command, MAX_BYTES, Reply};
@@ -65,7 +65,7 @@ fn command_of(rt: &impl Abort, objects: u8, call: Call) -> Option<Command>
             Command::New(objects, len, word)
         },
         Call::Read(serial, off, len) => {
-            assert!(rt; 1 <= len && len <= 32, "a read of {len} bytes");
+            check_length(rt, len);
             Command::Get(cell(rt, objects, serial), off, len)
         },
         Call::Write(serial, off, bytes) => {
@@ -74,7 +74,7 @@ fn command_of(rt: &impl Abort, objects: u8, call: Call) -> Option<Command>
             Command::Put(cell(rt, objects, serial), off, stored)
         },
         Call::Copy(to, to_off, from, from_off, len) => {
-            assert!(rt; 1 <= len && len <= 32, "a copy of {len} bytes");
+            check_length(rt, len);
             let target = cell(rt, objects, to);
             let source = cell(rt, objects, from);
             Command::Copy(target, to_off, source, from_off, len)

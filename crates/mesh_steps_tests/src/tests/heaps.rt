@@ -12,6 +12,14 @@ use model_words::MAX_BYTES;
 use std::alloc::{AllocError, Global};
 use std::process::Abort;
 
+/// Asserts that so many bytes can be loaded or copied at once.
+pub(crate) fn check_length(rt: &impl Abort, len: u32)
+    ensures some { 1 ≤ len }
+    ensures most { len ≤ 32 }
+{
+    assert!(rt; 1 <= len && len <= 32, "{len} bytes");
+}
+
 /// How many objects are made at most.
 pub(crate) const MAX_OBJECTS: usize = 32;
 
@@ -57,7 +65,7 @@ impl TriedHeap {
                 )
             },
             Call::Copy(to, to_off, from, from_off, len) => {
-                assert!(rt; 1 <= len && len <= 32, "a copy of {len} bytes");
+                check_length(rt, len);
                 let target = object(rt, &self.addresses, to);
                 let source = object(rt, &self.addresses, from);
                 told(self.heap.copy(target, to_off, source, from_off, len))
@@ -96,7 +104,7 @@ fn object(rt: &impl Abort, addresses: &ArrayVec<u32, MAX_OBJECTS>, serial: u32) 
 
 /// Reads 1 to 32 bytes.
 fn read(rt: &impl Abort, heap: &Heap, object: Ref, off: u32, len: u32) -> Told {
-    assert!(rt; 1 <= len && len <= 32, "a read of {len} bytes");
+    check_length(rt, len);
     match heap.read(object, off, len) {
         Ok(bytes) => loaded(bytes.len(), number(bytes.as_slice())),
         Err(refusal) => refused(refusal),
