@@ -42,6 +42,16 @@ pub struct Caption {
     pub tone: Tone,
 }
 
+impl Caption {
+    /// Takes in a later one that says the same.
+    fn repeat(&mut self, later: Caption) {
+        self.to = later.to;
+        self.times = self.times.saturating_add(1);
+        self.answer = later.answer;
+        self.tone = later.tone;
+    }
+}
+
 /// The lines that have come since the last frame, and that frame.
 pub struct Gathering {
     /// The captions, in their order.
@@ -74,24 +84,22 @@ impl Gathering {
 
     /// Adds a line with its answer.
     pub fn add(&mut self, line: &Line<'_>) -> Result<(), AllocError> {
-        let caption = Caption {
-            from: line.number,
-            to: line.number,
-            times: 1,
-            words: cut(self.alloc, line.words, MAX_WORDS)?,
-            answer: cut(self.alloc, line.answer, MAX_ANSWER)?,
-            tone: tone_of(line.answer),
-        };
-        let Some(earlier) = self.captions.pop() else {
-            return Ok(self.captions.push(caption)?);
-        };
-        if repeats(&earlier, &caption) {
-            return Ok(self.captions.push(joined(earlier, caption))?);
+        let caption = caption_of(self.alloc, line)?;
+        if let Some(last) = self.captions.last_mut() {
+            if repeats(last, &caption) {
+                last.repeat(caption);
+                return Ok(());
+            }
         }
-        if self.captions.len() < MAX_CAPTIONS - 1 {
-            self.captions.push(earlier)?;
-        } else {
-            self.hidden = self.hidden.saturating_add(earlier.times);
+        self.add_behind(caption)
+    }
+
+    /// Adds a caption behind the others. Where there are as many as are shown, the last of them is left out.
+    fn add_behind(&mut self, caption: Caption) -> Result<(), AllocError> {
+        if self.captions.len() >= MAX_CAPTIONS {
+            if let Some(left_out) = self.captions.pop() {
+                self.hidden = self.hidden.saturating_add(left_out.times);
+            }
         }
         Ok(self.captions.push(caption)?)
     }
@@ -151,16 +159,16 @@ fn first_word(answer: &[u8]) -> &[u8] {
     }
 }
 
-/// A caption of two that say the same.
-fn joined(earlier: Caption, later: Caption) -> Caption {
-    Caption {
-        from: earlier.from,
-        to: later.to,
-        times: earlier.times.saturating_add(1),
-        words: earlier.words,
-        answer: later.answer,
-        tone: later.tone,
-    }
+/// A caption of one line.
+fn caption_of(alloc: Global, line: &Line<'_>) -> Result<Caption, AllocError> {
+    Ok(Caption {
+        from: line.number,
+        to: line.number,
+        times: 1,
+        words: cut(alloc, line.words, MAX_WORDS)?,
+        answer: cut(alloc, line.answer, MAX_ANSWER)?,
+        tone: tone_of(line.answer),
+    })
 }
 
 /// The first letters of a text, with two dots where there are more, and a question mark for what is no letter of ASCII.

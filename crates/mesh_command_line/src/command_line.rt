@@ -5,7 +5,7 @@ ghost use Rattle.std.specs.declared.io.ErrorKind.TheVariants.{OutOfMemory as IoO
 ghost use Rattle.clap.specs.Words.{app_of, first_of, found_of, kind_of, rows_of, rule_of, subcommand_rows_of};
 ghost use Rattle.mesh_command_line.specs.Meshes.{pairs_of};
 ghost use Rattle.mesh_command_line.specs.Subcommands.{argument_rule, subcommand_app, with_subcommands};
-ghost use Rattle.mesh_command_line.specs.CommandLine.{IsAllowedOf, IsAsked, IsNoText, IsOutOfMemory, IsSaidOf, IsStopAt, asked, asked_in, asked_of, asking, explored_in, explored_of, flag_rule, given_in, is_taken, mesh_rule, meshes_in, meshrun_app, number_in, number_rule, numbers_in, numbers_of, pair_of, pairs_in, printed_in, shown_in, shown_of, sizes_in, sizes_of, status_of_kind};
+ghost use Rattle.mesh_command_line.specs.CommandLine.{IsAllowedOf, IsAsked, IsNoText, IsOutOfMemory, IsSaidOf, IsStopAt, asked, asked_in, asked_of, asking, bare_app, explored_in, explored_of, flag_rule, given_in, is_taken, mesh_rule, meshes_in, meshrun_app, number_in, number_rule, numbers_in, numbers_of, pair_of, pairs_in, printed_in, shown_in, shown_of, sizes_in, sizes_of, status_of_kind};
 
 use crate::meshes::MOST_MESHES;
 use crate::status::{DONE, FAILED, FAULTY};
@@ -489,12 +489,18 @@ fn number_if_given<'a>(matches: &ArgMatches<'a>, option: NumberOption) -> Option
 fn meshrun_command<'a>(alloc: Global) -> Result<Command<'a>, AllocError>
     ensures { IfOk result (λ command. app_of command ≡ meshrun_app) }
 {
-    let command = Command::new(alloc, "meshrun")
+    with_subcommands(alloc, bare_command(alloc), SUBCOMMANDS)
+}
+
+/// The same without its subcommands.
+fn bare_command<'a>(alloc: Global) -> Command<'a>
+    ensures { app_of result ≡ bare_app }
+{
+    Command::new(alloc, "meshrun")
         .about("A modelled heap that is compacted by meshing")
         .version(VERSION)
         .subcommand_required(true)
-        .arg_required_else_help(true);
-    with_subcommands(alloc, command, SUBCOMMANDS)
+        .arg_required_else_help(true)
 }
 
 /// A command with these subcommands behind those that it has.

@@ -1,5 +1,5 @@
 //! The text of mutators' commands, without line ends.
-ghost use Rattle.std.specs.Prelude.{◌≡◌, ◌≤◌, ◌++◌, length, OnOk};
+ghost use Rattle.std.specs.Prelude.{◌≡◌, ◌≤◌, ◌++◌, ◌∷◌, [], codes, length, OnOk};
 ghost use Rattle.std.specs.List.{flat_map};
 ghost use Rattle.model_jobs.specs.Texts.{address_text, bytes_text, command_text, field, number_field};
 
@@ -16,10 +16,7 @@ pub fn add_command(text: &mut Vec<u8>, command: &Command) -> Result<(), AllocErr
             let numbers = [u64::from(*cell), u64::from(*len), *word];
             add_named(text, b"new", &numbers)
         }
-        Command::Put(cell, off, bytes) => {
-            add_named(text, b"put", &[u64::from(*cell), u64::from(*off)])?;
-            add_run(text, bytes.as_slice())
-        }
+        Command::Put(cell, off, bytes) => add_put(text, *cell, *off, bytes.as_slice()),
         Command::Get(cell, off, len) => {
             let numbers = [u64::from(*cell), u64::from(*off), u64::from(*len)];
             add_named(text, b"get", &numbers)
@@ -30,16 +27,35 @@ pub fn add_command(text: &mut Vec<u8>, command: &Command) -> Result<(), AllocErr
         }
         Command::Addr(cell) => add_named(text, b"addr", &[u64::from(*cell)]),
         Command::Peek(address) => add_placed(text, b"peek ", *address),
-        Command::Poke(address, byte) => {
-            add_placed(text, b"poke ", *address)?;
-            add_run(text, &[*byte])
-        }
+        Command::Poke(address, byte) => add_poke(text, *address, *byte),
         Command::Copy(to, to_off, from, from_off, len) => {
-            add_named(text, b"copy", &[u64::from(*to), u64::from(*to_off)])?;
-            let source = [u64::from(*from), u64::from(*from_off), u64::from(*len)];
-            add_numbers(text, &source)
+            let numbers = [
+                u64::from(*to),
+                u64::from(*to_off),
+                u64::from(*from),
+                u64::from(*from_off),
+                u64::from(*len),
+            ];
+            add_named(text, b"copy", &numbers)
         }
     }
+}
+
+/// Adds a `put`.
+fn add_put(text: &mut Vec<u8>, cell: u8, off: u32, bytes: &[u8]) -> Result<(), AllocError>
+    requires { length bytes.now ≤ 32 }
+    ensures { OnOk result (text.new.items ≡ text.old.items ++ codes "put" ++ number_field cell ++ number_field off ++ field (bytes_text bytes.now)) }
+{
+    add_named(text, b"put", &[u64::from(cell), u64::from(off)])?;
+    add_run(text, bytes)
+}
+
+/// Adds a `poke`.
+fn add_poke(text: &mut Vec<u8>, address: u32, byte: u8) -> Result<(), AllocError>
+    ensures { OnOk result (text.new.items ≡ text.old.items ++ codes "poke " ++ address_text address ++ field (bytes_text (byte ∷ []))) }
+{
+    add_placed(text, b"poke ", address)?;
+    add_run(text, &[byte])
 }
 
 /// Adds the name of a command and its numbers, a space before each.
