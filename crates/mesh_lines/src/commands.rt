@@ -9,7 +9,10 @@ use mesh_fields::commands;
 use mesh_fields::commands::{Dialect, SpeltCommand};
 use model_words::{Command, FaultKind, Version};
 
-/// The command of a line with this word and these fields. WORD where the version has no such command, or another number of fields.
+/// The command of a line with this word and these fields.
+///
+/// WORD where the version has no such command, or another number of fields. Else the leftmost field that is spelt wrongly or out of range decides:
+/// NUMBER for a number or an address, HEX for the bytes of a `put` or a `poke`.
 pub fn command_of(version: Version, word: &[u8], fields: &[&[u8]]) -> Result<Command, FaultKind>
     ensures value { result ≡ command_in version word.now (texts fields.now) }
     ensures in_range { IfOk result IsInRange }

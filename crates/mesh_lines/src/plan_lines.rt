@@ -24,8 +24,11 @@ const MAX_ROUNDS: u32 = 64;
 /// The most words of a search.
 const MAX_WORDS: usize = 32;
 
-/// The line of a plan with this word and these fields, in a job of so many workers. WORD where the version has no such line, or
-/// another number of fields.
+/// The line of a plan with this word and these fields, in a job of so many workers.
+///
+/// WORD where the version has no such line, or another number of fields, of which a `pair` has 32 words at most. NUMBER where a field is spelt wrongly or
+/// out of range: a worker's number is below `workers`, a group's at most 65,535, a class is named by its size, and a search has at most 64 rounds.
+/// Memory where a `pair` found none for its search.
 pub fn plan_line(
     alloc: Global,
     version: Version,

@@ -17,7 +17,9 @@ use model_words::{Command, Version};
 /// The greatest length that a `new` may ask for, and the greatest offset of a `put` or a `get`.
 const MAX_LENGTH: u32 = 65_535;
 
-/// The command that the text's first line is.
+/// The command that the text's first line is, and the text behind that line's end.
+///
+/// None of a line without its end, of one that has a fault, and of any other that is not one of the common ones: such lines are cut into fields.
 pub fn quick_command(text: &[u8]) -> Option<(Command, &[u8])>
     ensures spelt { IfSome result (λ read. text.now ≡ command_text read.0 ++ 10 ∷ read.1.now) }
     ensures valid { IfSome result (λ read. (version : Version) → IsValidCommand version read.0) }
@@ -145,7 +147,7 @@ fn poke_of(fields: &[u8]) -> Option<(Command, &[u8])>
     Some((Command::Poke(at, stored), rest))
 }
 
-/// The line of a plan that the text's first line is, in a job of so many workers.
+/// The line of a plan that the text's first line is, in a job of so many workers, and the text behind that line's end. None as in `quick_command`.
 pub fn quick_line(text: &[u8], version: Version, workers: u32) -> Option<(PlanLine, &[u8])>
     requires { 1 ≤ workers }
     ensures spelt { IfSome result (λ read. text.now ≡ line_text (line_of read.0) ++ 10 ∷ read.1.now) }

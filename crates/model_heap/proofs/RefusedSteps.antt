@@ -45,7 +45,7 @@ pub step_refused : (t : Table) (class : ℕ) (refusal : Refusal) → IsSound t
     → (step t (mesh_in t class) ≡ Err refusal) ↔ ((refusal ≡ NoMesh) × (mesh_of_class t class ≡ false))
 step_refused t class refusal sound = grind (arith, running t class sound)
 
--- and is refused for it
+-- a mesh that has remapped a page is cancelled no more
 late_refused : (t : Table) (mesh : Mesh) (source : Group) (d : ℕ) → page_count source + slots_of source.class < d
     → cancelled t mesh source (Made d) ≡ Err TooLate
 late_refused t mesh source d late = grind arith
