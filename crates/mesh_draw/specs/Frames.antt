@@ -5,7 +5,7 @@ use Rattle.model_words.specs.Classes.{pages_of, slots_of}
 use Rattle.model_heap.specs.Table.{Mesh, Progress, Made, Report, Unwinding, group_of, report_of}
 use Rattle.mesh_layout.specs.Meshes.{mesh_from}
 use Rattle.mesh_steps.specs.Heap.{Heap, arena_of, index_of, map_of, table_of}
-use Rattle.mesh_steps.specs.Shown.{home_at, lead_at, member_at, object_at, released_of}
+use Rattle.mesh_page_heap.specs.Shown.{home_at, lead_at, member_at, object_at, released_of}
 use Rattle.mesh_cards.specs.declared.frame.Counts.{Counts}
 use Rattle.mesh_cards.specs.declared.frame.Frame.{Frame}
 use Rattle.mesh_cards.specs.declared.frame.Home.{Home}

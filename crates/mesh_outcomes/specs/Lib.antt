@@ -1,4 +1,3 @@
-pub mod Errors
 pub mod Phases
 pub mod Ends
 pub mod Listings

@@ -1,7 +1,7 @@
 -- What an exploration tells where it stops, and which device has failed.
 use Rattle.std.specs.Prelude.{ℕ, Bool, List, codes}
-use Rattle.mesh_outcomes.specs.declared.errors.ExploreError.{ExploreError}
-use Rattle.mesh_outcomes.specs.declared.errors.ExploreError.TheVariants.{Replay, TooManyStates, NoOutcome}
+use Rattle.mesh_explore_text.specs.declared.errors.ExploreError.{ExploreError}
+use Rattle.mesh_explore_text.specs.declared.errors.ExploreError.TheVariants.{Replay, TooManyStates, NoOutcome}
 use Rattle.mesh_run.specs.Runs.{EndsBy, HasFailed, Unsaid, error_text}
 use Rattle.mesh_run.specs.Seen.{Seen}
 use Rattle.mesh_run.specs.Status.{status_of_error}

@@ -2,7 +2,7 @@
 use Rattle.mesh_run.specs.Runs.{Moves, MovesBy}
 use Rattle.mesh_command_line.specs.declared.printed.Printed.{Printed}
 use Rattle.mesh_command_line.specs.declared.printed.Printed.TheVariants.{Answers, History}
-use Rattle.mesh_text.specs.Recordings.{HasReplayedRecorded, HasStoppedRecorded}
+use Rattle.mesh_text.specs.Recorded.{HasReplayedRecorded, HasStoppedRecorded}
 use Rattle.mesh_text.specs.Replay.{HasReplayed, HasStopped}
 use Rattle.mesh_text.specs.declared.faults.ReplayError.{ReplayError}
 

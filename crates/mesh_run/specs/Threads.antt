@@ -22,8 +22,8 @@ use Rattle.mesh_seats.specs.declared.faults.FinishError.TheVariants.{Memory as F
 use Rattle.mesh_shared.specs.declared.plan.MeshPlan.{MeshPlan}
 use Rattle.mesh_shared.specs.declared.stops.RunError.{RunError}
 use Rattle.mesh_shared.specs.declared.stops.RunError.TheVariants.{Memory as RunMemory, Thread as RunThread, History, Finish}
-use Rattle.mesh_text.specs.Histories.{history_text}
-use Rattle.mesh_text.specs.Recordings.{recorded_text}
+use Rattle.mesh_answer_text.specs.Histories.{history_text}
+use Rattle.mesh_answer_text.specs.Recordings.{recorded_text}
 use Rattle.mesh_text.specs.Replay.{HasFound, HasReadJob}
 use Rattle.mesh_text.specs.Transfer.{AppendsBeginning}
 use Rattle.mesh_text.specs.declared.faults.ReplayError.TheVariants.{Read, Write, Text, Memory as NoMemory}

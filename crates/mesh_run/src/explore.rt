@@ -1,7 +1,7 @@
 //! The program's exploration of what a plan leaves.
 ghost use Rattle.std.specs.Prelude.{◌≡◌};
 ghost use Rattle.model_jobs.specs.Texts.{ended};
-ghost use Rattle.mesh_outcomes.specs.declared.errors.ExploreError.{ExploreError};
+ghost use Rattle.mesh_explore_text.specs.declared.errors.ExploreError.{ExploreError};
 ghost use Rattle.mesh_run.specs.Explores.{EndsExplore, explore_status, explore_text};
 ghost use Rattle.mesh_run.specs.Runs.{IsSound};
 
@@ -9,7 +9,7 @@ use crate::fault_line::{Line, line_of, line_with};
 use crate::runs::{status_of, tell};
 use crate::{Devices, ExploreArgs};
 use mesh_command_line::status::{DONE, FAILED, FAULTY};
-use mesh_outcomes::{ExploreError, ExploreOptions, explore};
+use mesh_explore_text::{ExploreError, ExploreOptions, explore};
 use mesh_text::{Sink, Source};
 use std::alloc::Global;
 

@@ -1,57 +1,19 @@
-//! What mutators and meshers do with the book that one taking of the lock gives them.
+//! What a mesher does with the book that one taking of the lock gives it.
 //!
 //! The book under the lock isn't known to who takes it. So what is done with it stands here, over the book itself, and a call is a taking of the
 //! lock and one of these.
-ghost use Rattle.std.specs.Prelude.{◌≡◌, ◌↔◌, ◌<◌, ◌≤◌, Err, IfErr, IfOk, OnErr, OnOk, Some, false, length, true};
-ghost use Rattle.model_words.specs.Commands.{IsInRange};
+ghost use Rattle.std.specs.Prelude.{◌≡◌, OnErr, OnOk};
 ghost use Rattle.model_heap.specs.Mesh.{begin, mesh_in, mesh_of_class, step};
-ghost use Rattle.model_memory.specs.Reads.{is_read};
-ghost use Rattle.mesh_mutator.specs.Book.{IsAttempt, IsLooked, table_of_book};
+ghost use Rattle.mesh_mutator.specs.Book.{table_of_book};
 ghost use Rattle.mesh_mutator.specs.Mesher.{KeepsBook};
-ghost use Rattle.mesh_mutator.specs.declared.attempts.Attempt.{Attempt};
-ghost use Rattle.mesh_shared.specs.MesherRuns.{IsOver, IsSpent};
-ghost use Rattle.mesh_seats.specs.Seat.{IsNew, IsNoted, IsStore, noted};
 ghost use Rattle.mesh_steps.specs.HeapMeshes.{IsAnswered, IsMeshBegun, IsStepMade};
+ghost use Rattle.mesh_shared.specs.MesherRuns.{IsOver, IsSpent};
 
 use crate::calls::Calls;
 use mesh_class::Class;
-use mesh_mutator::{Attempt, Book, Command, Refusal, Reply};
+use mesh_mutator::{Book, Refusal};
 use mesh_search::Pair;
-use mesh_seats::Seat;
 use mesh_steps::StepDone;
-
-/// One attempt of a seat's mutator at a command that is recorded, under the number of its seat. The seat keeps it where it is done.
-pub(crate) fn act(book: &mut Book, seat: &mut Seat, command: &Command) -> Attempt
-    requires range { IsInRange command.now }
-    requires recorded { is_read command.now ≡ false }
-    requires room { length seat.old.calls < seat.old.room }
-    ensures attempt { IsAttempt book.old book.new seat.old.number command.now result }
-    ensures full { (result ≡ Attempt.HistoryFull) ↔ (book.old.room ≤ length book.old.entries) }
-    ensures noted { IsNoted seat.old seat.new command.now result }
-    ensures blocked { result ≡ Attempt.Blocked → IsStore command.now }
-    ensures memory { result ≡ Attempt.OutOfMemory → IsNew command.now }
-{
-    let attempt = book.act(seat.number(), command);
-    if let Attempt::Done(reply) = &attempt {
-        seat.keep(command, reply, None);
-    }
-    attempt
-}
-
-/// A read of a seat's mutator: what the book answers. The seat keeps it with the length that the journal of this book has.
-pub(crate) fn look(book: &Book, seat: &mut Seat, command: &Command) -> Reply
-    requires range { IsInRange command.now }
-    requires read { is_read command.now ≡ true }
-    requires room { length seat.old.calls < seat.old.room }
-    requires short { length book.now.entries ≤ 65536 }
-    ensures looked { IsLooked book.now.heap book.now.cells command.now result }
-    ensures noted { seat.new ≡ noted seat.old command.now result (Some (length book.now.entries)) }
-{
-    let reply = book.look(command);
-    let seen = book.journal().len() as u32;
-    seat.keep(command, &reply, Some(seen));
-    reply
-}
 
 /// Begins a mesh of a pair, as the book does. A call that is answered is counted.
 pub(crate) fn begin(book: &mut Book, pair: Pair, calls: &mut Calls) -> Result<u32, Refusal>

@@ -1,24 +1,21 @@
-//! A book that several mutators share, each with a seat that keeps what it was answered, and runs of scripts in threads.
+//! Scripts run in threads, on a book that they share, beside threads that search and mesh.
 //!
-//! `Shared` holds the book behind one lock. A call that may change something is recorded under the exclusive lock; a read runs under the
-//! shared one, leaves the journal alone, and its seat keeps how many entries it saw. At the end `finish` makes one history of the journal
-//! and all seats, or tells the first call that stands in none (`mesh_seats`). `run_threads` serves scripts so, each in a thread, beside threads that mesh.
+//! `run_threads` serves each script in a thread of its own (`worker`), while meshers in threads of theirs search for pairs and mesh them (`mesher`), and
+//! settles the seats at the end. `run_abandoned` lets meshers go and workers give up. Both go past a gate, by which tests hold a thread at a point.
 #![tactic(auto)]
 
-mod calling;
 mod calls;
 mod guarded;
 mod mesher;
 mod plan;
 pub mod run_laws;
-mod shared;
 mod stops;
 mod threads;
 mod worker;
 
-pub use mesh_search::{Actor, Gate, NoGate, Point};
-pub use mesh_seats::{Ended, FinishError, Kept, OpenError, Seat, is_read, settle};
+pub use mesh_lock::{
+    Actor, Ended, FinishError, Gate, Kept, NoGate, OpenError, Point, Seat, Shared, is_read, settle,
+};
 pub use plan::MeshPlan;
-pub use shared::Shared;
 pub use stops::RunError;
 pub use threads::{run_abandoned, run_threads};

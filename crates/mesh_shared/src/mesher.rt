@@ -6,9 +6,9 @@ ghost use Rattle.mesh_shared.specs.MesherRuns.{AreOwn, HasMeshed, HasSearched, I
 use crate::calls::Calls;
 use crate::guarded::{begin, step};
 use crate::plan::MeshPlan;
-use crate::shared::Shared;
 use crate::stops::Stop;
 use mesh_class::Class;
+use mesh_lock::Shared;
 use mesh_search::{Actor, ClassView, Found, Gate, Pair, Point, search};
 use mesh_steps::StepDone;
 use model_words::Refusal;

@@ -10,9 +10,9 @@ ghost use Rattle.mesh_shared.specs.Stops.{first_stop};
 
 use crate::mesher::{Meshed, Mesher, Meshes};
 use crate::plan::{MeshPlan, Patience};
-use crate::shared::Shared;
 use crate::stops::{RunError, Stop, either_stop};
 use crate::worker::{Served, Works, serve};
+use mesh_lock::Shared;
 use mesh_mutator::{Book, Command};
 use mesh_search::{Gate, drop_results};
 use mesh_seats::{Ended, Seat};

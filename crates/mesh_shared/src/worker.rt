@@ -4,9 +4,8 @@ ghost use Rattle.std.specs.List.{All};
 ghost use Rattle.model_words.specs.Commands.{IsInRange};
 ghost use Rattle.mesh_shared.specs.Runs.{HasWorked};
 
-use crate::calling::{Mutator, counted};
-use crate::shared::Shared;
 use crate::stops::Stop;
+use mesh_lock::{Mutator, Shared, call_number};
 use mesh_mutator::{Attempt, Command};
 use mesh_search::{Actor, Gate, Point};
 use mesh_seats::Seat;
@@ -68,7 +67,7 @@ fn work<R: Wait, G: Gate>(
         match mutator.insist(seat, &script[i], tries) {
             Attempt::Done(_) => gate.arrive(
                 Actor::Worker(seat.number()),
-                Point::Called(counted(i)),
+                Point::Called(call_number(i)),
             ),
             Attempt::Blocked => return None,
             Attempt::HistoryFull => return Some(Stop::History),

@@ -12,7 +12,7 @@ use Rattle.mesh_spans.specs.Index.{IsIndex}
 use Rattle.mesh_steps.proofs.Objects.{has_in, live_found}
 use Rattle.mesh_steps.specs.Always.{HasHeldPagesTaken, HasObjectsApart}
 use Rattle.mesh_steps.specs.Heap.{Heap, IsHeap}
-use Rattle.mesh_steps.specs.PageHeap.{PageHeap}
+use Rattle.mesh_page_heap.specs.PageHeap.{PageHeap}
 
 -- no two live objects have an address in common
 pub heap_objects_apart : (h : Heap) → IsHeap h → HasObjectsApart h

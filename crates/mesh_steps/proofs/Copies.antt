@@ -7,7 +7,7 @@ use Rattle.model_words.specs.declared.refusals.Refusal.TheVariants.{Outside}
 use Rattle.mesh_steps.proofs.Objects.{ends_past, ends_within}
 use Rattle.mesh_steps.proofs.Stores.{stored_in_is}
 use Rattle.mesh_steps.specs.Heap.{Heap, IsHeap, IsReferred, IsStore, bytes_at, copied_at, live_record, object_in, plain_of, stored_in, table_of}
-use Rattle.mesh_steps.specs.declared.answers.Occupied.{Occupied}
+use Rattle.mesh_page_heap.specs.declared.answers.Occupied.{Occupied}
 use Rattle.mesh_steps.specs.declared.answers.Ref.{Ref}
 use Rattle.mesh_steps.specs.declared.answers.Stored.{Stored}
 

@@ -1,17 +1,6 @@
 pub mod AlwaysHolds
 pub mod Copies
-pub mod Emptied
-pub mod GroupNumbers
-pub mod GrowthLemmas
-pub mod Insides
 pub mod MadeObjects
-pub mod MayBegin
-pub mod MeshEnds
-pub mod MeshFlags
 pub mod MeshHeaps
-pub mod MeshRuns
-pub mod NewPlaces
 pub mod Objects
-pub mod Shown
-pub mod Slots
 pub mod Stores

@@ -30,10 +30,10 @@ use Rattle.mesh_spans.specs.Index.{address_in, span_at}
 use Rattle.mesh_store.specs.Places.{Saves, byte_of as byte_in}
 use Rattle.mesh_steps.proofs.Objects.{live_found, reference_names}
 use Rattle.mesh_steps.specs.Heap.{Heap, IsFree, IsHeap, IsMade, IsNotMade, IsObjectAt, arena_of, index_of, live_record, live_records, map_of, memory_of, plain_of, table_of}
-use Rattle.mesh_steps.specs.PageHeap.{IsPlace, IsPlaceFault, KeepsOutside, PageHeap, group_number, open_group, table_emptied, table_in, table_with_object}
+use Rattle.mesh_page_heap.specs.PageHeap.{IsPlace, IsPlaceFault, KeepsOutside, PageHeap, group_number, open_group, table_emptied, table_in, table_with_object}
 use Rattle.model_words.specs.declared.answers.NewFault.{NewFault}
 use Rattle.model_words.specs.declared.answers.NewFault.TheVariants.{Memory as NoMemory, Refused}
-use Rattle.mesh_steps.specs.declared.answers.Occupied.{Occupied}
+use Rattle.mesh_page_heap.specs.declared.answers.Occupied.{Occupied}
 use Rattle.mesh_steps.specs.declared.answers.Ref.{Ref}
 
 -- what a heap means is made of its table, its map and its pages

@@ -20,14 +20,14 @@ use Rattle.model_heap.specs.Table.{Counted, Group, Table, group_of, has_number, 
 use Rattle.model_words.specs.declared.refusals.Refusal.{Refusal}
 use Rattle.mesh_pagemap.specs.Entries.{is_mapped}
 use Rattle.mesh_spans.specs.Index.{IsIndex}
-use Rattle.mesh_steps.proofs.MayBegin.{busy_tells}
+use Rattle.mesh_page_heap.proofs.MayBegin.{busy_tells}
 use Rattle.mesh_steps.specs.Heap.{Heap, IsHeap, plain_of, table_of}
 use Rattle.mesh_steps.specs.HeapMeshes.{IsAnswered, IsMeshBegun, IsMeshCancelled, IsMeshed, IsOnItsWay, IsStepMade, IsSwept, KeepsMeaning, MeansTheSame}
-use Rattle.mesh_steps.specs.Meshes.{IsBegun, IsCancelled, IsStepped, busy_by}
-use Rattle.mesh_steps.specs.PageHeap.{PageHeap, table_in}
-use Rattle.mesh_steps.specs.Sweeps.{HasGone}
+use Rattle.mesh_page_heap.specs.Meshes.{IsBegun, IsCancelled, IsStepped, busy_by}
+use Rattle.mesh_page_heap.specs.PageHeap.{PageHeap, table_in}
+use Rattle.mesh_page_heap.specs.Sweeps.{HasGone}
 use Rattle.model_words.specs.declared.answers.StepDone.{StepDone}
-use Rattle.mesh_steps.specs.declared.busy.Busy.{Busy}
+use Rattle.mesh_page_heap.specs.declared.busy.Busy.{Busy}
 
 -- the heap of a page heap
 abbrev heap_of : PageHeap → ℕ → Heap

@@ -28,8 +28,8 @@ use Rattle.mesh_spans.specs.Groups.{first_of, table_group}
 use Rattle.mesh_spans.specs.Index.{GroupEntry, Index, IsIndex, SpanEntry, group_at, span_at}
 use Rattle.mesh_store.specs.Places.{byte_of}
 use Rattle.mesh_steps.specs.Heap.{Heap, IsHeap, IsHeld, IsLiveFor, IsObjectAt, IsReferred, arena_of, bytes_at, index_of, live_record, live_records, map_of, memory_of, object_in, plain_of, referred, table_of}
-use Rattle.mesh_steps.specs.PageHeap.{IsInSlotOf, IsStanding, PageHeap, table_in}
-use Rattle.mesh_steps.specs.declared.answers.Occupied.{Occupied}
+use Rattle.mesh_page_heap.specs.PageHeap.{IsInSlotOf, IsStanding, PageHeap, table_in}
+use Rattle.mesh_page_heap.specs.declared.answers.Occupied.{Occupied}
 use Rattle.mesh_steps.specs.declared.answers.Ref.{Ref}
 
 -- an object that stands in a slot has its record

@@ -22,8 +22,8 @@ use Rattle.mesh_store.specs.Places.{IsBlocked, IsOpen, Saves, byte_of}
 use Rattle.mesh_steps.proofs.Objects.{ends_past, ends_within, live_ends, live_found, live_in_object, object_len, reference_names}
 use Rattle.mesh_steps.proofs.AlwaysHolds.{heap_objects_apart}
 use Rattle.mesh_steps.specs.Heap.{Heap, IsHeap, IsHeld, IsHeldBack, IsLiveFor, IsReferred, IsRefused, IsStore, IsStored, arena_of, byte_at_address, index_of, live_record, live_records, map_of, object_in, plain_of, referred, stored_at, stored_at_address, stored_in, table_of}
-use Rattle.mesh_steps.specs.PageHeap.{PageHeap}
-use Rattle.mesh_steps.specs.declared.answers.Occupied.{Occupied}
+use Rattle.mesh_page_heap.specs.PageHeap.{PageHeap}
+use Rattle.mesh_page_heap.specs.declared.answers.Occupied.{Occupied}
 use Rattle.mesh_steps.specs.declared.answers.Ref.{Ref}
 use Rattle.mesh_steps.specs.declared.answers.Stored.TheVariants.{Blocked, Done, Refused}
 

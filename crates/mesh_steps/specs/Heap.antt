@@ -14,10 +14,10 @@ use Rattle.model_words.specs.declared.refusals.Refusal.{Refusal}
 use Rattle.model_words.specs.declared.refusals.Refusal.TheVariants.{Freed, Outside}
 use Rattle.mesh_pagemap.specs.Entries.{Entries}
 use Rattle.mesh_spans.specs.Index.{Index}
-use Rattle.mesh_steps.specs.PageHeap.{IsInSlotOf, PageHeap, open_group, page_heap_code, table_in}
+use Rattle.mesh_page_heap.specs.PageHeap.{IsInSlotOf, PageHeap, open_group, page_heap_code, table_in}
 use Rattle.model_words.specs.declared.answers.NewFault.{NewFault}
 use Rattle.model_words.specs.declared.answers.NewFault.TheVariants.{Memory as NoMemory, Refused as NewRefused}
-use Rattle.mesh_steps.specs.declared.answers.Occupied.{Occupied}
+use Rattle.mesh_page_heap.specs.declared.answers.Occupied.{Occupied}
 use Rattle.mesh_steps.specs.declared.answers.Ref.{Ref}
 use Rattle.mesh_steps.specs.declared.answers.Stored.{Stored}
 use Rattle.mesh_steps.specs.declared.answers.Stored.TheVariants.{Blocked, Done, Refused}

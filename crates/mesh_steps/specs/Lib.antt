@@ -1,9 +1,3 @@
 pub mod Always
 pub mod Heap
 pub mod HeapMeshes
-pub mod Meshes
-pub mod PageHeap
-pub mod StepOrders
-pub mod Steps
-pub mod Shown
-pub mod Sweeps

@@ -1,23 +1,21 @@
 //! `Heap`: making, reading, writing, copying and freeing objects. The calls of a mesher stand in `meshes`, and what its search sees in `views`.
 ghost use Rattle.std.specs.Prelude.{◌≡◌, ℕ, ◌+◌, ◌-◌, ◌^◌, ◌<◌, ◌≤◌, true, false, Ok, Err, Some, [], ◌∷◌, length, List, Option, IfOk, IfErr, IfSome, IfNone, IsSomeAnd, is_ok};
-ghost use Rattle.std.specs.Bool.{OnFalse, OnTrue};
 ghost use Rattle.model_heap.specs.Mesh.{is_blocked};
 ghost use Rattle.model_heap.specs.Places.{Record, IsIn, record_with};
 ghost use Rattle.model_memory.specs.Plain.{holding};
 ghost use Rattle.model_heap.specs.Table.{empty_table, report_of};
 ghost use Rattle.mesh_steps.specs.Always.{HasHeldPagesTaken, HasObjectsApart, HasPlacesApart, HasReadOnlyOfMeshes, LiesAsMeshesHaveIt};
-ghost use Rattle.mesh_steps.specs.PageHeap.{counts_told};
+ghost use Rattle.mesh_page_heap.specs.PageHeap.{counts_told};
 ghost use Rattle.mesh_steps.specs.Heap.{IsFree, IsHeap, IsHeld, IsHeldBack, IsLiveFor, IsMade, IsNotMade, IsObjectAt, IsReferred, IsRefused, IsStore, IsStored, arena_of, byte_at_address, bytes_at, copied_at, freed_at, live_records, memory_of, plain_of, referred, stored_at, stored_at_address, stored_in, table_of};
 
 mod meshes;
 mod shown;
 mod views;
 
-use crate::answers::Occupied;
-use crate::page_heap::PageHeap;
 use crate::{NewFault, Ref, Report, Stored};
 use arrayvec::ArrayVec;
 use mesh_class::class_of;
+use mesh_page_heap::{Occupied, PageHeap};
 use model_words::{MAX_BYTES, Refusal};
 use std::alloc::{AllocError, Global};
 use std::marker::Model;
@@ -303,15 +301,5 @@ impl Heap {
     {
         self.pages.sound();
         self.pages.occupied_at(addr)
-    }
-}
-
-impl Occupied {
-    /// Whether `len` bytes from offset `off` on are within the object.
-    fn has_range(self, off: u32, len: u32) -> bool
-        ensures within { OnTrue result (off + len ≤ self.len) }
-        ensures past { OnFalse result (self.len < off + len) }
-    {
-        len <= self.len && off <= self.len - len
     }
 }

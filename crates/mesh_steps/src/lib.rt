@@ -7,15 +7,8 @@
 #![tactic(auto)]
 
 mod answers;
-mod busy;
-mod growth;
 mod heap;
-mod page_heap;
-mod running;
-mod step_order;
-mod steps;
 
-pub use answers::{Lead, Ref, Report, Stored};
+pub use answers::{Ref, Stored};
 pub use heap::Heap;
-pub use mesh_running::{Phase, Running};
-pub use model_words::{NewFault, StepDone};
+pub use mesh_page_heap::{Lead, NewFault, Phase, Report, Running, StepDone};

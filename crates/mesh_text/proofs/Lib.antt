@@ -1,12 +1,9 @@
 pub mod AnswerLines
-pub mod Digits
-pub mod HistoryParts
+pub mod LeftJournals
 pub mod LineTexts
 pub mod MesherCalls
-pub mod PartTexts
 pub mod Parts
 pub mod Pieces
 pub mod PlanLines
 pub mod PlayEnds
-pub mod RecordedTexts
 pub mod WorkerTurns

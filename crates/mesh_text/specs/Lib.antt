@@ -1,14 +1,9 @@
-pub mod Answers
 pub mod Devices
 pub mod Faults
-pub mod Histories
-pub mod HistoryRows
-pub mod RecordingRows
-pub mod Recordings
+pub mod Recorded
 pub mod Replay
 pub mod Transfer
 pub mod Turns
-pub use Rattle.model_words.specs.Commands
 pub use Rattle.mesh_job.specs.Job
 pub use Rattle.mesh_job.specs.Lines
 pub use Rattle.mesh_job.specs.Taken

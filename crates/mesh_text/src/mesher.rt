@@ -4,8 +4,8 @@ ghost use Rattle.model_jobs.specs.Jobs.{PagesMeshed, PagesSwept, PairsFound, Rep
 ghost use Rattle.model_heap.specs.Mesh.{begin, cancel, first_mesh, mesh_in, mesh_whole, step};
 ghost use Rattle.model_search.specs.Search.{search, view_of};
 ghost use Rattle.model_heap.specs.Table.{sweep};
-ghost use Rattle.mesh_steps.specs.PageHeap.{counts_told};
-ghost use Rattle.mesh_text.specs.Answers.{count_told, step_told};
+ghost use Rattle.mesh_page_heap.specs.PageHeap.{counts_told};
+ghost use Rattle.mesh_answer_text.specs.Answers.{count_told, step_told};
 ghost use Rattle.mesh_text.specs.Turns.{IsCall, IsReport};
 
 use mesh_class::Class;

@@ -7,8 +7,8 @@ ghost use Rattle.mesh_lines.specs.Plan.{line_of};
 ghost use Rattle.model_jobs.specs.Texts.{ended};
 ghost use Rattle.mesh_text.specs.Turns.{IsAt, IsTold, StandsBehind, book_of, lines_up_to, places_of, worker_count};
 
-use crate::answers::{add_counted, add_found, add_reply, add_report, add_step};
 use crate::mesher::{begin, cancel, cancel_first, pair, report, step, step_first, sweep, whole};
+use mesh_answer_text::{add_counted, add_found, add_reply, add_report, add_step};
 use mesh_job::{Job, PlanLine, Script};
 use mesh_mutator::{Attempt, Book};
 use mesh_steps::Heap;

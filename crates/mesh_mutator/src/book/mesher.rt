@@ -8,7 +8,7 @@ ghost use Rattle.mesh_mutator.specs.Book.{table_of_book};
 ghost use Rattle.mesh_mutator.specs.Mesher.{KeepsBook};
 ghost use Rattle.mesh_steps.specs.Heap.{arena_of};
 ghost use Rattle.mesh_steps.specs.HeapMeshes.{IsAnswered, IsMeshBegun, IsMeshCancelled, IsMeshed, IsStepMade, IsSwept};
-ghost use Rattle.mesh_steps.specs.PageHeap.{counts_told};
+ghost use Rattle.mesh_page_heap.specs.PageHeap.{counts_told};
 
 use super::Book;
 use mesh_class::Class;

@@ -6,12 +6,12 @@ ghost use Rattle.model_heap.specs.MeshLaws.{steps_of_class};
 ghost use Rattle.model_heap.specs.Table.{sweep};
 ghost use Rattle.mesh_steps.specs.Heap.{table_of};
 ghost use Rattle.mesh_steps.specs.HeapMeshes.{IsAnswered, IsMeshBegun, IsMeshCancelled, IsMeshed, IsStepMade, IsSwept, KeepsMeaning};
-ghost use Rattle.mesh_steps.specs.Meshes.{busy_by};
+ghost use Rattle.mesh_page_heap.specs.Meshes.{busy_by};
 
 use super::Heap;
 use crate::StepDone;
-use crate::busy::Busy;
 use mesh_class::Class;
+use mesh_page_heap::Busy;
 use model_words::Refusal;
 
 impl Heap {

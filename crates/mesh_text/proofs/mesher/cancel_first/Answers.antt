@@ -1,6 +1,6 @@
 use Rattle.std.proofs.Common.{◌∙◌, sym}
 use Rattle.model_jobs.specs.Jobs.{StepsLeft}
-use Rattle.mesh_text.specs.Answers.{count_told}
+use Rattle.mesh_answer_text.specs.Answers.{count_told}
 use Rattle.mesh_text.proofs.MesherCalls.{first_cancelled, none_cancelled}
 use Rattle.mesh_text.proofs.mesher.cancel_first.Goals as goal
 

@@ -1,8 +1,8 @@
 use Rattle.std.proofs.Common.{Option, IfSome, ap, is_some, refl, subst, sym}
 use Rattle.mesh_steps.specs.Heap.{Heap, IsObjectAt, IsReferred}
-use Rattle.mesh_steps.specs.declared.answers.Occupied.{Occupied}
+use Rattle.mesh_page_heap.specs.declared.answers.Occupied.{Occupied}
 use Rattle.mesh_steps.proofs.MadeObjects.{emptied_sound, freed_heap, freed_is}
-use Rattle.mesh_steps.proofs.NewPlaces.{record_there}
+use Rattle.mesh_page_heap.proofs.NewPlaces.{record_there}
 use Rattle.mesh_steps.proofs.heap.Heap.free.Goals as goal
 
 pub take_out-requires-clause-there : goal.take_out-requires-clause-there

@@ -1,7 +1,7 @@
 use Rattle.std.proofs.Common.{◌≡◌, Option, Some, None, IfSome, IfNone, Err, is_some, is_ok, refl, ◌∙◌}
 use Rattle.model_words.specs.declared.refusals.Refusal.TheVariants.{Freed}
 use Rattle.mesh_steps.specs.Heap.{Heap, IsReferred, plain_of, referred}
-use Rattle.mesh_steps.specs.declared.answers.Occupied.{Occupied}
+use Rattle.mesh_page_heap.specs.declared.answers.Occupied.{Occupied}
 use Rattle.mesh_steps.specs.declared.answers.Ref.{Ref}
 use Rattle.mesh_steps.proofs.heap.Heap.is_live.Goals as goal
 

@@ -1,4 +1,4 @@
-use Rattle.mesh_steps.specs.PageHeap.{IsInSlotOf}
+use Rattle.mesh_page_heap.specs.PageHeap.{IsInSlotOf}
 use Rattle.mesh_steps.specs.Heap.{IsObjectAt}
 use Rattle.mesh_steps.proofs.Objects.{IfSome_more, in_slot_recorded, object_found}
 use Rattle.mesh_steps.proofs.heap.Heap.object_at.Goals as goal

@@ -3,7 +3,7 @@ use Rattle.std.specs.Prelude.{codes}
 use Rattle.model_jobs.specs.Jobs.{Job, PagesMeshed, PagesSwept, StepsLeft, busy_in, counted}
 use Rattle.model_heap.specs.Mesh.{begin, mesh_whole}
 use Rattle.model_words.specs.declared.versions.Version.{Version}
-use Rattle.mesh_text.specs.Answers.{count_told}
+use Rattle.mesh_answer_text.specs.Answers.{count_told}
 use Rattle.mesh_text.specs.Turns.{IsCall}
 use Rattle.mesh_text.proofs.LineTexts.{counted_on, told_on}
 use Rattle.mesh_text.proofs.turns.Turns.answer.Goals as goal

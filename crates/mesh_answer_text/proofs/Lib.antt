@@ -1,0 +1,4 @@
+pub mod Digits
+pub mod HistoryParts
+pub mod PartTexts
+pub mod RecordedTexts

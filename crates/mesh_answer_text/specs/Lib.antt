@@ -1,0 +1,6 @@
+pub mod Answers
+pub mod Histories
+pub mod HistoryRows
+pub mod RecordingRows
+pub mod Recordings
+pub use Rattle.model_words.specs.Commands

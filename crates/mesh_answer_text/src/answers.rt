@@ -1,0 +1,110 @@
+//! The answer lines, without their ends, and the words that they are made of.
+ghost use Rattle.std.specs.Prelude.{◌≡◌, ◌+◌, ◌<◌, ◌≤◌, ◌++◌, decimal, length, vec_capacity, vec_len, OnOk};
+ghost use Rattle.model_jobs.specs.Texts.{address_text, byte_text, bytes_text, hex_digit, refusal_text, reply_text};
+
+mod mesher;
+
+use hex::encode_to_slice;
+use itoa::Buffer;
+pub use mesher::{add_counted, add_found, add_report, add_step};
+use model_words::{MAX_BYTES, Refusal, Reply};
+use std::alloc::AllocError;
+
+/// Adds what a reply's line says. An error is an allocation failure.
+pub fn add_reply(text: &mut Vec<u8>, reply: &Reply) -> Result<(), AllocError>
+    ensures { OnOk result (text.new.items ≡ text.old.items ++ reply_text reply.now) }
+{
+    match reply {
+        Reply::Object(serial, address) => add_object(text, *serial, *address),
+        Reply::Done => text.extend_from_slice(b"done"),
+        Reply::Bytes(bytes) => {
+            text.extend_from_slice(b"bytes ")?;
+            add_bytes(text, bytes.as_slice())
+        }
+        Reply::At(address) => {
+            text.extend_from_slice(b"at ")?;
+            add_address(text, *address)
+        }
+        Reply::Byte(byte) => {
+            text.extend_from_slice(b"byte ")?;
+            add_bytes(text, &[*byte])
+        }
+        Reply::Refused(refusal) => add_refusal(text, *refusal),
+    }
+}
+
+/// Adds `object SERIAL at ADDR`.
+fn add_object(text: &mut Vec<u8>, serial: u32, address: u32) -> Result<(), AllocError>
+    ensures { OnOk result (text.new.items ≡ text.old.items ++ reply_text (Reply.Object serial address)) }
+{
+    text.extend_from_slice(b"object ")?;
+    add_decimal(text, u64::from(serial))?;
+    text.extend_from_slice(b" at ")?;
+    add_address(text, address)
+}
+
+/// Adds `refused NUMBER NAME`. An error is an allocation failure.
+pub fn add_refusal(text: &mut Vec<u8>, refusal: Refusal) -> Result<(), AllocError>
+    ensures { OnOk result (text.new.items ≡ text.old.items ++ refusal_text refusal) }
+{
+    text.extend_from_slice(b"refused ")?;
+    add_decimal(text, u64::from(refusal.number()))?;
+    text.push(b' ')?;
+    text.extend_from_slice(refusal.name().as_bytes())
+}
+
+/// Adds a number in decimal digits without a leading zero. An error is an allocation failure.
+pub fn add_decimal(text: &mut Vec<u8>, number: u64) -> Result<(), AllocError>
+    ensures { OnOk result (text.new.items ≡ text.old.items ++ decimal number) }
+{
+    let mut digits = Buffer::new();
+    text.extend_from_slice(digits.format(number).as_bytes())
+}
+
+/// The most digits of an address.
+const MAX_DIGITS: usize = 8;
+
+/// Adds an address in hexadecimal digits without a leading zero.
+pub(crate) fn add_address(text: &mut Vec<u8>, address: u32) -> Result<(), AllocError>
+    ensures { OnOk result (text.new.items ≡ text.old.items ++ address_text address) }
+{
+    text.reserve(MAX_DIGITS)?;
+    push_address(text, address);
+    Ok(())
+}
+
+/// Adds the digits of an address, for which there is room.
+fn push_address(text: &mut Vec<u8>, address: u32)
+    requires { vec_len text.old + length (address_text address) ≤ vec_capacity text.old }
+    ensures digits { text.new.items ≡ text.old.items ++ address_text address }
+    ensures len { vec_len text.new ≡ vec_len text.old + length (address_text address) }
+    ensures room { vec_capacity text.new ≡ vec_capacity text.old }
+{
+    if address >= 16 {
+        push_address(text, address / 16);
+    }
+    text.push_reserved(digit((address % 16) as u8));
+}
+
+/// Adds up to 32 bytes, two hexadecimal digits each, in lower case. An error is an allocation failure.
+pub fn add_bytes(text: &mut Vec<u8>, bytes: &[u8]) -> Result<(), AllocError>
+    requires { length bytes.now ≤ 32 }
+    ensures { OnOk result (text.new.items ≡ text.old.items ++ bytes_text bytes.now) }
+{
+    let mut digits = [0; 2 * MAX_BYTES];
+    let digits = &mut digits[..2 * bytes.len()];
+    encode_to_slice(bytes, digits).unwrap();
+    text.extend_from_slice(digits)
+}
+
+/// The hexadecimal digit of a value below 16, in lower case.
+pub fn digit(value: u8) -> u8
+    requires { value < 16 }
+    ensures { result ≡ hex_digit value }
+{
+    if value < 10 {
+        b'0' + value
+    } else {
+        b'a' + (value - 10)
+    }
+}

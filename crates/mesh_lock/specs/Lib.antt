@@ -1,0 +1,3 @@
+pub use Rattle.model_memory.specs.Plain
+pub use Rattle.model_memory.specs.Reads
+pub use Rattle.model_memory.specs.Seats

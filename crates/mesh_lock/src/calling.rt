@@ -1,0 +1,106 @@
+//! The calls of a seat's mutator, past a gate.
+ghost use Rattle.std.specs.Prelude.{◌≡◌, ◌↔◌, ◌<◌, ◌≤◌, length, None, IsTrue, true};
+ghost use Rattle.model_words.specs.Commands.{IsInRange};
+ghost use Rattle.model_memory.specs.Reads.{is_read};
+ghost use Rattle.mesh_mutator.specs.declared.attempts.Attempt.{Attempt};
+ghost use Rattle.mesh_seats.specs.Seat.{IsNew, IsStore, IsTaken};
+
+use crate::guarded::{act, look};
+use crate::shared::Shared;
+use mesh_mutator::{Attempt, Command};
+use mesh_search::{Actor, Gate, Point};
+use mesh_seats::{Seat, is_read};
+use std::sync::Wait;
+
+/// A mutator of a shared book, past a gate.
+#[derive(Drop)]
+pub struct Mutator<'a, R, G> {
+    rt: &'a R,
+    gate: &'a G,
+    shared: &'a Shared,
+}
+
+impl<'a, R: Wait, G: Gate> Mutator<'a, R, G> {
+    /// A mutator of this book.
+    pub fn of(rt: &'a R, gate: &'a G, shared: &'a Shared) -> Mutator<'a, R, G> {
+        Mutator { rt, gate, shared }
+    }
+
+    /// One attempt at a command, as `Shared::call` tells. A read arrives at the gate under the shared lock, before it is answered.
+    pub fn attempt(&self, seat: &mut Seat, command: &Command) -> Attempt
+        requires { IsInRange command.now }
+        ensures taken { IsTaken seat.old seat.new command.now result }
+        ensures full { seat.old.room ≤ length seat.old.calls → result ≡ Attempt.HistoryFull }
+        ensures read { is_read command.now ≡ true → (result ≡ Attempt.HistoryFull) ↔ (seat.old.room ≤ length seat.old.calls) }
+    {
+        if seat.is_full() {
+            return Attempt::HistoryFull;
+        }
+        if is_read(command) {
+            let book = self.shared.book.read(self.rt);
+            let call = call_number(seat.calls().len());
+            self.gate
+                .arrive(Actor::Worker(seat.number()), Point::Reading(call));
+            return Attempt::Done(look(&book, seat, command));
+        }
+        act(&mut self.shared.book.write(self.rt), seat, command)
+    }
+
+    /// Attempts until one isn't Blocked.
+    pub fn retry(&self, seat: &mut Seat, command: &Command) -> Attempt
+        requires { IsInRange command.now }
+        ensures taken { IsTaken seat.old seat.new command.now result }
+        ensures full { seat.old.room ≤ length seat.old.calls → result ≡ Attempt.HistoryFull }
+        ensures read { is_read command.now ≡ true → (result ≡ Attempt.HistoryFull) ↔ (seat.old.room ≤ length seat.old.calls) }
+        ensures not_blocked { result ≡ Attempt.Blocked → ⊥ }
+    {
+        for _ in self.rt.forever() {
+            let attempt = self.attempt(seat, command);
+            if !is_blocked(&attempt) {
+                return attempt;
+            }
+        }
+        unreachable!()
+    }
+
+    /// Attempts until one isn't Blocked, or, where there is an end to the tries, until so many were made.
+    pub fn insist(&self, seat: &mut Seat, command: &Command, tries: Option<u32>) -> Attempt
+        requires { IsInRange command.now }
+        ensures taken { IsTaken seat.old seat.new command.now result }
+        ensures not_blocked { tries ≡ None → result ≡ Attempt.Blocked → ⊥ }
+    {
+        match tries {
+            None => self.retry(seat, command),
+            Some(tries) => self.try_up_to(seat, command, tries),
+        }
+    }
+
+    /// At most so many attempts, and one at least.
+    fn try_up_to(&self, seat: &mut Seat, command: &Command, tries: u32) -> Attempt
+        requires { IsInRange command.now }
+        ensures { IsTaken seat.old seat.new command.now result }
+    {
+        for _ in 1..tries {
+            let attempt = self.attempt(seat, command);
+            if !is_blocked(&attempt) {
+                return attempt;
+            }
+        }
+        self.attempt(seat, command)
+    }
+}
+
+/// Which call it is, counted from 0, as a gate hears it: past the numbers that it can hear it hears the last one.
+pub fn call_number(call: usize) -> u32
+    ensures heard { call ≤ 4294967295 → result ≡ call }
+    ensures last { 4294967295 < call → result ≡ 4294967295 }
+{
+    u32::try_from(call).unwrap_or(u32::MAX)
+}
+
+/// Whether an attempt was held back.
+fn is_blocked(attempt: &Attempt) -> bool
+    ensures { IsTrue result ↔ (attempt.now ≡ Attempt.Blocked) }
+{
+    matches!(attempt, Attempt::Blocked)
+}

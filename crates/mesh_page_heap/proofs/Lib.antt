@@ -1,0 +1,11 @@
+pub mod Emptied
+pub mod GroupNumbers
+pub mod GrowthLemmas
+pub mod Insides
+pub mod MayBegin
+pub mod MeshEnds
+pub mod MeshFlags
+pub mod MeshRuns
+pub mod NewPlaces
+pub mod Shown
+pub mod Slots

@@ -1,0 +1,67 @@
+-- How meshes begin, go on, are cancelled and end.
+use Rattle.std.specs.Prelude.{◌≡◌, ◌≢◌, ℕ, Bool, false, List, Ok, Some, slice_get, slice_set}
+use Rattle.std.specs.List.{remove}
+use Rattle.mesh_layout.specs.Effects.{HasEffect}
+use Rattle.mesh_layout.specs.Indexes.{class_in, layout_of, members_in, pages_in, slots_in}
+use Rattle.mesh_layout.specs.Steps.{Keeps}
+use Rattle.model_heap.specs.Mesh.{Pair, any_mesh, begin, cancel, may_begin, mesh_in, mesh_of_class, step}
+use Rattle.model_heap.specs.Table.{Mesh, Table, Unwinding}
+use Rattle.mesh_spans.specs.Groups.{groups_of, is_closed}
+use Rattle.mesh_spans.specs.Index.{Index, group_at}
+use Rattle.mesh_page_heap.specs.PageHeap.{PageHeap, table_in}
+use Rattle.model_words.specs.declared.answers.StepDone.{StepDone}
+use Rattle.mesh_page_heap.specs.declared.busy.Busy.{Busy}
+use Rattle.mesh_page_heap.specs.declared.busy.Busy.TheVariants.{Any, OfClass}
+
+-- whether running meshes keep a class busy
+abbrev pub busy_by : Busy → Table → ℕ → Bool
+busy_by OfClass = mesh_of_class
+busy_by Any = any_mesh
+
+-- a mesh of the two groups may begin, and they are of this class
+pub record IsPair (busy : Busy) (g : PageHeap) (source destination class : ℕ) : Type 0 where
+  pub pair : Pair
+  pub may : may_begin (busy_by busy) (table_in g) source destination ≡ Ok pair
+  pub class_is : pair.source.class ≡ class
+
+-- a mesh began: its groups are closed, so many steps are to come, and nothing lies elsewhere
+pub record IsBegun (busy : Busy) (old new : PageHeap) (source destination left : ℕ) : Type 0 where
+  pub table : begin (busy_by busy) (table_in old) source destination ≡ Ok (record { count = left; table = table_in new })
+  pub arena : new.arena ≡ old.arena
+  pub map : new.map ≡ old.map
+
+-- the mesh runs, at this place of the list
+pub record IsRunning (g : PageHeap) (place : ℕ) (mesh : Mesh) : Type 0 where
+  pub at : slice_get g.meshes place ≡ Some mesh
+  pub found : mesh_in (table_in g) mesh.class ≡ Some mesh
+
+-- the next step of the mesh of a class was made: the table's, with its effect and no other, and each byte of an object is as it was
+pub record IsStepped (old new : PageHeap) (class : ℕ) (done : StepDone) : Type 0 where
+  pub table : step (table_in old) (mesh_in (table_in old) class) ≡ Ok (record { kind = done.kind; left = done.left; table = table_in new })
+  pub kept : Keeps (layout_of old.index) old.arena new.arena old.map new.map
+  pub mesh : Mesh
+  pub running : mesh_in (table_in old) class ≡ Some mesh
+  pub effect : HasEffect old.index mesh old.arena new.arena old.map new.map
+
+-- the mesh of a class was cancelled: so many unprotects are to come, and nothing lies elsewhere
+pub record IsCancelled (old new : PageHeap) (class left : ℕ) : Type 0 where
+  pub table : cancel (table_in old) (mesh_in (table_in old) class) ≡ Ok (record { count = left; table = table_in new })
+  pub arena : new.arena ≡ old.arena
+  pub map : new.map ≡ old.map
+
+-- the two groups are open, and nothing else of the index changed
+pub record OpensBoth (old new : Index) (source destination : ℕ) : Type 0 where
+  pub class : (n : ℕ) → class_in (group_at new.groups n) ≡ class_in (group_at old.groups n)
+  pub members : (n : ℕ) → members_in (group_at new.groups n) ≡ members_in (group_at old.groups n)
+  pub pages : (n : ℕ) → pages_in (group_at new.groups n) ≡ pages_in (group_at old.groups n)
+  pub slots : (n : ℕ) → slots_in (group_at new.groups n) ≡ slots_in (group_at old.groups n)
+  pub spans : new.spans ≡ old.spans
+  pub groups : groups_of new ≡ groups_of old
+  pub closed : (n : ℕ) → n ≢ source → n ≢ destination → is_closed new n ≡ is_closed old n
+  pub closed_source : is_closed new source ≡ false
+  pub closed_destination : is_closed new destination ≡ false
+
+-- a cancelled mesh with so many of its protected pages writable again: with all of them it is out of the list, and its two groups are open
+pub record IsWoundBack (old new : Index) (list left : List Mesh) (place : ℕ) (mesh : Mesh) (protected unprotected : ℕ) : Type 0 where
+  pub over : unprotected ≡ protected → OpensBoth old new mesh.source mesh.destination × (left ≡ remove list place)
+  pub more : unprotected ≢ protected → (new ≡ old) × (left ≡ slice_set list place (record mesh { progress = Unwinding protected unprotected }))

@@ -1,0 +1,107 @@
+//! What a page heap shows, without effect.
+ghost use Rattle.std.specs.Prelude.{◌≡◌, ◌<◌, ◌≤◌, IfSome, slice_get};
+ghost use Rattle.mesh_arena.specs.Pages.{is_taken};
+ghost use Rattle.model_heap.specs.Table.{group_of};
+ghost use Rattle.mesh_layout.specs.Indexes.{members_in};
+ghost use Rattle.mesh_layout.specs.Meshes.{mesh_from};
+ghost use Rattle.mesh_spans.specs.Index.{group_at};
+ghost use Rattle.mesh_page_heap.specs.PageHeap.{table_in};
+ghost use Rattle.mesh_page_heap.specs.Shown.{home_at, lead_at, member_at, object_at, released_of};
+
+use super::PageHeap;
+use crate::Lead;
+use crate::running::mesh_of;
+use crate::step_order::StepOrder;
+use mesh_pagemap::Prot;
+use mesh_running::{Phase, Running};
+use mesh_spans::{Slot, Span, Spans};
+
+impl PageHeap {
+    /// The lowest virtual page that was never used.
+    pub fn next_page(&self) -> u32
+        ensures { result ≡ (table_in self.now).next_page }
+    {
+        self.next_page
+    }
+
+    /// The member of a group at a place, by its first virtual page. None only where the number is no group, or it has no member there.
+    pub fn member(&self, n: u32, place: usize) -> Option<u32>
+        ensures value { result ≡ member_at (group_of (table_in self.now) n) place }
+        ensures range { IfSome result (λ first. (1 ≤ first) × (first < 65536)) }
+    {
+        self.spans.sound();
+        let span = member_span(&self.spans, n, place)?;
+        Some(self.spans.first_page(span))
+    }
+
+    /// Serial and length, in bytes, of the object that the member of a group at a place has in a slot. None only where it has none there.
+    pub fn object(&self, n: u32, place: usize, slot: u32) -> Option<(u32, u32)>
+        ensures { result ≡ object_at (group_of (table_in self.now) n) place slot }
+    {
+        self.spans.sound();
+        let span = member_span(&self.spans, n, place)?;
+        self.spans.record(span, Slot::numbered(slot))
+    }
+
+    /// The physical page at a place of a group's pages. None only where the number is no group, or it has no page there.
+    pub fn home(&self, n: u32, place: usize) -> Option<u32>
+        ensures { result ≡ home_at self.now.index n place }
+    {
+        let group = self.spans.group(n)?;
+        let page = group.pages().get(place)?;
+        Some(page.number())
+    }
+
+    /// Where a virtual page leads. None only where it isn't mapped.
+    pub fn lead(&self, v: u32) -> Option<Lead>
+        requires { 1 ≤ v }
+        ensures { result ≡ lead_at self.now.map v }
+    {
+        if v >= self.next_page {
+            return None;
+        }
+        let (page, prot) = self.store.map.lookup(v)?;
+        Some(Lead {
+            page: page.number(),
+            read_only: prot == Prot::ReadOnly,
+        })
+    }
+
+    /// Whether a physical page is taken.
+    pub fn is_taken(&self, page: u32) -> bool
+        ensures { result ≡ is_taken self.now.arena page }
+    {
+        self.store.arena.is_taken(page)
+    }
+
+    /// How many of a group's physical pages a mesh from it has given back. None of them where the number is no group, or no mesh from it runs.
+    pub fn released(&self, n: u32) -> u32
+        ensures { result ≡ released_of (group_of (table_in self.now) n) (mesh_from n self.now.meshes) }
+    {
+        let Some(_group) = self.spans.group(n) else {
+            return 0;
+        };
+        let Some(mesh) = mesh_of(self.meshes.as_slice(), n) else {
+            return 0;
+        };
+        match mesh.phase() {
+            Phase::Made(made) => StepOrder::of(&self.spans, n).released_after(made),
+            Phase::Unwinding(_, _) => 0,
+        }
+    }
+
+    /// The running mesh at a place, in the order of their beginning. None only where so few run.
+    pub fn mesh(&self, place: usize) -> Option<Running>
+        ensures { result ≡ slice_get self.now.meshes place }
+    {
+        self.meshes.get(place).copied()
+    }
+}
+
+/// The span that is the member of a group at a place.
+fn member_span(spans: &Spans, n: u32, place: usize) -> Option<Span>
+    ensures { result ≡ slice_get (members_in (group_at spans.now.groups n)) place }
+{
+    let group = spans.group(n)?;
+    group.members().get(place).copied()
+}

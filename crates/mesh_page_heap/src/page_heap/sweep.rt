@@ -1,0 +1,52 @@
+//! Empty groups' pages given back.
+ghost use Rattle.std.specs.Prelude.{◌≡◌, Err, IfErr, IfOk};
+ghost use Rattle.mesh_layout.specs.Indexes.{layout_of};
+ghost use Rattle.mesh_layout.specs.Steps.{UnmapsGroup};
+ghost use Rattle.model_heap.specs.Table.{sweep};
+ghost use Rattle.mesh_page_heap.specs.PageHeap.{table_in};
+ghost use Rattle.mesh_page_heap.specs.Sweeps.{CanUnmap, HasGone};
+
+use super::PageHeap;
+use crate::growth::give_pages;
+use crate::step_order::StepOrder;
+use crate::steps::virtual_page;
+use mesh_pagemap::PageMap;
+use mesh_spans::Spans;
+use model_words::Refusal;
+
+impl PageHeap {
+    /// Takes an empty group out, unmaps its virtual pages, gives its physical pages back, and tells how many these are.
+    ///
+    /// Refused with NO_GROUP, BUSY where the group is in a mesh, or NOT_EMPTY, the first that holds; then nothing changes.
+    pub fn sweep(&mut self, n: u32) -> Result<u32, Refusal>
+        ensures swept { IfOk result (HasGone self.old self.new n) }
+        ensures refused { IfErr result (λ refusal. (sweep (table_in self.old) n ≡ Err refusal) × (self.new ≡ self.old)) }
+    {
+        self.spans.sound();
+        let Some(group) = self.spans.group(n) else {
+            return Err(Refusal::NoGroup);
+        };
+        if group.in_mesh() {
+            return Err(Refusal::Busy);
+        }
+        if !group.is_empty() {
+            return Err(Refusal::NotEmpty);
+        }
+        let count = group.class().pages();
+        give_pages(&mut self.store.arena, group.pages());
+        unmap_group(&mut self.store.map, &self.spans, n);
+        self.spans.retire(n);
+        Ok(count)
+    }
+}
+
+/// Unmaps the virtual pages of a group.
+fn unmap_group(map: &mut PageMap, spans: &Spans, n: u32)
+    requires { CanUnmap (layout_of spans.now) map.old n }
+    ensures { UnmapsGroup (layout_of spans.now) map.old map.new n }
+{
+    let total = StepOrder::of(spans, n).total;
+    'pages: for i in 0..total {
+        map.unmap(virtual_page(spans, n, i));
+    }
+}

@@ -1,0 +1,29 @@
+-- What a replay that writes a recorded history has read and written when it ends, and when it stops.
+use Rattle.std.specs.Prelude.{ℕ, List, Option}
+use Rattle.std.specs.Io.KnownBytes.{Appends, Keeps}
+use Rattle.model_memory.specs.Plain.{Entry}
+use Rattle.model_jobs.specs.Jobs.{Job, opening, state_after}
+use Rattle.mesh_answer_text.specs.Recordings.{recorded_text}
+use Rattle.mesh_text.specs.Replay.{HasFound, HasPlayed}
+use Rattle.mesh_text.specs.Transfer.{AppendsBeginning}
+use Rattle.mesh_text.specs.declared.faults.ReplayError.{ReplayError}
+use Rattle.mesh_text.specs.declared.faults.ReplayError.TheVariants.{Read, Write, Text, Memory}
+
+-- the answered commands that the plan of a job leaves in its journal
+abbrev pub journal_of : Job → List Entry
+journal_of job = (state_after job (opening job) job.plan).entries
+
+-- the input was read to its end, and the recorded history of its job's journal was written
+abbrev pub HasReplayedRecorded : Option (List ℕ) → Option (List ℕ) → Option (List ℕ) → Option (List ℕ) → Type 0
+HasReplayedRecorded left left' written written' = HasPlayed left left' (λ job. Appends written written' (recorded_text (journal_of job)))
+
+-- the input was read to its end, and a beginning of the recorded history of its job's journal was written
+abbrev pub HasBegunRecorded : Option (List ℕ) → Option (List ℕ) → Option (List ℕ) → Option (List ℕ) → Type 0
+HasBegunRecorded left left' written written' = HasPlayed left left' (λ job. AppendsBeginning written written' (recorded_text (journal_of job)))
+
+-- what was read and written, by the error that a recorded replay stopped for
+abbrev pub HasStoppedRecorded : Option (List ℕ) → Option (List ℕ) → Option (List ℕ) → Option (List ℕ) → ReplayError → Type 0
+HasStoppedRecorded left left' written written' Read = Keeps written written'
+HasStoppedRecorded left left' written written' Write = HasBegunRecorded left left' written written'
+HasStoppedRecorded left left' written written' (Text fault) = HasFound left left' fault × Keeps written written'
+HasStoppedRecorded left left' written written' Memory = Keeps written written'

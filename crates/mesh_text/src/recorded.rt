@@ -1,0 +1,73 @@
+//! The replay that writes a recorded history in place of the answers.
+ghost use Rattle.std.specs.Prelude.{◌≡◌, ◌⊎◌, false, true, length, IfOk, IfErr, OnOk};
+ghost use Rattle.std.specs.Io.KnownBytes.{Appends, Keeps};
+ghost use Rattle.mesh_answer_text.specs.Recordings.{recorded_text};
+ghost use Rattle.mesh_text.specs.Recorded.{HasReplayedRecorded, HasStoppedRecorded, journal_of};
+ghost use Rattle.mesh_text.specs.Transfer.{AppendsBeginning};
+ghost use Rattle.mesh_text.specs.Turns.{StandsBehind};
+ghost use Rattle.mesh_text.specs.declared.faults.ReplayError.{ReplayError};
+
+use crate::reading::read_job;
+use crate::run::write_lines;
+use crate::turns::Turns;
+use crate::{ReplayError, Sink, Source};
+use mesh_answer_text::recorded_journal;
+use mesh_job::Job;
+use std::alloc::{AllocError, Global};
+
+/// Replays the job file that the input gives, and writes the recorded history of its journal in place of the answers.
+///
+/// Job and plan are as in `replay`. Nothing is written before the plan is over. Read comes where the input failed, Text where what was
+/// read is no job file, and Memory where memory was refused; nothing was written then. Write comes where the output failed.
+pub fn replay_recorded<I: Source, O: Sink>(
+    alloc: Global,
+    input: &mut I,
+    output: &mut O,
+) -> Result<(), ReplayError>
+    requires input { I.has_failed input.old ≡ false }
+    requires output { O.has_failed output.old ≡ false }
+    ensures ok { OnOk result ((I.has_failed input.new ≡ false) × (O.has_failed output.new ≡ false)) }
+    ensures replayed { OnOk result (HasReplayedRecorded (I.remaining input.old) (I.remaining input.new) (O.written output.old) (O.written output.new)) }
+    ensures stopped { IfErr result (HasStoppedRecorded (I.remaining input.old) (I.remaining input.new) (O.written output.old) (O.written output.new)) }
+    ensures read { result ≡ Err ReplayError.Read → I.has_failed input.new ≡ true }
+    ensures write { result ≡ Err ReplayError.Write → O.has_failed output.new ≡ true }
+{
+    let job = read_job(alloc, input)?;
+    record(alloc, &job, output)
+}
+
+/// Runs the plan of a job on a fresh heap, and writes the recorded history of its journal.
+#[tactic(auto, using(crate::proofs::PlayEnds::never_ok, crate::proofs::PlayEnds::not_write, crate::proofs::PlayEnds::is_memory))]
+fn record<O: Sink>(alloc: Global, job: &Job, output: &mut O) -> Result<(), ReplayError>
+    requires { O.has_failed output.old ≡ false }
+    ensures ok { OnOk result (O.has_failed output.new ≡ false) }
+    ensures whole { OnOk result (Appends (O.written output.old) (O.written output.new) (recorded_text (journal_of job.now))) }
+    ensures fails { result ≡ Err ReplayError.Write → O.has_failed output.new ≡ true }
+    ensures beginning { result ≡ Err ReplayError.Write → AppendsBeginning (O.written output.old) (O.written output.new) (recorded_text (journal_of job.now)) }
+    ensures nothing { result ≡ Err ReplayError.Memory → Keeps (O.written output.old) (O.written output.new) }
+    ensures kinds { IfErr result (λ error. (error ≡ ReplayError.Write) ⊎ (error ≡ ReplayError.Memory)) }
+{
+    let text = recorded_play(alloc, job)?;
+    write_lines(output, text.as_slice())
+}
+
+/// The recorded history of the journal that a job's plan leaves on a fresh heap.
+fn recorded_play(alloc: Global, job: &Job) -> Result<Vec<u8>, AllocError>
+    ensures { IfOk result (λ text. text.items ≡ recorded_text (journal_of job.now)) }
+{
+    let mut turns = Turns::open(alloc, job)?;
+    play_all(alloc, job, &mut turns)?;
+    recorded_journal(alloc, turns.book().journal())
+}
+
+/// Plays all lines of a job's plan. Their answers are let go.
+fn play_all(alloc: Global, job: &Job, turns: &mut Turns) -> Result<(), AllocError>
+    requires { StandsBehind job.now 0 turns.old }
+    ensures { OnOk result (StandsBehind job.now (length job.now.plan) turns.new) }
+{
+    let mut answer = Vec::new(alloc);
+    for place in 0..job.plan.lines().len() {
+        turns.play(alloc, job, place, &mut answer)?;
+    }
+    Ok(())
+}
