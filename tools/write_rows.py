@@ -1,8 +1,8 @@
 #!/usr/bin/env python3
-"""Writes the crate mesh_rows, and the tables of mesh_run_tests and mesh_explore_tests, from the files under jobs/rows and jobs/explore.
+"""Writes the crate mesh_rows, and the tables of mesh_in_memory and mesh_explore_tests, from the files under jobs/rows and jobs/explore.
 
 Each folder there is a subject, and each NAME.job in it a row: NAME.out has the lines that the job is answered, or NAME.err the fault of a file
-that is no job. In mesh_rows a subject becomes a spec file, and a function whose clauses are its rows; in mesh_run_tests the rows become tables, one
+that is no job. In mesh_rows a subject becomes a spec file, and a function whose clauses are its rows; in mesh_in_memory the rows become tables, one
 a subject. The smaller explorations under jobs/explore become a table of mesh_explore_tests. Run it from the top of the repository after a row was
 added or changed; what it writes is committed.
 """
@@ -13,7 +13,7 @@ import subprocess
 
 ROWS = pathlib.Path("jobs/rows")
 CRATE = pathlib.Path("crates/mesh_rows")
-TESTS = pathlib.Path("crates/mesh_run_tests")
+TABLES = pathlib.Path("crates/mesh_in_memory")
 # The definitions are computed on files below this length; the longer one is there for the program alone.
 MAX_BYTES = 100_000
 
@@ -122,22 +122,22 @@ def table(name, doc, rows, suffix):
     texts = [(f"{row.parent.name}/{row.stem}", file_text(row), row.with_suffix(suffix).read_text()) for row in rows]
     assert not any(mark in text for fields in texts for text in fields for mark in (ROW_END, FIELD_END))
     lines = [literal(FIELD_END.join(fields))[1:-1] for fields in texts]
-    return [f"/// {doc}", f'pub(crate) static {name}: &str = "\\', *[line + ROW_END + "\\" for line in lines[:-1]], f'{lines[-1]}";', ""]
+    return [f"/// {doc}", f'pub static {name}: &str = "\\', *[line + ROW_END + "\\" for line in lines[:-1]], f'{lines[-1]}";', ""]
 
 
 def write_tables():
     lines = [f"//! The worked rows, each table one text: `{ROW_END}` stands between two rows, and `{FIELD_END}` between two fields of a row. Written by",
              "//! `tools/write_rows.py`.", ""]
     for row, name in NAMED.items():
-        lines += [f"/// The file of the row `{row.parent.name}/{row.stem}`.", f"pub(crate) const {name}_FILE: &str = {literal(file_text(row))};", "",
-                  "/// Its answers.", f"pub(crate) const {name}_ANSWERS: &str = {literal(row.with_suffix('.out').read_text())};", ""]
+        lines += [f"/// The file of the row `{row.parent.name}/{row.stem}`.", f"pub const {name}_FILE: &str = {literal(file_text(row))};", "",
+                  "/// Its answers.", f"pub const {name}_ANSWERS: &str = {literal(row.with_suffix('.out').read_text())};", ""]
     for folder in sorted(folder for folder in ROWS.iterdir() if folder.is_dir() and folder.name not in UNTABLED):
         rows = sorted(row for row in folder.glob("*.job") if row.with_suffix(".out").exists())
         if rows:
             lines += table(folder.name.upper(), f"Rows of {folder.name.replace('_', ' ')}: of each its name, its file and its answers.", rows, ".out")
     faults = [row for row in sorted(ROWS.glob("*/*.job")) if row.with_suffix(".err").exists() and len(file_text(row)) < 1000]
     lines += table("FAULTS", "Of each short file that is no job its name, its bytes and the line of its fault.", faults, ".err")
-    (TESTS / "src" / "tests" / "files.rt").write_text("\n".join(lines))
+    (TABLES / "src" / "files.rt").write_text("\n".join(lines))
 
 
 def is_few(job):
@@ -182,7 +182,7 @@ def main():
     (CRATE / "specs" / "Lib.antt").write_text("\n".join(f"pub mod {name}" for name in sorted([camel(name) for name in subjects] + ["Rows"])) + "\n")
     write_tables()
     write_trees()
-    for crate in (CRATE, TESTS, TREES):
+    for crate in (CRATE, TABLES, TREES):
         subprocess.run(["rt", "fmt"], cwd=crate, check=True)
 
 

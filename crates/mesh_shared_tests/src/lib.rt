@@ -1,4 +1,4 @@
-//! Tests of a book that threads share: its journal, its seats and its one history, and scripts on threads beside meshers, held at points by a gate.
+//! Tests of scripts on threads beside meshers, held at points by a gate.
 //!
 //! The crate has no function of its own, so nothing of it but its tests is proved.
 #![tactic(auto)]

@@ -2,11 +2,8 @@
 
 use std::process::Abort;
 
-mod calls;
 mod gates;
-mod journals;
 mod meshers;
-mod shared;
 
 /// Asserts what is to hold. One function asserts it for all, since an assertion is proved anew wherever it stands.
 fn check_that(rt: &impl Abort, holds: bool, what: &str) {

@@ -1,4 +1,4 @@
-//! Tests of the heap and of its meshes, call by call, of the plain memory, and of the calls that take memory.
+//! Tests of the heap and of its meshes, call by call, and of the calls that take memory.
 //!
 //! The crate has no function of its own, so nothing of it but its tests is proved.
 #![tactic(auto)]

@@ -5,6 +5,5 @@ mod calls;
 mod heaps;
 mod memory;
 mod meshes;
-mod plain;
 mod searches;
 mod tried;

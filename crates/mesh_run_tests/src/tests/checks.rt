@@ -1,8 +1,8 @@
 //! Recorded histories, and what is found of them.
 ghost use Rattle.std.specs.Prelude.{◌≡◌, false};
 
-use crate::tests::devices::SlowSource;
-use crate::tests::{ROW_END, Ran, fields, in_memory};
+use crate::tests::check;
+use mesh_in_memory::{ROW_END, Ran, SlowSource, fields, in_memory};
 use mesh_run::{Input, Source, check_run};
 use std::alloc::Global;
 use std::process::Abort;
@@ -83,7 +83,7 @@ fn check_verdicts(rt: &(impl Abort + AllocGlobal), table: &str, status: u8) {
     for row in table.split(ROW_END) {
         let (name, text, verdict) = fields(row);
         let run = judged(rt.alloc(), Input::new(text.as_bytes()));
-        run.check(rt, verdict.as_bytes(), "", status, name);
+        check(rt, run.wrote(verdict.as_bytes(), "", status), &run, name);
     }
 }
 
@@ -98,7 +98,8 @@ fn check_slowly(rt: &(impl Abort + AllocGlobal), table: &str, status: u8) {
     for row in table.split(ROW_END) {
         let (name, text, verdict) = fields(row);
         let input = SlowSource::new(text.as_bytes(), text.len() + 1);
-        judged(rt.alloc(), input).check(rt, verdict.as_bytes(), "", status, name);
+        let run = judged(rt.alloc(), input);
+        check(rt, run.wrote(verdict.as_bytes(), "", status), &run, name);
     }
 }
 
@@ -113,6 +114,6 @@ fn tells_the_faults_of_a_history(rt: HostRuntime) {
     for row in FAULTS.split(ROW_END) {
         let (name, text, fault) = fields(row);
         let run = judged(rt.alloc(), Input::new(text.as_bytes()));
-        run.check(&rt, b"", fault, 2, name);
+        check(&rt, run.wrote(b"", fault, 2), &run, name);
     }
 }

@@ -1,8 +1,8 @@
 //! Explorations, over memory.
 ghost use Rattle.std.specs.Prelude.{◌≡◌, false};
 
-use crate::tests::devices::SlowSource;
-use crate::tests::{Ran, in_memory};
+use crate::tests::check;
+use mesh_in_memory::{Ran, SlowSource, in_memory};
 use mesh_run::{Args, ExploreArgs, Input, Source, arguments, explore_run};
 use std::process::Abort;
 
@@ -53,7 +53,12 @@ fn prints_an_outcome_as_a_job(rt: HostRuntime) {
     let words = with(&rt, &["--witness", "1"]);
     let input = SlowSource::new(STORE_FILE.as_bytes(), STORE_FILE.len() + 1);
     let run = explored(&rt, words.as_slice(), input);
-    run.check(&rt, SECOND.as_bytes(), "", 0, "the second outcome");
+    check(
+        &rt,
+        run.wrote(SECOND.as_bytes(), "", 0),
+        &run,
+        "the second outcome",
+    );
 }
 
 #[test]
@@ -72,7 +77,8 @@ fn check_stop(
 ) {
     let words = with(rt, more);
     let input = Input::new(STORE_FILE.as_bytes());
-    explored(rt, words.as_slice(), input).check(rt, b"", line, status, line);
+    let run = explored(rt, words.as_slice(), input);
+    check(rt, run.wrote(b"", line, status), &run, line);
 }
 
 #[test]
@@ -80,7 +86,7 @@ fn tells_a_read_that_fails(rt: HostRuntime) {
     for calls in [0, 1, STORE_FILE.len()] {
         let input = SlowSource::new(STORE_FILE.as_bytes(), calls);
         let run = explored(&rt, STORE.as_slice(), input);
-        run.check(&rt, b"", "read fault\n", 1, calls);
+        check(&rt, run.wrote(b"", "read fault\n", 1), &run, calls);
     }
 }
 

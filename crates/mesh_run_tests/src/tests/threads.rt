@@ -1,9 +1,8 @@
 //! Runs of scripts in threads: a worked example, and what stops a run before a thread is started.
 ghost use Rattle.std.specs.Prelude.{◌≡◌, ◌≤◌, false};
 
-use crate::tests::devices::SlowSource;
-use crate::tests::faults::faulty_files;
-use crate::tests::{ROW_END, Ran, fields, in_memory};
+use crate::tests::check;
+use mesh_in_memory::{ROW_END, Ran, SlowSource, faulty_files, fields, in_memory};
 use mesh_run::{Input, Printed, Source, ThreadsArgs, threads_run};
 use std::process::Abort;
 use std::sync::Wait;
@@ -42,7 +41,7 @@ fn tells_each_fault_of_a_file(rt: HostRuntime) {
         let (name, file, fault) = fields(row);
         let input = Input::new(file.as_bytes());
         let run = ran(&rt, input, &FEWEST, Printed::Answers);
-        run.check(&rt, b"", fault, 2, name);
+        check(&rt, run.wrote(b"", fault, 2), &run, name);
     }
 }
 
@@ -50,7 +49,12 @@ fn tells_each_fault_of_a_file(rt: HostRuntime) {
 fn tells_a_history_that_is_too_short(rt: HostRuntime) {
     let input = Input::new(SHORT_FILE.as_bytes());
     let run = ran(&rt, input, &FEWEST, Printed::Answers);
-    run.check(&rt, b"", "history too short\n", 2, "four commands");
+    check(
+        &rt,
+        run.wrote(b"", "history too short\n", 2),
+        &run,
+        "four commands",
+    );
 }
 
 /// A worker that makes three objects of half a page on a heap of one page, and what it is answered.
@@ -66,14 +70,24 @@ const ONE_PAGE_HISTORY: &str =
 fn has_no_more_pages_than_its_file_says(rt: HostRuntime) {
     let input = Input::new(ONE_PAGE_FILE.as_bytes());
     let run = ran(&rt, input, &FEWEST, Printed::Answers);
-    run.check(&rt, ONE_PAGE_LINES.as_bytes(), "", 0, "answers");
+    check(
+        &rt,
+        run.wrote(ONE_PAGE_LINES.as_bytes(), "", 0),
+        &run,
+        "answers",
+    );
 }
 
 #[test]
 fn prints_the_history(rt: HostRuntime) {
     let input = Input::new(ONE_PAGE_FILE.as_bytes());
     let run = ran(&rt, input, &FEWEST, Printed::History);
-    run.check(&rt, ONE_PAGE_HISTORY.as_bytes(), "", 0, "a history");
+    check(
+        &rt,
+        run.wrote(ONE_PAGE_HISTORY.as_bytes(), "", 0),
+        &run,
+        "a history",
+    );
 }
 
 #[test]
@@ -81,7 +95,7 @@ fn tells_a_failing_read_before_all_else(rt: HostRuntime) {
     for calls in 0..SHORT_FILE.len() + 1 {
         let input = SlowSource::new(SHORT_FILE.as_bytes(), calls);
         let run = ran(&rt, input, &FEWEST, Printed::Answers);
-        run.check(&rt, b"", "read fault\n", 1, calls);
+        check(&rt, run.wrote(b"", "read fault\n", 1), &run, calls);
     }
 }
 

@@ -3,9 +3,9 @@ ghost use Rattle.std.specs.Prelude.{◌≡◌, ◌≤◌, length};
 ghost use Rattle.std.specs.List.{All};
 ghost use Rattle.model_words.specs.Commands.{IsInRange};
 
-use crate::tests::calls::{Call, GROUPS, command_of};
 use crate::tests::gates::{Event, Hold, Holding, Mark};
 use crate::tests::{check_count, check_that};
+use arrayvec::ArrayVec;
 use mesh_class::class_of;
 use mesh_job::Commands;
 use mesh_mutator::{Book, Command, Entry, Reply};
@@ -21,11 +21,14 @@ use std::thread::Threads;
 /// A part of a script.
 #[derive(Clone, Copy)]
 enum Part {
-    Calls(&'static [Call]),
     // Of each cell from the first up to the second, which has none, an object of this length.
     Made(u8, u8, u32),
     // The objects of these cells.
     Freed(&'static [u8]),
+    // To the object of a cell, its first byte.
+    Stored(u8, u8),
+    // From the object of a cell, its first byte, so many times.
+    Read(u8, u32),
 }
 
 /// The script of these parts, one after another.
@@ -40,11 +43,6 @@ fn script_of(rt: &(impl Abort + AllocGlobal), parts: &[Part]) -> Commands {
 /// Adds the commands of a part.
 fn add_part(rt: &impl Abort, script: &mut Commands, part: Part) {
     match part {
-        Part::Calls(calls) => {
-            for call in calls {
-                script.push(command_of(rt, *call)).expect(rt, "memory");
-            }
-        }
         Part::Made(first, end, len) => {
             for cell in first..end {
                 script.push(Command::New(cell, len, 0)).expect(rt, "memory");
@@ -55,7 +53,22 @@ fn add_part(rt: &impl Abort, script: &mut Commands, part: Part) {
                 script.push(Command::Free(*cell)).expect(rt, "memory");
             }
         }
+        Part::Stored(cell, byte) => script.push(put(cell, byte)).expect(rt, "memory"),
+        Part::Read(cell, times) => {
+            for _ in 0..times {
+                script.push(Command::Get(cell, 0, 1)).expect(rt, "memory");
+            }
+        }
     }
+}
+
+/// A store of an object's first byte.
+fn put(cell: u8, byte: u8) -> Command
+    ensures { IsInRange result }
+{
+    let mut bytes = ArrayVec::new();
+    bytes.push(byte);
+    Command::Put(cell, 0, bytes)
 }
 
 /// One script, as a run takes it.
@@ -258,7 +271,7 @@ fn begins_with(heap: &Heap, addresses: Range<u32>, front: u8) -> bool {
     true
 }
 
-/// Whether the objects of `GROUPS` have the bytes of `STORES`.
+/// Whether the objects of the cells 1 and 2 have the bytes that `STORER` stores.
 fn keep_bytes(heap: &Heap) -> bool {
     begins_with(heap, 0x1800..0x2000, 0xab) && begins_with(heap, 0x2000..0x2800, 0xcd)
 }
@@ -272,7 +285,7 @@ struct Seen {
     no_pages: usize,
     // What the heap counts.
     report: Report,
-    // Whether the objects of `GROUPS` have the bytes of `STORES` then, and whether they have them once no class takes a step.
+    // Whether those objects have the bytes that `STORER` stores then, and whether they have them once no class takes a step.
     keeps_bytes: (bool, bool),
     // How many steps all classes together still took.
     steps_left: u32,
@@ -302,19 +315,20 @@ fn check_entries(rt: &impl Abort, seen: &Seen, wanted: (usize, usize)) {
     assert_eq!(rt; seen.entries, wanted);
 }
 
-/// A byte stored in each of the two objects.
-const STORES: &[Call] = &[Call::Put(1, 0, &[0xab]), Call::Put(2, 0, &[0xcd])];
-
-/// Four reads of the second object.
-const READS: &[Call] = &[Call::Get(2, 0, 1); 4];
+/// Two groups of class 2,048 with one object each, of the cells 1 and 2, and four reads of the second object.
+const READER: &[Part] = &[
+    Part::Made(0, 4, 2048),
+    Part::Freed(&[0, 3]),
+    Part::Read(2, 4),
+];
 
 /// A read of an empty cell, and a store to the second object.
-const WRITER: &[Call] = &[Call::Get(9, 0, 1), Call::Put(2, 0, &[0xcd])];
+const WRITER: &[Part] = &[Part::Read(9, 1), Part::Stored(2, 0xcd)];
 
 /// A reader, who makes the groups before, reads while the second object is copied, and a writer stores only once that is remapped.
 static READ_IN_A_COPY: Course = Course {
-    first: &[Part::Calls(GROUPS), Part::Calls(READS)],
-    second: Some(&[Part::Calls(WRITER)]),
+    first: READER,
+    second: Some(WRITER),
     events: &[
         Event::Called(0, 5),
         Event::Called(0, 6),
@@ -353,16 +367,11 @@ fn a_reader_runs_during_a_copy(rt: HostRuntime) {
 }
 
 /// Two reads of an empty cell, an object and a read of it.
-const FOUR_CALLS: &[Call] = &[
-    Call::Get(9, 0, 1),
-    Call::Get(9, 0, 1),
-    Call::New(0, 16),
-    Call::Get(0, 0, 1),
-];
+const FOUR_CALLS: &[Part] = &[Part::Read(9, 2), Part::Made(0, 1, 16), Part::Read(0, 1)];
 
 /// Two searchers are at work between the first call and the third.
 static SEARCH_BESIDE: Course = Course {
-    first: &[Part::Calls(FOUR_CALLS)],
+    first: FOUR_CALLS,
     second: None,
     events: &[Event::Searching, Event::Called(0, 2)],
     holds: &[
@@ -409,12 +418,12 @@ fn a_book_of_one_page_has_no_second(rt: HostRuntime) {
 }
 
 /// A read of an empty cell.
-const ONE_READ: &[Call] = &[Call::Get(9, 0, 1)];
+const ONE_READ: &[Part] = &[Part::Read(9, 1)];
 
 /// Each of two reads waits for the other one.
 static TWO_READS: Course = Course {
-    first: &[Part::Calls(ONE_READ)],
-    second: Some(&[Part::Calls(ONE_READ)]),
+    first: ONE_READ,
+    second: Some(ONE_READ),
     events: &[Event::Reading(0, 0), Event::Reading(1, 0)],
     holds: &[
         Hold(Event::Reading(0, 0), &[Event::Reading(1, 0)], 0),
@@ -442,7 +451,8 @@ const OF_SMALL_GROUPS: &[u8] = &[4, 5, 6, 7, 8, 9, 10, 13, 14, 15, 16, 17, 18, 1
 /// Each of two copies waits for the other one.
 static TWO_COPIES: Course = Course {
     first: &[
-        Part::Calls(GROUPS),
+        Part::Made(0, 4, 2048),
+        Part::Freed(&[0, 3]),
         Part::Made(4, 20, 512),
         Part::Freed(OF_SMALL_GROUPS),
     ],
@@ -509,9 +519,18 @@ fn every_pair_is_meshed(rt: HostRuntime) {
     check_that(&rt, seen.report == report, "three pages are saved");
 }
 
+/// The same two groups, a byte stored in each of the two objects, and four reads of the second one.
+const STORER: &[Part] = &[
+    Part::Made(0, 4, 2048),
+    Part::Freed(&[0, 3]),
+    Part::Stored(1, 0xab),
+    Part::Stored(2, 0xcd),
+    Part::Read(2, 4),
+];
+
 /// The search waits for the stores, and the reads wait for the mesh.
 static MESH_AMID: Course = Course {
-    first: &[Part::Calls(GROUPS), Part::Calls(STORES), Part::Calls(READS)],
+    first: STORER,
     second: None,
     events: &[Event::Called(0, 7), Event::Begun(0)],
     holds: &[
@@ -524,7 +543,7 @@ static MESH_AMID: Course = Course {
 
 /// The same of a mesher that makes no call, and so begins no mesh that one could wait for.
 static NO_MESH: Course = Course {
-    first: &[Part::Calls(GROUPS), Part::Calls(STORES), Part::Calls(READS)],
+    first: STORER,
     second: None,
     events: &[Event::Called(0, 7)],
     holds: &[Hold(Event::Searching, &[Event::Called(0, 7)], 0)],
@@ -555,8 +574,8 @@ fn a_mesher_is_abandoned_after_each_call(rt: HostRuntime) {
 
 /// A writer stores only once the page is read-only.
 static STORE_HELD_BACK: Course = Course {
-    first: &[Part::Calls(GROUPS), Part::Calls(READS)],
-    second: Some(&[Part::Calls(WRITER)]),
+    first: READER,
+    second: Some(WRITER),
     events: &[
         Event::Called(0, 5),
         Event::Begun(0),

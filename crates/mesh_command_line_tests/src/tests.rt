@@ -1,34 +1,11 @@
-//! Command lines.
-use crate::tests::{ROW_END, check_text, fields};
-use mesh_run::{
-    Args, DrawArgs, ExploreArgs, LiveArgs, Output, Printed, Stop, ThreadsArgs, arguments, stop_run,
-    unopened_run,
-};
+//! Command lines, and what they ask for. Each expected text was worked out by hand from the rules, and none was copied from a run.
+
+use mesh_command_line::{Args, DrawArgs, ExploreArgs, LiveArgs, Printed, ThreadsArgs, arguments};
 use std::alloc::{AllocError, Global};
 use std::process::Abort;
 
-/// Command lines that ask for help or for the version, and how the text that each prints begins. A row of a table is one line and what it asks for.
-static TOLD: &str = "\
-meshrun --help|A modelled heap#\
-meshrun --version|meshrun 0.1.0\n#\
-meshrun replay --help|Run a job file's plan#\
-meshrun threads --help|Run a job file's scripts#\
-meshrun draw --help|Draw a job file's plan#\
-meshrun live --help|Answer the lines#\
-meshrun explore --help|Run what a job file's plan leaves#\
-meshrun check --help|Judge a recorded history";
-
-/// Command lines that ask for no run and are told so, in such rows too. Their exit status is 2.
-static REFUSED: &str = "\
-meshrun|A modelled heap#\
-meshrun replay|error: #\
-meshrun draw|error: #\
-meshrun check|error: #\
-meshrun explore a.job|error: #\
-meshrun explore a.job --mesh 1|error: --mesh wants SRC:DST#\
-meshrun replay a b|error: #\
-meshrun replay --version|error: #\
-meshrun report|error: ";
+/// What stands between two rows of a table, each a command line and what it asks for.
+const ROW_END: char = '#';
 
 /// Command lines that replay `a.job`, or run its scripts in threads, and what each asks for: the numbers, and whether answers are printed or a history.
 static PRINTED: &str = "\
@@ -93,91 +70,6 @@ meshrun explore a.job --mesh 1:1 --mesh 1:1|explore a.job 1:1 1:1 - 100000 -#\
 meshrun explore a.job --witness +3 --states 0012 --mesh 1:0|explore a.job 1:0 - 12 3#\
 meshrun explore a.job --mesh 1:0 --witness 3|explore a.job 1:0 - 100000 3#\
 meshrun explore a.job --mesh 9:0 --mesh 8:1 --mesh 7:2 --mesh 6:3 --mesh 5:4 --mesh 4:5 --mesh 3:6 --mesh 2:7 --mesh 1:8 --mesh 0:9|explore a.job 9:0 8:1 7:2 6:3 5:4 4:5 3:6 2:7 1:8 0:9 - 100000 -";
-
-/// Command lines with a fault, each of a command that has numbers or a flag, or of `check`.
-static FAULTY: &str = "\
-meshrun threads a.job --probe 65 --rounds 3 --workers 4 --seed 5 --meshers 6\n\
-meshrun threads a.job --probe 2 --rounds 1001 --workers 4 --seed 5 --meshers 6\n\
-meshrun threads a.job --probe 2 --rounds 3 --workers 0 --seed 5 --meshers 6\n\
-meshrun threads a.job --probe 2 --rounds 3 --workers 17 --seed 5 --meshers 6\n\
-meshrun threads a.job --probe 2 --rounds 3 --workers 4 --seed 18446744073709551616 --meshers 6\n\
-meshrun threads a.job --probe 2 --rounds 3 --workers 4 --seed 5 --meshers 0\n\
-meshrun threads a.job --probe 2 --rounds 3 --workers 4 --seed 5 --meshers 11\n\
-meshrun threads a.job --rounds 3 --workers 4 --seed 5 --meshers 6\n\
-meshrun threads a.job --probe 2 --workers 4 --seed 5 --meshers 6\n\
-meshrun threads a.job --probe 2 --rounds 3 --seed 5 --meshers 6\n\
-meshrun threads a.job --probe 2 --rounds 3 --workers 4 --meshers 6\n\
-meshrun threads a.job --probe -1 --rounds 3 --workers 4 --seed 5 --meshers 6\n\
-meshrun threads a.job --probe 2 --rounds 3 --workers 4 --seed 0x5 --meshers 6\n\
-meshrun threads a.job --probe 2 --rounds 3.0 --workers 4 --seed 5 --meshers 6\n\
-meshrun threads a.job --probe 2 --rounds 3 --workers 4 --seed 5 --meshers 6 --gate 1\n\
-meshrun threads a.job --probe 2 --rounds 3 --workers 4 --seed 5 --meshers 6 b.job\n\
-meshrun threads a.job --probe 2 --rounds 3 --workers 4 --seed 5 --meshers 6 --seed 5\n\
-meshrun threads a.job --probe 2 --rounds 3 --workers 4 --seed 5 --meshers 6 --version\n\
-meshrun threads --probe 2 --rounds 3 --workers 4 --seed 5 --meshers 6\n\
-meshrun threads a.job\n\
-meshrun threads\n\
-meshrun threads a.job --probe 2 --rounds 3 --workers 4 --seed 5 --history 6\n\
-meshrun threads a.job --probe 2 --rounds 3 --workers 4 --seed 5 --history=6\n\
-meshrun threads a.job --probe 2 --rounds 3 --workers 4 --seed 5 --history --history\n\
-meshrun replay a.job --seed 5\n\
-meshrun replay a.job --history=true\n\
-meshrun replay a.job --history --history\n\
-meshrun replay a.job --history b.job\n\
-meshrun replay --history\n\
-meshrun draw a.job --from 0\n\
-meshrun draw a.job --from 1048577\n\
-meshrun draw a.job --to 0\n\
-meshrun draw a.job --to 1048577\n\
-meshrun draw a.job --columns 65\n\
-meshrun draw a.job --columns -1\n\
-meshrun draw a.job --from 0x5\n\
-meshrun draw a.job --from 1 --from 2\n\
-meshrun draw a.job --seed 5\n\
-meshrun draw a.job --history\n\
-meshrun draw a.job b.job\n\
-meshrun draw --from 1 --to 2\n\
-meshrun draw a.job --version\n\
-meshrun explore a.job --mesh\n\
-meshrun explore --mesh 1:0\n\
-meshrun explore a.job --states 5\n\
-meshrun explore a.job --mesh 1\n\
-meshrun explore a.job --mesh :\n\
-meshrun explore a.job --mesh 1:\n\
-meshrun explore a.job --mesh :0\n\
-meshrun explore a.job --mesh 1:0:2\n\
-meshrun explore a.job --mesh 1:0:\n\
-meshrun explore a.job --mesh 01:0\n\
-meshrun explore a.job --mesh 1:00\n\
-meshrun explore a.job --mesh +1:0\n\
-meshrun explore a.job --mesh 65536:0\n\
-meshrun explore a.job --mesh 1:65536\n\
-meshrun explore a.job --mesh 0x1:0\n\
-meshrun explore a.job --mesh 1,0\n\
-meshrun explore a.job --mesh 1:0 --mesh 2\n\
-meshrun explore a.job --mesh 1 --mesh 2:0\n\
-meshrun explore a.job --mesh 1:0 2:0\n\
-meshrun explore a.job --mesh 1:0 --mesh 1:0 --mesh 1:0 --mesh 1:0 --mesh 1:0 --mesh 1:0 --mesh 1:0 --mesh 1:0 --mesh 1:0 --mesh 1:0 --mesh 1:0\n\
-meshrun explore a.job --mesh 1:0 --cancel 1001\n\
-meshrun explore a.job --mesh 1:0 --cancel -1\n\
-meshrun explore a.job --mesh 1:0 --cancel 1 --cancel 2\n\
-meshrun explore a.job --mesh 1:0 --states 0\n\
-meshrun explore a.job --mesh 1:0 --states 10000001\n\
-meshrun explore a.job --mesh 1:0 --witness 1000001\n\
-meshrun explore a.job --mesh 1:0 --witness 18446744073709551616\n\
-meshrun explore a.job --mesh 1:0 --witness\n\
-meshrun explore a.job b.job --mesh 1:0\n\
-meshrun explore a.job --mesh 1:0 --history\n\
-meshrun explore a.job --mesh 1:0 --version\n\
-meshrun live a.job\n\
-meshrun live --pages 0\n\
-meshrun live --pages 4097\n\
-meshrun live --history 65537\n\
-meshrun live --workers 0\n\
-meshrun live --workers 65\n\
-meshrun check a.history b.history\n\
-meshrun check a.history --history\n\
-meshrun check a.history --version";
 
 /// What a command line asks for, as the tables write it.
 fn asked(rt: &(impl Abort + AllocGlobal), line: &str) -> String {
@@ -270,9 +162,9 @@ fn add_if_given(text: &mut String, number: Option<u32>) -> Result<(), AllocError
 /// Asserts what the command lines of a table ask for.
 fn check_lines(rt: &(impl Abort + AllocGlobal), table: &str) {
     for row in table.split(ROW_END) {
-        let (line, wanted, _) = fields(row);
+        let (line, wanted) = row.split_once('|').expect(rt, "two fields");
         let read = asked(rt, line);
-        check_text(rt, read.as_str().as_bytes(), wanted.as_bytes(), &line);
+        assert!(rt; read.as_str() == wanted, "{line}: {read}");
     }
 }
 
@@ -304,60 +196,4 @@ fn reads_what_is_explored(rt: HostRuntime) {
 #[test]
 fn reads_sizes(rt: HostRuntime) {
     check_lines(&rt, SIZES);
-}
-
-/// Why a command line asks for no run.
-fn stop_at(rt: &(impl Abort + AllocGlobal), line: &str) -> Stop {
-    let words: Vec<&str> = line.split(' ').collect(rt.alloc()).expect(rt, "memory");
-    match arguments(rt.alloc(), words.as_slice()) {
-        Ok(_) => panic!(rt; "no stop: {line}"),
-        Err(stop) => stop,
-    }
-}
-
-/// Whether what stops before a run ends with this status, and prints a text that begins so where it is to, and nothing where it isn't.
-fn stops_so(alloc: Global, stop: &Stop, status: u8, text: &str) -> bool {
-    let mut output = Output::new(Vec::new(alloc));
-    let mut errors = Output::new(Vec::new(alloc));
-    let ended = stop_run(stop, &mut output, &mut errors);
-    let (output, errors) = (output.into_inner(), errors.into_inner());
-    let (told, other) = if status == 0 {
-        (output, errors)
-    } else {
-        (errors, output)
-    };
-    ended == status && told.starts_with(text.as_bytes()) && other.is_empty()
-}
-
-/// Asserts that command lines stop before a run, with this status and these texts.
-fn check_stops(rt: &(impl Abort + AllocGlobal), table: &str, status: u8) {
-    for row in table.split(ROW_END) {
-        let (line, text, _) = fields(row);
-        let stop = stop_at(rt, line);
-        let is_told = !text.is_empty() && stops_so(rt.alloc(), &stop, status, text);
-        assert!(rt; is_told, "{line}: {}", stop.text);
-    }
-}
-
-#[test]
-fn stops_at_others(rt: HostRuntime) {
-    check_stops(&rt, TOLD, 0);
-    check_stops(&rt, REFUSED, 2);
-}
-
-#[test]
-fn refuses_faulty_numbers(rt: HostRuntime) {
-    for line in FAULTY.split('\n') {
-        let stop = stop_at(&rt, line);
-        let is_refused = stop.status == 2 && stop.text.as_str().starts_with("error: ");
-        assert!(rt; is_refused, "{line}: {}", stop.text);
-    }
-}
-
-#[test]
-fn tells_unopened_file(rt: HostRuntime) {
-    let mut errors = Output::new(Vec::new(rt.alloc()));
-    assert!(rt; unopened_run(&mut errors) == 1);
-    let errors = errors.into_inner();
-    check_text(&rt, errors.as_slice(), b"read fault\n", &"unopened");
 }

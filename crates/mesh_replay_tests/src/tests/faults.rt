@@ -1,20 +1,16 @@
 //! Files that are no job.
-use crate::tests::files::{FAULTS, FIRST_FILE};
-use crate::tests::{LENGTHS, ROW_END, fields, letters, replayed};
+use crate::tests::{check, replayed};
+use mesh_in_memory::files::FIRST_FILE;
+use mesh_in_memory::{LENGTHS, ROW_END, faulty_files, fields, letters};
 use std::process::Abort;
 use std::test::Fail;
-
-/// The files that are no job, a row each: its name, its text and the line of its fault. All that go over them ask for them here, so that the proof
-/// of one function alone goes through the table.
-pub(crate) fn faulty_files() -> &'static str {
-    FAULTS
-}
 
 #[test]
 fn tells_each_fault(rt: HostRuntime) {
     for row in faulty_files().split(ROW_END) {
         let (name, file, fault) = fields(row);
-        replayed(rt.alloc(), file.as_bytes()).check(&rt, b"", fault, 2, name);
+        let run = replayed(rt.alloc(), file.as_bytes());
+        check(&rt, run.wrote(b"", fault, 2), &run, name);
     }
 }
 
@@ -26,7 +22,8 @@ fn check_length(
     fault: &str,
 ) -> Result<(), Fail> {
     let file = letters(rt.alloc(), count, has_end)?;
-    replayed(rt.alloc(), file.as_slice()).check(rt, b"", fault, 2, count);
+    let run = replayed(rt.alloc(), file.as_slice());
+    check(rt, run.wrote(b"", fault, 2), &run, count);
     Ok(())
 }
 

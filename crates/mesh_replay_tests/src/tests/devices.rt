@@ -1,73 +1,15 @@
 //! Devices that give or take one byte a call, and fail at some call, on a file with a mesh.
-ghost use Rattle.std.specs.Prelude.{◌≡◌, ◌≤◌, None, false, length};
+ghost use Rattle.std.specs.Prelude.{◌≡◌, None, false};
 
-use crate::tests::files::{MESH_ANSWERS, MESH_FILE};
-use crate::tests::{Ran, replayed_from};
+use crate::tests::{check, replayed_from};
+use mesh_in_memory::files::{MESH_ANSWERS, MESH_FILE};
+use mesh_in_memory::{Bytes, Ran, SlowSource};
 use mesh_run::{DeviceFault, Devices, Input, Output, Printed, Sink, Source, replay_run};
 use std::alloc::Global;
 use std::io;
 
 /// More calls than any run makes.
 const ENOUGH: usize = 1000;
-
-/// Bytes that are given one at a time.
-#[derive(Drop)]
-struct Bytes<'a> {
-    left: &'a [u8],
-}
-
-impl Bytes<'_> {
-    /// Gives the first byte, where there is one and there is room for it: how many it gave.
-    fn give(&mut self, buf: &mut [u8]) -> usize
-        ensures { result ≤ length buf.new }
-    {
-        if buf.is_empty() {
-            return 0;
-        }
-        let Some((first, rest)) = self.left.split_first() else {
-            return 0;
-        };
-        buf[0] = *first;
-        self.left = rest;
-        1
-    }
-}
-
-/// A source that gives one byte a call, and fails once its calls are used up.
-#[derive(Drop)]
-pub(crate) struct SlowSource<'a> {
-    bytes: Bytes<'a>,
-    calls: usize,
-    failed: bool,
-}
-
-impl<'a> SlowSource<'a> {
-    /// The source of these bytes, which has so many calls.
-    pub(crate) fn new(bytes: &'a [u8], calls: usize) -> SlowSource<'a>
-        ensures { result.failed ≡ false }
-    {
-        SlowSource {
-            bytes: Bytes { left: bytes },
-            calls,
-            failed: false,
-        }
-    }
-}
-
-impl Source for SlowSource<'_> {
-    ghost remaining = { λ _. None };
-
-    ghost has_failed = { λ source. source.failed };
-
-    fn read(&mut self, buf: &mut [u8]) -> Result<usize, DeviceFault> {
-        if self.calls == 0 {
-            self.failed = true;
-            return Err(DeviceFault);
-        }
-        self.calls -= 1;
-        Ok(self.bytes.give(buf))
-    }
-}
 
 /// What a sink does once its calls are used up.
 #[derive(Clone, Copy)]
@@ -153,9 +95,19 @@ fn write_slowly(alloc: Global, most: usize, calls: usize, end: End) -> Ran {
 #[test]
 fn works_byte_by_byte(rt: HostRuntime) {
     let run = read_slowly(rt.alloc(), MESH_FILE, ENOUGH);
-    run.check(&rt, MESH_ANSWERS.as_bytes(), "", 0, "a byte a read");
+    check(
+        &rt,
+        run.wrote(MESH_ANSWERS.as_bytes(), "", 0),
+        &run,
+        "a byte a read",
+    );
     let run = write_slowly(rt.alloc(), 1, ENOUGH, End::Fails);
-    run.check(&rt, MESH_ANSWERS.as_bytes(), "", 0, "a byte a write");
+    check(
+        &rt,
+        run.wrote(MESH_ANSWERS.as_bytes(), "", 0),
+        &run,
+        "a byte a write",
+    );
 }
 
 /// A file whose second line has a fault, which a source that fails comes before.
@@ -165,7 +117,8 @@ const FAULTY_FILE: &str = "mesh 1\npages 0\nhistory 1\n";
 fn fails_at_each_read(rt: HostRuntime) {
     for file in [MESH_FILE, FAULTY_FILE] {
         for calls in 0..file.len() + 1 {
-            read_slowly(rt.alloc(), file, calls).check(&rt, b"", "read fault\n", 1, calls);
+            let run = read_slowly(rt.alloc(), file, calls);
+            check(&rt, run.wrote(b"", "read fault\n", 1), &run, calls);
         }
     }
 }
@@ -179,7 +132,7 @@ fn fails_at_each_write(rt: HostRuntime) {
         for end in [End::Fails, End::TakesNothing] {
             let run = write_slowly(rt.alloc(), PIECE, calls, end);
             let written = &MESH_ANSWERS.as_bytes()[..calls * PIECE];
-            run.check(&rt, written, "write fault\n", 1, calls);
+            check(&rt, run.wrote(written, "write fault\n", 1), &run, calls);
         }
     }
 }
@@ -194,7 +147,7 @@ struct FailsFirst<'a> {
 impl<'a> FailsFirst<'a> {
     fn new(bytes: &'a [u8], fails: bool) -> FailsFirst<'a> {
         FailsFirst {
-            bytes: Bytes { left: bytes },
+            bytes: Bytes::new(bytes),
             fails,
         }
     }
@@ -242,5 +195,10 @@ fn a_failed_call_is_not_tried_again(rt: HostRuntime) {
 fn one_byte_a_call_is_no_failure(rt: HostRuntime) {
     let input = Input::new(FailsFirst::new(MESH_FILE.as_bytes(), false));
     let run = replayed_from(rt.alloc(), input, Printed::Answers);
-    run.check(&rt, MESH_ANSWERS.as_bytes(), "", 0, "a byte a read");
+    check(
+        &rt,
+        run.wrote(MESH_ANSWERS.as_bytes(), "", 0),
+        &run,
+        "a byte a read",
+    );
 }

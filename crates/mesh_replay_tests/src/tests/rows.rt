@@ -1,8 +1,9 @@
 //! The worked rows.
-use crate::tests::files::{
+use crate::tests::replayed;
+use mesh_in_memory::files::{
     ABANDONED, CANCELS, MUTATORS, SEARCHES, SMALL_STEPS, VERSION_2, WHOLE_MESHES,
 };
-use crate::tests::{ROW_END, fields, replayed};
+use mesh_in_memory::{ROW_END, fields};
 use std::alloc::Global;
 use std::process::Abort;
 

@@ -1,6 +1,6 @@
 //! The text of a history: its answers, and as it is recorded.
-use crate::tests::faults::faulty_files;
-use crate::tests::{ROW_END, check_text, fields, replayed_from};
+use crate::tests::{check, check_text, replayed_from};
+use mesh_in_memory::{ROW_END, faulty_files, fields};
 use mesh_mutator::{Command, Entry, Refusal, Reply};
 use mesh_run::{Input, Printed};
 use mesh_text::{history_lines, recorded_history};
@@ -69,7 +69,12 @@ const JOURNAL: &str =
 fn a_replay_prints_its_journal(rt: HostRuntime) {
     let input = Input::new(JOURNAL_FILE.as_bytes());
     let run = replayed_from(rt.alloc(), input, Printed::History);
-    run.check(&rt, JOURNAL.as_bytes(), "", 0, "two workers");
+    check(
+        &rt,
+        run.wrote(JOURNAL.as_bytes(), "", 0),
+        &run,
+        "two workers",
+    );
 }
 
 #[test]
@@ -78,6 +83,6 @@ fn a_faulty_file_has_no_journal(rt: HostRuntime) {
         let (name, file, fault) = fields(row);
         let input = Input::new(file.as_bytes());
         let run = replayed_from(rt.alloc(), input, Printed::History);
-        run.check(&rt, b"", fault, 2, name);
+        check(&rt, run.wrote(b"", fault, 2), &run, name);
     }
 }

@@ -1,6 +1,5 @@
 //! Each call of the plain memory, with an answer that was worked out by hand from the definition.
 
-use crate::tests::calls::{DONE, Told, counted, loaded, number};
 use arrayvec::ArrayVec;
 use mesh_plain::{Plain, PlainFault};
 use model_words::{Command, MAX_BYTES, Refusal, Reply};
@@ -49,6 +48,22 @@ impl PlainAnswer {
             PlainAnswer::Fault(fault) => counted(name_of(fault), 0),
         }
     }
+}
+
+/// An answer by its name and its numbers, as answers are compared and as a failure tells them.
+type Told = (&'static str, [u64; 2]);
+
+/// A call that is done.
+const DONE: Told = ("Done", [0; 2]);
+
+/// An answer of one number.
+fn counted(name: &'static str, count: u32) -> Told {
+    (name, [u64::from(count), 0])
+}
+
+/// So many bytes, and the number whose last digits of base 256 they are.
+fn loaded(len: usize, number: u64) -> Told {
+    ("Bytes", [len as u64, number])
 }
 
 /// The name of a fault.
@@ -115,6 +130,13 @@ fn got(answer: Result<ArrayVec<u8, MAX_BYTES>, PlainFault>) -> Told {
         Ok(bytes) => loaded(bytes.len(), number(bytes.as_slice())),
         Err(fault) => counted(name_of(fault), 0),
     }
+}
+
+/// The number whose last eight digits of base 256 are the last bytes.
+fn number(bytes: &[u8]) -> u64 {
+    bytes
+        .iter()
+        .fold(0, |number, byte| (number << 8) | u64::from(*byte))
 }
 
 /// Asserts that calls are answered so, one after another.

@@ -1,0 +1,48 @@
+//! A run from a source to memory, and what it wrote.
+ghost use Rattle.std.specs.Prelude.{◌≡◌, false};
+ghost use Rattle.mesh_run.specs.Runs.{IsSound};
+
+use mesh_run::{Devices, Output, Source};
+use std::alloc::Global;
+
+/// The devices of a run from a source to memory.
+pub type InMemory<I> = Devices<I, Output<Vec<u8>>, Output<Vec<u8>>>;
+
+/// What one run of the program wrote, and its exit status.
+#[derive(Debug, Drop)]
+pub struct Ran {
+    /// The exit status.
+    pub status: u8,
+    /// What was written to standard output.
+    pub output: Vec<u8>,
+    /// What was written for a person.
+    pub errors: Vec<u8>,
+}
+
+impl Ran {
+    /// What a run of this status wrote to memory.
+    pub fn of<I: Source + Drop>(status: u8, devices: InMemory<I>) -> Ran {
+        let (_, output, errors) = devices.into_parts();
+        Ran {
+            status,
+            output: output.into_inner(),
+            errors: errors.into_inner(),
+        }
+    }
+
+    /// Whether the run wrote this, with this status.
+    pub fn wrote(&self, output: &[u8], errors: &str, status: u8) -> bool {
+        self.output.as_slice() == output
+            && self.errors.as_slice() == errors.as_bytes()
+            && self.status == status
+    }
+}
+
+/// Devices that read from this source, and write to memory.
+pub fn in_memory<I: Source>(alloc: Global, input: I) -> InMemory<I>
+    requires { I.has_failed input ≡ false }
+    ensures { IsSound result }
+{
+    let output = Output::new(Vec::new(alloc));
+    Devices::new(input, output, Output::new(Vec::new(alloc)))
+}

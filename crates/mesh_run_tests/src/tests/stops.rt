@@ -1,0 +1,170 @@
+//! Command lines that ask for no run, and what is told of each.
+use crate::tests::check_text;
+use mesh_in_memory::{ROW_END, fields};
+use mesh_run::{Output, Stop, arguments, stop_run, unopened_run};
+use std::alloc::Global;
+use std::process::Abort;
+
+/// Command lines that ask for help or for the version, and how the text that each prints begins. A row of a table is one line and what it asks for.
+static TOLD: &str = "\
+meshrun --help|A modelled heap#\
+meshrun --version|meshrun 0.1.0\n#\
+meshrun replay --help|Run a job file's plan#\
+meshrun threads --help|Run a job file's scripts#\
+meshrun draw --help|Draw a job file's plan#\
+meshrun live --help|Answer the lines#\
+meshrun explore --help|Run what a job file's plan leaves#\
+meshrun check --help|Judge a recorded history";
+
+/// Command lines that ask for no run and are told so, in such rows too. Their exit status is 2.
+static REFUSED: &str = "\
+meshrun|A modelled heap#\
+meshrun replay|error: #\
+meshrun draw|error: #\
+meshrun check|error: #\
+meshrun explore a.job|error: #\
+meshrun explore a.job --mesh 1|error: --mesh wants SRC:DST#\
+meshrun replay a b|error: #\
+meshrun replay --version|error: #\
+meshrun report|error: ";
+
+/// Command lines with a fault, each of a command that has numbers or a flag, or of `check`.
+static FAULTY: &str = "\
+meshrun threads a.job --probe 65 --rounds 3 --workers 4 --seed 5 --meshers 6\n\
+meshrun threads a.job --probe 2 --rounds 1001 --workers 4 --seed 5 --meshers 6\n\
+meshrun threads a.job --probe 2 --rounds 3 --workers 0 --seed 5 --meshers 6\n\
+meshrun threads a.job --probe 2 --rounds 3 --workers 17 --seed 5 --meshers 6\n\
+meshrun threads a.job --probe 2 --rounds 3 --workers 4 --seed 18446744073709551616 --meshers 6\n\
+meshrun threads a.job --probe 2 --rounds 3 --workers 4 --seed 5 --meshers 0\n\
+meshrun threads a.job --probe 2 --rounds 3 --workers 4 --seed 5 --meshers 11\n\
+meshrun threads a.job --rounds 3 --workers 4 --seed 5 --meshers 6\n\
+meshrun threads a.job --probe 2 --workers 4 --seed 5 --meshers 6\n\
+meshrun threads a.job --probe 2 --rounds 3 --seed 5 --meshers 6\n\
+meshrun threads a.job --probe 2 --rounds 3 --workers 4 --meshers 6\n\
+meshrun threads a.job --probe -1 --rounds 3 --workers 4 --seed 5 --meshers 6\n\
+meshrun threads a.job --probe 2 --rounds 3 --workers 4 --seed 0x5 --meshers 6\n\
+meshrun threads a.job --probe 2 --rounds 3.0 --workers 4 --seed 5 --meshers 6\n\
+meshrun threads a.job --probe 2 --rounds 3 --workers 4 --seed 5 --meshers 6 --gate 1\n\
+meshrun threads a.job --probe 2 --rounds 3 --workers 4 --seed 5 --meshers 6 b.job\n\
+meshrun threads a.job --probe 2 --rounds 3 --workers 4 --seed 5 --meshers 6 --seed 5\n\
+meshrun threads a.job --probe 2 --rounds 3 --workers 4 --seed 5 --meshers 6 --version\n\
+meshrun threads --probe 2 --rounds 3 --workers 4 --seed 5 --meshers 6\n\
+meshrun threads a.job\n\
+meshrun threads\n\
+meshrun threads a.job --probe 2 --rounds 3 --workers 4 --seed 5 --history 6\n\
+meshrun threads a.job --probe 2 --rounds 3 --workers 4 --seed 5 --history=6\n\
+meshrun threads a.job --probe 2 --rounds 3 --workers 4 --seed 5 --history --history\n\
+meshrun replay a.job --seed 5\n\
+meshrun replay a.job --history=true\n\
+meshrun replay a.job --history --history\n\
+meshrun replay a.job --history b.job\n\
+meshrun replay --history\n\
+meshrun draw a.job --from 0\n\
+meshrun draw a.job --from 1048577\n\
+meshrun draw a.job --to 0\n\
+meshrun draw a.job --to 1048577\n\
+meshrun draw a.job --columns 65\n\
+meshrun draw a.job --columns -1\n\
+meshrun draw a.job --from 0x5\n\
+meshrun draw a.job --from 1 --from 2\n\
+meshrun draw a.job --seed 5\n\
+meshrun draw a.job --history\n\
+meshrun draw a.job b.job\n\
+meshrun draw --from 1 --to 2\n\
+meshrun draw a.job --version\n\
+meshrun explore a.job --mesh\n\
+meshrun explore --mesh 1:0\n\
+meshrun explore a.job --states 5\n\
+meshrun explore a.job --mesh 1\n\
+meshrun explore a.job --mesh :\n\
+meshrun explore a.job --mesh 1:\n\
+meshrun explore a.job --mesh :0\n\
+meshrun explore a.job --mesh 1:0:2\n\
+meshrun explore a.job --mesh 1:0:\n\
+meshrun explore a.job --mesh 01:0\n\
+meshrun explore a.job --mesh 1:00\n\
+meshrun explore a.job --mesh +1:0\n\
+meshrun explore a.job --mesh 65536:0\n\
+meshrun explore a.job --mesh 1:65536\n\
+meshrun explore a.job --mesh 0x1:0\n\
+meshrun explore a.job --mesh 1,0\n\
+meshrun explore a.job --mesh 1:0 --mesh 2\n\
+meshrun explore a.job --mesh 1 --mesh 2:0\n\
+meshrun explore a.job --mesh 1:0 2:0\n\
+meshrun explore a.job --mesh 1:0 --mesh 1:0 --mesh 1:0 --mesh 1:0 --mesh 1:0 --mesh 1:0 --mesh 1:0 --mesh 1:0 --mesh 1:0 --mesh 1:0 --mesh 1:0\n\
+meshrun explore a.job --mesh 1:0 --cancel 1001\n\
+meshrun explore a.job --mesh 1:0 --cancel -1\n\
+meshrun explore a.job --mesh 1:0 --cancel 1 --cancel 2\n\
+meshrun explore a.job --mesh 1:0 --states 0\n\
+meshrun explore a.job --mesh 1:0 --states 10000001\n\
+meshrun explore a.job --mesh 1:0 --witness 1000001\n\
+meshrun explore a.job --mesh 1:0 --witness 18446744073709551616\n\
+meshrun explore a.job --mesh 1:0 --witness\n\
+meshrun explore a.job b.job --mesh 1:0\n\
+meshrun explore a.job --mesh 1:0 --history\n\
+meshrun explore a.job --mesh 1:0 --version\n\
+meshrun live a.job\n\
+meshrun live --pages 0\n\
+meshrun live --pages 4097\n\
+meshrun live --history 65537\n\
+meshrun live --workers 0\n\
+meshrun live --workers 65\n\
+meshrun check a.history b.history\n\
+meshrun check a.history --history\n\
+meshrun check a.history --version";
+
+/// Why a command line asks for no run.
+fn stop_at(rt: &(impl Abort + AllocGlobal), line: &str) -> Stop {
+    let words: Vec<&str> = line.split(' ').collect(rt.alloc()).expect(rt, "memory");
+    match arguments(rt.alloc(), words.as_slice()) {
+        Ok(_) => panic!(rt; "no stop: {line}"),
+        Err(stop) => stop,
+    }
+}
+
+/// Whether what stops before a run ends with this status, and prints a text that begins so where it is to, and nothing where it isn't.
+fn stops_so(alloc: Global, stop: &Stop, status: u8, text: &str) -> bool {
+    let mut output = Output::new(Vec::new(alloc));
+    let mut errors = Output::new(Vec::new(alloc));
+    let ended = stop_run(stop, &mut output, &mut errors);
+    let (output, errors) = (output.into_inner(), errors.into_inner());
+    let (told, other) = if status == 0 {
+        (output, errors)
+    } else {
+        (errors, output)
+    };
+    ended == status && told.starts_with(text.as_bytes()) && other.is_empty()
+}
+
+/// Asserts that command lines stop before a run, with this status and these texts.
+fn check_stops(rt: &(impl Abort + AllocGlobal), table: &str, status: u8) {
+    for row in table.split(ROW_END) {
+        let (line, text, _) = fields(row);
+        let stop = stop_at(rt, line);
+        let is_told = !text.is_empty() && stops_so(rt.alloc(), &stop, status, text);
+        assert!(rt; is_told, "{line}: {}", stop.text);
+    }
+}
+
+#[test]
+fn stops_at_others(rt: HostRuntime) {
+    check_stops(&rt, TOLD, 0);
+    check_stops(&rt, REFUSED, 2);
+}
+
+#[test]
+fn refuses_faulty_numbers(rt: HostRuntime) {
+    for line in FAULTY.split('\n') {
+        let stop = stop_at(&rt, line);
+        let is_refused = stop.status == 2 && stop.text.as_str().starts_with("error: ");
+        assert!(rt; is_refused, "{line}: {}", stop.text);
+    }
+}
+
+#[test]
+fn tells_unopened_file(rt: HostRuntime) {
+    let mut errors = Output::new(Vec::new(rt.alloc()));
+    assert!(rt; unopened_run(&mut errors) == 1);
+    let errors = errors.into_inner();
+    check_text(&rt, errors.as_slice(), b"read fault\n", &"unopened");
+}
