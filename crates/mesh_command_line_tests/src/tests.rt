@@ -71,6 +71,91 @@ meshrun explore a.job --witness +3 --states 0012 --mesh 1:0|explore a.job 1:0 - 
 meshrun explore a.job --mesh 1:0 --witness 3|explore a.job 1:0 - 100000 3#\
 meshrun explore a.job --mesh 9:0 --mesh 8:1 --mesh 7:2 --mesh 6:3 --mesh 5:4 --mesh 4:5 --mesh 3:6 --mesh 2:7 --mesh 1:8 --mesh 0:9|explore a.job 9:0 8:1 7:2 6:3 5:4 4:5 3:6 2:7 1:8 0:9 - 100000 -";
 
+/// Command lines with a fault, each of a command that has numbers or a flag, or of `check`.
+static FAULTY: &str = "\
+meshrun threads a.job --probe 65 --rounds 3 --workers 4 --seed 5 --meshers 6\n\
+meshrun threads a.job --probe 2 --rounds 1001 --workers 4 --seed 5 --meshers 6\n\
+meshrun threads a.job --probe 2 --rounds 3 --workers 0 --seed 5 --meshers 6\n\
+meshrun threads a.job --probe 2 --rounds 3 --workers 17 --seed 5 --meshers 6\n\
+meshrun threads a.job --probe 2 --rounds 3 --workers 4 --seed 18446744073709551616 --meshers 6\n\
+meshrun threads a.job --probe 2 --rounds 3 --workers 4 --seed 5 --meshers 0\n\
+meshrun threads a.job --probe 2 --rounds 3 --workers 4 --seed 5 --meshers 11\n\
+meshrun threads a.job --rounds 3 --workers 4 --seed 5 --meshers 6\n\
+meshrun threads a.job --probe 2 --workers 4 --seed 5 --meshers 6\n\
+meshrun threads a.job --probe 2 --rounds 3 --seed 5 --meshers 6\n\
+meshrun threads a.job --probe 2 --rounds 3 --workers 4 --meshers 6\n\
+meshrun threads a.job --probe -1 --rounds 3 --workers 4 --seed 5 --meshers 6\n\
+meshrun threads a.job --probe 2 --rounds 3 --workers 4 --seed 0x5 --meshers 6\n\
+meshrun threads a.job --probe 2 --rounds 3.0 --workers 4 --seed 5 --meshers 6\n\
+meshrun threads a.job --probe 2 --rounds 3 --workers 4 --seed 5 --meshers 6 --gate 1\n\
+meshrun threads a.job --probe 2 --rounds 3 --workers 4 --seed 5 --meshers 6 b.job\n\
+meshrun threads a.job --probe 2 --rounds 3 --workers 4 --seed 5 --meshers 6 --seed 5\n\
+meshrun threads a.job --probe 2 --rounds 3 --workers 4 --seed 5 --meshers 6 --version\n\
+meshrun threads --probe 2 --rounds 3 --workers 4 --seed 5 --meshers 6\n\
+meshrun threads a.job\n\
+meshrun threads\n\
+meshrun threads a.job --probe 2 --rounds 3 --workers 4 --seed 5 --history 6\n\
+meshrun threads a.job --probe 2 --rounds 3 --workers 4 --seed 5 --history=6\n\
+meshrun threads a.job --probe 2 --rounds 3 --workers 4 --seed 5 --history --history\n\
+meshrun replay a.job --seed 5\n\
+meshrun replay a.job --history=true\n\
+meshrun replay a.job --history --history\n\
+meshrun replay a.job --history b.job\n\
+meshrun replay --history\n\
+meshrun draw a.job --from 0\n\
+meshrun draw a.job --from 1048577\n\
+meshrun draw a.job --to 0\n\
+meshrun draw a.job --to 1048577\n\
+meshrun draw a.job --columns 65\n\
+meshrun draw a.job --columns -1\n\
+meshrun draw a.job --from 0x5\n\
+meshrun draw a.job --from 1 --from 2\n\
+meshrun draw a.job --seed 5\n\
+meshrun draw a.job --history\n\
+meshrun draw a.job b.job\n\
+meshrun draw --from 1 --to 2\n\
+meshrun draw a.job --version\n\
+meshrun explore a.job --mesh\n\
+meshrun explore --mesh 1:0\n\
+meshrun explore a.job --states 5\n\
+meshrun explore a.job --mesh 1\n\
+meshrun explore a.job --mesh :\n\
+meshrun explore a.job --mesh 1:\n\
+meshrun explore a.job --mesh :0\n\
+meshrun explore a.job --mesh 1:0:2\n\
+meshrun explore a.job --mesh 1:0:\n\
+meshrun explore a.job --mesh 01:0\n\
+meshrun explore a.job --mesh 1:00\n\
+meshrun explore a.job --mesh +1:0\n\
+meshrun explore a.job --mesh 65536:0\n\
+meshrun explore a.job --mesh 1:65536\n\
+meshrun explore a.job --mesh 0x1:0\n\
+meshrun explore a.job --mesh 1,0\n\
+meshrun explore a.job --mesh 1:0 --mesh 2\n\
+meshrun explore a.job --mesh 1 --mesh 2:0\n\
+meshrun explore a.job --mesh 1:0 2:0\n\
+meshrun explore a.job --mesh 1:0 --mesh 1:0 --mesh 1:0 --mesh 1:0 --mesh 1:0 --mesh 1:0 --mesh 1:0 --mesh 1:0 --mesh 1:0 --mesh 1:0 --mesh 1:0\n\
+meshrun explore a.job --mesh 1:0 --cancel 1001\n\
+meshrun explore a.job --mesh 1:0 --cancel -1\n\
+meshrun explore a.job --mesh 1:0 --cancel 1 --cancel 2\n\
+meshrun explore a.job --mesh 1:0 --states 0\n\
+meshrun explore a.job --mesh 1:0 --states 10000001\n\
+meshrun explore a.job --mesh 1:0 --witness 1000001\n\
+meshrun explore a.job --mesh 1:0 --witness 18446744073709551616\n\
+meshrun explore a.job --mesh 1:0 --witness\n\
+meshrun explore a.job b.job --mesh 1:0\n\
+meshrun explore a.job --mesh 1:0 --history\n\
+meshrun explore a.job --mesh 1:0 --version\n\
+meshrun live a.job\n\
+meshrun live --pages 0\n\
+meshrun live --pages 4097\n\
+meshrun live --history 65537\n\
+meshrun live --workers 0\n\
+meshrun live --workers 65\n\
+meshrun check a.history b.history\n\
+meshrun check a.history --history\n\
+meshrun check a.history --version";
+
 /// What a command line asks for, as the tables write it.
 fn asked(rt: &(impl Abort + AllocGlobal), line: &str) -> String {
     let words: Vec<&str> = line.split(' ').collect(rt.alloc()).expect(rt, "memory");
@@ -196,4 +281,21 @@ fn reads_what_is_explored(rt: HostRuntime) {
 #[test]
 fn reads_sizes(rt: HostRuntime) {
     check_lines(&rt, SIZES);
+}
+
+/// Asserts that a command line is refused for an error.
+fn check_refused(rt: &(impl Abort + AllocGlobal), line: &str) {
+    let words: Vec<&str> = line.split(' ').collect(rt.alloc()).expect(rt, "memory");
+    let is_refused = match arguments(rt.alloc(), words.as_slice()) {
+        Ok(_) => false,
+        Err(stop) => stop.status == 2 && stop.text.as_str().starts_with("error: "),
+    };
+    assert!(rt; is_refused, "{line}");
+}
+
+#[test]
+fn refuses_faulty_numbers(rt: HostRuntime) {
+    for line in FAULTY.split('\n') {
+        check_refused(&rt, line);
+    }
 }

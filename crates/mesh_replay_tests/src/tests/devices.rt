@@ -95,19 +95,11 @@ fn write_slowly(alloc: Global, most: usize, calls: usize, end: End) -> Ran {
 #[test]
 fn works_byte_by_byte(rt: HostRuntime) {
     let run = read_slowly(rt.alloc(), MESH_FILE, ENOUGH);
-    check(
-        &rt,
-        run.wrote(MESH_ANSWERS.as_bytes(), "", 0),
-        &run,
-        "a byte a read",
-    );
+    let goes = run.wrote(MESH_ANSWERS.as_bytes(), "", 0);
+    check(&rt, goes, &run, "a byte a read");
     let run = write_slowly(rt.alloc(), 1, ENOUGH, End::Fails);
-    check(
-        &rt,
-        run.wrote(MESH_ANSWERS.as_bytes(), "", 0),
-        &run,
-        "a byte a write",
-    );
+    let goes = run.wrote(MESH_ANSWERS.as_bytes(), "", 0);
+    check(&rt, goes, &run, "a byte a write");
 }
 
 /// A file whose second line has a fault, which a source that fails comes before.
@@ -195,10 +187,6 @@ fn a_failed_call_is_not_tried_again(rt: HostRuntime) {
 fn one_byte_a_call_is_no_failure(rt: HostRuntime) {
     let input = Input::new(FailsFirst::new(MESH_FILE.as_bytes(), false));
     let run = replayed_from(rt.alloc(), input, Printed::Answers);
-    check(
-        &rt,
-        run.wrote(MESH_ANSWERS.as_bytes(), "", 0),
-        &run,
-        "a byte a read",
-    );
+    let goes = run.wrote(MESH_ANSWERS.as_bytes(), "", 0);
+    check(&rt, goes, &run, "a byte a read");
 }

@@ -69,12 +69,8 @@ const JOURNAL: &str =
 fn a_replay_prints_its_journal(rt: HostRuntime) {
     let input = Input::new(JOURNAL_FILE.as_bytes());
     let run = replayed_from(rt.alloc(), input, Printed::History);
-    check(
-        &rt,
-        run.wrote(JOURNAL.as_bytes(), "", 0),
-        &run,
-        "two workers",
-    );
+    let goes = run.wrote(JOURNAL.as_bytes(), "", 0);
+    check(&rt, goes, &run, "two workers");
 }
 
 #[test]

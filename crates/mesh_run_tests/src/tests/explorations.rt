@@ -53,12 +53,8 @@ fn prints_an_outcome_as_a_job(rt: HostRuntime) {
     let words = with(&rt, &["--witness", "1"]);
     let input = SlowSource::new(STORE_FILE.as_bytes(), STORE_FILE.len() + 1);
     let run = explored(&rt, words.as_slice(), input);
-    check(
-        &rt,
-        run.wrote(SECOND.as_bytes(), "", 0),
-        &run,
-        "the second outcome",
-    );
+    let goes = run.wrote(SECOND.as_bytes(), "", 0);
+    check(&rt, goes, &run, "the second outcome");
 }
 
 #[test]

@@ -49,12 +49,8 @@ fn tells_each_fault_of_a_file(rt: HostRuntime) {
 fn tells_a_history_that_is_too_short(rt: HostRuntime) {
     let input = Input::new(SHORT_FILE.as_bytes());
     let run = ran(&rt, input, &FEWEST, Printed::Answers);
-    check(
-        &rt,
-        run.wrote(b"", "history too short\n", 2),
-        &run,
-        "four commands",
-    );
+    let goes = run.wrote(b"", "history too short\n", 2);
+    check(&rt, goes, &run, "four commands");
 }
 
 /// A worker that makes three objects of half a page on a heap of one page, and what it is answered.
@@ -70,24 +66,16 @@ const ONE_PAGE_HISTORY: &str =
 fn has_no_more_pages_than_its_file_says(rt: HostRuntime) {
     let input = Input::new(ONE_PAGE_FILE.as_bytes());
     let run = ran(&rt, input, &FEWEST, Printed::Answers);
-    check(
-        &rt,
-        run.wrote(ONE_PAGE_LINES.as_bytes(), "", 0),
-        &run,
-        "answers",
-    );
+    let goes = run.wrote(ONE_PAGE_LINES.as_bytes(), "", 0);
+    check(&rt, goes, &run, "answers");
 }
 
 #[test]
 fn prints_the_history(rt: HostRuntime) {
     let input = Input::new(ONE_PAGE_FILE.as_bytes());
     let run = ran(&rt, input, &FEWEST, Printed::History);
-    check(
-        &rt,
-        run.wrote(ONE_PAGE_HISTORY.as_bytes(), "", 0),
-        &run,
-        "a history",
-    );
+    let goes = run.wrote(ONE_PAGE_HISTORY.as_bytes(), "", 0);
+    check(&rt, goes, &run, "a history");
 }
 
 #[test]
