@@ -2,14 +2,13 @@
 ghost use Rattle.std.specs.Prelude.{◌≡◌};
 ghost use Rattle.model_words.specs.Faults.{kind_name_of};
 
-use std::error::Error as StdError;
-use std::fmt;
 use thiserror::Error;
 
 /// What is wrong with a line of a job's text.
 ///
 /// The first line with a fault is told, with the first kind of this list that holds for it. The order is this project's own.
-#[derive(Clone, Copy, Debug, PartialEq, Eq)]
+#[derive(Clone, Copy, Debug, PartialEq, Eq, Error)]
+#[error("{}", self.name())]
 pub enum FaultKind {
     /// The file has more than 1,048,576 bytes; the line is 0.
     TooLong,
@@ -46,14 +45,6 @@ impl FaultKind {
         }
     }
 }
-
-impl fmt::Display for FaultKind {
-    fn fmt<W: fmt::Write>(&self, f: &mut fmt::Formatter<W>) -> fmt::Result {
-        f.write_str(self.name())
-    }
-}
-
-impl StdError for FaultKind {}
 
 /// The first fault of a job's text: the line, numbered from 1, and the kind.
 #[derive(Clone, Copy, Debug, PartialEq, Eq, Error)]

@@ -2,8 +2,7 @@
 ghost use Rattle.std.specs.Prelude.{◌≡◌, ◌≤◌, codes};
 ghost use Rattle.model_words.specs.Refusals.{number_of, name_of};
 
-use std::error::Error;
-use std::fmt;
+use thiserror::Error;
 
 /// The names of the refusals, in the order of their numbers.
 const REFUSAL_NAMES: [&str; 17] = [
@@ -29,7 +28,8 @@ const REFUSAL_NAMES: [&str; 17] = [
 /// Why a call was refused. A refusal changes nothing in heap and roots.
 ///
 /// Where several hold for one call, the one with the lowest number is answered. Numbers and names are this project's own.
-#[derive(Clone, Copy, Debug, PartialEq, Eq)]
+#[derive(Clone, Copy, Debug, PartialEq, Eq, Error)]
+#[error("{}", self.name())]
 pub enum Refusal {
     /// `new`: the length is 0.
     Zero,
@@ -102,11 +102,3 @@ impl Refusal {
         REFUSAL_NAMES[usize::from(self.number() - 1)]
     }
 }
-
-impl fmt::Display for Refusal {
-    fn fmt<W: fmt::Write>(&self, f: &mut fmt::Formatter<W>) -> fmt::Result {
-        f.write_str(self.name())
-    }
-}
-
-impl Error for Refusal {}
