@@ -39,8 +39,6 @@ static ZEROS: [u8; 2048] = [0; 2048];
 
 /// Physical pages, the page map over them, and the index of the spans that the map is for.
 pub struct PageHeap {
-    // What new spans are made with.
-    alloc: Global,
     store: Store,
     spans: Spans,
     // The lowest virtual page that was never used.
@@ -64,7 +62,7 @@ impl Model for PageHeap {
 
 #[rattlefmt::skip]
 impl Drop for PageHeap {
-    fn drop(self) { let PageHeap { alloc: _, store: _, spans: _, next_page: _, meshes: _ } = self; }
+    fn drop(self) { let PageHeap { store: _, spans: _, next_page: _, meshes: _ } = self; }
 }
 
 impl PageHeap {
@@ -78,7 +76,6 @@ impl PageHeap {
         let store = Store::open(alloc, pages)?;
         let spans = Spans::new(alloc)?;
         Ok(PageHeap {
-            alloc,
             store,
             spans,
             next_page: 1,
@@ -129,10 +126,7 @@ impl PageHeap {
             return Err(NewFault::Refused(Refusal::NoAddresses));
         }
         let pages = take_pages(&mut self.store.arena, count);
-        match self
-            .spans
-            .add_span(self.alloc, class, self.next_page, pages.as_slice())
-        {
+        match self.spans.add_span(class, self.next_page, pages.as_slice()) {
             Ok(span) => {
                 map_pages(&mut self.store.map, self.next_page, pages.as_slice());
                 self.next_page += count;

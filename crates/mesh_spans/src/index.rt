@@ -27,6 +27,8 @@ use std::marker::Model;
 ///
 /// Spans and groups are numbered in the order of their making, and no number is used again.
 pub struct Spans {
+    // Takes the memory of new spans.
+    alloc: Global,
     // By number.
     spans: Vec<Extent>,
     // By number, and found by their fullness.
@@ -47,11 +49,13 @@ impl Model for Spans {
 
 #[rattlefmt::skip]
 impl Drop for Spans {
-    fn drop(self) { let Spans { spans: _, groups: _, owners: _ } = self; }
+    fn drop(self) { let Spans { alloc: _, spans: _, groups: _, owners: _ } = self; }
 }
 
 impl Spans {
-    /// An index with no span. Its table of virtual pages is made here.
+    /// An index with no span. It keeps the allocator for the spans that are added. The table of virtual pages is allocated here.
+    ///
+    /// An error is an allocation failure.
     pub fn new(alloc: Global) -> Result<Spans, AllocError>
         ensures spans { IfOk result (λ s. s.spans ≡ []) }
         ensures groups { IfOk result (λ s. s.groups ≡ []) }
@@ -59,6 +63,7 @@ impl Spans {
         let owners = Owners::new(alloc)?;
         let groups = Groups::new(alloc)?;
         Ok(Spans {
+            alloc,
             spans: Vec::new(alloc),
             groups,
             owners,
@@ -72,15 +77,9 @@ impl Spans {
         let _spans = self.spans.len();
     }
 
-    /// Adds a span of these virtual and physical pages, with a group of its own. It alone is handed an allocator: no other call on an index that
-    /// was made takes memory. Nothing changes where memory is refused.
-    pub fn add_span(
-        &mut self,
-        alloc: Global,
-        class: Class,
-        first: u32,
-        pages: &[Page],
-    ) -> Result<Span, AllocError>
+    /// Adds a span of these virtual and physical pages, with a group of its own, and returns its number. No other call on an index that was made
+    /// allocates. An error is an allocation failure; the index is unchanged then.
+    pub fn add_span(&mut self, class: Class, first: u32, pages: &[Page]) -> Result<Span, AllocError>
         requires first { 1 ≤ first }
         requires last { first + pages_of class ≤ 65536 }
         requires unused { AreUnused self.old first }
@@ -95,7 +94,7 @@ impl Spans {
     {
         let number = self.spans.len() as u32;
         let span = Span::numbered(number);
-        let group = Group::new(alloc, class, span, pages)?;
+        let group = Group::new(self.alloc, class, span, pages)?;
         self.spans.reserve(1)?;
         self.groups.push(group)?;
         self.spans.push_reserved(Extent::new(first, class, number));

@@ -58,7 +58,7 @@ fn filled(rt: &(impl Abort + AllocGlobal), class: Class, count: usize) -> Spans 
 }
 
 /// Adds a span at a virtual page, where there is room, and answers the page after it. All spans have one physical page.
-fn add(rt: &(impl Abort + AllocGlobal), spans: &mut Spans, class: Class, next: u32) -> u32
+fn add(rt: &impl Abort, spans: &mut Spans, class: Class, next: u32) -> u32
     requires some { 1 ≤ next }
     requires unused { AreUnused spans.old next }
     ensures some { 1 ≤ result }
@@ -70,7 +70,7 @@ fn add(rt: &(impl Abort + AllocGlobal), spans: &mut Spans, class: Class, next: u
     }
     let pages = [Page::default(); 3];
     spans
-        .add_span(rt.alloc(), class, next, &pages[..class.pages() as usize])
+        .add_span(class, next, &pages[..class.pages() as usize])
         .expect(rt, "memory");
     end
 }
