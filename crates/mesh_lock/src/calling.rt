@@ -4,9 +4,11 @@ ghost use Rattle.model_words.specs.Commands.{IsInRange};
 ghost use Rattle.model_memory.specs.Reads.{is_read};
 ghost use Rattle.mesh_mutator.specs.declared.attempts.Attempt.{Attempt};
 ghost use Rattle.mesh_seats.specs.Seat.{IsNew, IsStore, IsTaken};
+ghost use Rattle.mesh_lock.specs.Tries.{AreMade, IsTried};
 
 use crate::guarded::{act, look};
 use crate::shared::Shared;
+use crate::tries::Tries;
 use mesh_mutator::{Attempt, Command};
 use mesh_search::{Actor, Gate, Point};
 use mesh_seats::{Seat, is_read};
@@ -63,29 +65,39 @@ impl<'a, R: Wait, G: Gate> Mutator<'a, R, G> {
         unreachable!()
     }
 
-    /// Attempts until one isn't Blocked, or, where there is an end to the tries, until so many were made.
-    pub fn insist(&self, seat: &mut Seat, command: &Command, tries: Option<u32>) -> Attempt
-        requires { IsInRange command.now }
+    /// Attempts until one isn't Blocked, or all tries were made, which must be one at least. A Blocked result means that each of them was Blocked.
+    pub fn retry_up_to(&self, seat: &mut Seat, command: &Command, tries: &mut Tries) -> Attempt
+        requires range { IsInRange command.now }
+        requires some { AreMade tries.old → ⊥ }
         ensures taken { IsTaken seat.old seat.new command.now result }
-        ensures not_blocked { tries ≡ None → result ≡ Attempt.Blocked → ⊥ }
+        ensures full { seat.old.room ≤ length seat.old.calls → result ≡ Attempt.HistoryFull }
+        ensures read { is_read command.now ≡ true → (result ≡ Attempt.HistoryFull) ↔ (seat.old.room ≤ length seat.old.calls) }
+        ensures spent { result ≡ Attempt.Blocked → AreMade tries.new }
+        ensures most { tries.new.most ≡ tries.old.most }
+        ensures not_blocked { tries.old.most ≡ None → result ≡ Attempt.Blocked → ⊥ }
     {
-        match tries {
-            None => self.retry(seat, command),
-            Some(tries) => self.try_up_to(seat, command, tries),
-        }
-    }
-
-    /// At most so many attempts, and one at least.
-    fn try_up_to(&self, seat: &mut Seat, command: &Command, tries: u32) -> Attempt
-        requires { IsInRange command.now }
-        ensures { IsTaken seat.old seat.new command.now result }
-    {
-        for _ in 1..tries {
-            let attempt = self.attempt(seat, command);
+        for _ in self.rt.forever() {
+            let attempt = self.attempt_counted(seat, command, tries);
             if !is_blocked(&attempt) {
                 return attempt;
             }
+            if tries.is_over() {
+                return attempt;
+            }
         }
+        unreachable!()
+    }
+
+    /// One attempt, and counts it.
+    fn attempt_counted(&self, seat: &mut Seat, command: &Command, tries: &mut Tries) -> Attempt
+        requires range { IsInRange command.now }
+        requires some { AreMade tries.old → ⊥ }
+        ensures taken { IsTaken seat.old seat.new command.now result }
+        ensures full { seat.old.room ≤ length seat.old.calls → result ≡ Attempt.HistoryFull }
+        ensures read { is_read command.now ≡ true → (result ≡ Attempt.HistoryFull) ↔ (seat.old.room ≤ length seat.old.calls) }
+        ensures counted { IsTried tries.old tries.new }
+    {
+        tries.spend();
         self.attempt(seat, command)
     }
 }

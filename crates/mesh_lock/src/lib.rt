@@ -9,8 +9,10 @@
 mod calling;
 mod guarded;
 mod shared;
+mod tries;
 
 pub use calling::{Mutator, call_number};
 pub use mesh_search::{Actor, Gate, NoGate, Point};
 pub use mesh_seats::{Ended, FinishError, Kept, OpenError, Seat, is_read, settle};
 pub use shared::Shared;
+pub use tries::Tries;

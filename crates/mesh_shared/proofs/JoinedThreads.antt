@@ -5,72 +5,58 @@ use Rattle.std.proofs.lemmas.List.{length-map}
 use Rattle.std.specs.declared.thread.PromisedHandle.{PromisedHandle}
 use Rattle.model_memory.specs.Reads.{Kept, kept_by}
 use Rattle.model_words.specs.declared.commands.Command.{Command}
-use Rattle.mesh_shared.specs.Joined.{AreAtWork, AreMeshing, HaveMeshed, HaveServed}
+use Rattle.mesh_shared.specs.Joined.{AreAtWork, AreMeshing, HaveMeshed, HaveServed, stops_of}
 use Rattle.mesh_shared.specs.MesherRuns.{AreMeshed, HasMeshed}
-use Rattle.mesh_shared.specs.Runs.{AreServed, HasWorked, script_of}
+use Rattle.mesh_shared.specs.Runs.{AreServed, HasEnded, HasWorked, IsBeginning, commands_in, script_of}
 use Rattle.mesh_seats.specs.Seat.{Seat, calls_of_seats}
 use Rattle.mesh_shared.specs.Stops.{first_stop}
 use Rattle.mesh_shared.specs.declared.mesher.Meshed.{Meshed}
+use Rattle.mesh_shared.specs.declared.mesher.MesherEnd.{MesherEnd}
 use Rattle.mesh_shared.specs.declared.mesher.Meshes.{Meshes}
 use Rattle.mesh_shared.specs.declared.plan.MeshPlan.{MeshPlan}
 use Rattle.mesh_shared.specs.declared.stops.Stop.{Stop}
 use Rattle.mesh_shared.specs.declared.worker.Served.{Served}
+use Rattle.mesh_shared.specs.declared.worker.Worked.{Worked}
 use Rattle.mesh_shared.specs.declared.worker.Works.{Works}
 use Rattle.mesh_shared.proofs.WorkerRuns.{each_and_one_more, seat_there}
 use Rattle.mesh_shared.proofs.SeveralStops.{none_stopped, nothing_ahead, nothing_behind, nothing_first}
 use Rattle.mesh_seats.proofs.BuiltHistories.{index_any}
 
--- where nothing is told of all threads, each was started, and nothing stopped a mesher or a worker
-pub none_of_all : (refused : Option Stop) (lent told : List Meshed) (shown served : List Served) → lent ≡ told → shown ≡ served
-    → None ≡ first_stop (refused ∷ (map (λ one. one.stop) lent ++ map (λ one. one.stop) shown))
-    → (refused ≡ None) × (first_stop (map (λ one. one.stop) told) ≡ None) × (first_stop (map (λ one. one.stop) served) ≡ None)
-none_of_all refused lent told shown served same_told same_served none =
-    let ends : List (Option Stop) = map (λ (one : Meshed). one.stop) told in
-    let others : List (Option Stop) = map (λ (one : Served). one.stop) served in
-    let all : first_stop (refused ∷ (ends ++ others)) ≡ None
-    = ap (λ (l : List Meshed). first_stop (refused ∷ (map (λ one. one.stop) l ++ others))) (sym same_told)
-    ∙ ap (λ (l : List Served). first_stop (refused ∷ (map (λ one. one.stop) lent ++ map (λ one. one.stop) l))) (sym same_served) ∙ sym none in
-    let both = nothing_first refused (ends ++ others) all in
-    (both.0, nothing_ahead ends others both.1, nothing_behind ends others both.1)
+-- where nothing is told of all threads, nothing stopped a mesher or a worker
+pub none_of_all : (refused : Option Stop) (ends : List MesherEnd) (served : List Served) → first_stop (stops_of refused ends served) ≡ None
+    → (refused ≡ None) × (first_stop (map (λ one. one.stop) ends) ≡ None) × (first_stop (map (λ one. one.stop) served) ≡ None)
+none_of_all refused ends served none =
+    let of_ends : List (Option Stop) = map (λ (one : MesherEnd). one.stop) ends in
+    let of_served : List (Option Stop) = map (λ (one : Served). one.stop) served in
+    let both = nothing_first refused (of_ends ++ of_served) none in
+    (both.0, nothing_ahead of_ends of_served both.1, nothing_behind of_ends of_served both.1)
 
--- where each worker kept the promise of its handle and nothing stopped one
-pub have_served : (handles : List (PromisedHandle Served Works)) (served : List Served) (seats : List Seat)
-    → length served ≡ length handles → seats ≡ map (λ one. one.seat) served → first_stop (map (λ one. one.stop) served) ≡ None
+-- where each worker kept the promise of its handle
+pub have_served : (handles : List (PromisedHandle Served Works)) (served : List Served) → length served ≡ length handles
     → ((w : ℕ) (d : Served) → w < length handles → (h : PromisedHandle Served Works) × (h ≡ slice_index_or handles w h)
-    × HasWorked h.promise.tries h.promise.script.now (slice_index_or served w d).seat.calls (slice_index_or served w d).stop)
-    → HaveServed handles seats
-have_served handles served seats many is none worked = record {
-  many = ap (λ (l : List Seat). length l) is ∙ length-map served (λ (one : Served). one.seat) ∙ many;
-  kept = λ w h below.
-      let there = seat_there served w (omega (arith, many, below)) in
-      let one : Served = there.0 in
-      let calls : one.seat.calls ≡ kept_by (calls_of_seats seats) w = sym (ap (λ (l : List Seat). kept_by (calls_of_seats l) w) is ∙ there.2) in
-      let stop : one.stop ≡ None = ap (λ (x : Served). x.stop) (sym there.1) ∙ none_stopped (λ (x : Served). x.stop) served w one none (omega (arith, many, below)) in
-      let did = worked w one below in
-      let own : PromisedHandle Served Works = did.0 in
-      let same : own ≡ slice_index_or handles w h = did.1 ∙ index_any handles w own h below in
-      let of_one : HasWorked own.promise.tries own.promise.script.now one.seat.calls one.stop
-      = subst (λ (x : Served). HasWorked own.promise.tries own.promise.script.now x.seat.calls x.stop) there.1 did.2 in
-      let stopped : HasWorked own.promise.tries own.promise.script.now one.seat.calls None
-      = subst (λ (x : Option Stop). HasWorked own.promise.tries own.promise.script.now one.seat.calls x) stop of_one in
-      let seated : HasWorked own.promise.tries own.promise.script.now (kept_by (calls_of_seats seats) w) None
-      = subst (λ (l : List Kept). HasWorked own.promise.tries own.promise.script.now l None) calls stopped in
-      subst (λ (k : PromisedHandle Served Works). HasWorked k.promise.tries k.promise.script.now (kept_by (calls_of_seats seats) w) None) same seated;
+    × HasWorked h.promise.tries h.promise.script.now (slice_index_or served w d).seat.calls (slice_index_or served w d).worked.tried (slice_index_or served w d).stop)
+    → HaveServed handles served
+have_served handles served many worked = record {
+  many = many;
+  kept = λ w h d below.
+      let did = worked w d below in
+      let same : did.0 ≡ slice_index_or handles w h = did.1 ∙ index_any handles w did.0 h below in
+      let one : Served = slice_index_or served w d in
+      subst (λ (k : PromisedHandle Served Works). HasWorked k.promise.tries k.promise.script.now one.seat.calls one.worked.tried one.stop) same did.2;
 }
 
--- where each mesher kept the promise of its handle and nothing stopped one
-pub have_meshed : (handles : List (PromisedHandle Meshed Meshes)) (told : List Meshed) → length told ≡ length handles
-    → first_stop (map (λ one. one.stop) told) ≡ None
-    → ((q : ℕ) (d : Meshed) → q < length handles → (h : PromisedHandle Meshed Meshes) × (h ≡ slice_index_or handles q h)
-    × HasMeshed h.promise.rounds h.promise.number h.promise.most (slice_index_or told q d))
-    → HaveMeshed handles told
-have_meshed handles told many none meshed = record {
+-- where each mesher kept the promise of its handle
+pub have_meshed : (handles : List (PromisedHandle MesherEnd Meshes)) (ends : List MesherEnd) → length ends ≡ length handles
+    → ((q : ℕ) (d : MesherEnd) → q < length handles → (h : PromisedHandle MesherEnd Meshes) × (h ≡ slice_index_or handles q h)
+    × HasMeshed h.promise.rounds h.promise.number h.promise.most (slice_index_or ends q d).meshed (slice_index_or ends q d).stop)
+    → HaveMeshed handles ends
+have_meshed handles ends many meshed = record {
   many = many;
   kept = λ q h d below.
       let did = meshed q d below in
       let same : did.0 ≡ slice_index_or handles q h = did.1 ∙ index_any handles q did.0 h below in
-      subst (λ (k : PromisedHandle Meshed Meshes). HasMeshed k.promise.rounds k.promise.number k.promise.most (slice_index_or told q d)) same did.2;
-  unstopped = λ q d below. none_stopped (λ (one : Meshed). one.stop) told q d none (omega (arith, many, below));
+      let one : MesherEnd = slice_index_or ends q d in
+      subst (λ (k : PromisedHandle MesherEnd Meshes). HasMeshed k.promise.rounds k.promise.number k.promise.most one.meshed one.stop) same did.2;
 }
 
 -- an element of a list at a place that there is
@@ -84,47 +70,99 @@ pub none_of_both : {A : Type 0} (a b : Option A) → option_or a b ≡ None → 
 none_of_both None b none = (refl, none)
 none_of_both (Some x) b none = absurd (cc none)
 
--- where all scripts are at work, all are served
-pub all_served : (tries : Option ℕ) (scripts : List (List Command)) (handles : List (PromisedHandle Served Works)) (seats : List Seat)
-    → HaveServed handles seats → AreAtWork tries scripts handles → AreServed tries scripts seats
-all_served tries scripts handles seats have work = record {
-  many = have.many ∙ work.many;
-  begun = λ w below. (at w below).begun;
-  whole = λ no_end w below. (at w below).whole no_end refl;
+-- what the thread of a script that is at work gave back
+worked_at : (tries : Option ℕ) (scripts : List (List Command)) (handles : List (PromisedHandle Served Works)) (served : List Served)
+    → HaveServed handles served → AreAtWork tries scripts handles → first_stop (map (λ one. one.stop) served) ≡ None → (w : ℕ) → w < length scripts
+    → (one : Served) × (kept_by (calls_of_seats (map (λ one. one.seat) served)) w ≡ one.seat.calls)
+    × ((d : Worked) → slice_index_or (map (λ one. one.worked) served) w d ≡ one.worked)
+    × HasWorked tries (script_of scripts w) one.seat.calls one.worked.tried None
+worked_at tries scripts handles served have work none w below =
+    let within : w < length handles = omega (arith, work.many, below) in
+    let given : w < length served = omega (arith, have.many, within) in
+    let found = seat_there served w given in
+    let one : Served = found.0 in
+    let h : PromisedHandle Served Works = there handles w within in
+    let its = work.each w h within in
+    let ended : one.stop ≡ None = ap (λ (x : Served). x.stop) (sym found.1) ∙ none_stopped (λ (x : Served). x.stop) served w one none given in
+    let did : HasWorked (slice_index_or handles w h).promise.tries (slice_index_or handles w h).promise.script.now one.seat.calls one.worked.tried one.stop
+    = subst (λ (x : Served). HasWorked (slice_index_or handles w h).promise.tries (slice_index_or handles w h).promise.script.now x.seat.calls x.worked.tried x.stop)
+    found.1 (have.kept w h one within) in
+    let of_tries : HasWorked tries (slice_index_or handles w h).promise.script.now one.seat.calls one.worked.tried one.stop
+    = subst (λ (t : Option ℕ). HasWorked t (slice_index_or handles w h).promise.script.now one.seat.calls one.worked.tried one.stop) its.0 did in
+    let of_script : HasWorked tries (script_of scripts w) one.seat.calls one.worked.tried one.stop
+    = subst (λ (l : List Command). HasWorked tries l one.seat.calls one.worked.tried one.stop) its.1 of_tries in
+    (one, found.2, found.3, subst (λ (x : Option Stop). HasWorked tries (script_of scripts w) one.seat.calls one.worked.tried x) ended of_script)
+
+-- where all scripts are at work and nothing stopped a worker, all are served
+pub all_served : (tries : Option ℕ) (scripts : List (List Command)) (handles : List (PromisedHandle Served Works)) (served : List Served) (seats : List Seat)
+    (workers : List Worked) → HaveServed handles served → AreAtWork tries scripts handles → first_stop (map (λ one. one.stop) served) ≡ None
+    → seats ≡ map (λ one. one.seat) served → workers ≡ map (λ one. one.worked) served → AreServed tries scripts seats workers
+all_served tries scripts handles served seats workers have work none are_seats are_workers = record {
+  many = ap (λ (l : List Seat). length l) are_seats ∙ length-map served (λ (one : Served). one.seat) ∙ have.many ∙ work.many;
+  begun = λ w below.
+      let its = worked_at tries scripts handles served have work none w below in
+      subst (λ (l : List Kept). IsBeginning (commands_in l) (script_of scripts w)) (sym (kept w its.0 its.1)) its.3.begun;
+  whole = λ no_end w below.
+      let its = worked_at tries scripts handles served have work none w below in
+      ap (λ (l : List Kept). commands_in l) (kept w its.0 its.1) ∙ its.3.whole no_end refl;
+  all_told = ap (λ (l : List Worked). length l) are_workers ∙ length-map served (λ (one : Served). one.worked) ∙ have.many ∙ work.many;
+  ended = λ w d below.
+      let its = worked_at tries scripts handles served have work none w below in
+      let one : Served = its.0 in
+      let told : slice_index_or workers w d ≡ one.worked = ap (λ (l : List Worked). slice_index_or l w d) are_workers ∙ its.2 d in
+      subst (λ (l : List Kept). HasEnded tries (script_of scripts w) (commands_in l) (slice_index_or workers w d).tried) (sym (kept w one its.1))
+      (subst (λ (x : Worked). HasEnded tries (script_of scripts w) (commands_in one.seat.calls) x.tried) (sym told) (its.3.ended refl));
 }
   where
-    at : (w : ℕ) → w < length scripts → HasWorked tries (script_of scripts w) (kept_by (calls_of_seats seats) w) None
-    at w below =
-        let within : w < length handles = omega (arith, work.many, below) in
-        let h : PromisedHandle Served Works = there handles w within in
-        let its = work.each w h within in
-        subst (λ (s : List Command). HasWorked tries s (kept_by (calls_of_seats seats) w) None) its.1
-        (subst (λ (t : Option ℕ). HasWorked t (slice_index_or handles w h).promise.script.now (kept_by (calls_of_seats seats) w) None) its.0 (have.kept w h within))
+    kept : (w : ℕ) (one : Served) → kept_by (calls_of_seats (map (λ one. one.seat) served)) w ≡ one.seat.calls → kept_by (calls_of_seats seats) w ≡ one.seat.calls
+    kept w one is = ap (λ (l : List Seat). kept_by (calls_of_seats l) w) are_seats ∙ is
 
--- where all meshers mesh, each tells what it did
-pub all_meshed : (plan : MeshPlan) (most : Option ℕ) (handles : List (PromisedHandle Meshed Meshes)) (told : List Meshed)
-    → HaveMeshed handles told → AreMeshing plan most handles → AreMeshed plan most told
-all_meshed plan most handles told have meshing = record {
-  many = have.many ∙ meshing.many;
+-- what a mesher's thread gave back
+end_there : (ends : List MesherEnd) (q : ℕ) → q < length ends
+    → (one : MesherEnd) × (slice_index_or ends q one ≡ one) × ((d : Meshed) → slice_index_or (map (λ one. one.meshed) ends) q d ≡ one.meshed)
+end_there [] q below = absurd (omega (arith, below))
+end_there (one ∷ rest) zero below = (one, refl, λ d. refl)
+end_there (one ∷ rest) (suc q) below = end_there rest q (omega (arith, below))
+
+-- where all meshers mesh and nothing stopped one, each tells what it did
+pub all_meshed : (plan : MeshPlan) (most : Option ℕ) (handles : List (PromisedHandle MesherEnd Meshes)) (ends : List MesherEnd) (told : List Meshed)
+    → HaveMeshed handles ends → AreMeshing plan most handles → first_stop (map (λ one. one.stop) ends) ≡ None → told ≡ map (λ one. one.meshed) ends
+    → AreMeshed plan most told
+all_meshed plan most handles ends told have meshing none are = record {
+  many = ap (λ (l : List Meshed). length l) are ∙ length-map ends (λ (one : MesherEnd). one.meshed) ∙ have.many ∙ meshing.many;
   each = λ q d below.
       let within : q < length handles = omega (arith, meshing.many, below) in
-      let h : PromisedHandle Meshed Meshes = there handles q within in
-      subst (λ (p : Meshes). HasMeshed p.rounds p.number p.most (slice_index_or told q d)) (meshing.each q h within) (have.kept q h d within);
-  unstopped = λ q d below. let many = meshing.many in have.unstopped q d (omega (arith, many, below));
+      let given : q < length ends = omega (arith, have.many, within) in
+      let found = end_there ends q given in
+      let one : MesherEnd = found.0 in
+      let h : PromisedHandle MesherEnd Meshes = there handles q within in
+      let ended : one.stop ≡ None = ap (λ (x : MesherEnd). x.stop) (sym found.1) ∙ none_stopped (λ (x : MesherEnd). x.stop) ends q one none given in
+      let p : Meshes = (slice_index_or handles q h).promise in
+      let did : HasMeshed p.rounds p.number p.most one.meshed one.stop
+      = subst (λ (x : MesherEnd). HasMeshed p.rounds p.number p.most x.meshed x.stop) found.1 (have.kept q h one within) in
+      let of_plan : HasMeshed plan.rounds q most one.meshed one.stop
+      = subst (λ (m : Meshes). HasMeshed m.rounds m.number m.most one.meshed one.stop) (meshing.each q h within) did in
+      let unstopped : HasMeshed plan.rounds q most one.meshed None = subst (λ (x : Option Stop). HasMeshed plan.rounds q most one.meshed x) ended of_plan in
+      let same : slice_index_or told q d ≡ one.meshed = ap (λ (l : List Meshed). slice_index_or l q d) are ∙ found.2 d in
+      subst (λ (x : Meshed). HasMeshed plan.rounds q most x None) (sym same) unstopped;
 }
 
 -- one more mesher was started, under the next number
-pub one_mesher_more : (rounds : ℕ) (most : Option ℕ) (number : ℕ) (handles more : List (PromisedHandle Meshed Meshes)) (handle : PromisedHandle Meshed Meshes)
+pub one_mesher_more : (rounds : ℕ) (most : Option ℕ) (number : ℕ) (handles more : List (PromisedHandle MesherEnd Meshes)) (handle : PromisedHandle MesherEnd Meshes)
     → length handles ≡ number → more ≡ handles ++ handle ∷ [] → handle.promise ≡ record { rounds = rounds; number = number; most = most }
-    → ((q : ℕ) (h : PromisedHandle Meshed Meshes) → q < number → (slice_index_or handles q h).promise ≡ record { rounds = rounds; number = q; most = most })
-    → (q : ℕ) (h : PromisedHandle Meshed Meshes) → q < number + 1 → (slice_index_or more q h).promise ≡ record { rounds = rounds; number = q; most = most }
+    → ((q : ℕ) (h : PromisedHandle MesherEnd Meshes) → q < number → (slice_index_or handles q h).promise ≡ record { rounds = rounds; number = q; most = most })
+    → (q : ℕ) (h : PromisedHandle MesherEnd Meshes) → q < number + 1 → (slice_index_or more q h).promise ≡ record { rounds = rounds; number = q; most = most }
 one_mesher_more rounds most number handles more handle many is promise before q h below =
-    let P : ℕ → PromisedHandle Meshed Meshes → Type 0 = λ i k. k.promise ≡ record { rounds = rounds; number = i; most = most } in
+    let P : ℕ → PromisedHandle MesherEnd Meshes → Type 0 = λ i k. k.promise ≡ record { rounds = rounds; number = i; most = most } in
     let last : P (length handles) handle = subst (λ (i : ℕ). P i handle) (sym many) promise in
-    subst (λ (l : List (PromisedHandle Meshed Meshes)). P q (slice_index_or l q h)) (sym is)
+    subst (λ (l : List (PromisedHandle MesherEnd Meshes)). P q (slice_index_or l q h)) (sym is)
     (each_and_one_more P handles handle (λ i d b. before i d (omega (arith, b, many))) last q h (omega (arith, below, many)))
 
--- what holds of an answer where two facts of it do
+-- what holds of an answer where several facts of it do
+pub if_ok_three : {A E : Type 0} (X : Type 0) (P Q R : A → Type 0) (r : Result A E) → ((a : A) → X → P a → Q a → R a) → OnOk r X → IfOk r P → IfOk r Q → IfOk r R
+if_ok_three X P Q R (Ok a) f x p q = f a x p q
+if_ok_three X P Q R (Err e) f x p q = q
+
 pub if_ok_both : {A E : Type 0} (X : Type 0) (P Q : A → Type 0) (r : Result A E) → ((a : A) → X → P a → Q a) → OnOk r X → IfOk r P → IfOk r Q
 if_ok_both X P Q (Ok a) f x h = f a x h
 if_ok_both X P Q (Err e) f x h = h

@@ -1,19 +1,22 @@
 -- What a run of scripts leaves: a worker's commands, one more at a time.
-use Rattle.std.proofs.Common.{◌≡◌, ℕ, zero, suc, ◌+◌, ◌<◌, ◌≤◌, List, [], ◌∷◌, ◌++◌, Option, None, length, map, take, slice_index_or, Bor, ap, refl, sym, ◌∙◌, arith}
+use Rattle.std.proofs.Common.{◌≡◌, ℕ, zero, suc, ◌+◌, ◌<◌, ◌≤◌, List, [], ◌∷◌, ◌++◌, Option, None, Some, length, map, take, slice_index_or, Bor, ap, refl, sym, ◌∙◌, arith, inl, inr, IfSome, subst}
 use Rattle.std.specs.List.{All}
 use Rattle.std.proofs.lemmas.List.Elements.{All-cons}
-use Rattle.std.proofs.lemmas.List.{map-append, take_all, take_more}
+use Rattle.std.proofs.lemmas.List.{length-take-le, map-append, take_all, take_more}
 use Rattle.model_memory.specs.Memory.{Memory}
 use Rattle.model_memory.specs.Plain.{Entry}
 use Rattle.model_memory.specs.Reads.{Kept, call_of, kept_by}
 use Rattle.model_memory.specs.Seats.{Call, calls_of}
 use Rattle.model_words.specs.declared.commands.Command.{Command}
 use Rattle.model_words.specs.declared.commands.Reply.{Reply}
-use Rattle.mesh_shared.specs.Runs.{AreServed, HasBegun, HasRun, HasWorked, IsBeginning, commands_by, commands_in, script_of}
+use Rattle.mesh_shared.specs.Runs.{AreServed, AreWorked, HasBegun, HasRun, HasWorked, IsBeginning, commands_by, commands_in, script_of}
 use Rattle.mesh_seats.specs.Seat.{Keeps, Seat, calls_of_seats, empty_seats}
 use Rattle.mesh_seats.specs.Settle.{IsEnd}
+use Rattle.mesh_lock.specs.Tries.{AreMade}
+use Rattle.mesh_lock.specs.declared.tries.Tries.{Tries}
 use Rattle.mesh_shared.specs.declared.stops.Stop.{Stop}
 use Rattle.mesh_shared.specs.declared.worker.Served.{Served}
+use Rattle.mesh_shared.specs.declared.worker.Worked.{Worked}
 
 -- what is taken from the front is taken again by its length
 taken_again : {A : Type 0} (k : ℕ) (xs : List A) → take k xs ≡ take (length (take k xs)) xs
@@ -31,21 +34,49 @@ pub call_answered : (k : ℕ) (d : Command) (script : List Command) (old new : S
     → commands_in new.calls ≡ take (k + 1) script
 call_answered k d script old new command reply is below at keeps = grind (arith, map-append, take_more)
 
--- a worker that ended before its script's end
-pub worked_partly : (tries : Option ℕ) (k : ℕ) (script : List Command) (old new : Seat) (stop : Option Stop)
-    → commands_in old.calls ≡ take k script → new ≡ old → (tries ≡ None → stop ≡ None → ⊥) → HasWorked tries script new.calls stop
-worked_partly tries k script old new stop is same stopped = grind (arith, begins)
+-- where a try may be made, not all were made at first
+pub some_tries : (most : Option ℕ) (tries : Tries) → tries.most ≡ most → tries.made ≡ 0 → IfSome most (λ n. 1 ≤ n) → AreMade tries → ⊥
+some_tries most tries same none some made =
+    let zero : most ≡ Some 0 = sym same ∙ made ∙ ap (λ (n : ℕ). Some n) none in
+    let low : 1 ≤ 0 = subst (λ (m : Option ℕ). IfSome m (λ n. 1 ≤ n)) zero some in
+    absurd (omega (arith, low))
+
+-- a worker that was stopped before its script's end
+pub worked_partly : (tries : Option ℕ) (k : ℕ) (script : List Command) (old new : Seat) (tried : ℕ) (stop : Stop)
+    → commands_in old.calls ≡ take k script → new ≡ old → HasWorked tries script new.calls tried (Some stop)
+worked_partly tries k script old new tried stop is same = record {
+  begun = begins k script (commands_in new.calls) (ap (λ (s : Seat). commands_in s.calls) same ∙ is);
+  whole = λ no_end none. absurd (cc none);
+  ended = λ none. absurd (cc none);
+}
+
+-- a worker that gave up a command after all its tries
+pub gave_up : (tries : Option ℕ) (k : ℕ) (script : List Command) (old new : Seat) (tried : ℕ)
+    → commands_in old.calls ≡ take k script → new ≡ old → k < length script → tries ≡ Some tried → HasWorked tries script new.calls tried None
+gave_up tries k script old new tried is same below all =
+    let its : commands_in new.calls ≡ take k script = ap (λ (s : Seat). commands_in s.calls) same ∙ is in
+    let long : length (commands_in new.calls) ≡ k = ap (λ (l : List Command). length l) its ∙ length-take-le k script (omega (arith, below)) in record {
+      begun = begins k script (commands_in new.calls) its;
+      whole = λ no_end none. absurd (cc (no_end, all));
+      ended = λ none. inr (all, omega (arith, long, below));
+    }
 
 -- a worker that came to its script's end
-pub worked_wholly : (tries : Option ℕ) (k : ℕ) (script : List Command) (calls : List Kept) (stop : Option Stop)
-    → commands_in calls ≡ take k script → length script ≤ k → HasWorked tries script calls stop
-worked_wholly tries k script calls stop is past = grind (arith, take_all)
+pub worked_wholly : (tries : Option ℕ) (k : ℕ) (script : List Command) (calls : List Kept)
+    → commands_in calls ≡ take k script → length script ≤ k → HasWorked tries script calls 0 None
+worked_wholly tries k script calls is past =
+    let all : commands_in calls ≡ script = is ∙ take_all k script past in record {
+      begun = begins k script (commands_in calls) is;
+      whole = λ no_end none. all;
+      ended = λ none. inl (all, refl);
+    }
 
 -- the seat that a worker gave back
 pub seat_there : (served : List Served) (w : ℕ) → w < length served
     → (one : Served) × (slice_index_or served w one ≡ one) × (kept_by (calls_of_seats (map (λ one. one.seat) served)) w ≡ one.seat.calls)
+    × ((d : Worked) → slice_index_or (map (λ one. one.worked) served) w d ≡ one.worked)
 seat_there [] w below = absurd (omega (arith, below))
-seat_there (one ∷ rest) zero below = (one, refl, refl)
+seat_there (one ∷ rest) zero below = (one, refl, refl, λ d. refl)
 seat_there (one ∷ rest) (suc w) below = seat_there rest w (omega (arith, below))
 
 -- the script that is lent to a worker
@@ -83,10 +114,15 @@ commands_are w history calls is = ap (λ (l : List Call). map (λ (call : Call).
     through (kept ∷ l) = ap (λ (cs : List Command). kept.command ∷ cs) (through l)
 
 -- what served seats leave of a run
-pub run_begun : (tries : Option ℕ) (scripts : List (List Command)) (seats : List Seat) (count : ℕ) (entries history : List Entry) (end : Memory)
-    → AreServed tries scripts seats → count ≡ length scripts → IsEnd count seats entries history end → HasBegun scripts history end
-run_begun tries scripts seats count entries history end served many ended = grind (arith, commands_are)
+pub run_begun : (tries : Option ℕ) (scripts : List (List Command)) (seats : List Seat) (told : List Worked) (count : ℕ) (entries history : List Entry) (end : Memory)
+    → AreServed tries scripts seats told → count ≡ length scripts → IsEnd count seats entries history end → HasBegun scripts history end
+run_begun tries scripts seats told count entries history end served many ended = grind (arith, commands_are)
 
-pub run_whole : (tries : Option ℕ) (scripts : List (List Command)) (seats : List Seat) (count : ℕ) (entries history : List Entry) (end : Memory)
-    → tries ≡ None → AreServed tries scripts seats → count ≡ length scripts → IsEnd count seats entries history end → HasRun scripts history end
-run_whole tries scripts seats count entries history end no_end served many ended = grind (arith, commands_are)
+pub run_whole : (tries : Option ℕ) (scripts : List (List Command)) (seats : List Seat) (told : List Worked) (count : ℕ) (entries history : List Entry) (end : Memory)
+    → tries ≡ None → AreServed tries scripts seats told → count ≡ length scripts → IsEnd count seats entries history end → HasRun scripts history end
+run_whole tries scripts seats told count entries history end no_end served many ended = grind (arith, commands_are)
+
+-- and how its workers ended
+pub run_worked : (tries : Option ℕ) (scripts : List (List Command)) (seats : List Seat) (told : List Worked) (count : ℕ) (entries history : List Entry) (end : Memory)
+    → AreServed tries scripts seats told → count ≡ length scripts → IsEnd count seats entries history end → AreWorked tries scripts history told
+run_worked tries scripts seats told count entries history end served many ended = grind (arith, commands_are)

@@ -5,6 +5,7 @@ use Rattle.model_heap.specs.Table.{Table}
 use Rattle.mesh_shared.specs.declared.calls.Calls.{Calls}
 use Rattle.mesh_shared.specs.declared.mesher.Meshed.{Meshed}
 use Rattle.mesh_shared.specs.declared.plan.MeshPlan.{MeshPlan}
+use Rattle.mesh_shared.specs.declared.stops.Stop.{Stop}
 
 -- the words of a round: those from number 256 times the round on, 256 of them as far as there are any
 abbrev pub words_in : List ℕ → ℕ → List ℕ
@@ -39,15 +40,14 @@ pub record IsSpent (old new : Calls) : Type 0 where
   pub most : new.most ≡ old.most
   pub made : (n : ℕ) → old.most ≡ Some n → new.made ≡ suc old.made
 
--- what a mesher tells: its number; with no end to its calls and no stop, that it made all rounds, each pair of which was refused or meshed to its end;
--- and with an end, that no more calls were answered
-pub record HasMeshed (rounds number : ℕ) (most : Option ℕ) (told : Meshed) : Type 0 where
+-- what a mesher tells: its number; that it made all rounds, each pair of which was refused or meshed to its end, unless its calls were over or it was
+-- stopped; and with an end to its calls, that no more were answered
+pub record HasMeshed (rounds number : ℕ) (most : Option ℕ) (told : Meshed) (stop : Option Stop) : Type 0 where
   pub named : told.number ≡ number
-  pub whole : most ≡ None → told.stop ≡ None → told.rounds ≡ rounds
+  pub whole : (most ≡ Some told.calls → ⊥) → stop ≡ None → told.rounds ≡ rounds
   pub few : (n : ℕ) → most ≡ Some n → told.calls ≤ n
 
 -- each mesher of the plan tells so, none was stopped, and each has its own number
 pub record AreMeshed (plan : MeshPlan) (most : Option ℕ) (told : List Meshed) : Type 0 where
   pub many : length told ≡ plan.meshers
-  pub each : (q : ℕ) (d : Meshed) → q < plan.meshers → HasMeshed plan.rounds q most (slice_index_or told q d)
-  pub unstopped : (q : ℕ) (d : Meshed) → q < plan.meshers → (slice_index_or told q d).stop ≡ None
+  pub each : (q : ℕ) (d : Meshed) → q < plan.meshers → HasMeshed plan.rounds q most (slice_index_or told q d) None

@@ -1,5 +1,5 @@
 -- What a run of scripts in threads leaves.
-use Rattle.std.specs.Prelude.{◌≡◌, ℕ, ◌<◌, ◌≤◌, List, [], Option, None, length, map, slice_index_or, take}
+use Rattle.std.specs.Prelude.{◌≡◌, ◌⊎◌, ℕ, ◌<◌, ◌≤◌, List, [], Option, Some, None, length, map, slice_index_or, take}
 use Rattle.std.specs.List.{All}
 use Rattle.model_memory.specs.Memory.{Memory}
 use Rattle.model_memory.specs.Plain.{Entry, IsLegal}
@@ -9,6 +9,7 @@ use Rattle.model_words.specs.declared.commands.Command.{Command}
 use Rattle.mesh_seats.specs.Seat.{Seat, calls_of_seats}
 use Rattle.mesh_shared.specs.declared.plan.MeshPlan.{MeshPlan}
 use Rattle.mesh_shared.specs.declared.stops.Stop.{Stop}
+use Rattle.mesh_shared.specs.declared.worker.Worked.{Worked}
 
 -- a plan has 1 to 16 searchers and 1 to 10 meshers
 abbrev pub IsFairPlan : MeshPlan → Type 0
@@ -46,13 +47,26 @@ pub record HasBegun (scripts : List (List Command)) (history : List Entry) (end 
 abbrev pub commands_in : List Kept → List Command
 commands_in calls = map (λ kept. kept.command) calls
 
--- the calls are a beginning of the script, and all of it where tries had no end and nothing stopped the worker
-pub record HasWorked (tries : Option ℕ) (script : List Command) (calls : List Kept) (stop : Option Stop) : Type 0 where
+-- a worker's calls are its whole script, and it gave up no command; or it gave up the next one, after as many attempts as it makes at a command
+abbrev pub HasEnded : Option ℕ → List Command → List Command → ℕ → Type 0
+HasEnded tries script called tried = ((called ≡ script) × (tried ≡ 0)) ⊎ ((tries ≡ Some tried) × (length called < length script))
+
+-- the calls are a beginning of the script, and all of it where tries had no end and nothing stopped the worker; where nothing stopped it, it tells how it ended
+pub record HasWorked (tries : Option ℕ) (script : List Command) (calls : List Kept) (tried : ℕ) (stop : Option Stop) : Type 0 where
   pub begun : IsBeginning (commands_in calls) script
   pub whole : tries ≡ None → stop ≡ None → commands_in calls ≡ script
+  pub ended : stop ≡ None → HasEnded tries script (commands_in calls) tried
 
--- there is a seat for each script, whose calls are a beginning of it, and all of it where tries had no end
-pub record AreServed (tries : Option ℕ) (scripts : List (List Command)) (seats : List Seat) : Type 0 where
+-- there is a seat for each script, whose calls are a beginning of it, and all of it where tries had no end; and each worker tells how it ended
+pub record AreServed (tries : Option ℕ) (scripts : List (List Command)) (seats : List Seat) (told : List Worked) : Type 0 where
   pub many : length seats ≡ length scripts
   pub begun : (w : ℕ) → w < length scripts → IsBeginning (commands_in (kept_by (calls_of_seats seats) w)) (script_of scripts w)
   pub whole : tries ≡ None → (w : ℕ) → w < length scripts → commands_in (kept_by (calls_of_seats seats) w) ≡ script_of scripts w
+  pub all_told : length told ≡ length scripts
+  pub ended : (w : ℕ) (d : Worked) → w < length scripts
+      → HasEnded tries (script_of scripts w) (commands_in (kept_by (calls_of_seats seats) w)) (slice_index_or told w d).tried
+
+-- each worker tells how it ended: the commands of its entries are its whole script, or it gave up the next one
+pub record AreWorked (tries : Option ℕ) (scripts : List (List Command)) (history : List Entry) (told : List Worked) : Type 0 where
+  pub many : length told ≡ length scripts
+  pub each : (w : ℕ) (d : Worked) → w < length scripts → HasEnded tries (script_of scripts w) (commands_by w history) (slice_index_or told w d).tried

@@ -1,11 +1,12 @@
 //! Scripts run in threads, on a book that they share, beside threads that search and mesh.
 //!
 //! `run_threads` serves each script in a thread of its own (`worker`), while meshers in threads of theirs search for pairs and mesh them (`mesher`), and
-//! settles the seats at the end. `run_abandoned` lets meshers go and workers give up. Both go past a gate, by which tests hold a thread at a point.
+//! settles the seats at the end. `run_abandoned` lets meshers go and workers give up; `run_within` also returns what meshers and workers did. All go past a gate, by which tests hold a thread at a point.
 #![tactic(auto)]
 
 mod calls;
 mod guarded;
+mod joining;
 mod mesher;
 mod plan;
 pub mod run_laws;
@@ -16,6 +17,8 @@ mod worker;
 pub use mesh_lock::{
     Actor, Ended, FinishError, Gate, Kept, NoGate, OpenError, Point, Seat, Shared, is_read, settle,
 };
-pub use plan::MeshPlan;
+pub use mesher::Meshed;
+pub use plan::{Limits, MeshPlan};
 pub use stops::RunError;
-pub use threads::{run_abandoned, run_threads};
+pub use threads::{Ran, run_abandoned, run_threads, run_within};
+pub use worker::Worked;

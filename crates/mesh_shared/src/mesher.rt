@@ -28,15 +28,22 @@ pub(crate) struct Mesher<'a, R, G> {
     pub number: u32,
 }
 
-/// What a mesher's thread gives back.
+/// What a mesher did in a run.
 #[derive(Clone, Copy)]
-pub(crate) struct Meshed {
+pub struct Meshed {
     /// The mesher's number.
     pub number: u32,
     /// How many rounds it made of which each pair that was found was refused, or meshed until no step was left.
     pub rounds: u32,
     /// How many of its calls were answered, where there is an end to them.
     pub calls: u32,
+}
+
+/// What a mesher's thread gives back.
+#[derive(Clone, Copy)]
+pub(crate) struct MesherEnd {
+    /// What the mesher did.
+    pub meshed: Meshed,
     /// Why it ended before its rounds did. A mesher whose calls were over has nothing to tell.
     pub stop: Option<Stop>,
 }
@@ -49,8 +56,8 @@ pub(crate) struct Meshes {
     pub most: Option<u32>,
 }
 
-impl Promise<Meshed> for Meshes {
-    ghost kept_by = { λ p told. HasMeshed p.rounds p.number p.most told };
+impl Promise<MesherEnd> for Meshes {
+    ghost kept_by = { λ p end. HasMeshed p.rounds p.number p.most end.meshed end.stop };
 }
 
 /// What a round of a mesher was.
@@ -78,20 +85,20 @@ impl Round {
 impl<'a, R: Threads + Wait + Sync, G: Gate + Sync> Mesher<'a, R, G> {
     /// Makes all rounds, unless the calls that it may make are over before, and tells what it did. It leaves no mesh running but where its
     /// calls are over within one.
-    pub(crate) fn mesh(&self, most: Option<u32>) -> Meshed
+    pub(crate) fn mesh(&self, most: Option<u32>) -> MesherEnd
         requires some { 1 ≤ self.now.plan.now.workers }
         requires most { self.now.plan.now.workers ≤ 16 }
         requires own { 1 ≤ self.now.plan.now.meshers }
-        ensures { HasMeshed self.now.plan.now.rounds self.now.number most result }
+        ensures { HasMeshed self.now.plan.now.rounds self.now.number most result.meshed result.stop }
     {
         let mut calls = Calls::of(most);
         let (rounds, stop) = self.make_rounds(&mut calls);
-        Meshed {
+        let meshed = Meshed {
             number: self.number,
             rounds,
             calls: calls.made,
-            stop,
-        }
+        };
+        MesherEnd { meshed, stop }
     }
 
     /// Makes the rounds one after another: how many were made to their ends, and what stopped it.
@@ -99,7 +106,7 @@ impl<'a, R: Threads + Wait + Sync, G: Gate + Sync> Mesher<'a, R, G> {
         requires some { 1 ≤ self.now.plan.now.workers }
         requires most { self.now.plan.now.workers ≤ 16 }
         requires own { 1 ≤ self.now.plan.now.meshers }
-        ensures whole { calls.old.most ≡ None → result.1 ≡ None → result.0 ≡ self.now.plan.now.rounds }
+        ensures whole { (IsOver calls.new → ⊥) → result.1 ≡ None → result.0 ≡ self.now.plan.now.rounds }
         ensures most { calls.new.most ≡ calls.old.most }
     {
         let mut whole = 0;
@@ -126,7 +133,7 @@ impl<'a, R: Threads + Wait + Sync, G: Gate + Sync> Mesher<'a, R, G> {
         requires own { 1 ≤ self.now.plan.now.meshers }
         ensures round { IfOk result (λ made. made.round ≡ round) }
         ensures searched { IfOk result (λ made. HasSearched self.now.plan.now self.now.number round made.views.items made.found.items) }
-        ensures whole { calls.old.most ≡ None → IfOk result (λ made. made.whole ≡ length made.found.items) }
+        ensures whole { (IsOver calls.new → ⊥) → IfOk result (λ made. made.whole ≡ length made.found.items) }
         ensures most { calls.new.most ≡ calls.old.most }
     {
         let plan = self.plan;
@@ -161,7 +168,7 @@ impl<'a, R: Threads + Wait + Sync, G: Gate + Sync> Mesher<'a, R, G> {
     /// Meshes what was found in each view. Gives in how many of them each pair was refused, or meshed to its end.
     fn mesh_all(&self, views: &[ClassView], found: &[Found], calls: &mut Calls) -> usize
         requires { length views.now ≡ length found.now }
-        ensures whole { calls.old.most ≡ None → result ≡ length found.now }
+        ensures whole { (IsOver calls.new → ⊥) → result ≡ length found.now }
         ensures most { calls.new.most ≡ calls.old.most }
     {
         let mut whole = 0;
@@ -177,7 +184,8 @@ impl<'a, R: Threads + Wait + Sync, G: Gate + Sync> Mesher<'a, R, G> {
 
     /// Meshes pairs of a class one after another, as long as there are calls. Gives how many were refused, or meshed to their ends.
     fn mesh_pairs(&self, class: Class, pairs: &[Pair], calls: &mut Calls) -> usize
-        ensures whole { calls.old.most ≡ None → result ≡ length pairs.now }
+        ensures whole { (IsOver calls.new → ⊥) → result ≡ length pairs.now }
+        ensures over { IsOver calls.old → IsOver calls.new }
         ensures most { calls.new.most ≡ calls.old.most }
     {
         let mut ended = 0;
@@ -195,7 +203,7 @@ impl<'a, R: Threads + Wait + Sync, G: Gate + Sync> Mesher<'a, R, G> {
     /// Meshes a pair step by step, unless it is refused by now: how many steps were left when it ended.
     fn mesh_pair(&self, class: Class, pair: Pair, calls: &mut Calls) -> Result<u32, Refusal>
         requires { IsOver calls.old → ⊥ }
-        ensures ended { calls.old.most ≡ None → IfOk result (λ left. left ≡ 0) }
+        ensures ended { (IsOver calls.new → ⊥) → IfOk result (λ left. left ≡ 0) }
         ensures most { calls.new.most ≡ calls.old.most }
     {
         let mut left = self.begin(pair, calls)?;

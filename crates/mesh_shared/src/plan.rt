@@ -1,5 +1,5 @@
 //! What meshers do in a run, and how long threads go on.
-ghost use Rattle.std.specs.Prelude.{◌≡◌};
+ghost use Rattle.std.specs.Prelude.{◌≡◌, None};
 ghost use Rattle.mesh_shared.specs.MesherRuns.{words_in};
 
 /// What meshers do while scripts run. In each of its rounds a mesher takes the views of its classes, searches them, and meshes each pair.
@@ -34,9 +34,22 @@ const WORDS_A_ROUND: usize = 256;
 
 /// How long the threads of a run go on; None has no end.
 #[derive(Clone, Copy)]
-pub(crate) struct Patience {
+pub struct Limits {
     /// After how many calls that were answered a mesher ends, also within a mesh.
     pub calls: Option<u32>,
-    /// How many attempts a worker makes at a command.
+    /// How many attempts a worker makes at a command, 1 or more.
     pub tries: Option<u32>,
+}
+
+impl Limits {
+    /// No limits.
+    pub fn none() -> Limits
+        ensures calls { result.calls ≡ None }
+        ensures tries { result.tries ≡ None }
+    {
+        Limits {
+            calls: None,
+            tries: None,
+        }
+    }
 }

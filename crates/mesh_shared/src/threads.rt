@@ -1,20 +1,20 @@
 //! Scripts on threads, with meshers at work between their commands.
-ghost use Rattle.std.specs.Prelude.{◌≡◌, ◌≤◌, ◌++◌, ◌∷◌, [], None, length, map, vec_capacity, vec_len, IfOk, OnOk};
+ghost use Rattle.std.specs.Prelude.{◌≡◌, ◌≤◌, [], None, length, map, vec_capacity, vec_len, IfOk, IfSome};
 ghost use Rattle.std.specs.List.{All};
 ghost use Rattle.model_words.specs.Commands.{IsInRange};
 ghost use Rattle.mesh_mutator.specs.Book.{memory_in};
-ghost use Rattle.mesh_shared.specs.Joined.{AreAtWork, AreMeshing, HaveMeshed, HaveServed};
+ghost use Rattle.mesh_shared.specs.Joined.{AreAtWork, AreMeshing};
 ghost use Rattle.mesh_shared.specs.MesherRuns.{AreMeshed, HasMeshed};
-ghost use Rattle.mesh_shared.specs.Runs.{AreServed, HasBegun, HasRun, HasWorked, IsFairPlan, IsReady};
-ghost use Rattle.mesh_shared.specs.Stops.{first_stop};
+ghost use Rattle.mesh_shared.specs.Runs.{AreServed, AreWorked, HasBegun, HasRun, HasWorked, IsFairPlan, IsReady};
 
-use crate::mesher::{Meshed, Mesher, Meshes};
-use crate::plan::{MeshPlan, Patience};
-use crate::stops::{RunError, Stop, either_stop};
-use crate::worker::{Served, Works, serve};
+use crate::joining::{Service, join_all, service_of};
+use crate::mesher::{Meshed, Mesher, MesherEnd, Meshes};
+use crate::plan::{Limits, MeshPlan};
+use crate::stops::{RunError, Stop};
+use crate::worker::{Served, Worked, Works, serve};
 use mesh_lock::Shared;
 use mesh_mutator::{Book, Command};
-use mesh_search::{Gate, drop_results};
+use mesh_search::Gate;
 use mesh_seats::{Ended, Seat};
 use std::alloc::{AllocError, Global};
 use std::sync::Wait;
@@ -42,12 +42,8 @@ pub fn run_threads<R: Threads + Wait + Sync, G: Gate + Sync>(
     requires range { All (λ script. All IsInRange script.now) scripts.now }
     ensures { IfOk result (λ ended. HasRun (map (λ script. script.now) scripts.now) ended.history.items (memory_in ended.heap ended.roots)) }
 {
-    let patience = Patience {
-        calls: None,
-        tries: None,
-    };
-    let ran = run(rt, alloc, book, scripts, plan, patience, gate)?;
-    Ok(ran.ended)
+    let ran = run_within(rt, alloc, book, scripts, plan, Limits::none(), gate)?;
+    Ok(ended_of(ran, scripts, plan, Limits::none()))
 }
 
 /// Runs scripts as `run_threads` does, with meshers that are abandoned and workers that give up.
@@ -70,46 +66,69 @@ pub fn run_abandoned<R: Threads + Wait + Sync, G: Gate + Sync>(
     requires tries { 1 ≤ tries }
     ensures { IfOk result (λ ended. HasBegun (map (λ script. script.now) scripts.now) ended.history.items (memory_in ended.heap ended.roots)) }
 {
-    let patience = Patience {
+    let limits = Limits {
         calls: Some(stop_after),
         tries: Some(tries),
     };
-    let ran = run(rt, alloc, book, scripts, plan, patience, gate)?;
-    Ok(ran.ended)
+    let ran = run_within(rt, alloc, book, scripts, plan, limits, gate)?;
+    let asked = Limits {
+        calls: Some(stop_after),
+        tries: Some(tries),
+    };
+    Ok(ended_of(ran, scripts, plan, asked))
 }
 
-/// What a run hands out, and what its meshers tell.
+/// A run's result, and what its threads did.
 #[derive(Drop)]
-struct Ran {
-    ended: Ended,
-    meshers: Vec<Meshed>,
+pub struct Ran {
+    /// Heap, root cells and the one history.
+    pub ended: Ended,
+    /// What each mesher did, in the order of their numbers.
+    pub meshers: Vec<Meshed>,
+    /// How each script ended, in their order.
+    pub workers: Vec<Worked>,
 }
 
-/// Runs scripts with threads that go on as long as they have patience.
-fn run<R: Threads + Wait + Sync, G: Gate + Sync>(
+/// Runs scripts as `run_threads` does, with meshers and workers that stop at these limits, and also returns what each of them did.
+///
+/// It is for callers who want to know that: `run_threads` sets no limits, and `run_abandoned` both. A mesher that wasn't stopped by its limit of calls
+/// made all rounds of the plan. A worker's entries are its whole script, or it gave up the next command, after as many attempts as the limit says.
+pub fn run_within<R: Threads + Wait + Sync, G: Gate + Sync>(
     rt: &R,
     alloc: Global,
     book: Book,
     scripts: &[&[Command]],
     plan: &MeshPlan,
-    patience: Patience,
+    limits: Limits,
     gate: &G,
 ) -> Result<Ran, RunError>
     requires ready { IsReady book.entries (length scripts.now) plan.now }
     requires range { All (λ script. All IsInRange script.now) scripts.now }
+    requires tries { IfSome limits.tries (λ tries. 1 ≤ tries) }
     ensures begun { IfOk result (λ ran. HasBegun (map (λ script. script.now) scripts.now) ran.ended.history.items (memory_in ran.ended.heap ran.ended.roots)) }
-    ensures whole { patience.tries ≡ None
+    ensures whole { limits.tries ≡ None
         → IfOk result (λ ran. HasRun (map (λ script. script.now) scripts.now) ran.ended.history.items (memory_in ran.ended.heap ran.ended.roots)) }
-    ensures meshed { IfOk result (λ ran. AreMeshed plan.now patience.calls ran.meshers.items) }
+    ensures meshed { IfOk result (λ ran. AreMeshed plan.now limits.calls ran.meshers.items) }
+    ensures worked { IfOk result (λ ran. AreWorked limits.tries (map (λ script. script.now) scripts.now) ran.ended.history.items ran.workers.items) }
 {
     let counts = counts_of(alloc, scripts)?;
     let (shared, seats) = Shared::open(alloc, book, counts.as_slice())?;
-    let service = serve_all(rt, alloc, &shared, seats, scripts, plan, patience, gate)?;
+    let service = serve_all(rt, alloc, &shared, seats, scripts, plan, limits, gate)?;
     let ended = shared.finish(alloc, service.seats)?;
     Ok(Ran {
         ended,
         meshers: service.meshers,
+        workers: service.workers,
     })
+}
+
+/// The result of a run of this plan within these limits. A run of another plan, or within other limits, is not to be passed.
+fn ended_of(ran: Ran, scripts: &[&[Command]], plan: &MeshPlan, limits: Limits) -> Ended
+    requires meshed { AreMeshed plan.now limits.calls ran.meshers.items }
+    requires worked { AreWorked limits.tries (map (λ script. script.now) scripts.now) ran.ended.history.items ran.workers.items }
+    ensures { result ≡ ran.ended }
+{
+    ran.ended
 }
 
 /// How many commands each script has.
@@ -123,14 +142,7 @@ fn counts_of(alloc: Global, scripts: &[&[Command]]) -> Result<Vec<usize>, AllocE
     Ok(counts)
 }
 
-/// What the threads of a run gave back.
-#[derive(Drop)]
-struct Service {
-    seats: Vec<Seat>,
-    meshers: Vec<Meshed>,
-}
-
-/// Serves each script from its seat, and meshes meanwhile. Gives the seats back once all threads have ended, and what the meshers tell.
+/// Serves each script from its seat, and meshes meanwhile. Gives the seats back once all threads have ended, and what meshers and workers tell.
 fn serve_all<R: Threads + Wait + Sync, G: Gate + Sync>(
     rt: &R,
     alloc: Global,
@@ -138,15 +150,16 @@ fn serve_all<R: Threads + Wait + Sync, G: Gate + Sync>(
     seats: Vec<Seat>,
     scripts: &[&[Command]],
     plan: &MeshPlan,
-    patience: Patience,
+    limits: Limits,
     gate: &G,
 ) -> Result<Service, RunError>
     requires many { vec_len seats ≡ length scripts.now }
     requires empty { All (λ seat. seat.calls ≡ []) seats.items }
     requires range { All (λ script. All IsInRange script.now) scripts.now }
     requires plan { IsFairPlan plan.now }
-    ensures served { IfOk result (λ service. AreServed patience.tries (map (λ script. script.now) scripts.now) service.seats.items) }
-    ensures meshed { IfOk result (λ service. AreMeshed plan.now patience.calls service.meshers.items) }
+    requires tries { IfSome limits.tries (λ tries. 1 ≤ tries) }
+    ensures served { IfOk result (λ service. AreServed limits.tries (map (λ script. script.now) scripts.now) service.seats.items service.workers.items) }
+    ensures meshed { IfOk result (λ service. AreMeshed plan.now limits.calls service.meshers.items) }
 {
     thread::scope(
         thread::scope_env(),
@@ -156,12 +169,13 @@ fn serve_all<R: Threads + Wait + Sync, G: Gate + Sync>(
             requires empty { All (λ seat. seat.calls ≡ []) seats.items }
             requires range { All (λ script. All IsInRange script.now) scripts.now }
             requires plan { IsFairPlan plan.now }
-            ensures served { IfOk result (λ service. AreServed patience.tries (map (λ script. script.now) scripts.entry.now) service.seats.items) }
-            ensures meshed { IfOk result (λ service. AreMeshed plan.entry.now patience.calls service.meshers.items) }
+            requires tries { IfSome limits.tries (λ tries. 1 ≤ tries) }
+            ensures served { IfOk result (λ service. AreServed limits.tries (map (λ script. script.now) scripts.entry.now) service.seats.items service.workers.items) }
+            ensures meshed { IfOk result (λ service. AreMeshed plan.entry.now limits.calls service.meshers.items) }
         {
             let mut workers = Vec::with_capacity(alloc, seats.len())?;
             let mut meshers = Vec::with_capacity(alloc, plan.meshers as usize)?;
-            let tries = patience.tries;
+            let tries = limits.tries;
             let unserved = start_workers(
                 scope,
                 rt,
@@ -179,11 +193,12 @@ fn serve_all<R: Threads + Wait + Sync, G: Gate + Sync>(
                 gate,
                 shared,
                 plan,
-                patience.calls,
+                limits.calls,
                 &mut meshers,
             );
             let refused = unmeshed.or(unserved);
-            join_all(rt, alloc, refused, workers, meshers)
+            let joined = join_all(rt, workers, meshers)?;
+            service_of(alloc, refused, joined.served, joined.ends)
         },
     )
 }
@@ -202,6 +217,7 @@ fn start_workers<'s, E, R: Threads + Wait + Sync, G: Gate + Sync>(
     requires many { vec_len seats ≡ length scripts.now }
     requires empty { All (λ seat. seat.calls ≡ []) seats.items }
     requires range { All (λ script. All IsInRange script.now) scripts.now }
+    requires tries { IfSome tries (λ tries. 1 ≤ tries) }
     requires room { length scripts.now ≤ vec_capacity workers.old }
     requires none { workers.old.items ≡ [] }
     ensures { result ≡ None → AreAtWork tries (map (λ script. script.now) scripts.now) workers.new.items }
@@ -209,8 +225,8 @@ fn start_workers<'s, E, R: Threads + Wait + Sync, G: Gate + Sync>(
     for seat in seats {
         let script = scripts[workers.len()];
         let job = move || -> Served
-            requires { (seat.calls ≡ []) × All IsInRange script.now }
-            ensures { HasWorked tries script.entry.now result.seat.calls result.stop }
+            requires { (seat.calls ≡ []) × All IsInRange script.now × IfSome tries (λ tries. 1 ≤ tries) }
+            ensures { HasWorked tries script.entry.now result.seat.calls result.worked.tried result.stop }
         { serve(rt, gate, shared, seat, script, tries) };
         match scope.spawn_with(Works { script, tries }, job) {
             Ok(handle) => workers.push_reserved(handle),
@@ -229,7 +245,7 @@ fn start_meshers<'s, E, R: Threads + Wait + Sync, G: Gate + Sync>(
     shared: &'s Shared,
     plan: &'s MeshPlan,
     most: Option<u32>,
-    meshers: &mut Vec<PromisedHandle<Meshed, Meshes>>,
+    meshers: &mut Vec<PromisedHandle<MesherEnd, Meshes>>,
 ) -> Option<Stop>
     requires plan { IsFairPlan plan.now }
     requires room { plan.now.meshers ≤ vec_capacity meshers.old }
@@ -239,9 +255,9 @@ fn start_meshers<'s, E, R: Threads + Wait + Sync, G: Gate + Sync>(
     let mut refused = None;
     let rounds = plan.rounds;
     for number in 0..plan.meshers {
-        let job = move || -> Meshed
+        let job = move || -> MesherEnd
             requires { (1 ≤ plan.now.workers) × (plan.now.workers ≤ 16) × (1 ≤ plan.now.meshers) }
-            ensures { HasMeshed plan.entry.now.rounds number most result }
+            ensures { HasMeshed plan.entry.now.rounds number most result.meshed result.stop }
         { mesh(rt, alloc, gate, shared, plan, number, most) };
         let meshes = Meshes {
             rounds,
@@ -256,43 +272,6 @@ fn start_meshers<'s, E, R: Threads + Wait + Sync, G: Gate + Sync>(
     refused
 }
 
-/// Joins all threads. Gives what they gave back where each was started and none was stopped, else tells the first stop.
-fn join_all<'a, R: Threads>(
-    rt: &R,
-    alloc: Global,
-    refused: Option<Stop>,
-    workers: Vec<PromisedHandle<Served, Works<'a>>>,
-    meshers: Vec<PromisedHandle<Meshed, Meshes>>,
-) -> Result<Service, RunError>
-    ensures started { OnOk result (refused ≡ None) }
-    ensures served { IfOk result (λ service. HaveServed workers.entry.items service.seats.items) }
-    ensures meshed { IfOk result (λ service. HaveMeshed meshers.items service.meshers.items) }
-{
-    let served = match thread::join_promised(rt, workers) {
-        Ok(served) => served,
-        Err(unjoined) => {
-            drop_results(rt, unjoined.value);
-            drop_results(rt, meshers);
-            return Err(RunError::Memory);
-        }
-    };
-    let meshed = match thread::join_promised(rt, meshers) {
-        Ok(meshed) => meshed,
-        Err(unjoined) => {
-            drop_results(rt, unjoined.value);
-            return Err(RunError::Memory);
-        }
-    };
-    if let Some(stop) = first_stop_of(refused, meshed.as_slice(), served.as_slice()) {
-        return Err(stop.into());
-    }
-    let seats = seats_of_served(alloc, served)?;
-    Ok(Service {
-        seats,
-        meshers: meshed,
-    })
-}
-
 /// The meshing of one mesher.
 fn mesh<R: Threads + Wait + Sync, G: Gate + Sync>(
     rt: &R,
@@ -302,11 +281,11 @@ fn mesh<R: Threads + Wait + Sync, G: Gate + Sync>(
     plan: &MeshPlan,
     number: u32,
     most: Option<u32>,
-) -> Meshed
+) -> MesherEnd
     requires some { 1 ≤ plan.now.workers }
     requires most { plan.now.workers ≤ 16 }
     requires own { 1 ≤ plan.now.meshers }
-    ensures { HasMeshed plan.now.rounds number most result }
+    ensures { HasMeshed plan.now.rounds number most result.meshed result.stop }
 {
     let mesher = Mesher {
         rt,
@@ -317,30 +296,4 @@ fn mesh<R: Threads + Wait + Sync, G: Gate + Sync>(
         number,
     };
     mesher.mesh(most)
-}
-
-/// The first of what stopped the threads of a run: where one was refused, then of the meshers and of the workers.
-fn first_stop_of(refused: Option<Stop>, meshed: &[Meshed], served: &[Served]) -> Option<Stop>
-    ensures { result ≡ first_stop (refused ∷ map (λ one. one.stop) meshed.now ++ map (λ one. one.stop) served.now) }
-{
-    let mut stop = refused;
-    for q in 0..meshed.len() {
-        stop = either_stop(stop, meshed[q].stop);
-    }
-    for w in 0..served.len() {
-        stop = either_stop(stop, served[w].stop);
-    }
-    stop
-}
-
-/// The seats that the workers gave back, in their order.
-fn seats_of_served(alloc: Global, served: Vec<Served>) -> Result<Vec<Seat>, AllocError>
-    ensures { IfOk result (λ seats. seats.items ≡ map (λ one. one.seat) served.items) }
-{
-    let mut seats = Vec::with_capacity(alloc, served.len())?;
-    for one in served {
-        let Served { seat, stop: _ } = one;
-        seats.push_reserved(seat);
-    }
-    Ok(seats)
 }

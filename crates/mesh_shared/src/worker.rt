@@ -1,27 +1,36 @@
 //! A worker of a run: it has a script and a seat.
-ghost use Rattle.std.specs.Prelude.{◌≡◌, [], None};
+ghost use Rattle.std.specs.Prelude.{◌≡◌, ◌≤◌, [], IfSome, None};
 ghost use Rattle.std.specs.List.{All};
 ghost use Rattle.model_words.specs.Commands.{IsInRange};
 ghost use Rattle.mesh_shared.specs.Runs.{HasWorked};
 
 use crate::stops::Stop;
-use mesh_lock::{Mutator, Shared, call_number};
+use mesh_lock::{Mutator, Shared, Tries, call_number};
 use mesh_mutator::{Attempt, Command};
 use mesh_search::{Actor, Gate, Point};
 use mesh_seats::Seat;
 use std::sync::Wait;
 use std::thread::Promise;
 
+/// How a worker's script ended in a run.
+#[derive(Clone, Copy)]
+pub struct Worked {
+    /// How many attempts the worker made at the command that it gave up; 0 if it gave up none.
+    pub tried: u32,
+}
+
 /// What a worker's thread gives back.
 #[derive(Drop)]
 pub(crate) struct Served {
     /// The seat, with the calls that were answered.
     pub seat: Seat,
+    /// How the script ended.
+    pub worked: Worked,
     /// Why the worker ended before its script did. A worker that gave up a command which was held back has nothing to tell.
     pub stop: Option<Stop>,
 }
 
-/// That the calls of a worker's seat are a beginning of its script, and all of it where nothing stopped it.
+/// That the calls of a worker's seat are a beginning of its script, and all of it where nothing stopped it and it gave up no command.
 #[derive(Clone, Copy)]
 pub(crate) struct Works<'a> {
     pub script: &'a [Command],
@@ -29,7 +38,7 @@ pub(crate) struct Works<'a> {
 }
 
 impl<'a> Promise<Served> for Works<'a> {
-    ghost kept_by = { λ p served. HasWorked p.tries p.script.now served.seat.calls served.stop };
+    ghost kept_by = { λ p served. HasWorked p.tries p.script.now served.seat.calls served.worked.tried served.stop };
 }
 
 /// Serves a script from a seat without calls, one command after another, each again while it is Blocked, as long as there are tries.
@@ -43,36 +52,39 @@ pub(crate) fn serve<R: Wait, G: Gate>(
 ) -> Served
     requires empty { seat.calls ≡ [] }
     requires range { All IsInRange script.now }
-    ensures { HasWorked tries script.now result.seat.calls result.stop }
+    requires tries { IfSome tries (λ tries. 1 ≤ tries) }
+    ensures { HasWorked tries script.now result.seat.calls result.worked.tried result.stop }
 {
-    let stop = work(rt, gate, shared, &mut seat, script, tries);
-    Served { seat, stop }
+    let (worked, stop) = work(rt, gate, shared, &mut seat, script, tries);
+    Served { seat, worked, stop }
 }
 
-/// Makes the calls of a script, and tells why it stopped before its end.
+/// Makes the calls of a script: how it ended, and why it stopped before its end.
 fn work<R: Wait, G: Gate>(
     rt: &R,
     gate: &G,
     shared: &Shared,
     seat: &mut Seat,
     script: &[Command],
-    tries: Option<u32>,
-) -> Option<Stop>
+    most: Option<u32>,
+) -> (Worked, Option<Stop>)
     requires empty { seat.old.calls ≡ [] }
     requires range { All IsInRange script.now }
-    ensures { HasWorked tries script.now seat.new.calls result }
+    requires tries { IfSome most (λ tries. 1 ≤ tries) }
+    ensures { HasWorked most script.now seat.new.calls result.0.tried result.1 }
 {
     let mutator = Mutator::of(rt, gate, shared);
     for i in 0..script.len() {
-        match mutator.insist(seat, &script[i], tries) {
+        let mut tries = Tries::of(most);
+        match mutator.retry_up_to(seat, &script[i], &mut tries) {
             Attempt::Done(_) => gate.arrive(
                 Actor::Worker(seat.number()),
                 Point::Called(call_number(i)),
             ),
-            Attempt::Blocked => return None,
-            Attempt::HistoryFull => return Some(Stop::History),
-            Attempt::OutOfMemory => return Some(Stop::Memory),
+            Attempt::Blocked => return (Worked { tried: tries.made }, None),
+            Attempt::HistoryFull => return (Worked { tried: 0 }, Some(Stop::History)),
+            Attempt::OutOfMemory => return (Worked { tried: 0 }, Some(Stop::Memory)),
         }
     }
-    None
+    (Worked { tried: 0 }, None)
 }

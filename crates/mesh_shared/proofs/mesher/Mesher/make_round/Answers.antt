@@ -12,4 +12,4 @@ returns-clause-searched g c =
     }
 
 pub returns-clause-whole : goal.returns-clause-whole
-returns-clause-whole g c none = c.mesh_all-whole.ensures.whole none ∙ ap (λ (l : List Found). length l) c.as_slice-3.ensures.value
+returns-clause-whole g c left = c.mesh_all-whole.ensures.whole left ∙ ap (λ (l : List Found). length l) c.as_slice-3.ensures.value

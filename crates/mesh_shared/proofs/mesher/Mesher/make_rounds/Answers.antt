@@ -1,5 +1,6 @@
-use Rattle.std.proofs.Common.{◌≡◌, Bool, false, sym, ◌∙◌, arith}
+use Rattle.std.proofs.Common.{◌≡◌, Bool, false, ◌∙◌, arith}
 use Rattle.std.specs.Bool.{IsTrue}
+use Rattle.mesh_shared.specs.MesherRuns.{IsOver}
 use Rattle.mesh_shared.proofs.mesher.Mesher.make_rounds.Goals as goal
 use Rattle.mesh_shared.proofs.mesher.Mesher.make_rounds.Goals.{then-is_whole, else-is_whole}
 
@@ -10,15 +11,16 @@ pub loop-round-preserved : goal.loop-round-preserved
 loop-round-preserved g c =
     let kept = c.make_round.ensures.most in
     let was = c.loop-round.invariant in
+    let before : IsOver c.loop-round.calls → ⊥ = λ over. not_told _ c.if-is_over.false (c.is_over.ensures.1 over) in
     elim c.if-is_whole.branch [
       | then-is_whole w ↦ (
         kept ∙ was.0,
         (let is = w.whole-is in let below = was.1 in omega (arith, is, below)),
-        λ none. (let is = w.whole-is in let same = was.2 (sym kept ∙ none) in omega (arith, is, same)),
+        λ left. (let is = w.whole-is in let same = was.2 before in omega (arith, is, same)),
       )
       | else-is_whole w ↦ (
         kept ∙ was.0,
         (let is = w.whole-is in let below = was.1 in omega (arith, is, below)),
-        λ none. absurd (not_told _ w.if-is_whole.false (c.is_whole.ensures.1 (c.in-Ok.ensures.round, c.in-Ok.ensures.whole (sym kept ∙ none)))),
+        λ left. absurd (not_told _ w.if-is_whole.false (c.is_whole.ensures.1 (c.in-Ok.ensures.round, c.in-Ok.ensures.whole left))),
       )
     ]

@@ -3,8 +3,8 @@ use Rattle.std.proofs.lemmas.List.{length-map}
 use Rattle.std.specs.List.{All}
 use Rattle.model_words.specs.declared.commands.Command.{Command}
 use Rattle.mesh_seats.specs.Seat.{Seat}
-use Rattle.mesh_shared.proofs.WorkerRuns.{opened_empty, opened_many, run_begun, run_whole}
-use Rattle.mesh_shared.proofs.threads.run.Goals as goal
+use Rattle.mesh_shared.proofs.WorkerRuns.{opened_empty, opened_many, run_begun, run_whole, run_worked}
+use Rattle.mesh_shared.proofs.threads.run_within.Goals as goal
 
 pub serve_all-requires-clause-many : goal.serve_all-requires-clause-many
 serve_all-requires-clause-many g c κs within =
@@ -20,14 +20,21 @@ returns-clause-begun g c =
     let counted : length c.as_slice.result.now ≡ vec_len c.in_ok-counts.counts = ap (λ (l : List ℕ). length l) c.as_slice.ensures.value ∙ sym c.in_ok-counts.counts.ok.0 in
     let many : c.in_ok-shared.shared.seats ≡ length (map (λ (script : Bor (List Command)). script.now) c.args.scripts.now)
     = c.in_ok-shared.ensures.count ∙ counted ∙ c.in_ok-counts.ensures ∙ sym (length-map c.args.scripts.now (λ (script : Bor (List Command)). script.now)) in
-    run_begun _ _ _ _ _ _ _ c.in_ok-service.ensures.served many c.in_ok-ended.ensures.ended.1
+    run_begun _ _ _ _ _ _ _ _ c.in_ok-service.ensures.served many c.in_ok-ended.ensures.ended.1
 
 pub returns-clause-whole : goal.returns-clause-whole
 returns-clause-whole g c no_end =
     let counted : length c.as_slice.result.now ≡ vec_len c.in_ok-counts.counts = ap (λ (l : List ℕ). length l) c.as_slice.ensures.value ∙ sym c.in_ok-counts.counts.ok.0 in
     let many : c.in_ok-shared.shared.seats ≡ length (map (λ (script : Bor (List Command)). script.now) c.args.scripts.now)
     = c.in_ok-shared.ensures.count ∙ counted ∙ c.in_ok-counts.ensures ∙ sym (length-map c.args.scripts.now (λ (script : Bor (List Command)). script.now)) in
-    run_whole _ _ _ _ _ _ _ no_end c.in_ok-service.ensures.served many c.in_ok-ended.ensures.ended.1
+    run_whole _ _ _ _ _ _ _ _ no_end c.in_ok-service.ensures.served many c.in_ok-ended.ensures.ended.1
 
 pub returns-clause-meshed : goal.returns-clause-meshed
 returns-clause-meshed g c = c.in_ok-service.ensures.meshed
+
+pub returns-clause-worked : goal.returns-clause-worked
+returns-clause-worked g c =
+    let counted : length c.as_slice.result.now ≡ vec_len c.in_ok-counts.counts = ap (λ (l : List ℕ). length l) c.as_slice.ensures.value ∙ sym c.in_ok-counts.counts.ok.0 in
+    let many : c.in_ok-shared.shared.seats ≡ length (map (λ (script : Bor (List Command)). script.now) c.args.scripts.now)
+    = c.in_ok-shared.ensures.count ∙ counted ∙ c.in_ok-counts.ensures ∙ sym (length-map c.args.scripts.now (λ (script : Bor (List Command)). script.now)) in
+    run_worked _ _ _ _ _ _ _ _ c.in_ok-service.ensures.served many c.in_ok-ended.ensures.ended.1

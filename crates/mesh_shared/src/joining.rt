@@ -1,0 +1,142 @@
+//! What the threads of a run gave back, and what comes of it.
+ghost use Rattle.std.specs.Prelude.{◌≡◌, ◌++◌, ◌∷◌, Err, IfErr, IfOk, None, OnOk, Some, map};
+ghost use Rattle.mesh_shared.specs.Joined.{HaveMeshed, HaveServed, stops_of};
+ghost use Rattle.mesh_shared.specs.Stops.{error_of, first_stop};
+ghost use Rattle.mesh_shared.specs.declared.stops.RunError.{RunError};
+ghost use Rattle.mesh_shared.specs.declared.stops.Stop.{Stop};
+
+use crate::mesher::{Meshed, MesherEnd, Meshes};
+use crate::stops::{RunError, Stop, either_stop};
+use crate::worker::{Served, Worked, Works};
+use mesh_search::drop_results;
+use mesh_seats::Seat;
+use std::alloc::{AllocError, Global};
+use std::thread;
+use std::thread::{PromisedHandle, Threads};
+
+/// What the threads of a run gave back.
+#[derive(Drop)]
+pub(crate) struct Joined {
+    pub served: Vec<Served>,
+    pub ends: Vec<MesherEnd>,
+}
+
+/// Joins all threads. The handles are joined also where memory for the list of their results is refused, since dropping a handle leaks its result.
+pub(crate) fn join_all<'a, R: Threads>(
+    rt: &R,
+    workers: Vec<PromisedHandle<Served, Works<'a>>>,
+    meshers: Vec<PromisedHandle<MesherEnd, Meshes>>,
+) -> Result<Joined, AllocError>
+    ensures served { IfOk result (λ joined. HaveServed workers.entry.items joined.served.items) }
+    ensures meshed { IfOk result (λ joined. HaveMeshed meshers.items joined.ends.items) }
+{
+    let served = match thread::join_promised(rt, workers) {
+        Ok(served) => served,
+        Err(unjoined) => {
+            drop_results(rt, unjoined.value);
+            drop_results(rt, meshers);
+            return Err(AllocError);
+        }
+    };
+    let ends = match thread::join_promised(rt, meshers) {
+        Ok(ends) => ends,
+        Err(unjoined) => {
+            drop_results(rt, unjoined.value);
+            return Err(AllocError);
+        }
+    };
+    Ok(Joined { served, ends })
+}
+
+/// What the threads of a run did, where nothing stopped one.
+#[derive(Drop)]
+pub(crate) struct Service {
+    pub seats: Vec<Seat>,
+    pub workers: Vec<Worked>,
+    pub meshers: Vec<Meshed>,
+}
+
+/// What the threads did, where each was started and none was stopped; else the first stop in the order of `RunError`. Without a stop it fails where
+/// memory for the lists is refused.
+pub(crate) fn service_of(
+    alloc: Global,
+    refused: Option<Stop>,
+    served: Vec<Served>,
+    ends: Vec<MesherEnd>,
+) -> Result<Service, RunError>
+    ensures stopped { (stop : Stop) → first_stop (stops_of refused ends.items served.items) ≡ Some stop → result ≡ Err (error_of stop) }
+    ensures unstopped { OnOk result (first_stop (stops_of refused ends.items served.items) ≡ None) }
+    ensures memory { first_stop (stops_of refused ends.items served.items) ≡ None → IfErr result (λ error. error ≡ RunError.Memory) }
+    ensures seats { IfOk result (λ service. service.seats.items ≡ map (λ one. one.seat) served.items) }
+    ensures workers { IfOk result (λ service. service.workers.items ≡ map (λ one. one.worked) served.items) }
+    ensures meshers { IfOk result (λ service. service.meshers.items ≡ map (λ one. one.meshed) ends.items) }
+{
+    if let Some(stop) = first_stop_of(refused, ends.as_slice(), served.as_slice()) {
+        return Err(stop.into());
+    }
+    Ok(lists_of(alloc, served, ends)?)
+}
+
+/// The lists of what the threads did.
+fn lists_of(alloc: Global, served: Vec<Served>, ends: Vec<MesherEnd>) -> Result<Service, AllocError>
+    ensures seats { IfOk result (λ service. service.seats.items ≡ map (λ one. one.seat) served.items) }
+    ensures workers { IfOk result (λ service. service.workers.items ≡ map (λ one. one.worked) served.items) }
+    ensures meshers { IfOk result (λ service. service.meshers.items ≡ map (λ one. one.meshed) ends.items) }
+{
+    let meshers = meshers_of_ends(alloc, ends)?;
+    let workers = workers_of_served(alloc, served.as_slice())?;
+    let seats = seats_of_served(alloc, served)?;
+    Ok(Service {
+        seats,
+        workers,
+        meshers,
+    })
+}
+
+/// The first of what stopped the threads of a run: where one was refused, then of the meshers and of the workers.
+fn first_stop_of(refused: Option<Stop>, ends: &[MesherEnd], served: &[Served]) -> Option<Stop>
+    ensures { result ≡ first_stop (stops_of refused ends.now served.now) }
+{
+    let mut stop = refused;
+    for q in 0..ends.len() {
+        stop = either_stop(stop, ends[q].stop);
+    }
+    for w in 0..served.len() {
+        stop = either_stop(stop, served[w].stop);
+    }
+    stop
+}
+
+/// What the meshers did, in their order.
+fn meshers_of_ends(alloc: Global, ends: Vec<MesherEnd>) -> Result<Vec<Meshed>, AllocError>
+    ensures { IfOk result (λ meshers. meshers.items ≡ map (λ one. one.meshed) ends.items) }
+{
+    let mut meshers = Vec::with_capacity(alloc, ends.len())?;
+    for end in ends {
+        meshers.push_reserved(end.meshed);
+    }
+    Ok(meshers)
+}
+
+/// How the scripts ended, in their order.
+fn workers_of_served(alloc: Global, served: &[Served]) -> Result<Vec<Worked>, AllocError>
+    ensures { IfOk result (λ workers. workers.items ≡ map (λ one. one.worked) served.now) }
+{
+    let mut workers = Vec::with_capacity(alloc, served.len())?;
+    for w in 0..served.len() {
+        workers.push_reserved(served[w].worked);
+    }
+    Ok(workers)
+}
+
+/// The seats that the workers gave back, in their order.
+fn seats_of_served(alloc: Global, served: Vec<Served>) -> Result<Vec<Seat>, AllocError>
+    ensures { IfOk result (λ seats. seats.items ≡ map (λ one. one.seat) served.items) }
+{
+    let mut seats = Vec::with_capacity(alloc, served.len())?;
+    for one in served {
+        let Served { seat, .. } = one;
+        seats.push_reserved(seat);
+    }
+    Ok(seats)
+}
