@@ -26,6 +26,8 @@ pub(crate) enum Event {
     Stepped(u32, StepKind),
     // A searcher is about to work on a class.
     Searching,
+    // The same of the searcher that is the first to be so, where `Searching` has a mark. It holds that one alone, and has no mark of its own.
+    FirstSearching,
 }
 
 impl Event {
@@ -164,5 +166,8 @@ impl<'a, R: Clock> Gate for Holding<'a, R> {
         let first = self.is_first(event);
         self.note_order(event);
         self.hold(event, first);
+        if first && event == Event::Searching {
+            self.hold(Event::FirstSearching, first);
+        }
     }
 }

@@ -394,6 +394,34 @@ fn a_search_runs_beside_a_script(rt: HostRuntime) {
     check_entries(&rt, &seen, (4, 0));
 }
 
+/// Three reads of an empty cell.
+const THREE_READS: &[Part] = &[Part::Read(9, 3)];
+
+/// The first call waits for a searcher at a class, and that searcher waits for the second call.
+static SEARCH_BETWEEN_READS: Course = Course {
+    first: THREE_READS,
+    second: None,
+    events: &[Event::Searching, Event::Called(0, 1)],
+    holds: &[
+        Hold(Event::Called(0, 0), &[Event::Searching], 0),
+        Hold(Event::FirstSearching, &[Event::Called(0, 1)], 0),
+    ],
+    orders: &[],
+    scale: Scale {
+        pages: 16,
+        room: 8,
+        rounds: 1,
+        searchers: 2,
+        meshers: 1,
+    },
+};
+
+#[test]
+fn a_search_runs_between_reads(rt: HostRuntime) {
+    let seen = played(&rt, &SEARCH_BETWEEN_READS, None);
+    check_entries(&rt, &seen, (3, 0));
+}
+
 /// Three objects of half a page on an arena of one page.
 static ONE_PAGE: Course = Course {
     first: &[Part::Made(0, 3, 2048)],
