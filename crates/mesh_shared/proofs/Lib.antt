@@ -1,3 +1,4 @@
+mod AnsweredRuns
 mod JoinedThreads
 mod RunExamples
 mod SeveralStops

@@ -2,4 +2,5 @@ pub mod Joined
 pub mod MesherRuns
 pub mod RunLaws
 pub mod Runs
+pub mod Services
 pub mod Stops

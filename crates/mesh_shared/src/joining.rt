@@ -1,6 +1,7 @@
 //! What the threads of a run gave back, and what comes of it.
 ghost use Rattle.std.specs.Prelude.{◌≡◌, ◌++◌, ◌∷◌, Err, IfErr, IfOk, None, OnOk, Some, map};
 ghost use Rattle.mesh_shared.specs.Joined.{HaveMeshed, HaveServed, stops_of};
+ghost use Rattle.mesh_shared.specs.Services.{IsAnswer};
 ghost use Rattle.mesh_shared.specs.Stops.{error_of, first_stop};
 ghost use Rattle.mesh_shared.specs.declared.stops.RunError.{RunError};
 ghost use Rattle.mesh_shared.specs.declared.stops.Stop.{Stop};
@@ -56,9 +57,22 @@ pub(crate) struct Service {
     pub meshers: Vec<Meshed>,
 }
 
+/// The answer of a run by what its threads gave back. Memory comes where they couldn't be joined into lists.
+pub(crate) fn answer_of(
+    alloc: Global,
+    refused: Option<Stop>,
+    joined: Result<Joined, AllocError>,
+) -> Result<Service, RunError>
+    ensures unjoined { IfErr joined (λ _. result ≡ Err RunError.Memory) }
+    ensures joined { IfOk joined (λ threads. IsAnswer refused threads.ends.items threads.served.items result) }
+{
+    let threads = joined?;
+    service_of(alloc, refused, threads.served, threads.ends)
+}
+
 /// What the threads did, where each was started and none was stopped; else the first stop in the order of `RunError`. Without a stop it fails where
 /// memory for the lists is refused.
-pub(crate) fn service_of(
+fn service_of(
     alloc: Global,
     refused: Option<Stop>,
     served: Vec<Served>,

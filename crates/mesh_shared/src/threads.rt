@@ -7,7 +7,7 @@ ghost use Rattle.mesh_shared.specs.Joined.{AreAtWork, AreMeshing};
 ghost use Rattle.mesh_shared.specs.MesherRuns.{AreMeshed, HasMeshed};
 ghost use Rattle.mesh_shared.specs.Runs.{AreServed, AreWorked, HasBegun, HasRun, HasWorked, IsFairPlan, IsReady};
 
-use crate::joining::{Service, join_all, service_of};
+use crate::joining::{Service, answer_of, join_all};
 use crate::mesher::{Meshed, Mesher, MesherEnd, Meshes};
 use crate::plan::{Limits, MeshPlan};
 use crate::stops::{RunError, Stop};
@@ -197,8 +197,8 @@ fn serve_all<R: Threads + Wait + Sync, G: Gate + Sync>(
                 &mut meshers,
             );
             let refused = unmeshed.or(unserved);
-            let joined = join_all(rt, workers, meshers)?;
-            service_of(alloc, refused, joined.served, joined.ends)
+            let joined = join_all(rt, workers, meshers);
+            answer_of(alloc, refused, joined)
         },
     )
 }
