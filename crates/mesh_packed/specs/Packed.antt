@@ -35,6 +35,16 @@ reply_in kept (At addr) = reply.At addr
 reply_in kept (Byte byte) = reply.Byte byte
 reply_in kept (Refused refusal) = reply.Refused refusal
 
+-- the bytes that a command stores; of the others only a store has some
+abbrev pub bytes_of_command : Command → List ℕ
+bytes_of_command (command.Put cell off bytes) = bytes.items
+bytes_of_command command = []
+
+-- the bytes that a reply gives; of the others only a load's has some
+abbrev pub bytes_of_reply : Reply → List ℕ
+bytes_of_reply (reply.Bytes bytes) = bytes.items
+bytes_of_reply reply = []
+
 -- where a command has bytes, they are among so many
 abbrev pub IsCommandWithin : ℕ → PackedCommand → Type 0
 IsCommandWithin count (Put cell off run) = IsRunWithin count run

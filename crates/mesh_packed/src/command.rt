@@ -1,6 +1,6 @@
 //! Commands without their bytes.
-ghost use Rattle.std.specs.Prelude.{◌≡◌, length};
-ghost use Rattle.mesh_packed.specs.Packed.{IsCommandWithin, command_in};
+ghost use Rattle.std.specs.Prelude.{◌≡◌, ◌++◌, length};
+ghost use Rattle.mesh_packed.specs.Packed.{IsCommandWithin, bytes_of_command, command_in};
 ghost use Rattle.mesh_packed.specs.Runs.{HasRoom, IsKeptOn};
 
 use crate::run::{Run, bytes_of, keep};
@@ -36,6 +36,7 @@ pub fn pack_command(kept: &mut Vec<u8>, command: &Command) -> PackedCommand
     ensures command { command_in kept.new.items result ≡ command.now }
     ensures within { IsCommandWithin (length kept.new.items) result }
     ensures kept { IsKeptOn kept.old kept.new }
+    ensures grows { kept.new.items ≡ kept.old.items ++ bytes_of_command command.now }
 {
     match command {
         Command::New(cell, len, word) => PackedCommand::New(*cell, *len, *word),

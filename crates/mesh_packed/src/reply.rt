@@ -1,6 +1,6 @@
 //! Replies without their bytes.
-ghost use Rattle.std.specs.Prelude.{◌≡◌, length};
-ghost use Rattle.mesh_packed.specs.Packed.{IsReplyWithin, reply_in};
+ghost use Rattle.std.specs.Prelude.{◌≡◌, ◌++◌, length};
+ghost use Rattle.mesh_packed.specs.Packed.{IsReplyWithin, bytes_of_reply, reply_in};
 ghost use Rattle.mesh_packed.specs.Runs.{HasRoom, IsKeptOn};
 
 use crate::run::{Run, bytes_of, keep};
@@ -29,6 +29,7 @@ pub fn pack_reply(kept: &mut Vec<u8>, reply: &Reply) -> PackedReply
     ensures reply { reply_in kept.new.items result ≡ reply.now }
     ensures within { IsReplyWithin (length kept.new.items) result }
     ensures kept { IsKeptOn kept.old kept.new }
+    ensures grows { kept.new.items ≡ kept.old.items ++ bytes_of_reply reply.now }
 {
     match reply {
         Reply::Object(serial, addr) => PackedReply::Object(*serial, *addr),

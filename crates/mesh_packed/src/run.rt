@@ -1,5 +1,5 @@
 //! Where the bytes of a command or a reply are kept.
-ghost use Rattle.std.specs.Prelude.{◌≡◌, length};
+ghost use Rattle.std.specs.Prelude.{◌≡◌, ◌++◌, length};
 ghost use Rattle.arrayvec.specs.ArrayVec.{array_vec_len};
 ghost use Rattle.mesh_packed.specs.Runs.{HasRoom, IsKeptOn, IsRunWithin, run_in};
 
@@ -21,6 +21,7 @@ pub(crate) fn keep(kept: &mut Vec<u8>, bytes: &ArrayVec<u8, MAX_BYTES>) -> Run
     ensures bytes { run_in kept.new.items result ≡ bytes.now }
     ensures within { IsRunWithin (length kept.new.items) result }
     ensures kept { IsKeptOn kept.old kept.new }
+    ensures grows { kept.new.items ≡ kept.old.items ++ bytes.now.items }
 {
     let run = Run {
         place: kept.len() as u32,
