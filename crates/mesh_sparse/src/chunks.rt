@@ -1,5 +1,5 @@
 //! The chunks of an object's bytes that are kept, by number.
-ghost use Rattle.std.specs.Prelude.{◌≡◌, ◌+◌, ◌≤◌, OnOk, OnErr, length};
+ghost use Rattle.std.specs.Prelude.{◌≡◌, ◌+◌, ◌≤◌, None, OnOk, OnErr, length};
 ghost use Rattle.std.specs.Ordering.{nat_cmp};
 ghost use Rattle.std.specs.BTreeMap.{IsUnchanged, get};
 ghost use Rattle.model_memory.specs.Memory.{overwritten};
@@ -38,6 +38,7 @@ pub fn store_in(
     requires { place + length bytes.now ≤ 64 }
     ensures stored { OnOk result (IsSetAt (get nat_cmp chunks.old) (get nat_cmp chunks.new) number (overwritten (chunk_bytes (get nat_cmp chunks.old number)) place bytes.now)) }
     ensures unchanged { OnErr result (IsUnchanged chunks.old chunks.new) }
+    ensures kept { OnErr result (get nat_cmp chunks.old number ≡ None) }
     ensures sized { length (chunk_bytes (get nat_cmp chunks.old number)) ≡ 64 }
 {
     if let Some(kept) = chunks.get_mut(&number) {

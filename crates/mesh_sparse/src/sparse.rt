@@ -82,7 +82,9 @@ impl SparseBytes {
 
     /// Stores bytes from an offset on.
     ///
-    /// The only error is an allocation failure. Then some of the bytes, from the first on, are stored, and all others are as they were.
+    /// The only error is an allocation failure. Then some of the bytes, from the first on, are stored, and all others are as they were. It comes
+    /// only where a chunk of 64 bytes that the range lies in had no byte stored before; no clause says so, since the list of bytes doesn't tell
+    /// which chunks take memory.
     pub fn store(&mut self, start: u32, bytes: &[u8]) -> Result<(), AllocError>
         requires fits { start + length bytes.now ≤ length self.old }
         requires few { length bytes.now ≤ 32 }
@@ -111,7 +113,8 @@ impl SparseBytes {
         &chunk(&self.chunks, number)[place..place + len]
     }
 
-    /// Stores a run of bytes in one chunk, from a place in it on. The only error is an allocation failure.
+    /// Stores a run of bytes in one chunk, from a place in it on. The only error is an allocation failure, and comes only of a chunk that was not
+    /// kept (`store_in`).
     fn store_run(&mut self, number: u32, place: usize, bytes: &[u8]) -> Result<(), AllocError>
         requires one_chunk { place + length bytes.now ≤ 64 }
         requires fits { number * 64 + place + length bytes.now ≤ length self.old }
