@@ -1,8 +1,9 @@
 //! The split search: which groups of a class a mesher may pair.
 //!
 //! A `ClassView` has the candidates of one class; `class_view` makes it from the index. `search_one` shuffles them, cuts the order into two lists and
-//! tries them against one another in rounds; `split_mesh` does so with an order that it is given. `search` has the first round of a view made by scoped
-//! threads, and gives the same pairs. A contract sees a view as the definition does: its candidates, each a number and a set of slots.
+//! tries them against one another in rounds; `split_mesh` does so with an order that it is given. `search` has each round made by as many scoped
+//! threads as it has workers, and returns the same pairs; for every view that a heap has `search_one` is the faster call. A contract sees a view as
+//! the definition does: its candidates, each a number and a set of slots.
 #![tactic(auto)]
 
 mod blocks;
