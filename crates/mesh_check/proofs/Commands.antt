@@ -1,5 +1,5 @@
 -- What commands that are done leave of a memory.
-use Rattle.std.proofs.Common.{◌≡◌, ℕ, suc, ◌+◌, ◌-◌, ◌≤◌, false, List, [], ◌∷◌, length, arith, refl, sym, ◌∙◌, inl, inr, Some, None, Ok}
+use Rattle.std.proofs.Common.{◌≡◌, ℕ, suc, ◌+◌, ◌-◌, ◌≤◌, false, List, [], ◌∷◌, length, arith, refl, sym, ◌∙◌, inl, inr, Some, None, Result, Ok, IsOk}
 use Rattle.std.specs.List.{slice_range}
 use Rattle.std.proofs.lemmas.Bool.{true≢false}
 use Rattle.std.proofs.lemmas.Bool.Decides.{leb_tells}
@@ -32,6 +32,10 @@ pub copy_done : (m : Memory) (to to_off from from_off len s u : ℕ) (x y : Obje
     → object_of m u ≡ Some y → ends_outside x to_off len ≡ false → ends_outside y from_off len ≡ false
     → plain m 0 (CopyBytes to to_off from from_off len) ≡ Ok (Done, copied m (record { serial = s; object = x }) to_off (record { serial = u; object = y }) from_off len)
 copy_done m to to_off from from_off len s u x y is is' at at' fits fits' = rw (is, is') (rw (at, at') (rw (fits, fits') refl))
+
+-- a command that is done is possible
+pub done_is_ok : {A E : Type 0} (x : Result A E) (y : A) → x ≡ Ok y → IsOk x
+done_is_ok x y is = rw is refl
 
 -- a range that doesn't end past an object
 pub inside : (o : Object) (off len : ℕ) → ends_outside o off len ≡ false → off + len ≤ length o.bytes

@@ -1,5 +1,5 @@
 -- What the trees stand for, and for what they stand behind a command.
-use Rattle.std.proofs.Common.{◌≡◌, ◌≢◌, ℕ, suc, ◌+◌, ◌<◌, ◌≤◌, Bool, true, false, ◌||◌, nat_eq, List, [], ◌∷◌, ◌++◌, length, replicate, slice_index_or, slice_set, ap, subst, refl, sym, ◌∙◌, arith, inl, inr, Option, Some, None, Ok, Err}
+use Rattle.std.proofs.Common.{◌≡◌, ◌≢◌, ℕ, suc, ◌+◌, ◌<◌, ◌≤◌, Bool, true, false, ◌||◌, nat_eq, List, [], ◌∷◌, ◌++◌, length, replicate, slice_get, slice_index_or, slice_set, ap, subst, refl, sym, ◌∙◌, arith, inl, inr, Option, Some, None, Ok, Err}
 use Rattle.std.proofs.lemmas.Bool.{true≢false}
 use Rattle.std.proofs.lemmas.Bool.Decides.{eqb_tells, leb_tells}
 use Rattle.std.proofs.lemmas.Grind.{get_or-set_at}
@@ -11,7 +11,7 @@ use Rattle.model_memory.specs.Memory.{Memory, Object, has_address, holder_of, ne
 use Rattle.model_memory.specs.Plain.{IsVacantRange, holding, made}
 use Rattle.model_history.specs.Recorded.{Recorded, many_cells, was_given}
 use Rattle.model_words.specs.declared.refusals.Refusal.TheVariants.{Stray}
-use Rattle.mesh_check.specs.Stands.{IsNearest, IsSetAt, StandsFor, with_memory}
+use Rattle.mesh_check.specs.Stands.{Given, IsNearest, IsOverlapped, IsSetAt, StandsFor, with_memory}
 use Rattle.mesh_check.proofs.Commands.{overwritten_length}
 use Rattle.mesh_check.proofs.Ranges.{has_same, has_within, lacks, no_holder, one_holder, other_key, within_has}
 
@@ -44,7 +44,7 @@ one_of_many : (roots : List (Option ℕ)) (cell : ℕ) → length roots ≡ many
 unfolding many_cells
 one_of_many roots cell cells small = omega (arith, cells, small)
 
-module _ (s g : ℕ → Option ℕ) (given : ℕ → Bool) (count : ℕ) (r : Recorded) where
+module _ (s g : ℕ → Option ℕ) (given : Given) (count : ℕ) (r : Recorded) where
   -- an object's bytes are others, as many as before
   pub stored_stands : (f f' : ℕ → Option Object) (n : ℕ) (o p : Object) → StandsFor f s g given count r → f n ≡ Some o → IsSetAt f f' n (Some p)
       → p.address ≡ o.address → length p.bytes ≡ length o.bytes → StandsFor f' s g given count (with_memory r (with_object r.memory n (Some p)))
@@ -54,6 +54,8 @@ module _ (s g : ℕ → Option ℕ) (given : ℕ → Bool) (count : ℕ) (r : Re
     cells = st.cells;
     root = st.root;
     serials = st.serials;
+    in_order = st.in_order;
+    each = st.each;
     started = λ q x h. let was = before q x h in ap s (sym was.2) ∙ st.started q was.0 was.1;
     starts_of = λ a q h. let was = st.starts_of a q h in elim (eqb_tells q n) [
       | inl same ↦
@@ -84,6 +86,8 @@ module _ (s g : ℕ → Option ℕ) (given : ℕ → Bool) (count : ℕ) (r : Re
     cells = st.cells;
     root = st.root;
     serials = st.serials;
+    in_order = st.in_order;
+    each = st.each;
     started = λ q x h.
         let was = before q x h in
         let there = st.started q x was.1 in
@@ -119,6 +123,8 @@ module _ (s g : ℕ → Option ℕ) (given : ℕ → Bool) (count : ℕ) (r : Re
     cells = length-set r.memory.roots cell (Some n) ∙ st.cells;
     root = set_root r.memory.roots g g' cell (Some n) (one_of_many r.memory.roots cell st.cells small) st.root set;
     serials = st.serials;
+    in_order = st.in_order;
+    each = st.each;
     started = st.started;
     starts_of = st.starts_of;
     filled = st.filled;
@@ -126,18 +132,20 @@ module _ (s g : ℕ → Option ℕ) (given : ℕ → Bool) (count : ℕ) (r : Re
   }
 
   -- an object is made, and a cell names it
-  pub made_stands : (f f' : ℕ → Option Object) (s' g' : ℕ → Option ℕ) (given' : ℕ → Bool) (cell len address serial : ℕ) → StandsFor f s g given count r
+  pub made_stands : (f f' : ℕ → Option Object) (s' g' : ℕ → Option ℕ) (given' : Given) (cell len address serial : ℕ) → StandsFor f s g given count r
       → cell < 4294967296 → 1 ≤ len → IsVacantRange r.memory address len
       → IsSetAt f f' count (Some (record { address = address; bytes = replicate len 0 })) → IsSetAt s s' address (Some count) → IsSetAt g g' cell (Some count)
-      → ((q : ℕ) → given' q ≡ (given q || nat_eq serial q))
+      → ((q : ℕ) → given'.has q ≡ (given.has q || nat_eq serial q)) → given'.order ≡ given.order ++ serial ∷ []
       → StandsFor f' s' g' given' (count + 1) (record { memory = made r.memory cell len address; serials = r.serials ++ serial ∷ [] })
-  made_stands f f' s' g' given' cell len address serial st small some vacant set started rooted told = record {
+  made_stands f f' s' g' given' cell len address serial st small some vacant set started rooted told pushed = record {
     count = length_push r.memory.objects (Some new) ∙ ap (λ (n : ℕ). n + 1) st.count;
     object = object_there;
     cells = length-set r.memory.roots cell (Some (next_serial r.memory)) ∙ st.cells;
     root = set_root r.memory.roots g g' cell (Some (next_serial r.memory)) (one_of_many r.memory.roots cell st.cells small) st.root
         (rooted.0 ∙ ap (λ (n : ℕ). Some n) (sym st.count), rooted.1);
-    serials = λ q. list_any-append (λ other. nat_eq other q) r.serials (serial ∷ []) ∙ one_more (was_given r.serials q) (given q) (nat_eq serial q) (st.serials q) ∙ sym (told q);
+    serials = λ q. list_any-append (λ other. nat_eq other q) r.serials (serial ∷ []) ∙ one_more (was_given r.serials q) (given.has q) (nat_eq serial q) (st.serials q) ∙ sym (told q);
+    in_order = ap (λ (all : List ℕ). all ++ serial ∷ []) st.in_order ∙ sym pushed;
+    each = length_push r.serials serial ∙ ap (λ (n : ℕ). n + 1) st.each;
     started = λ q x h. elim (eqb_tells q count) [
       | inl same ↦
           ap s' (ap (λ (y : Object). y.address) (sym (new_is q x same.1 h))) ∙ started.0 ∙ ap (λ (n : ℕ). Some n) (sym same.1)
@@ -215,7 +223,7 @@ module _ (s g : ℕ → Option ℕ) (given : ℕ → Bool) (count : ℕ) (r : Re
       ]
 
 -- the object whose address is nearest below has it, and is the only one
-pub holding_is : (f : ℕ → Option Object) (s g : ℕ → Option ℕ) (given : ℕ → Bool) (count : ℕ) (r : Recorded) (address n : ℕ) (o : Object)
+pub holding_is : (f : ℕ → Option Object) (s g : ℕ → Option ℕ) (given : Given) (count : ℕ) (r : Recorded) (address n : ℕ) (o : Object)
     → StandsFor f s g given count r → f n ≡ Some o → has_address o address ≡ true → holding r.memory address ≡ Ok (record { serial = n; object = o })
 holding_is f s g given count r address n o st at has =
     let there : object_of r.memory n ≡ Some o = st.object n ∙ at in
@@ -225,7 +233,7 @@ holding_is f s g given count r address n o st at has =
     rw holder (rw there refl)
 
 -- an object that reaches behind the nearest address below is the one that stands there
-only_nearest : (f : ℕ → Option Object) (s g : ℕ → Option ℕ) (given : ℕ → Bool) (count : ℕ) (r : Recorded) (b n k x : ℕ) (o p : Object) → StandsFor f s g given count r
+only_nearest : (f : ℕ → Option Object) (s g : ℕ → Option ℕ) (given : Given) (count : ℕ) (r : Recorded) (b n k x : ℕ) (o p : Object) → StandsFor f s g given count r
     → f n ≡ Some o → o.address ≡ b → f k ≡ Some p → p.address ≤ b → b ≤ x → has_address p x ≡ true → o ≡ p
 only_nearest f s g given count r b n k x o p st at is at' below above has =
     let there = within_has p b below (let t = (has_within p x has).1 in omega (arith, t, above)) in
@@ -233,14 +241,14 @@ only_nearest f s g given count r b n k x o p st at is at' below above has =
     let both : Some o ≡ Some p = sym at ∙ ap f same ∙ at' in cc both
 
 -- no object lies where none begins below
-pub none_below : (f : ℕ → Option Object) (s g : ℕ → Option ℕ) (given : ℕ → Bool) (count : ℕ) (r : Recorded) (address : ℕ) → StandsFor f s g given count r
+pub none_below : (f : ℕ → Option Object) (s g : ℕ → Option ℕ) (given : Given) (count : ℕ) (r : Recorded) (address : ℕ) → StandsFor f s g given count r
     → IsNearest s address None → (k x : ℕ) (p : Object) → f k ≡ Some p → x ≤ address → has_address p x ≡ false
 none_below f s g given count r address st none k x p at below = lacks p x (λ within.
     let missing = none p.address (let w = within.0 in omega (arith, w, below)) in
     let both : Some k ≡ None = sym (st.started k p at) ∙ missing in cc both)
 
 -- nor behind the one that begins nearest below
-pub none_behind : (f : ℕ → Option Object) (s g : ℕ → Option ℕ) (given : ℕ → Bool) (count : ℕ) (r : Recorded) (address n : ℕ) (o : Object) → StandsFor f s g given count r
+pub none_behind : (f : ℕ → Option Object) (s g : ℕ → Option ℕ) (given : Given) (count : ℕ) (r : Recorded) (address n : ℕ) (o : Object) → StandsFor f s g given count r
     → IsNearest s address (Some n) → f n ≡ Some o → (k x : ℕ) (p : Object) → f k ≡ Some p → o.address + length o.bytes ≤ x → x ≤ address → has_address p x ≡ false
 none_behind f s g given count r address n o st near at k x p at' past below = lacks p x (λ within.
     let b = near.0 in
@@ -256,7 +264,7 @@ pub stray_is : (m : Memory) (address : ℕ) → ((k : ℕ) (p : Object) → obje
 stray_is m address none = let holder : holder_of m address ≡ None = no_holder 0 m.objects address none in rw holder refl
 
 -- where the object that begins nearest below hasn't the address, none has it
-pub none_past : (f : ℕ → Option Object) (s g : ℕ → Option ℕ) (given : ℕ → Bool) (count : ℕ) (r : Recorded) (address n : ℕ) (o : Object) → StandsFor f s g given count r
+pub none_past : (f : ℕ → Option Object) (s g : ℕ → Option ℕ) (given : Given) (count : ℕ) (r : Recorded) (address n : ℕ) (o : Object) → StandsFor f s g given count r
     → IsNearest s address (Some n) → f n ≡ Some o → has_address o address ≡ false → (k : ℕ) (p : Object) → f k ≡ Some p → has_address p address ≡ false
 none_past f s g given count r address n o st near at lacking k p at' =
     none_behind f s g given count r address n o st near at k address p at' past (omega arith)
@@ -273,7 +281,7 @@ none_past f s g given count r address n o st near at lacking k p at' =
     ]
 
 -- the object that begins nearest below begins there
-pub nearest_starts : (f : ℕ → Option Object) (s g : ℕ → Option ℕ) (given : ℕ → Bool) (count : ℕ) (r : Recorded) (address n : ℕ) (o : Object) → StandsFor f s g given count r
+pub nearest_starts : (f : ℕ → Option Object) (s g : ℕ → Option ℕ) (given : Given) (count : ℕ) (r : Recorded) (address n : ℕ) (o : Object) → StandsFor f s g given count r
     → IsNearest s address (Some n) → f n ≡ Some o → o.address ≤ address
 nearest_starts f s g given count r address n o st near at =
     let found = st.starts_of near.0 n near.2 in
@@ -281,7 +289,7 @@ nearest_starts f s g given count r address n o st near at =
     let first = near.1 in omega (arith, (ap (λ (y : Object). y.address) (sym same) ∙ found.2), first)
 
 -- a range is not vacant that an object reaches into
-pub not_vacant : (f : ℕ → Option Object) (s g : ℕ → Option ℕ) (given : ℕ → Bool) (count : ℕ) (r : Recorded) (address len n : ℕ) (o : Object) → StandsFor f s g given count r
+pub not_vacant : (f : ℕ → Option Object) (s g : ℕ → Option ℕ) (given : Given) (count : ℕ) (r : Recorded) (address len n : ℕ) (o : Object) → StandsFor f s g given count r
     → f n ≡ Some o → 1 ≤ len → o.address < address + len → address < o.address + length o.bytes → IsVacantRange r.memory address len → ⊥
 not_vacant f s g given count r address len n o st at some below behind vacant = elim (leb_tells o.address address) [
   | inl from ↦
@@ -291,8 +299,37 @@ not_vacant f s g given count r address len n o st at some below behind vacant = 
       true≢false (sym has ∙ vacant n o.address o (st.object n ∙ at) (let l = later.1 in omega (arith, l)) below)
 ]
 
+-- an object that reaches into a range overlaps it, with the serial that it was given
+pub overlapped_is : (f : ℕ → Option Object) (s g : ℕ → Option ℕ) (given : Given) (count : ℕ) (r : Recorded) (address len n serial : ℕ) (o : Object) → StandsFor f s g given count r
+    → f n ≡ Some o → slice_get given.order n ≡ Some serial → 1 ≤ len → o.address < address + len → address < o.address + length o.bytes → IsOverlapped r address len serial
+overlapped_is f s g given count r address len n serial o st at order some below behind = elim (leb_tells o.address address) [
+  | inl from ↦ at_place address (omega arith) (omega (arith, some)) (within_has o address from.1 behind)
+  | inr later ↦
+      at_place o.address (let l = later.1 in omega (arith, l)) below (within_has o o.address (omega arith) (omega (arith, st.filled n o at)))
+]
+  where
+    at_place : (x : ℕ) → address ≤ x → x < address + len → has_address o x ≡ true → IsOverlapped r address len serial
+    at_place x from to has = record {
+      number = n;
+      object = o;
+      is_live = st.object n ∙ at;
+      is_given = subst (λ (all : List ℕ). slice_get all n ≡ Some serial) (sym st.in_order) order;
+      place = x;
+      from = from;
+      to = to;
+      has = has;
+    }
+
+-- each live object was given a serial
+pub serial_there : (f : ℕ → Option Object) (s g : ℕ → Option ℕ) (given : Given) (count : ℕ) (r : Recorded) (n : ℕ) (o : Object) → StandsFor f s g given count r
+    → f n ≡ Some o → n < length given.order
+serial_there f s g given count r n o st at =
+    let below = object_below r.memory n o (st.object n ∙ at) in
+    let made = st.count in
+    let each = st.each in subst (λ (all : List ℕ). n < length all) st.in_order (omega (arith, below, made, each))
+
 -- bytes are stored in an object
-pub overwritten_stands : (f f' : ℕ → Option Object) (s g : ℕ → Option ℕ) (given : ℕ → Bool) (count : ℕ) (r : Recorded) (n off : ℕ) (o : Object) (bytes slice : List ℕ)
+pub overwritten_stands : (f f' : ℕ → Option Object) (s g : ℕ → Option ℕ) (given : Given) (count : ℕ) (r : Recorded) (n off : ℕ) (o : Object) (bytes slice : List ℕ)
     → StandsFor f s g given count r → f n ≡ Some o → slice ≡ bytes → off + length bytes ≤ length o.bytes
     → IsSetAt f f' n (Some (record o { bytes = overwritten o.bytes off slice }))
     → StandsFor f' s g given count (with_memory r (with_object r.memory n (Some (record o { bytes = overwritten o.bytes off bytes }))))

@@ -10,7 +10,7 @@ use Rattle.model_words.specs.declared.refusals.Refusal.TheVariants.{Zero}
 use Rattle.mesh_history.specs.HistoryFiles.{entry_in}
 use Rattle.mesh_history.specs.RecordedWords.{plain_reply}
 use Rattle.mesh_history.specs.declared.words.RecordedReply.TheVariants.{Refused as RecordedRefused}
-use Rattle.mesh_check.specs.Stands.{Stands}
+use Rattle.mesh_check.specs.Stands.{IsOverlapped, Stands}
 use Rattle.mesh_check.specs.declared.lines.Judge.{Judge}
 use Rattle.mesh_check.specs.declared.memory.Tracked.{Tracked}
 use Rattle.mesh_check.specs.declared.reasons.Reason.{Reason}
@@ -53,10 +53,11 @@ abbrev pub IsGiven : Recorded → Reply → Type 0
 IsGiven r (Made serial address) = was_given r.serials serial ≡ true
 IsGiven r reply = ⊥
 
--- a new object with a new serial, where a live object has an address of its range
-abbrev pub IsCrowded : Recorded → Command → Reply → Type 0
-IsCrowded r (New cell len word) (Made serial address) = (was_given r.serials serial ≡ false) × (IsVacantRange r.memory address len → ⊥)
-IsCrowded r command reply = ⊥
+-- a new object with a new serial, where a live object, which was given the other serial, has an address of its range
+abbrev pub IsCrowded : Recorded → Command → Reply → ℕ → Type 0
+IsCrowded r (New cell len word) (Made serial address) other =
+    (was_given r.serials serial ≡ false) × (IsVacantRange r.memory address len → ⊥) × IsOverlapped r address len other
+IsCrowded r command reply other = ⊥
 
 -- what the reason says of an entry
 abbrev pub IsReason : Recorded → Command → Reply → Reason → Type 0
@@ -64,7 +65,7 @@ IsReason r command reply (Differs wanted) = IsOnly r command (plain_reply wanted
 IsReason r command reply NoObject = MakesSome command × (is_object reply ≡ false)
 IsReason r command reply LiveRefused = (is_refusal reply ≡ true) × ((wanted : Reply) × (is_refusal wanted ≡ false) × IsOnly r command wanted)
 IsReason r command reply SerialAgain = MakesSome command × IsGiven r reply
-IsReason r command reply (Overlaps serial) = IsCrowded r command reply
+IsReason r command reply (Overlaps serial) = IsCrowded r command reply serial
 
 -- it is so of whatever the trees stand for
 abbrev pub Tells : Tracked → Command → Reply → Reason → Type 0

@@ -17,13 +17,14 @@ const READ_BYTES: usize = 65_536;
 /// Judges the recorded history that the input gives.
 ///
 /// The input is read to its end, or until a verdict is found: what stands behind the first entry that isn't taken, or behind the first fault, is
-/// not looked at. Text comes where a line has a fault, Read where the input failed, and Memory where memory was refused; Write never comes.
+/// not looked at. Text comes where a line has a fault, Read exactly where the input failed, and Memory where memory was refused; Write never comes.
 pub fn check<I: Source>(alloc: Global, input: &mut I) -> Result<Verdict, ReplayError>
     requires { I.has_failed input.old ≡ false }
     ensures ok { OnOk result (I.has_failed input.new ≡ false) }
     ensures judged { IfOk result (λ verdict. HasJudged (I.remaining input.old) (I.remaining input.new) (outcome_of verdict)) }
     ensures fault { IfErr result (HasNotJudged (I.remaining input.old) (I.remaining input.new)) }
     ensures read { result ≡ Err ReplayError.Read → I.has_failed input.new ≡ true }
+    ensures failed { I.has_failed input.new ≡ true → result ≡ Err ReplayError.Read }
 {
     let mut judging = Judging::new(alloc);
     let mut buffer = room_to_read(alloc)?;
@@ -52,6 +53,7 @@ fn judge_input<I: Source>(
     ensures judged { IfOk result (λ verdict. HasJudged (I.remaining input.old) (I.remaining input.new) (outcome_of verdict)) }
     ensures fault { IfErr result (HasNotJudged (I.remaining input.old) (I.remaining input.new)) }
     ensures read { result ≡ Err ReplayError.Read → I.has_failed input.new ≡ true }
+    ensures failed { I.has_failed input.new ≡ true → result ≡ Err ReplayError.Read }
 {
     match read_input(judging, buffer, input)? {
         Some(verdict) => Ok(verdict),
@@ -73,6 +75,7 @@ fn read_input<I: Source>(
     ensures found { IfOk result (λ verdict. IfSome verdict (λ found. HasFound judging.old (I.remaining input.old) (I.remaining input.new) (outcome_of found))) }
     ensures fault { IfErr result (HasFoundFault judging.old (I.remaining input.old) (I.remaining input.new)) }
     ensures read { result ≡ Err ReplayError.Read → I.has_failed input.new ≡ true }
+    ensures failed { I.has_failed input.new ≡ true → result ≡ Err ReplayError.Read }
 {
     for _read in 0..u64::MAX {
         let count = read_some(input, buffer)?;

@@ -65,7 +65,10 @@ impl Tracked {
                 self.get(*cell, *off, *len)
                     .map_or_else(RecordedReply::Refused, RecordedReply::Bytes),
             ),
-            SpeltCommand::Free(cell) => done(self.free(*cell)),
+            SpeltCommand::Free(cell) => Ok(
+                self.free(*cell)
+                    .map_or_else(RecordedReply::Refused, |()| RecordedReply::Done),
+            ),
             SpeltCommand::Alias(to, from) => done(self.alias(*to, *from)),
             SpeltCommand::Addr(cell) => Ok(
                 self.addr(*cell)

@@ -8,7 +8,7 @@ ghost use Rattle.model_words.specs.declared.refusals.Refusal.{Refusal};
 ghost use Rattle.model_memory.specs.Memory.{has_address, root_of};
 ghost use Rattle.model_memory.specs.Plain.{IsVacantRange, holding, made, named_by, plain};
 ghost use Rattle.model_history.specs.Recorded.{Recorded, any_allocator, nothing_recorded};
-ghost use Rattle.mesh_check.specs.Stands.{IsCopied, IsDone, IsRefused, Stands};
+ghost use Rattle.mesh_check.specs.Stands.{IsCopied, IsDone, IsOverlapped, IsPossible, IsRefused, IsRefusedAs, Stands};
 
 use crate::faults::Fault;
 use crate::maps::{give, nearest, set, set_start, store};
@@ -31,6 +31,8 @@ pub struct Tracked {
     pub(crate) roots: BTreeMap<u32, u32>,
     /// The serials that were given.
     pub(crate) serials: BTreeSet<u32>,
+    /// The same in their order: that of an object is at the place of its number.
+    pub(crate) order: Vec<u32>,
     /// How many objects were made.
     pub(crate) made: u32,
     alloc: Global,
@@ -38,7 +40,7 @@ pub struct Tracked {
 
 #[rattlefmt::skip]
 impl Drop for Tracked {
-    fn drop(self) { let Tracked { objects: _, starts: _, roots: _, serials: _, made: _, alloc: _ } = self; }
+    fn drop(self) { let Tracked { objects: _, starts: _, roots: _, serials: _, order: _, made: _, alloc: _ } = self; }
 }
 
 impl Tracked {
@@ -52,6 +54,7 @@ impl Tracked {
             starts: BTreeMap::new(alloc),
             roots: BTreeMap::new(alloc),
             serials: BTreeSet::new(alloc),
+            order: Vec::new(alloc),
             made: 0,
             alloc,
         }
@@ -146,6 +149,7 @@ impl Tracked {
     pub fn put(&mut self, cell: u32, off: u32, bytes: &ArrayVec<u8, MAX_BYTES>) -> Result<(), Fault>
         ensures done { OnOk result (IsDone self.old self.new (Command.Put cell off bytes.now)) }
         ensures refused { IfErr result (IsRefused self.old self.new (Command.Put cell off bytes.now)) }
+        ensures memory { result ≡ Err Fault.Memory → IsPossible self.old (Command.Put cell off bytes.now) }
         ensures made { self.new.made ≡ self.old.made }
     {
         let (number, object) = self.named(cell)?;
@@ -156,10 +160,10 @@ impl Tracked {
         Ok(())
     }
 
-    /// Frees the object that `cell` names. The cell keeps its number. EMPTY and FREED, in this order, and never Memory.
-    pub fn free(&mut self, cell: u32) -> Result<(), Fault>
+    /// Frees the object that `cell` names. The cell keeps its number. EMPTY and FREED, in this order. It takes no memory.
+    pub fn free(&mut self, cell: u32) -> Result<(), Refusal>
         ensures done { OnOk result (IsDone self.old self.new (Command.Free cell)) }
-        ensures refused { IfErr result (IsRefused self.old self.new (Command.Free cell)) }
+        ensures refused { IfErr result (IsRefusedAs self.old self.new (Command.Free cell)) }
         ensures made { self.new.made ≡ self.old.made }
     {
         let (number, object) = self.named(cell)?;
@@ -173,6 +177,7 @@ impl Tracked {
     pub fn alias(&mut self, to: u32, from: u32) -> Result<(), Fault>
         ensures done { OnOk result (IsDone self.old self.new (Command.Alias to from)) }
         ensures refused { IfErr result (IsRefused self.old self.new (Command.Alias to from)) }
+        ensures memory { result ≡ Err Fault.Memory → IsPossible self.old (Command.Alias to from) }
         ensures made { self.new.made ≡ self.old.made }
     {
         let (number, _) = self.named(from)?;
@@ -184,6 +189,7 @@ impl Tracked {
     pub fn poke(&mut self, address: u64, byte: u8) -> Result<(), Fault>
         ensures done { OnOk result (IsDone self.old self.new (Command.Poke address byte)) }
         ensures refused { IfErr result (IsRefused self.old self.new (Command.Poke address byte)) }
+        ensures memory { result ≡ Err Fault.Memory → IsPossible self.old (Command.Poke address byte) }
         ensures made { self.new.made ≡ self.old.made }
     {
         let (number, object) = self.holding(address)?;
@@ -207,6 +213,7 @@ impl Tracked {
         requires { len ≤ 32 }
         ensures done { OnOk result (IsDone self.old self.new (Command.Copy to to_off from from_off len)) }
         ensures refused { IfErr result (IsRefused self.old self.new (Command.Copy to to_off from from_off len)) }
+        ensures memory { result ≡ Err Fault.Memory → IsPossible self.old (Command.Copy to to_off from from_off len) }
         ensures made { self.new.made ≡ self.old.made }
     {
         let (number, bytes) = self.copied((to, to_off), (from, from_off), len)?;
@@ -236,21 +243,22 @@ impl Tracked {
         Ok((target, out_of.bytes.load(from.1, len)))
     }
 
-    /// The serial of a live object that has an address of the range.
+    /// The serial of a live object that has an address of the range; of several, of the one with the greatest start.
     pub fn overlapped(&self, address: u64, len: u32) -> Option<u32>
         requires some { 1 ≤ len }
         requires small { address + len < 2 ^ 64 }
         ensures none { IsNone result → (r : Recorded) → Stands self.now r → IsVacantRange r.memory address len }
         ensures some { IfSome result (λ serial. (r : Recorded) → Stands self.now r → IsVacantRange r.memory address len → ⊥) }
+        ensures told { IfSome result (λ serial. (r : Recorded) → Stands self.now r → IsOverlapped r address len serial) }
     {
         let last = address + u64::from(len - 1);
         let number = nearest(&self.starts, last)?;
         let object = self.objects.get(&number)?;
-        if object.ends_behind(address) {
-            Some(object.serial)
-        } else {
-            None
+        if !object.ends_behind(address) {
+            return None;
         }
+        let serial = self.order.get(number as usize)?;
+        Some(*serial)
     }
 
     /// Makes an object of `len` zeros at a vacant range, and stores its number in `cell`. The only error is an allocation failure.
@@ -263,18 +271,11 @@ impl Tracked {
     {
         let number = self.made;
         let bytes = SparseBytes::new(self.alloc, len);
-        set(
-            &mut self.objects,
-            number,
-            Stored {
-                address,
-                bytes,
-                serial,
-            },
-        )?;
+        set(&mut self.objects, number, Stored { address, bytes })?;
         set_start(&mut self.starts, address, number)?;
         set(&mut self.roots, cell, number)?;
         give(&mut self.serials, serial)?;
+        self.order.push(serial)?;
         self.made = number + 1;
         Ok(())
     }

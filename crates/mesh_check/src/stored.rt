@@ -6,15 +6,13 @@ ghost use Rattle.model_memory.specs.Plain.{ends_outside};
 use mesh_sparse::SparseBytes;
 use std::marker::Model;
 
-/// A live object: its address and its bytes, and the serial that it was given.
+/// A live object: its address and its bytes.
 #[derive(Drop)]
 pub struct Stored {
     /// The address.
     pub address: u64,
     /// The bytes.
     pub bytes: SparseBytes,
-    /// The serial, of the recording allocator's choice.
-    pub serial: u32,
 }
 
 impl Model for Stored {

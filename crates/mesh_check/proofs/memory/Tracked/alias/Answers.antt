@@ -1,5 +1,5 @@
 use Rattle.model_memory.specs.Memory.{with_root}
-use Rattle.mesh_check.proofs.Commands.{alias_done}
+use Rattle.mesh_check.proofs.Commands.{alias_done, done_is_ok}
 use Rattle.mesh_check.proofs.Trees.{pointed_stands}
 use Rattle.mesh_check.proofs.memory.Tracked.alias.Goals as goal
 
@@ -9,3 +9,6 @@ returns-clause-done c = λ r st. (
   alias_done r.memory c.args.to c.args.from _ (c.in_ok-number.ensures.named r st),
   pointed_stands _ _ _ _ r _ _ c.args.to c.in_ok-number.number st c.ranges.to.fits c.in_ok-set.ensures,
 )
+
+pub returns-in_err-set-clause-memory : goal.returns-in_err-set-clause-memory
+returns-in_err-set-clause-memory c = λ is r st. done_is_ok _ _ (alias_done r.memory c.args.to c.args.from _ (c.in_ok-number.ensures.named r st))

@@ -1,5 +1,6 @@
 use Rattle.std.proofs.Common.{◌≡◌, ◌+◌, ◌≤◌, ℕ, List, length, Some, ap, sym, arith, ◌∙◌}
 use Rattle.model_memory.specs.Memory.{Object, overwritten, with_object}
+use Rattle.mesh_check.proofs.Commands.{done_is_ok}
 use Rattle.mesh_check.proofs.Trees.{overwritten_stands}
 use Rattle.mesh_check.proofs.memory.Tracked.copy.Goals as goal
 
@@ -19,3 +20,6 @@ returns-clause-done c = λ r st.
       copied.3 r st,
       overwritten_stands _ _ _ _ _ _ _ _ _ _ _ _ st copied.1 c.as_slice.ensures.value copied.2 (c.in_ok-store.ensures object copied.1),
     )
+
+pub returns-in_err-store-clause-memory : goal.returns-in_err-store-clause-memory
+returns-in_err-store-clause-memory c = λ is r st. done_is_ok _ _ (c.in_ok-number.ensures.copied.3 r st)

@@ -10,4 +10,4 @@ returns-clause-made c = λ r st vacant.
     let added = subst (λ (bytes : List ℕ). IsSetAt (get nat_cmp c.args.self.now.objects) (get nat_cmp c.set.new.map) c.args.self.now.made
     (Some (record { address = c.args.address; bytes = bytes }))) c.new-bytes.ensures c.in_ok-set.ensures in
     made_stands _ _ _ _ r _ _ _ _ _ c.args.cell c.args.len c.args.address c.args.serial st c.ranges.cell.fits c.requires.some vacant added
-    c.in_ok-set_start.ensures c.in_ok-set-2.ensures c.in_ok-give.ensures
+    c.in_ok-set_start.ensures c.in_ok-set-2.ensures c.in_ok-give.ensures c.in_ok-push.ensures.items

@@ -4,7 +4,7 @@ use Rattle.std.specs.BTreeMap.{get}
 use Rattle.model_memory.specs.Memory.{overwritten}
 use Rattle.model_memory.specs.Plain.{stored}
 use Rattle.mesh_check.specs.Stands.{IsSetAt}
-use Rattle.mesh_check.proofs.Commands.{poke_done}
+use Rattle.mesh_check.proofs.Commands.{done_is_ok, poke_done}
 use Rattle.mesh_check.proofs.Trees.{overwritten_stands}
 use Rattle.mesh_check.proofs.memory.Tracked.poke.Goals as goal
 
@@ -20,3 +20,6 @@ returns-clause-done c = λ r st.
       poke_done r.memory c.args.address c.args.byte _ (c.in_ok-number.ensures.held r st),
       overwritten_stands _ _ _ _ _ _ r c.in_ok-number.number off object (c.args.byte ∷ []) (c.args.byte ∷ []) st c.in_ok-number.ensures.live refl (omega (arith, within, is)) set,
     )
+
+pub returns-in_err-store-clause-memory : goal.returns-in_err-store-clause-memory
+returns-in_err-store-clause-memory c = λ is r st. done_is_ok _ _ (poke_done r.memory c.args.address c.args.byte _ (c.in_ok-number.ensures.held r st))

@@ -1,6 +1,6 @@
 use Rattle.std.proofs.Common.{◌≡◌, ℕ, false, subst, sym}
 use Rattle.model_memory.specs.Plain.{ends_outside, stored}
-use Rattle.mesh_check.proofs.Commands.{inside, put_done}
+use Rattle.mesh_check.proofs.Commands.{done_is_ok, inside, put_done}
 use Rattle.mesh_check.proofs.Trees.{overwritten_stands}
 use Rattle.mesh_check.proofs.memory.Tracked.put.Goals as goal
 
@@ -13,3 +13,8 @@ returns-clause-done c = λ r st.
       overwritten_stands _ _ _ _ _ _ r c.in_ok-number.number c.args.off object c.args.bytes.now.items c.as_slice.result.now st c.in_ok-number.ensures.live c.as_slice.ensures.value
           (inside object c.args.off _ fits) (c.in_ok-store.ensures object c.in_ok-number.ensures.live),
     )
+
+pub returns-in_err-store-clause-memory : goal.returns-in_err-store-clause-memory
+returns-in_err-store-clause-memory c = λ is r st.
+    let fits = subst (λ (len : ℕ). ends_outside c.in_ok-number.object.now c.args.off len ≡ false) c.len.ensures.value (sym c.if-ends_outside.ensures) in
+    done_is_ok _ _ (put_done r.memory c.args.cell c.args.off c.args.bytes.now _ (c.in_ok-number.ensures.named r st) fits)
