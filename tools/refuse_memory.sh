@@ -88,8 +88,9 @@ case_fault() {
     [ "$refused" -eq 1 ] || [ "$last" = "$name: done" ] || echo " $last though nothing was refused"
     case $name in
         mesh) [ "$last" != "mesh: done" ] || [ "$stretches/$within" = 1/0 ] || echo " $within allocations in $stretches stretches" ;;
-        # Two searchers a class: its first round is theirs, and a later one is made alone.
-        search) [ "$last" != "search: done" ] || [ "$threads" -eq 20 ] || echo " $threads threads" ;;
+        # Two searchers for each round of each of ten classes, one round where a class has none. Of the first search the last class has two
+        # rounds, of the second one three: 2 * (9 + 2) + 2 * (9 + 3).
+        search) [ "$last" != "search: done" ] || [ "$threads" -eq 46 ] || echo " $threads threads where 46 are due" ;;
     esac
 }
 

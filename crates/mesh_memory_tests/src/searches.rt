@@ -9,25 +9,28 @@ use std::thread::Threads;
 /// Which of eight objects of the class 2048 are freed: so its four groups can be meshed in two pairs.
 static FREED: [u8; 4] = [1, 3, 4, 6];
 
+/// Those by which each of its four groups keeps the object in its first slot: so no two of them can be meshed.
+static FREED_IN_SECOND_SLOTS: [u8; 4] = [1, 3, 5, 7];
+
 /// The words of the worked searches.
 static WORDS: [u64; 3] = [2, 0, 5];
 
-/// The views of the worked groups.
-fn worked(alloc: Global) -> Result<Vec<ClassView>, Fault> {
+/// The views of four groups, of whose eight objects these are freed.
+fn views_after(alloc: Global, freed: &[u8]) -> Result<Vec<ClassView>, Fault> {
     match Book::open(alloc, 16, 64) {
-        Ok(mut book) => views_of(alloc, &mut book),
+        Ok(mut book) => views_of(alloc, &mut book, freed),
         Err(_) => Err(Fault::Memory),
     }
 }
 
-/// The views of a fresh book, once the worked groups stand in it.
-fn views_of(alloc: Global, book: &mut Book) -> Result<Vec<ClassView>, Fault> {
+/// The views of a fresh book, once the four groups stand in it.
+fn views_of(alloc: Global, book: &mut Book, freed: &[u8]) -> Result<Vec<ClassView>, Fault> {
     for cell in 0..8u8 {
         if book.act(0, &Command::New(cell, 2048, 0)) == Attempt::OutOfMemory {
             return Err(Fault::Memory);
         }
     }
-    for cell in FREED.iter() {
+    for cell in freed.iter() {
         book.act(0, &Command::Free(*cell));
     }
     let before = book.report();
@@ -71,7 +74,7 @@ fn check(found: &Found, place: usize) -> Result<(), Fault> {
 
 /// The view, the order and the pairs of the worked groups, on one thread.
 pub(crate) fn search_alone(alloc: Global) -> End {
-    let views = worked(alloc)?;
+    let views = views_after(alloc, &FREED)?;
     search_views(alloc, views.as_slice())
 }
 
@@ -99,11 +102,36 @@ fn search_view(alloc: Global, view: &ClassView, place: usize) -> Result<(), Faul
     check(&found, place)
 }
 
-/// The search of all views by two workers.
+/// Two searches of all views by two workers: one in two rounds, and one in three in which no pair is found.
 pub(crate) fn search_by_two<R: Threads + Wait + Sync>(rt: &R, alloc: Global) -> End {
-    let views = worked(alloc)?;
+    let views = views_after(alloc, &FREED)?;
     let found = search(rt, alloc, views.as_slice(), &WORDS, 2, 2, &NoGate)?;
-    check_all(found.as_slice())
+    check_all(found.as_slice())?;
+    search_in_vain(rt, alloc)
+}
+
+/// The search in three rounds of views whose groups can't be meshed.
+fn search_in_vain<R: Threads + Wait + Sync>(rt: &R, alloc: Global) -> End {
+    let views = views_after(alloc, &FREED_IN_SECOND_SLOTS)?;
+    let found = search(rt, alloc, views.as_slice(), &WORDS, 3, 2, &NoGate)?;
+    check_in_vain(found.as_slice())
+}
+
+/// Right where ten searches found no pair, the last one by two tries in each of three rounds.
+fn check_in_vain(found: &[Found]) -> End {
+    if found.len() != 10 {
+        return Err(Fault::Wrong("another count of searches"));
+    }
+    for k in 0..found.len() {
+        let probes = if k == 9 { 6 } else { 0 };
+        expect(is_in_vain(&found[k], probes), "other tries in vain")?;
+    }
+    Ok(0)
+}
+
+/// Whether a search found no pair by so many tries.
+fn is_in_vain(found: &Found, probes: u64) -> bool {
+    found.probes == probes && found.pairs.is_empty()
 }
 
 /// Right where these are the ten searches of the worked groups.
