@@ -11,8 +11,7 @@ use Rattle.clap.specs.declared.parser.matches.ArgMatches.TheViews.{out-ArgMatche
 use Rattle.clap.specs.declared.parser.matches.Found.{Found}
 use Rattle.clap.proofs.OnLiterals.{clap_on_literals}
 use Rattle.clap.proofs.WalkLemmas.{first_value-rows}
-use Rattle.mesh_command_line.specs.CommandLine.{Asked, IsSaidOf, asked, asked_by, asked_in, asked_of, is_taken, kinds_of, check_of, draw_of, explore_of, live_of, meshrun_app, replay_of, threads_of}
-use Rattle.mesh_command_line.specs.declared.printed.Printed.TheVariants.{Answers, History}
+use Rattle.mesh_command_line.specs.CommandLine.{Asked, IsSaidOf, asked, asked_by, asked_in, asked_of, is_taken, kinds_of, check_of, draw_of, explore_of, live_of, meshrun_app, replay_history_of, replay_of, threads_history_of, threads_of}
 
 -- the command line is one whose matches and faults `clap` tells
 pub is_told : is_simple_and_free meshrun_app ≡ true
@@ -88,17 +87,17 @@ Asks text what = (is_taken (spoken text) ≡ true) × (asked (spoken text) ≡ S
 
 -- the answers of a replay are printed, or, with `--history` before the file or behind it, its history
 replays_are_asked :
-    Asks (codes "replay hello.job") (replay_of (codes "hello.job") Answers)
-    × Asks (codes "replay --history hello.job") (replay_of (codes "hello.job") History)
+    Asks (codes "replay hello.job") (replay_of (codes "hello.job"))
+    × Asks (codes "replay --history hello.job") (replay_history_of (codes "hello.job"))
 unfolding clap_on_literals asked is_taken
 replays_are_asked = ((refl, refl), (refl, refl))
 
 -- without `--meshers` one thread meshes; options stand in any order, and take the most that they may
 threads_are_asked :
     Asks (codes "threads a.job --probe 2 --rounds 3 --workers 4 --seed 5")
-    (threads_of (codes "a.job") (record { probe = 2; rounds = 3; workers = 4; seed = 5; meshers = 1 }) Answers)
+    (threads_of (codes "a.job") (record { probe = 2; rounds = 3; workers = 4; seed = 5; meshers = 1 }))
     × Asks (codes "threads --meshers=10 --seed=18446744073709551615 --workers=16 a.job --rounds=1000 --history --probe=64")
-    (threads_of (codes "a.job") (record { probe = 64; rounds = 1000; workers = 16; seed = 18446744073709551615; meshers = 10 }) History)
+    (threads_history_of (codes "a.job") (record { probe = 64; rounds = 1000; workers = 16; seed = 18446744073709551615; meshers = 10 }))
 unfolding clap_on_literals asked is_taken
 threads_are_asked = ((refl, refl), (refl, refl))
 

@@ -15,14 +15,12 @@ use Rattle.model_jobs.specs.Texts.{ended}
 use Rattle.mesh_command_line.specs.Meshes.{pairs_of}
 use Rattle.model_words.specs.declared.faults.FaultKind.{FaultKind}
 use Rattle.mesh_command_line.specs.declared.command_line.Args.{Args}
-use Rattle.mesh_command_line.specs.declared.command_line.Args.TheVariants.{Check, Draw, Explore, Live, Replay, Threads}
+use Rattle.mesh_command_line.specs.declared.command_line.Args.TheVariants.{Check, Draw, Explore, Live, Replay, ReplayHistory, Threads, ThreadsHistory}
 use Rattle.mesh_command_line.specs.declared.command_line.Stop.{Stop}
 use Rattle.mesh_command_line.specs.declared.draw_args.DrawArgs.{DrawArgs}
 use Rattle.mesh_command_line.specs.declared.explore_args.ExploreArgs.{ExploreArgs}
 use Rattle.mesh_explore.specs.declared.pair.MeshPair.{MeshPair}
 use Rattle.mesh_command_line.specs.declared.live_args.LiveArgs.{LiveArgs}
-use Rattle.mesh_command_line.specs.declared.printed.Printed.{Printed}
-use Rattle.mesh_command_line.specs.declared.printed.Printed.TheVariants.{Answers, History}
 use Rattle.mesh_command_line.specs.declared.threads_args.ThreadsArgs.{ThreadsArgs}
 
 -- ---- what the program takes
@@ -82,7 +80,7 @@ explore_app = with_rule (with_rule (with_rule (with_rule (with_rule (new_app (co
 abbrev pub check_app : App
 check_app = with_rule (new_app (codes "check")) file_rule
 
--- the program alone: it has a version, wants a subcommand, and shows its help without a word
+-- the program alone: it has a version, whose text `clap`'s model of a command doesn't see, wants a subcommand, and shows its help without a word
 abbrev pub bare_app : App
 bare_app = let app = new_app (codes "meshrun") in
     record app { top = record app.top { has_version = true; subcommand_required = true; arg_required_else_help = true } }
@@ -123,11 +121,14 @@ pub record Explored : Type 0 where
   pub states : ℕ
   pub witness : Option ℕ
 
--- a replay of the job file at this path, its scripts run by threads with these numbers, each of which prints this, a picture of what is shown of its
--- plan, or what is left of its scripts explored; a session of these sizes; or a judgement of the recorded history at this path
+-- a replay of the job file at this path or the recorded history of one, its scripts run by threads with these numbers or the recorded history of such a
+-- run, a picture of what is shown of its plan, or what is left of its scripts explored; a session of these sizes; or a judgement of the recorded history
+-- at this path
 pub data Asked : Type 0 where
-  replay_of : Text → Printed → Asked
-  threads_of : Text → Numbers → Printed → Asked
+  replay_of : Text → Asked
+  replay_history_of : Text → Asked
+  threads_of : Text → Numbers → Asked
+  threads_history_of : Text → Numbers → Asked
   draw_of : Text → Shown → Asked
   explore_of : Text → Explored → Asked
   live_of : SessionSizes → Asked
@@ -141,13 +142,17 @@ number_of least most text = if is_unsigned_in least most text then Some (digits_
 abbrev pub number_in : Text → ℕ → ℕ → List Row → Option ℕ
 number_in name least most rows = option_and_then (number_of least most) (one_of name rows)
 
--- what the value of the flag `--history` asks to be printed: it is `true` where the flag is given
-abbrev pub printed_by : Text → Printed
-printed_by value = if bytes_eq value (codes "true") then History else Answers
+-- whether the flag `--history` is given: its value is `true` then
+abbrev pub is_recorded_in : List Row → Option Bool
+is_recorded_in rows = option_map (λ value. bytes_eq value (codes "true")) (first_of (codes "history") rows)
 
--- what the matches have to be printed
-abbrev pub printed_in : List Row → Option Printed
-printed_in rows = option_map printed_by (first_of (codes "history") rows)
+-- what `replay` asks for of a file, without `--history` and with it
+abbrev pub replay_by : Text → Bool → Asked
+replay_by file recorded = if recorded then replay_history_of file else replay_of file
+
+-- what `threads` asks for of a file with these numbers, without `--history` and with it
+abbrev pub threads_by : Text → Numbers → Bool → Asked
+threads_by file numbers recorded = if recorded then threads_history_of file numbers else threads_of file numbers
 
 -- the numbers that the matches have for `threads`
 abbrev pub numbers_in : List Row → Option Numbers
@@ -208,8 +213,8 @@ sizes_in rows =
 -- what a subcommand of this name with these matches asks for, on the file
 abbrev pub asked_of : Text → List Row → Text → Option Asked
 asked_of name rows file =
-    if bytes_eq name (codes "replay") then option_map (replay_of file) (printed_in rows)
-    else (if bytes_eq name (codes "threads") then option_and_then (λ numbers. option_map (threads_of file numbers) (printed_in rows)) (numbers_in rows)
+    if bytes_eq name (codes "replay") then option_map (replay_by file) (is_recorded_in rows)
+    else (if bytes_eq name (codes "threads") then option_and_then (λ numbers. option_map (threads_by file numbers) (is_recorded_in rows)) (numbers_in rows)
     else (if bytes_eq name (codes "draw") then option_map (draw_of file) (shown_in rows)
     else (if bytes_eq name (codes "explore") then option_map (explore_of file) (explored_in rows)
     else (if bytes_eq name (codes "check") then Some (check_of file) else None))))
@@ -254,8 +259,10 @@ sizes_of args = record { pages = args.pages; history = args.history; workers = a
 
 -- what the program was told to do
 abbrev pub asking : Args → Asked
-asking (Replay path printed) = replay_of path.now printed
-asking (Threads path args printed) = threads_of path.now (numbers_of args) printed
+asking (Replay path) = replay_of path.now
+asking (ReplayHistory path) = replay_history_of path.now
+asking (Threads path args) = threads_of path.now (numbers_of args)
+asking (ThreadsHistory path args) = threads_history_of path.now (numbers_of args)
 asking (Draw path args) = draw_of path.now (shown_of args)
 asking (Explore path args) = explore_of path.now (explored_of args)
 asking (Live args) = live_of (sizes_of args)

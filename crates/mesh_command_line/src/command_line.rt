@@ -5,11 +5,11 @@ ghost use Rattle.std.specs.declared.io.ErrorKind.TheVariants.{OutOfMemory as IoO
 ghost use Rattle.clap.specs.Words.{app_of, first_of, found_of, kind_of, rows_of, rule_of, subcommand_rows_of};
 ghost use Rattle.mesh_command_line.specs.Meshes.{pairs_of};
 ghost use Rattle.mesh_command_line.specs.Subcommands.{argument_rule, subcommand_app, with_subcommands};
-ghost use Rattle.mesh_command_line.specs.CommandLine.{IsAllowedOf, IsAsked, IsNoText, IsOutOfMemory, IsSaidOf, IsStopAt, asked, asked_in, asked_of, asking, bare_app, explored_in, explored_of, flag_rule, given_in, is_taken, mesh_rule, meshes_in, meshrun_app, number_in, number_rule, numbers_in, numbers_of, pair_of, pairs_in, printed_in, shown_in, shown_of, sizes_in, sizes_of, status_of_kind};
+ghost use Rattle.mesh_command_line.specs.CommandLine.{IsAllowedOf, IsAsked, IsNoText, IsOutOfMemory, IsSaidOf, IsStopAt, asked, asked_in, asked_of, asking, bare_app, explored_in, explored_of, flag_rule, given_in, is_recorded_in, is_taken, mesh_rule, meshes_in, meshrun_app, number_in, number_rule, numbers_in, numbers_of, pair_of, pairs_in, replay_by, shown_in, shown_of, sizes_in, sizes_of, status_of_kind, threads_by};
 
 use crate::meshes::MOST_MESHES;
 use crate::status::{DONE, FAILED, FAULTY};
-use crate::{DrawArgs, ExploreArgs, LiveArgs, Meshes, Printed, ThreadsArgs};
+use crate::{DrawArgs, ExploreArgs, LiveArgs, Meshes, ThreadsArgs};
 use clap::builder::ValueParser;
 use clap::error::ErrorKind;
 use clap::{Arg, ArgAction, ArgMatches, Command, Error};
@@ -259,10 +259,14 @@ const VERSION: &str = "0.1.0";
 /// What the command line asks for.
 #[derive(Clone, Copy, PartialEq, Eq)]
 pub enum Args<'a> {
-    /// `replay FILE [--history]`: replay the job file at this path, and print this.
-    Replay(&'a str, Printed),
-    /// `threads FILE .. [--history]`: run the scripts of the job file at this path by threads, with these numbers, and print this.
-    Threads(&'a str, ThreadsArgs, Printed),
+    /// `replay FILE`: replay the job file at this path, and print the answers.
+    Replay(&'a str),
+    /// `replay FILE --history`: replay the job file at this path, and print the journal as a recorded history.
+    ReplayHistory(&'a str),
+    /// `threads FILE ..`: run the scripts of the job file at this path by threads, with these numbers, and print each worker's answers.
+    Threads(&'a str, ThreadsArgs),
+    /// `threads FILE .. --history`: the same, and print the journal as a recorded history.
+    ThreadsHistory(&'a str, ThreadsArgs),
     /// `draw FILE ..`: draw the plan of the job file at this path, with these lines and columns.
     Draw(&'a str, DrawArgs),
     /// `live ..`: answer the lines of standard input, on a heap of these sizes.
@@ -353,8 +357,8 @@ fn asked_of<'a>(name: &str, matches: &ArgMatches<'a>) -> Option<Args<'a>>
 {
     let file = matches.get_str(FILE)?;
     match name {
-        "replay" => Some(Args::Replay(file, printed(matches)?)),
-        "threads" => Some(Args::Threads(file, numbers(matches)?, printed(matches)?)),
+        "replay" => Some(replay_of(file, is_recorded(matches)?)),
+        "threads" => Some(threads_of(file, numbers(matches)?, is_recorded(matches)?)),
         "draw" => Some(Args::Draw(file, shown(matches)?)),
         "explore" => Some(Args::Explore(file, explored(matches)?)),
         "check" => Some(Args::Check(file)),
@@ -362,13 +366,33 @@ fn asked_of<'a>(name: &str, matches: &ArgMatches<'a>) -> Option<Args<'a>>
     }
 }
 
-/// What is to be printed. The value of the flag is `true` where it is given, and `false` where it isn't.
-fn printed<'a>(matches: &ArgMatches<'a>) -> Option<Printed>
-    ensures { result ≡ printed_in (rows_of (found_of matches.now)) }
+/// Whether a recorded history is asked for. The value of the flag is `true` where it is given, and `false` where it isn't.
+fn is_recorded<'a>(matches: &ArgMatches<'a>) -> Option<bool>
+    ensures { result ≡ is_recorded_in (rows_of (found_of matches.now)) }
 {
-    match matches.get_str(RECORDED)? {
-        "true" => Some(Printed::History),
-        _ => Some(Printed::Answers),
+    let value = matches.get_str(RECORDED)?;
+    Some(value == "true")
+}
+
+/// A replay of a file, whose recorded history or answers are printed.
+fn replay_of(file: &str, is_recorded: bool) -> Args<'_>
+    ensures { asking result ≡ replay_by file.now is_recorded }
+{
+    if is_recorded {
+        Args::ReplayHistory(file)
+    } else {
+        Args::Replay(file)
+    }
+}
+
+/// A run of a file's scripts in threads, whose recorded history or answers are printed.
+fn threads_of(file: &str, args: ThreadsArgs, is_recorded: bool) -> Args<'_>
+    ensures { asking result ≡ threads_by file.now (numbers_of args) is_recorded }
+{
+    if is_recorded {
+        Args::ThreadsHistory(file, args)
+    } else {
+        Args::Threads(file, args)
     }
 }
 

@@ -8,7 +8,6 @@ mod draw_args;
 mod explore_args;
 mod live_args;
 mod meshes;
-mod printed;
 pub mod status;
 mod threads_args;
 
@@ -18,5 +17,4 @@ pub use explore_args::ExploreArgs;
 pub use live_args::LiveArgs;
 pub use mesh_explore::MeshPair;
 pub use meshes::Meshes;
-pub use printed::Printed;
 pub use threads_args::ThreadsArgs;

@@ -1,6 +1,6 @@
 //! Command lines, and what they ask for. Each expected text was worked out by hand from the rules, and none was copied from a run.
 
-use mesh_command_line::{Args, DrawArgs, ExploreArgs, LiveArgs, Printed, ThreadsArgs, arguments};
+use mesh_command_line::{Args, DrawArgs, ExploreArgs, LiveArgs, ThreadsArgs, arguments};
 use std::alloc::{AllocError, Global};
 use std::process::Abort;
 
@@ -169,8 +169,10 @@ fn asked(rt: &(impl Abort + AllocGlobal), line: &str) -> String {
 fn written(alloc: Global, args: &Args<'_>) -> Result<String, AllocError> {
     let mut text = String::new(alloc);
     match *args {
-        Args::Replay(path, printed) => add_replay(&mut text, path, printed)?,
-        Args::Threads(path, args, printed) => add_threads(&mut text, path, &args, printed)?,
+        Args::Replay(path) => write!(text, "replay {path} answers")?,
+        Args::ReplayHistory(path) => write!(text, "replay {path} history")?,
+        Args::Threads(path, args) => add_threads(&mut text, path, &args, "answers")?,
+        Args::ThreadsHistory(path, args) => add_threads(&mut text, path, &args, "history")?,
         Args::Draw(path, args) => add_picture(&mut text, path, &args)?,
         Args::Live(args) => add_session(&mut text, &args)?,
         Args::Explore(path, args) => add_exploration(&mut text, path, &args)?,
@@ -179,32 +181,19 @@ fn written(alloc: Global, args: &Args<'_>) -> Result<String, AllocError> {
     Ok(text)
 }
 
-/// Writes a replay of a file.
-fn add_replay(text: &mut String, path: &str, printed: Printed) -> Result<(), AllocError> {
-    write!(text, "replay {path} {}", word_of(printed))
-}
-
-/// What is printed, in a word.
-fn word_of(printed: Printed) -> &'static str {
-    match printed {
-        Printed::Answers => "answers",
-        Printed::History => "history",
-    }
-}
-
-/// Writes a run of a file's scripts in threads.
+/// Writes a run of a file's scripts in threads, with a word for what is printed.
 fn add_threads(
     text: &mut String,
     path: &str,
     args: &ThreadsArgs,
-    printed: Printed,
+    printed: &str,
 ) -> Result<(), AllocError> {
     write!(
         text,
         "threads {path} {} {} {}",
         args.probe, args.rounds, args.workers
     )?;
-    write!(text, " {} {} {}", args.seed, args.meshers, word_of(printed))
+    write!(text, " {} {} {printed}", args.seed, args.meshers)
 }
 
 /// Writes a picture of a file's plan.

@@ -23,6 +23,11 @@ impl Ran {
     /// What a run of this status wrote to memory.
     pub fn of<I: Source + Drop>(status: u8, devices: InMemory<I>) -> Ran {
         let (_, output, errors) = devices.into_parts();
+        Ran::of_outputs(status, output, errors)
+    }
+
+    /// The same, of a run whose output and errors are these.
+    pub fn of_outputs(status: u8, output: Output<Vec<u8>>, errors: Output<Vec<u8>>) -> Ran {
         Ran {
             status,
             output: output.into_inner(),

@@ -4,8 +4,8 @@
 
 ghost use Rattle.std.specs.Prelude.{◌≡◌, false};
 
-use mesh_in_memory::{Ran, in_memory};
-use mesh_run::{Input, Printed, Source, replay_run};
+use mesh_in_memory::Ran;
+use mesh_run::{Input, Output, Source, replay_history_run, replay_run};
 use std::alloc::Global;
 use std::fmt::Display;
 use std::process::Abort;
@@ -15,18 +15,29 @@ mod faults;
 mod histories;
 mod rows;
 
-/// Replays what a source gives to memory, and prints this.
-fn replayed_from<I: Source + Drop>(alloc: Global, input: I, printed: Printed) -> Ran
+/// Replays what a source gives to memory, and prints the answers.
+fn replayed_from<I: Source + Drop>(alloc: Global, input: I) -> Ran
     requires { I.has_failed input ≡ false }
 {
-    let mut devices = in_memory(alloc, input);
-    let status = replay_run(alloc, &mut devices, printed);
-    Ran::of(status, devices)
+    let mut input = input;
+    let mut output = Output::new(Vec::new(alloc));
+    let mut errors = Output::new(Vec::new(alloc));
+    let status = replay_run(alloc, &mut input, &mut output, &mut errors);
+    Ran::of_outputs(status, output, errors)
+}
+
+/// Replays a file from memory to memory, and prints the recorded history of its journal.
+fn history_of(alloc: Global, file: &[u8]) -> Ran {
+    let mut input = Input::new(file);
+    let mut output = Output::new(Vec::new(alloc));
+    let mut errors = Output::new(Vec::new(alloc));
+    let status = replay_history_run(alloc, &mut input, &mut output, &mut errors);
+    Ran::of_outputs(status, output, errors)
 }
 
 /// Replays a file from memory to memory, and prints its answers.
 fn replayed(alloc: Global, file: &[u8]) -> Ran {
-    replayed_from(alloc, Input::new(file), Printed::Answers)
+    replayed_from(alloc, Input::new(file))
 }
 
 /// Asserts that the run of a case went so. One function asserts it for all, since an assertion is proved anew wherever it stands.

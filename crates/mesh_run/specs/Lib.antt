@@ -1,7 +1,6 @@
 pub mod Checks
 pub mod Explores
 pub mod LiveSizes
-pub mod Printed
 pub mod Runs
 pub mod Seen
 pub mod Status

@@ -9,3 +9,14 @@ pub record Seen : Type 0 where
   pub input_failed : Bool
   pub output_failed : Bool
   pub errors_failed : Bool
+
+-- what is seen of an input, an output and errors: what the input has left, what the output and the errors took, and which of them has failed
+abbrev pub seen : Option (List ℕ) → Option (List ℕ) → Option (List ℕ) → Bool → Bool → Bool → Seen
+seen left written told input_failed output_failed errors_failed = record {
+  left = left;
+  written = written;
+  told = told;
+  input_failed = input_failed;
+  output_failed = output_failed;
+  errors_failed = errors_failed;
+}

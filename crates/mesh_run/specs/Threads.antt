@@ -11,10 +11,10 @@ use Rattle.mesh_mutator.specs.Book.{Book, memory_of_book, table_of_book}
 use Rattle.mesh_run.specs.Runs.{EndsBy, HasFailed, error_text}
 use Rattle.mesh_run.specs.Seen.{Seen}
 use Rattle.mesh_run.specs.Status.{status_of_error}
-use Rattle.mesh_command_line.specs.declared.printed.Printed.{Printed}
-use Rattle.mesh_command_line.specs.declared.printed.Printed.TheVariants.{Answers, History as Recorded}
 use Rattle.mesh_command_line.specs.declared.threads_args.ThreadsArgs.{ThreadsArgs}
 use Rattle.mesh_run.specs.Words.{words_of}
+use Rattle.mesh_run.specs.declared.printed.Printed.{Printed}
+use Rattle.mesh_run.specs.declared.printed.Printed.TheVariants.{Answers, History as Recorded}
 use Rattle.mesh_run.specs.declared.threads_error.ThreadsError.{ThreadsError}
 use Rattle.mesh_run.specs.declared.threads_error.ThreadsError.TheVariants.{Replay, TooShort, Thread, Run}
 use Rattle.mesh_shared.specs.Runs.{HasRun}

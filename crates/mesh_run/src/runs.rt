@@ -1,43 +1,57 @@
 //! The program's runs.
-ghost use Rattle.std.specs.Prelude.{◌≡◌, ◌<◌, ◌≤◌, ◌||◌, is_err};
+ghost use Rattle.std.specs.Prelude.{◌≡◌, ◌<◌, ◌≤◌, ◌||◌, false, is_err};
 ghost use Rattle.std.specs.Cow.{cow_str_bytes};
 ghost use Rattle.std.specs.Io.KnownBytes.{Keeps};
 ghost use Rattle.model_jobs.specs.Texts.{ended};
-ghost use Rattle.mesh_run.specs.Printed.{HasPrinted, HasStoppedPrinting};
-ghost use Rattle.mesh_run.specs.Runs.{Ends, HasTold, IsSound, error_text};
+ghost use Rattle.mesh_run.specs.Runs.{Ends, HasTold, error_text};
+ghost use Rattle.mesh_run.specs.Seen.{seen};
 ghost use Rattle.mesh_run.specs.Status.{status_of_error};
+ghost use Rattle.mesh_text.specs.Recorded.{HasReplayedRecorded, HasStoppedRecorded};
+ghost use Rattle.mesh_text.specs.Replay.{HasReplayed, HasStopped};
 ghost use Rattle.mesh_text.specs.declared.faults.ReplayError.{ReplayError};
 
+use crate::Stop;
 use crate::fault_line::line_of;
-use crate::{Devices, Printed, Stop};
 use mesh_command_line::status::{DONE, FAILED, FAULTY};
 use mesh_text::{ReplayError, Sink, Source, replay, replay_recorded, write_all};
 use std::alloc::Global;
 
-/// Replays the job that the input gives, writes what is to be printed to the output and its fault to `errors`, and gives the exit status: its answers,
-/// or the recorded history of its journal.
+/// Replays the job that the input gives, writes its answers to the output and its fault to `errors`, and returns the exit status.
 ///
 /// The status is 0 where everything was written. It is 1 with the line `read fault`, `write fault` or `out of memory`, and 2 with
-/// the line `line N: KIND` where the job's text has a fault. Where that line can't be written the status stays. No recorded history is begun
-/// before the plan is over.
+/// the line `line N: KIND` where the job's text has a fault. Where that line can't be written the status stays.
 pub fn replay_run<I: Source, O: Sink, E: Sink>(
     alloc: Global,
-    devices: &mut Devices<I, O, E>,
-    printed: Printed,
+    input: &mut I,
+    output: &mut O,
+    errors: &mut E,
 ) -> u8
-    requires { IsSound devices.old }
-    ensures { Ends (HasPrinted printed) (HasStoppedPrinting printed) devices.old devices.new result }
+    requires input { I.has_failed input.old ≡ false }
+    requires output { O.has_failed output.old ≡ false }
+    ensures { Ends HasReplayed HasStopped (seen (I.remaining input.old) (O.written output.old) (E.written errors.old) (I.has_failed input.old) (O.has_failed output.old) (E.has_failed errors.old))
+        (seen (I.remaining input.new) (O.written output.new) (E.written errors.new) (I.has_failed input.new) (O.has_failed output.new) (E.has_failed errors.new)) result }
 {
-    match printed {
-        Printed::Answers => {
-            let outcome = replay(alloc, &mut devices.input, &mut devices.output);
-            finished(&mut devices.errors, outcome)
-        }
-        Printed::History => {
-            let outcome = replay_recorded(alloc, &mut devices.input, &mut devices.output);
-            finished(&mut devices.errors, outcome)
-        }
-    }
+    let outcome = replay(alloc, input, output);
+    finished(errors, outcome)
+}
+
+/// Replays the job that the input gives, writes the recorded history of its journal to the output and its fault to `errors`, and returns the exit
+/// status.
+///
+/// Status and line are those of `replay_run`. Nothing is written to the output before the plan is over.
+pub fn replay_history_run<I: Source, O: Sink, E: Sink>(
+    alloc: Global,
+    input: &mut I,
+    output: &mut O,
+    errors: &mut E,
+) -> u8
+    requires input { I.has_failed input.old ≡ false }
+    requires output { O.has_failed output.old ≡ false }
+    ensures { Ends HasReplayedRecorded HasStoppedRecorded (seen (I.remaining input.old) (O.written output.old) (E.written errors.old) (I.has_failed input.old) (O.has_failed output.old) (E.has_failed errors.old))
+        (seen (I.remaining input.new) (O.written output.new) (E.written errors.new) (I.has_failed input.new) (O.has_failed output.new) (E.has_failed errors.new)) result }
+{
+    let outcome = replay_recorded(alloc, input, output);
+    finished(errors, outcome)
 }
 
 /// Writes help to the output, or what else a stop says to `errors`, and gives its exit status.

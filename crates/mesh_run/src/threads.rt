@@ -2,19 +2,23 @@
 ghost use Rattle.std.specs.Prelude.{◌≡◌, ◌↔◌, ◌<◌, ◌≤◌, false, IsTrue, is_err, length, map, IfErr, IfOk, OnErr, OnOk};
 ghost use Rattle.std.specs.Io.KnownBytes.{Appends};
 ghost use Rattle.std.specs.List.{All};
+ghost use Rattle.model_jobs.specs.Texts.{ended};
 ghost use Rattle.model_words.specs.Commands.{IsInRange};
 ghost use Rattle.mesh_mutator.specs.Book.{memory_in};
-ghost use Rattle.mesh_run.specs.Runs.{IsSound};
-ghost use Rattle.mesh_run.specs.Threads.{EndsThreads, HasFailedRun, HasRoom, HasStoppedRun, HasWrittenRun, IsBookOf, IsNoRun, IsPlanOf, IsTextOfRun, command_count, text_of_run, threads_status};
+ghost use Rattle.mesh_run.specs.Runs.{HasTold};
+ghost use Rattle.mesh_run.specs.Seen.{seen};
+ghost use Rattle.mesh_run.specs.Threads.{EndsThreads, HasFailedRun, HasRoom, HasStoppedRun, HasWrittenRun, IsBookOf, IsNoRun, IsPlanOf, IsTextOfRun, command_count, text_of_run, threads_status, threads_text};
+ghost use Rattle.mesh_run.specs.declared.printed.Printed.{Printed};
 ghost use Rattle.mesh_run.specs.declared.threads_error.ThreadsError.{ThreadsError};
 ghost use Rattle.mesh_shared.specs.Runs.{HasRun};
 ghost use Rattle.mesh_text.specs.Transfer.{AppendsBeginning};
 ghost use Rattle.mesh_text.specs.declared.faults.ReplayError.{ReplayError};
 
 use crate::fault_line::threads_line_of;
+use crate::printed::Printed;
 use crate::runs::{status_of, tell};
 use crate::shuffle_words::words;
-use crate::{Devices, Printed, ThreadsArgs, ThreadsError};
+use crate::{ThreadsArgs, ThreadsError};
 use mesh_command_line::status::{DONE, FAILED, FAULTY};
 use mesh_mutator::{Book, Entry};
 use mesh_shared::{Ended, MeshPlan, NoGate, run_threads};
@@ -26,41 +30,77 @@ use std::alloc::{AllocError, Global};
 use std::sync::Wait;
 use std::thread::Threads;
 
-/// Runs the scripts of the job that the input gives, each on a thread of its own while meshers search and mesh, writes what is to be printed to
-/// the output, or a fault to `errors`, and gives the exit status. The file's plan isn't used. As answers are printed those of each worker and
-/// the number of all entries.
+/// Runs the scripts of the job that the input gives, each on a thread of its own while meshers search and mesh, writes the answers of each worker and
+/// the number of all entries to the output, or a fault to `errors`, and returns the exit status. The file's plan isn't used.
 ///
 /// The status is 0 where everything was written, and nothing is written before all threads have ended. It is 2 with the line `line N: KIND`
 /// where the job's text has a fault, and with the line `history too short` where the file's history has fewer entries than its scripts have
 /// commands; then nothing is run. It is 1 with the line `read fault`, `write fault` or `out of memory`, with `thread fault` where a thread
-/// couldn't be started or a searcher's answer isn't the one that was asked for, and with `run fault` where the threads left no history that
-/// stands. Of several faults the first in this order is told: reading, the text, a history too short, the run, writing. Where the line can't be
-/// written the status stays.
+/// couldn't be started or a searcher's answer isn't the one that was asked for, and with `run fault` where the journal was full or `finish` has a fault,
+/// out of memory inside it included. Of several faults the first in this order is told: reading, the text, a history too short, the run, writing.
+/// Where the line can't be written the status stays.
 pub fn threads_run<R: Threads + Wait + Sync, I: Source, O: Sink, E: Sink>(
     rt: &R,
     alloc: Global,
-    devices: &mut Devices<I, O, E>,
+    input: &mut I,
+    output: &mut O,
+    errors: &mut E,
+    args: &ThreadsArgs,
+) -> u8
+    requires input { I.has_failed input.old ≡ false }
+    requires output { O.has_failed output.old ≡ false }
+    ensures { EndsThreads Printed.Answers (seen (I.remaining input.old) (O.written output.old) (E.written errors.old) (I.has_failed input.old) (O.has_failed output.old) (E.has_failed errors.old))
+        (seen (I.remaining input.new) (O.written output.new) (E.written errors.new) (I.has_failed input.new) (O.has_failed output.new) (E.has_failed errors.new)) result }
+{
+    print_run(rt, alloc, input, output, errors, args, Printed::Answers)
+}
+
+/// The same as `threads_run`, but writes the recorded history of all threads to the output in place of each worker's answers.
+pub fn threads_history_run<R: Threads + Wait + Sync, I: Source, O: Sink, E: Sink>(
+    rt: &R,
+    alloc: Global,
+    input: &mut I,
+    output: &mut O,
+    errors: &mut E,
+    args: &ThreadsArgs,
+) -> u8
+    requires input { I.has_failed input.old ≡ false }
+    requires output { O.has_failed output.old ≡ false }
+    ensures { EndsThreads Printed.History (seen (I.remaining input.old) (O.written output.old) (E.written errors.old) (I.has_failed input.old) (O.has_failed output.old) (E.has_failed errors.old))
+        (seen (I.remaining input.new) (O.written output.new) (E.written errors.new) (I.has_failed input.new) (O.has_failed output.new) (E.has_failed errors.new)) result }
+{
+    print_run(rt, alloc, input, output, errors, args, Printed::History)
+}
+
+/// Runs the scripts of the job that the input gives, writes what is to be printed to the output, or a fault to `errors`, and returns the exit status.
+fn print_run<R: Threads + Wait + Sync, I: Source, O: Sink, E: Sink>(
+    rt: &R,
+    alloc: Global,
+    input: &mut I,
+    output: &mut O,
+    errors: &mut E,
     args: &ThreadsArgs,
     printed: Printed,
 ) -> u8
-    requires { IsSound devices.old }
-    ensures { EndsThreads printed devices.old devices.new result }
+    requires input { I.has_failed input.old ≡ false }
+    requires output { O.has_failed output.old ≡ false }
+    ensures { EndsThreads printed (seen (I.remaining input.old) (O.written output.old) (E.written errors.old) (I.has_failed input.old) (O.has_failed output.old) (E.has_failed errors.old))
+        (seen (I.remaining input.new) (O.written output.new) (E.written errors.new) (I.has_failed input.new) (O.has_failed output.new) (E.has_failed errors.new)) result }
 {
-    let outcome = run_file(
-        rt,
-        alloc,
-        &mut devices.input,
-        &mut devices.output,
-        args,
-        printed,
-    );
-    match outcome {
+    match run_file(rt, alloc, input, output, args, printed) {
         Ok(()) => DONE,
-        Err(error) => {
-            tell(&mut devices.errors, threads_line_of(error).as_slice());
-            threads_status_of(error)
-        }
+        Err(error) => threads_stopped(errors, error),
     }
+}
+
+/// Writes the line of an error that a run in threads stopped for to `errors`, and returns the exit status: 2 for a fault of the file, else 1. Where the
+/// line can't be written the status stays.
+pub fn threads_stopped<E: Sink>(errors: &mut E, error: ThreadsError) -> u8
+    ensures status { result ≡ threads_status error }
+    ensures told { HasTold (E.has_failed errors.new) (E.written errors.old) (E.written errors.new) (ended (threads_text error)) }
+{
+    tell(errors, threads_line_of(error).as_slice());
+    threads_status_of(error)
 }
 
 /// Runs the scripts of the job that the input gives, and writes what is printed of their history.

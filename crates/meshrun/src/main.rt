@@ -8,11 +8,11 @@
 #![tactic(auto)]
 
 ghost use Rattle.std.specs.Prelude.{◌≡◌, false};
-ghost use Rattle.mesh_run.specs.Runs.{IsSound};
 
 use mesh_run::{
     Args, Devices, Input, Output, Sink, Source, arguments, check_run, draw_run, explore_run,
-    live_run, replay_run, stop_run, threads_run, unopened_run, unread_words,
+    live_run, replay_history_run, replay_run, stop_run, threads_history_run, threads_run,
+    unopened_run, unread_words,
 };
 use std::alloc::Global;
 use std::fs::File;
@@ -49,14 +49,10 @@ fn run<R: Threads + Wait + Sync, O: Sink + Drop, E: Sink + Drop>(
 {
     let alloc = rt.alloc();
     let Some(path) = path_of(args) else {
-        let mut devices = Devices::new(Input::new(rt.stdin()), output, errors);
-        return run_on(threads, alloc, args, &mut devices);
+        return run_on(threads, alloc, args, Input::new(rt.stdin()), output, errors);
     };
     match File::open(rt, path) {
-        Ok(file) => {
-            let mut devices = Devices::new(Input::new(file), output, errors);
-            run_on(threads, alloc, args, &mut devices)
-        }
+        Ok(file) => run_on(threads, alloc, args, Input::new(file), output, errors),
         Err(_) => unopened_run(&mut errors),
     }
 }
@@ -66,30 +62,45 @@ fn path_of<'a>(args: &Args<'a>) -> Option<&'a str> {
     match *args {
         Args::Live(_) => None,
         Args::Check(path) if path == STANDARD_INPUT => None,
-        Args::Replay(path, _)
-        | Args::Threads(path, _, _)
+        Args::Replay(path)
+        | Args::ReplayHistory(path)
+        | Args::Threads(path, _)
+        | Args::ThreadsHistory(path, _)
         | Args::Draw(path, _)
         | Args::Explore(path, _)
         | Args::Check(path) => Some(path),
     }
 }
 
-/// Makes the run that is asked for, from and to these devices, and gives the exit status.
-fn run_on<R: Threads + Wait + Sync, I: Source, O: Sink, E: Sink>(
+/// Makes the run that is asked for, from this input to this output and these errors, and gives the exit status.
+fn run_on<R: Threads + Wait + Sync, I: Source + Drop, O: Sink + Drop, E: Sink + Drop>(
     threads: &R,
     alloc: Global,
     args: &Args<'_>,
-    devices: &mut Devices<I, O, E>,
+    mut input: I,
+    mut output: O,
+    mut errors: E,
 ) -> u8
-    requires { IsSound devices.old }
+    requires input { I.has_failed input ≡ false }
+    requires output { O.has_failed output ≡ false }
 {
     match args {
-        Args::Replay(_, printed) => replay_run(alloc, devices, *printed),
-        Args::Threads(_, args, printed) => threads_run(threads, alloc, devices, args, *printed),
-        Args::Draw(path, args) => draw_run(alloc, path, args, devices),
-        Args::Explore(_, args) => explore_run(alloc, args, devices),
-        Args::Live(args) => live_run(alloc, args, devices),
-        Args::Check(_) => check_run(alloc, devices),
+        Args::Replay(_) => replay_run(alloc, &mut input, &mut output, &mut errors),
+        Args::ReplayHistory(_) => replay_history_run(alloc, &mut input, &mut output, &mut errors),
+        Args::Threads(_, args) => {
+            threads_run(threads, alloc, &mut input, &mut output, &mut errors, args)
+        }
+        Args::ThreadsHistory(_, args) => {
+            threads_history_run(threads, alloc, &mut input, &mut output, &mut errors, args)
+        }
+        Args::Draw(path, args) => {
+            draw_run(alloc, path, args, &mut Devices::new(input, output, errors))
+        }
+        Args::Explore(_, args) => {
+            explore_run(alloc, args, &mut Devices::new(input, output, errors))
+        }
+        Args::Live(args) => live_run(alloc, args, &mut Devices::new(input, output, errors)),
+        Args::Check(_) => check_run(alloc, &mut Devices::new(input, output, errors)),
     }
 }
 

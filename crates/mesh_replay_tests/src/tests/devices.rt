@@ -4,7 +4,7 @@ ghost use Rattle.std.specs.Prelude.{◌≡◌, None, false};
 use crate::tests::{check, replayed_from};
 use mesh_in_memory::files::{MESH_ANSWERS, MESH_FILE};
 use mesh_in_memory::{Bytes, Ran, SlowSource};
-use mesh_run::{DeviceFault, Devices, Input, Output, Printed, Sink, Source, replay_run};
+use mesh_run::{DeviceFault, Input, Output, Sink, Source, replay_run};
 use std::alloc::Global;
 use std::io;
 
@@ -74,16 +74,15 @@ impl Sink for SlowSink {
 /// Replays a file from a slow source.
 fn read_slowly(alloc: Global, file: &str, calls: usize) -> Ran {
     let input = SlowSource::new(file.as_bytes(), calls);
-    replayed_from(alloc, input, Printed::Answers)
+    replayed_from(alloc, input)
 }
 
 /// Replays the file to a slow sink.
 fn write_slowly(alloc: Global, most: usize, calls: usize, end: End) -> Ran {
-    let input = Input::new(MESH_FILE.as_bytes());
-    let output = SlowSink::new(alloc, most, calls, end);
-    let mut devices = Devices::new(input, output, Output::new(Vec::new(alloc)));
-    let status = replay_run(alloc, &mut devices, Printed::Answers);
-    let (_, output, errors) = devices.into_parts();
+    let mut input = Input::new(MESH_FILE.as_bytes());
+    let mut output = SlowSink::new(alloc, most, calls, end);
+    let mut errors = Output::new(Vec::new(alloc));
+    let status = replay_run(alloc, &mut input, &mut output, &mut errors);
     let SlowSink { taken, .. } = output;
     Ran {
         status,
@@ -186,7 +185,7 @@ fn a_failed_call_is_not_tried_again(rt: HostRuntime) {
 #[test]
 fn one_byte_a_call_is_no_failure(rt: HostRuntime) {
     let input = Input::new(FailsFirst::new(MESH_FILE.as_bytes(), false));
-    let run = replayed_from(rt.alloc(), input, Printed::Answers);
+    let run = replayed_from(rt.alloc(), input);
     let goes = run.wrote(MESH_ANSWERS.as_bytes(), "", 0);
     check(&rt, goes, &run, "a byte a read");
 }

@@ -1,8 +1,7 @@
 //! The text of a history: its answers, and as it is recorded.
-use crate::tests::{check, check_text, replayed_from};
+use crate::tests::{check, check_text, history_of};
 use mesh_in_memory::{ROW_END, faulty_files, fields};
 use mesh_mutator::{Command, Entry, Refusal, Reply};
-use mesh_run::{Input, Printed};
 use mesh_text::{history_lines, recorded_history};
 use std::alloc::AllocError;
 
@@ -67,8 +66,7 @@ const JOURNAL: &str =
 
 #[test]
 fn a_replay_prints_its_journal(rt: HostRuntime) {
-    let input = Input::new(JOURNAL_FILE.as_bytes());
-    let run = replayed_from(rt.alloc(), input, Printed::History);
+    let run = history_of(rt.alloc(), JOURNAL_FILE.as_bytes());
     let goes = run.wrote(JOURNAL.as_bytes(), "", 0);
     check(&rt, goes, &run, "two workers");
 }
@@ -77,8 +75,7 @@ fn a_replay_prints_its_journal(rt: HostRuntime) {
 fn a_faulty_file_has_no_journal(rt: HostRuntime) {
     for row in faulty_files().split(ROW_END) {
         let (name, file, fault) = fields(row);
-        let input = Input::new(file.as_bytes());
-        let run = replayed_from(rt.alloc(), input, Printed::History);
+        let run = history_of(rt.alloc(), file.as_bytes());
         check(&rt, run.wrote(b"", fault, 2), &run, name);
     }
 }

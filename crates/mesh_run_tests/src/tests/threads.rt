@@ -2,8 +2,8 @@
 ghost use Rattle.std.specs.Prelude.{◌≡◌, ◌≤◌, false};
 
 use crate::tests::check;
-use mesh_in_memory::{ROW_END, Ran, SlowSource, faulty_files, fields, in_memory};
-use mesh_run::{Input, Printed, Source, ThreadsArgs, threads_run};
+use mesh_in_memory::{ROW_END, Ran, SlowSource, faulty_files, fields};
+use mesh_run::{Input, Output, Source, ThreadsArgs, threads_history_run, threads_run};
 use std::process::Abort;
 use std::sync::Wait;
 use std::thread::Threads;
@@ -21,18 +21,34 @@ const FEWEST: ThreadsArgs = ThreadsArgs {
     meshers: 1,
 };
 
-/// Runs the scripts of what a source gives, and prints this.
+/// Runs the scripts of what a source gives, and prints each worker's answers.
 fn ran<R: Threads + Wait + Sync + AllocGlobal, I: Source + Drop>(
     rt: &R,
     input: I,
     args: &ThreadsArgs,
-    printed: Printed,
 ) -> Ran
     requires { I.has_failed input ≡ false }
 {
-    let mut devices = in_memory(rt.alloc(), input);
-    let status = threads_run(rt, rt.alloc(), &mut devices, args, printed);
-    Ran::of(status, devices)
+    let alloc = rt.alloc();
+    let mut input = input;
+    let mut output = Output::new(Vec::new(alloc));
+    let mut errors = Output::new(Vec::new(alloc));
+    let status = threads_run(rt, alloc, &mut input, &mut output, &mut errors, args);
+    Ran::of_outputs(status, output, errors)
+}
+
+/// Runs the scripts of a file, and prints their recorded history.
+fn history_of<R: Threads + Wait + Sync + AllocGlobal>(
+    rt: &R,
+    file: &[u8],
+    args: &ThreadsArgs,
+) -> Ran {
+    let alloc = rt.alloc();
+    let mut input = Input::new(file);
+    let mut output = Output::new(Vec::new(alloc));
+    let mut errors = Output::new(Vec::new(alloc));
+    let status = threads_history_run(rt, alloc, &mut input, &mut output, &mut errors, args);
+    Ran::of_outputs(status, output, errors)
 }
 
 #[test]
@@ -40,7 +56,7 @@ fn tells_each_fault_of_a_file(rt: HostRuntime) {
     for row in faulty_files().split(ROW_END) {
         let (name, file, fault) = fields(row);
         let input = Input::new(file.as_bytes());
-        let run = ran(&rt, input, &FEWEST, Printed::Answers);
+        let run = ran(&rt, input, &FEWEST);
         check(&rt, run.wrote(b"", fault, 2), &run, name);
     }
 }
@@ -48,7 +64,7 @@ fn tells_each_fault_of_a_file(rt: HostRuntime) {
 #[test]
 fn tells_a_history_that_is_too_short(rt: HostRuntime) {
     let input = Input::new(SHORT_FILE.as_bytes());
-    let run = ran(&rt, input, &FEWEST, Printed::Answers);
+    let run = ran(&rt, input, &FEWEST);
     let goes = run.wrote(b"", "history too short\n", 2);
     check(&rt, goes, &run, "four commands");
 }
@@ -65,15 +81,14 @@ const ONE_PAGE_HISTORY: &str =
 #[test]
 fn has_no_more_pages_than_its_file_says(rt: HostRuntime) {
     let input = Input::new(ONE_PAGE_FILE.as_bytes());
-    let run = ran(&rt, input, &FEWEST, Printed::Answers);
+    let run = ran(&rt, input, &FEWEST);
     let goes = run.wrote(ONE_PAGE_LINES.as_bytes(), "", 0);
     check(&rt, goes, &run, "answers");
 }
 
 #[test]
 fn prints_the_history(rt: HostRuntime) {
-    let input = Input::new(ONE_PAGE_FILE.as_bytes());
-    let run = ran(&rt, input, &FEWEST, Printed::History);
+    let run = history_of(&rt, ONE_PAGE_FILE.as_bytes(), &FEWEST);
     let goes = run.wrote(ONE_PAGE_HISTORY.as_bytes(), "", 0);
     check(&rt, goes, &run, "a history");
 }
@@ -82,7 +97,7 @@ fn prints_the_history(rt: HostRuntime) {
 fn tells_a_failing_read_before_all_else(rt: HostRuntime) {
     for calls in 0..SHORT_FILE.len() + 1 {
         let input = SlowSource::new(SHORT_FILE.as_bytes(), calls);
-        let run = ran(&rt, input, &FEWEST, Printed::Answers);
+        let run = ran(&rt, input, &FEWEST);
         check(&rt, run.wrote(b"", "read fault\n", 1), &run, calls);
     }
 }
@@ -227,7 +242,7 @@ fn check_answers<R: Abort + Threads + Wait + Sync + AllocGlobal>(
     answers: &str,
     args: &ThreadsArgs,
 ) {
-    let run = ran(rt, Input::new(file.as_bytes()), args, Printed::Answers);
+    let run = ran(rt, Input::new(file.as_bytes()), args);
     check_run(rt, &run, answers, args);
 }
 

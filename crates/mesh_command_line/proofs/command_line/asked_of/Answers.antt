@@ -1,22 +1,25 @@
-use Rattle.std.proofs.Common.{◌∙◌, Option, option_map, ap, refl}
+use Rattle.std.proofs.Common.{◌∙◌, Option, Some, option_map, ap, refl}
 use Rattle.std.specs.Prelude.{option_and_then}
 use Rattle.clap.specs.Words.{found_of, rows_of}
-use Rattle.mesh_command_line.specs.CommandLine.{Numbers, asking, draw_of, explore_of, numbers_of, printed_in, replay_of, threads_of}
+use Rattle.mesh_command_line.specs.CommandLine.{Numbers, asking, draw_of, explore_of, is_recorded_in, numbers_of, replay_by, threads_by}
 use Rattle.mesh_command_line.proofs.CommandLines.{asked_of_file, asked_of_known}
 use Rattle.mesh_command_line.proofs.command_line.asked_of.Goals as goal
 
 pub returns-in_err-file : goal.returns-in_err-file
 returns-in_err-file c = ap (option_map asking) c.from_residual.ensures ∙ asked_of_file c.args.name.now (found_of c.args.matches.now) _ c.in_err-file.ensures
 
-pub returns-in_ok-printed-in-replay : goal.returns-in_ok-printed-in-replay
-returns-in_ok-printed-in-replay c = asked_of_known _ _ (found_of c.args.matches.now) _ _ c.in-replay.is c.in_ok-file.ensures (ap (option_map (replay_of c.in_ok-file.file.now)) c.in_ok-printed-in-replay.ensures)
+pub returns-in_ok-is_recorded-in-replay : goal.returns-in_ok-is_recorded-in-replay
+returns-in_ok-is_recorded-in-replay c =
+    asked_of_known _ _ (found_of c.args.matches.now) _ _ c.in-replay.is c.in_ok-file.ensures
+    (ap Some c.replay_of.ensures ∙ ap (option_map (replay_by c.in_ok-file.file.now)) c.in_ok-is_recorded-in-replay.ensures)
 
-pub returns-in_ok-printed-in-threads : goal.returns-in_ok-printed-in-threads
-returns-in_ok-printed-in-threads c =
+pub returns-in_ok-is_recorded-in-threads : goal.returns-in_ok-is_recorded-in-threads
+returns-in_ok-is_recorded-in-threads c =
     let file = c.in_ok-file.file.now in
     asked_of_known _ _ (found_of c.args.matches.now) _ _ c.in-threads.is c.in_ok-file.ensures
-    (ap (option_map (threads_of file (numbers_of c.in_ok-numbers-in-threads.field-0))) c.in_ok-printed-in-threads.ensures
-    ∙ ap (λ (numbers : Option Numbers). option_and_then (λ n. option_map (threads_of file n) (printed_in (rows_of (found_of c.args.matches.now)))) numbers)
+    (ap Some c.threads_of.ensures
+    ∙ ap (option_map (threads_by file (numbers_of c.in_ok-numbers-in-threads.field-0))) c.in_ok-is_recorded-in-threads.ensures
+    ∙ ap (λ (numbers : Option Numbers). option_and_then (λ n. option_map (threads_by file n) (is_recorded_in (rows_of (found_of c.args.matches.now)))) numbers)
     c.in_ok-numbers-in-threads.ensures)
 
 pub returns-in_ok-shown-in-draw : goal.returns-in_ok-shown-in-draw

@@ -2,7 +2,7 @@
 
 /// What a run prints of what its workers asked for and were answered.
 #[derive(Clone, Copy, PartialEq, Eq)]
-pub enum Printed {
+pub(crate) enum Printed {
     /// The answers alone.
     Answers,
     /// The journal, as a recorded history.
