@@ -64,7 +64,7 @@ begins() {
 
 # Whether a run told of a refusal.
 is_told() {
-    grep -q 'out of memory\|thread fault\|: done, [0-9]* refused' "$room/output" "$room/errors"
+    grep -q 'out of memory\|thread fault\|run fault\|: done, [0-9]* refused' "$room/output" "$room/errors"
 }
 
 # spare WORD..: a program with its words, which asks for nothing but to read them. Where the list of the words can't grow by as much as it asks
@@ -106,13 +106,14 @@ replay_fault() {
     [ "$refused" -eq 1 ] || [ "$status" -eq 0 ] || echo " a fault though nothing was refused"
 }
 
-# How a run of the scripts in threads may end.
+# How a run of the scripts in threads may end: an allocation that is refused inside the end of the run is `run fault`, and one before it is `out of
+# memory` or `thread fault`.
 threads_fault() {
     if [ "$status" -eq 0 ]; then
         cmp -s "$room/output" jobs/threads.out && [ ! -s "$room/errors" ] || echo " another output"
     else
         [ "$status" -eq 1 ] || echo " status $status"
-        is_line "$room/errors" "out of memory" || is_line "$room/errors" "thread fault" || echo " another line of fault"
+        is_line "$room/errors" "out of memory" || is_line "$room/errors" "thread fault" || is_line "$room/errors" "run fault" || echo " another line of fault"
         [ ! -s "$room/output" ] || echo " an output beside a fault"
     fi
     [ "$refused" -eq 1 ] || [ "$status" -eq 0 ] || echo " a fault though nothing was refused"

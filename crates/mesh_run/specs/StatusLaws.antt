@@ -6,10 +6,10 @@ use Rattle.mesh_run.specs.Runs.{error_text}
 use Rattle.mesh_run.specs.Status.{status_of_error}
 use Rattle.mesh_run.specs.Threads.{stop_of, threads_status, threads_text}
 use Rattle.mesh_run.specs.declared.threads_error.ThreadsError.{ThreadsError}
-use Rattle.mesh_run.specs.declared.threads_error.ThreadsError.TheVariants.{Replay, TooShort, Thread}
-use Rattle.mesh_seats.specs.declared.faults.FinishError.TheVariants.{Memory as FinishMemory}
+use Rattle.mesh_run.specs.declared.threads_error.ThreadsError.TheVariants.{Replay, TooShort, Thread, Run}
+use Rattle.mesh_seats.specs.declared.faults.FinishError.{FinishError}
 use Rattle.mesh_shared.specs.declared.stops.RunError.{RunError}
-use Rattle.mesh_shared.specs.declared.stops.RunError.TheVariants.{Memory as RunMemory, Thread as RunThread, Finish}
+use Rattle.mesh_shared.specs.declared.stops.RunError.TheVariants.{Memory as RunMemory, Thread as RunThread, History, Finish}
 use Rattle.mesh_text.specs.declared.faults.ReplayError.{ReplayError}
 use Rattle.mesh_text.specs.declared.faults.ReplayError.TheVariants.{Memory, Text}
 
@@ -35,10 +35,14 @@ FaultsAreSpelt = (error_text (Text (record { line = 7; kind = Cut })) ≡ codes 
     × (error_text (Text (record { line = 0; kind = TooLong })) ≡ codes "line 0: TOO_LONG")
     × (threads_text (Replay (Text (record { line = 20; kind = Cut }))) ≡ codes "line 20: CUT")
 
--- a run is told to be out of memory exactly where a thread or its end was
+-- of what stops the threads, want of memory before their end alone is told as such
 abbrev pub WantOfMemoryIsTold : Type 0
-WantOfMemoryIsTold = (error : RunError) → (stop_of error ≡ Replay Memory) ↔ ((error ≡ RunMemory) ⊎ (error ≡ Finish FinishMemory))
+WantOfMemoryIsTold = (error : RunError) → (stop_of error ≡ Replay Memory) ↔ (error ≡ RunMemory)
 
 -- and a thread to be at fault exactly where one was
 abbrev pub ThreadFaultsAreTold : Type 0
 ThreadFaultsAreTold = (error : RunError) → (stop_of error ≡ Thread) ↔ (error ≡ RunThread)
+
+-- and a run that failed exactly where the journal was full, or its end has any fault
+abbrev pub RunFaultsAreTold : Type 0
+RunFaultsAreTold = (error : RunError) → (stop_of error ≡ Run) ↔ ((error ≡ History) ⊎ ((fault : FinishError) × (error ≡ Finish fault)))

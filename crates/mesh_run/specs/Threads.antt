@@ -18,7 +18,6 @@ use Rattle.mesh_run.specs.declared.printed.Printed.TheVariants.{Answers, History
 use Rattle.mesh_run.specs.declared.threads_error.ThreadsError.{ThreadsError}
 use Rattle.mesh_run.specs.declared.threads_error.ThreadsError.TheVariants.{Replay, TooShort, Thread, Run}
 use Rattle.mesh_shared.specs.Runs.{HasRun}
-use Rattle.mesh_seats.specs.declared.faults.FinishError.TheVariants.{Memory as FinishMemory, ReadDiffers, SeatDiffers, SeatMissing}
 use Rattle.mesh_shared.specs.declared.plan.MeshPlan.{MeshPlan}
 use Rattle.mesh_shared.specs.declared.stops.RunError.{RunError}
 use Rattle.mesh_shared.specs.declared.stops.RunError.TheVariants.{Memory as RunMemory, Thread as RunThread, History, Finish}
@@ -136,12 +135,10 @@ abbrev pub EndsThreads : Printed → Seen → Seen → ℕ → Type 0
 EndsThreads printed before after status =
     EndsBy threads_status threads_text HasFailedRun (HasWrittenRun printed) (HasStoppedRun printed) before after status
 
--- what stops threads stops the run: want of memory as such, a thread that failed as such, and what else leaves no history as a run that failed
+-- what stops threads stops the run: want of memory as such, a thread that failed as such, and what else leaves no history as a run that failed, a
+-- fault of `finish` for want of memory too
 abbrev pub stop_of : RunError → ThreadsError
 stop_of RunMemory = Replay NoMemory
 stop_of RunThread = Thread
 stop_of History = Run
-stop_of (Finish FinishMemory) = Replay NoMemory
-stop_of (Finish (SeatMissing w)) = Run
-stop_of (Finish (SeatDiffers w i)) = Run
-stop_of (Finish (ReadDiffers w i)) = Run
+stop_of (Finish fault) = Run

@@ -4,7 +4,7 @@ ghost use Rattle.mesh_run.specs.Threads.{stop_of};
 ghost use Rattle.mesh_run.specs.declared.threads_error.ThreadsError.{ThreadsError};
 ghost use Rattle.mesh_text.specs.declared.faults.ReplayError.{ReplayError};
 
-use mesh_shared::{FinishError, RunError};
+use mesh_shared::RunError;
 use mesh_text::ReplayError;
 use std::alloc::AllocError;
 use thiserror::Error;
@@ -22,7 +22,7 @@ pub enum ThreadsError {
     /// A thread couldn't be started, or a searcher's answer isn't the one that was asked for. Nothing was written.
     #[error("thread fault")]
     Thread,
-    /// The threads left no history that stands. Nothing was written.
+    /// The journal was full, or `finish` has a fault, whichever it is: out of memory inside `finish` too. Nothing was written.
     #[error("run fault")]
     Run,
 }
@@ -48,9 +48,7 @@ impl From<RunError> for ThreadsError {
 
     fn from(error: RunError) -> ThreadsError {
         match error {
-            RunError::Memory | RunError::Finish(FinishError::Memory) => {
-                ThreadsError::Replay(ReplayError::Memory)
-            }
+            RunError::Memory => ThreadsError::Replay(ReplayError::Memory),
             RunError::Thread => ThreadsError::Thread,
             RunError::History | RunError::Finish(_) => ThreadsError::Run,
         }

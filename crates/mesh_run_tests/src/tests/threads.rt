@@ -3,7 +3,11 @@ ghost use Rattle.std.specs.Prelude.{◌≡◌, ◌≤◌, false};
 
 use crate::tests::check;
 use mesh_in_memory::{ROW_END, Ran, SlowSource, faulty_files, fields};
-use mesh_run::{Input, Output, Source, ThreadsArgs, threads_history_run, threads_run};
+use mesh_run::{
+    Input, Output, Source, ThreadsArgs, ThreadsError, threads_history_run, threads_run,
+    threads_stopped,
+};
+use mesh_shared::{FinishError, RunError};
 use std::process::Abort;
 use std::sync::Wait;
 use std::thread::Threads;
@@ -100,6 +104,24 @@ fn tells_a_failing_read_before_all_else(rt: HostRuntime) {
         let run = ran(&rt, input, &FEWEST);
         check(&rt, run.wrote(b"", "read fault\n", 1), &run, calls);
     }
+}
+
+/// Asserts that a run that stops for this error tells this line, with status 1.
+fn check_line(rt: &(impl Abort + AllocGlobal), error: RunError, line: &'static str) {
+    let mut errors = Output::new(Vec::new(rt.alloc()));
+    let status = threads_stopped(&mut errors, ThreadsError::from(error));
+    let run = Ran::of_outputs(status, Output::new(Vec::new(rt.alloc())), errors);
+    check(rt, run.wrote(b"", line, 1), &run, line);
+}
+
+#[test]
+fn tells_every_fault_of_the_end_as_a_run_fault(rt: HostRuntime) {
+    let differs = FinishError::SeatDiffers { seat: 0, call: 1 };
+    check_line(&rt, RunError::Finish(FinishError::Memory), "run fault\n");
+    check_line(&rt, RunError::Finish(differs), "run fault\n");
+    check_line(&rt, RunError::History, "run fault\n");
+    check_line(&rt, RunError::Memory, "out of memory\n");
+    check_line(&rt, RunError::Thread, "thread fault\n");
 }
 
 /// How many cells each of two workers has, and from which on.
