@@ -177,8 +177,8 @@ held=HOLD=1
 refuse_each threads case_fault "$small" threads
 held=
 spare "$meshrun" replay "$room/no file"
-wanted=jobs/mesh.out
-refuse_each "meshrun replay" replay_fault "$meshrun" replay jobs/mesh.job
+wanted=jobs/rows/small_steps/worked_mesh.out
+refuse_each "meshrun replay" replay_fault "$meshrun" replay jobs/rows/small_steps/worked_mesh.job
 # More answers than are written at once, and then searches, which take memory: so some of these runs have written a beginning.
 loads=200
 searches=20

@@ -31,7 +31,7 @@ ROW_END, FIELD_END = "#", "|"
 # Rows whose file and answers the tests name by themselves.
 NAMED = {
     ROWS / "mutators" / "first_bytes.job": "FIRST",
-    ROWS / "small_steps" / "addresses_after_meshing.job": "MESH",
+    ROWS / "small_steps" / "worked_mesh.job": "MESH",
 }
 KINDS = {
     "TOO_LONG": "TooLong", "TRAILING": "Trailing", "LONG_LINE": "LongLine", "CUT": "Cut",

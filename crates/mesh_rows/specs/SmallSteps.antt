@@ -49,3 +49,6 @@ store_across_pages_while_meshing = record { file = codes "mesh 1\npages 16\nhist
 
 abbrev pub stores_while_meshing : Row
 stores_while_meshing = record { file = codes "mesh 1\npages 16\nhistory 64\nworkers 2\nworker 0\nnew 0 2048 0\nnew 1 2048 0\nnew 2 2048 0\nnew 3 2048 0\nfree 0\nfree 3\nput 2 0 ab\nput 2 0 cd\nworker 1\nput 1 0 cd\nplan\nrun 0\nrun 0\nrun 0\nrun 0\nrun 0\nrun 0\nrun 0\nbegin 1 0\nstep\nrun 0\nrun 1\nstep\nstep\nstep\nrun 0\nstep\nrun 0\nend\n"; answer = Ok (codes "object 0 at 1000\nobject 1 at 1800\nobject 2 at 2000\nobject 3 at 2800\ndone\ndone\ndone\nleft 6\nprotect left 5\nblocked\ndone\ncopy left 4\ncopy left 3\nremap left 2\nblocked\nunprotect left 1\ndone\n") }
+
+abbrev pub worked_mesh : Row
+worked_mesh = record { file = codes "mesh 1\npages 16\nhistory 64\nworkers 1\nworker 0\nnew 0 2048 0\nnew 1 2048 0\nnew 2 2048 0\nnew 3 2048 0\nfree 0\nfree 3\nput 2 0 ab\nget 2 0 1\naddr 2\nget 2 0 1\naddr 2\nget 2 0 1\naddr 2\nget 2 0 1\naddr 2\nget 2 0 1\naddr 2\nget 2 0 1\naddr 2\nplan\nrun 0\nrun 0\nrun 0\nrun 0\nrun 0\nrun 0\nrun 0\nbegin 1 0\nstep\nrun 0\nrun 0\nstep\nrun 0\nrun 0\nstep\nrun 0\nrun 0\nstep\nrun 0\nrun 0\nstep\nrun 0\nrun 0\nstep\nrun 0\nrun 0\nend\n"; answer = Ok (codes "object 0 at 1000\nobject 1 at 1800\nobject 2 at 2000\nobject 3 at 2800\ndone\ndone\ndone\nleft 6\nprotect left 5\nbytes ab\nat 2000\ncopy left 4\nbytes ab\nat 2000\ncopy left 3\nbytes ab\nat 2000\nremap left 2\nbytes ab\nat 2000\nunprotect left 1\nbytes ab\nat 2000\nrelease left 0\nbytes ab\nat 2000\n") }

@@ -17,6 +17,9 @@ four_on_one_page = record { file = codes "mesh 1\npages 16\nhistory 64\nworkers 
 abbrev pub overlap_before_members : Row
 overlap_before_members = record { file = codes "mesh 1\npages 16\nhistory 64\nworkers 1\nworker 0\nnew 0 2048 0\nnew 1 2048 0\nnew 2 2048 0\nnew 3 2048 0\nnew 4 2048 0\nnew 5 2048 0\nnew 6 2048 0\nnew 7 2048 0\nnew 8 2048 0\nnew 9 2048 0\nnew 10 2048 0\nnew 11 2048 0\nnew 12 2048 0\nnew 13 2048 0\nnew 14 2048 0\nnew 15 2048 0\nnew 16 2048 0\nfree 1\nfree 2\nfree 3\nfree 4\nfree 5\nfree 6\nfree 7\nfree 8\nfree 9\nfree 10\nfree 11\nfree 12\nfree 13\nfree 14\nfree 15\nfree 16\nplan\nrun 0\nrun 0\nrun 0\nrun 0\nrun 0\nrun 0\nrun 0\nrun 0\nrun 0\nrun 0\nrun 0\nrun 0\nrun 0\nrun 0\nrun 0\nrun 0\nrun 0\nrun 0\nrun 0\nrun 0\nrun 0\nrun 0\nrun 0\nrun 0\nrun 0\nrun 0\nrun 0\nrun 0\nrun 0\nrun 0\nrun 0\nrun 0\nwhole 1 0\nwhole 2 0\nwhole 3 0\nwhole 4 0\nwhole 5 0\nwhole 6 0\nwhole 7 0\nwhole 8 0\nbegin 0 8\nrun 0\nbegin 0 8\nwhole 8 0\nend\n"; answer = Ok (codes "object 0 at 1000\nobject 1 at 1800\nobject 2 at 2000\nobject 3 at 2800\nobject 4 at 3000\nobject 5 at 3800\nobject 6 at 4000\nobject 7 at 4800\nobject 8 at 5000\nobject 9 at 5800\nobject 10 at 6000\nobject 11 at 6800\nobject 12 at 7000\nobject 13 at 7800\nobject 14 at 8000\nobject 15 at 8800\nobject 16 at 9000\ndone\ndone\ndone\ndone\ndone\ndone\ndone\ndone\ndone\ndone\ndone\ndone\ndone\ndone\ndone\nmeshed 1\nmeshed 1\nmeshed 1\nmeshed 1\nmeshed 1\nmeshed 1\nmeshed 1\nrefused 13 OVERLAP\nrefused 13 OVERLAP\ndone\nrefused 14 MEMBERS\nrefused 14 MEMBERS\n") }
 
+abbrev pub refusals_of_whole : Row
+refusals_of_whole = record { file = codes "mesh 1\npages 16\nhistory 64\nworkers 1\nworker 0\nnew 0 2048 0\nnew 1 2048 0\nnew 2 2048 0\nnew 3 2048 0\nplan\nrun 0\nrun 0\nrun 0\nrun 0\nwhole 1 0\nwhole 1 1\nwhole 1 9\nend\n"; answer = Ok (codes "object 0 at 1000\nobject 1 at 1800\nobject 2 at 2000\nobject 3 at 2800\nrefused 13 OVERLAP\nrefused 10 SAME\nrefused 9 NO_GROUP\n") }
+
 abbrev pub report : Row
 report = record { file = codes "mesh 1\npages 16\nhistory 64\nworkers 1\nworker 0\nnew 0 2048 0\nnew 1 2048 0\nnew 2 2048 0\nnew 3 2048 0\nfree 0\nfree 3\nplan\nrun 0\nrun 0\nrun 0\nrun 0\nrun 0\nrun 0\nreport\nwhole 1 0\nreport\nend\n"; answer = Ok (codes "object 0 at 1000\nobject 1 at 1800\nobject 2 at 2000\nobject 3 at 2800\ndone\ndone\nreport objects 2 bytes 4096 mapped 2 taken 2 saved 0\nmeshed 1\nreport objects 2 bytes 4096 mapped 2 taken 1 saved 1\n") }
 

@@ -8,9 +8,9 @@ ghost use Rattle.mesh_rows.specs.Faults.{addr_of_two_cells, address_before_byte,
 ghost use Rattle.mesh_rows.specs.Interleavings.{begun, cancelled, copied, one_page_protected, one_page_released, one_page_remapped, one_page_unwound, one_page_writable, over, protected, remapped, writable};
 ghost use Rattle.mesh_rows.specs.Mutators.{first_bytes, history_full, largest_numbers, last_bytes, lengths_and_words, load_across_pages, many_workers_and_no_history, one_page, refusals_take_room_in_history, refused_commands_change_nothing, script_over, stale_cells, store_across_pages, words_pick_free_slots};
 ghost use Rattle.mesh_rows.specs.Searches.{fewer_objects_is_source, groups_that_are_no_candidates, pair_overtaken, rounds_on_shorter_lists, search_in_order, split_search, words_of_a_search};
-ghost use Rattle.mesh_rows.specs.SmallSteps.{addresses_after_meshing, begin_refusals, blocked_takes_no_room_in_history, busy_before_overlap, free_while_meshing, members_in_their_order, objects_across_pages, one_mesh_at_a_time, poke_while_meshing, reads_while_meshing, refusals_in_their_order, reuse_after_meshing, slots_freed_while_meshing, source_of_two_members, store_across_pages_while_meshing, stores_while_meshing};
+ghost use Rattle.mesh_rows.specs.SmallSteps.{addresses_after_meshing, begin_refusals, blocked_takes_no_room_in_history, busy_before_overlap, free_while_meshing, members_in_their_order, objects_across_pages, one_mesh_at_a_time, poke_while_meshing, reads_while_meshing, refusals_in_their_order, reuse_after_meshing, slots_freed_while_meshing, source_of_two_members, store_across_pages_while_meshing, stores_while_meshing, worked_mesh};
 ghost use Rattle.mesh_rows.specs.Version2.{cancels_of_classes, copies, copies_across_pages_while_meshing, copies_and_the_history, copies_while_meshing, copies_within_an_object, copy_refusals_in_their_order, one_mesh_a_class, version_1_beside_another_class, whole_beside_another_class};
-ghost use Rattle.mesh_rows.specs.WholeMeshes.{bytes_of_three_pages, classes_of_three_pages, eight_members, four_on_one_page, overlap_before_members, report, room_by_meshing, sweep};
+ghost use Rattle.mesh_rows.specs.WholeMeshes.{bytes_of_three_pages, classes_of_three_pages, eight_members, four_on_one_page, overlap_before_members, refusals_of_whole, report, room_by_meshing, sweep};
 
 /// Worked rows: abandoned.
 pub fn abandoned()
@@ -196,6 +196,7 @@ pub fn small_steps()
     ensures source_of_two_members { IsReplayed source_of_two_members }
     ensures store_across_pages_while_meshing { IsReplayed store_across_pages_while_meshing }
     ensures stores_while_meshing { IsReplayed stores_while_meshing }
+    ensures worked_mesh { IsReplayed worked_mesh }
 {}
 
 /// Worked rows: version 2.
@@ -219,6 +220,7 @@ pub fn whole_meshes()
     ensures eight_members { IsReplayed eight_members }
     ensures four_on_one_page { IsReplayed four_on_one_page }
     ensures overlap_before_members { IsReplayed overlap_before_members }
+    ensures refusals_of_whole { IsReplayed refusals_of_whole }
     ensures report { IsReplayed report }
     ensures room_by_meshing { IsReplayed room_by_meshing }
     ensures sweep { IsReplayed sweep }
