@@ -1,8 +1,9 @@
 #!/usr/bin/env python3
 """Prints what has to be read to know what `Book::headline` says: its clauses, and every definition that they cite, directly or not.
 
-For each file the definitions are named in the order in which a reader comes to them, and the last line counts them and their lines, comments and
-empty lines aside. Run it from the top of the repository; docs/PROOF.md shows what it prints. Words of the toolchain's library and the enums of
+For each file the definitions are named in the order in which a reader comes to them. The last lines count them and their lines, comments and
+empty lines aside: those that the headline itself needs, and those that only the clauses `sound` and `tied` cite, which the laws of refusals ask
+for. Run it from the top of the repository; docs/PROOF.md shows what it prints. Words of the toolchain's library and the enums of
 crates/model_words/src are not counted.
 
     tools/headline_lines.py [FUNCTION]      another function of crates/mesh_mutator/src/book.rt, as act
@@ -12,6 +13,8 @@ import re
 import sys
 
 BOOK = pathlib.Path("crates/mesh_mutator/src/book.rt")
+# The clauses of `headline` that are read only for the laws of refusals.
+FOR_REFUSALS = ("sound", "tied")
 WORD = r"[A-Za-z_][A-Za-z0-9_']*(?:-[A-Za-z0-9_']+)*|◌[^\s{},()]+◌"
 
 
@@ -81,14 +84,15 @@ def clauses(function):
     return re.findall(r"^\s+ensures .*(?:\n\s{12,}.*)*", body, re.M), uses(text, "")
 
 
-def main():
-    function = sys.argv[1] if len(sys.argv) > 1 else "headline"
-    heads, known = clauses(function)
-    print(f"Book::{function}: {len(heads)} clauses")
-    for head in heads:
-        print(" ", re.sub(r"\s+", " ", head.strip()))
+def is_for_refusals(head):
+    """Whether a clause is one that is read only for the laws of refusals."""
+    return re.match(r"\s*ensures (\w+)", head).group(1) in FOR_REFUSALS if re.match(r"\s*ensures \w+ \{", head) else False
+
+
+def reach(heads, known, seen):
+    """The definitions that these clauses cite, directly or not, and that aren't in `seen` yet: of each its file, its name and its lines."""
+    order = []
     todo = [known[name] for name in cited(heads, known)]
-    seen, order = set(), []
     while todo:
         module, name = todo.pop(0)
         file = module_file(module)
@@ -103,8 +107,13 @@ def main():
         if name not in found:
             sys.exit(f"{file} has no definition of {name}")
         order.append((file, name, len(found[name])))
-        known = uses(text, module)
-        todo[:0] = [known[it] for it in cited(found[name], known) if known[it] != (module, name)]
+        names = uses(text, module)
+        todo[:0] = [names[it] for it in cited(found[name], names) if names[it] != (module, name)]
+    return order
+
+
+def print_files(order):
+    """The definitions, file by file."""
     files = {}
     for file, name, lines in order:
         files.setdefault(file, []).append((name, lines))
@@ -112,8 +121,29 @@ def main():
     for file, names in files.items():
         print(f"{file}, {sum(lines for _, lines in names)} lines:")
         print("  " + ", ".join(name for name, _ in names))
+
+
+def count(order):
+    return f"{len(order)} definitions, {sum(lines for *_, lines in order)} lines"
+
+
+def main():
+    function = sys.argv[1] if len(sys.argv) > 1 else "headline"
+    heads, known = clauses(function)
+    print(f"Book::{function}: {len(heads)} clauses")
+    for head in heads:
+        print(" ", re.sub(r"\s+", " ", head.strip()))
+    seen = set()
+    own = reach([head for head in heads if not is_for_refusals(head)], known, seen)
+    refusals = reach([head for head in heads if is_for_refusals(head)], known, seen)
+    print_files(own)
+    if refusals:
+        print("\nOnly for the laws of refusals:", end="")
+        print_files(refusals)
     print()
-    print(f"{len(order)} definitions, {sum(lines for *_, lines in order)} lines")
+    print(f"{count(own)}")
+    if refusals:
+        print(f"and {count(refusals)} that only {' and '.join(FOR_REFUSALS)} cite")
 
 
 main()
