@@ -1,5 +1,5 @@
 -- The lines of a live session, each of which is answered at once. This project's own choice.
-use Rattle.std.specs.Prelude.{ℕ, ◌-◌, ◌<◌, Bool, true, false, if◌then◌else◌, List, [], ◌∷◌, Result, Ok, Err, codes}
+use Rattle.std.specs.Prelude.{◌≡◌, ℕ, ◌-◌, ◌<◌, Bool, true, false, if◌then◌else◌, List, [], ◌∷◌, Result, Ok, Err, codes}
 use Rattle.std.specs.List.{list_any}
 use Rattle.model_jobs.specs.JobFiles.{IsValidLine, are_same, command_in, is_empty, line_in, number_in}
 use Rattle.model_jobs.specs.Jobs.{Line}
@@ -58,6 +58,11 @@ live_of_fields workers (word ∷ fields) = refuse_if Word (list_any is_empty (wo
 -- what a line without its end is read as, in a session of so many workers, or its fault
 abbrev pub live_line : ℕ → List ℕ → Result LiveLine FaultKind
 live_line workers line = bytes_fit line >>= λ _. live_of_fields workers (line_fields line)
+
+-- the fields are those of a search: the first is `pair`
+abbrev pub IsSearch : List (List ℕ) → Type 0
+IsSearch [] = ⊥
+IsSearch (word ∷ fields) = are_same word (codes "pair") ≡ true
 
 -- the ranges of a line of a session: the worker is one of them, its command is one that the heap takes, and a line of a plan is in its own ranges
 abbrev pub IsValidLive : ℕ → LiveLine → Type 0

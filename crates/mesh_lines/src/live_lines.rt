@@ -1,11 +1,12 @@
 //! The lines of a live session: the fields of each, from left to right.
-ghost use Rattle.std.specs.Prelude.{◌≡◌, ◌≤◌, false, Ok, IfErr, IfOk};
+ghost use Rattle.std.specs.Prelude.{◌≡◌, ◌≤◌, false, true, codes, Err, Ok, IfErr, IfOk};
 ghost use Rattle.std.specs.List.{list_any};
 ghost use Rattle.model_words.specs.Commands.{IsInRange};
-ghost use Rattle.model_jobs.specs.JobFiles.{is_empty};
-ghost use Rattle.mesh_fields.specs.Lines.{texts};
-ghost use Rattle.mesh_lines.specs.LiveLines.{IsValidLive, attempt_in, attempt_of, call_in, is_no_command, live_line, live_of, live_of_fields, read_live};
+ghost use Rattle.model_jobs.specs.JobFiles.{are_same, is_empty};
+ghost use Rattle.mesh_fields.specs.Lines.{line_fields, texts};
+ghost use Rattle.mesh_lines.specs.LiveLines.{IsSearch, IsValidLive, attempt_in, attempt_of, call_in, is_no_command, live_line, live_of, live_of_fields, read_live};
 ghost use Rattle.mesh_lines.specs.Reading.{IsFaultOfStep};
+ghost use Rattle.mesh_lines.specs.declared.faults.LineFault.{LineFault};
 
 use crate::PlanLine;
 use crate::commands::command_of;
@@ -28,12 +29,13 @@ pub enum LiveLine {
 /// The line of a live session of so many workers: `run W COMMAND`, or any line of a plan of version 2 but `run W`. The line has no end.
 ///
 /// Each command is spelt as in a script of version 2. The first kind of fault that holds for the line is told: LONG_LINE where it has more than
-/// 1,024 bytes, BYTE, then WORD, and else that of the leftmost field which can't be read. Memory comes where memory was refused.
+/// 1,024 bytes, BYTE, then WORD, and else that of the leftmost field which can't be read. Memory is an allocation failure, which only a `pair` line can meet.
 pub fn read_live_line(alloc: Global, workers: u32, line: &[u8]) -> Result<LiveLine, LineFault>
     requires { 1 ≤ workers }
     ensures ok { IfOk result (λ asked. live_line workers line.now ≡ Ok (live_of asked)) }
     ensures in_range { IfOk result (λ asked. IsValidLive workers (live_of asked)) }
     ensures err { IfErr result (IsFaultOfStep (live_line workers line.now)) }
+    ensures memory { result ≡ Err LineFault.Memory → IsSearch (line_fields line.now) }
 {
     check_bytes(line)?;
     let fields = fields_of(line)?;
@@ -47,6 +49,7 @@ fn line_of_fields(alloc: Global, workers: u32, fields: &[&[u8]]) -> Result<LiveL
     ensures ok { IfOk result (λ asked. live_of_fields workers (texts fields.now) ≡ Ok (live_of asked)) }
     ensures in_range { IfOk result (λ asked. IsValidLive workers (live_of asked)) }
     ensures err { IfErr result (IsFaultOfStep (live_of_fields workers (texts fields.now))) }
+    ensures memory { result ≡ Err LineFault.Memory → IsSearch (texts fields.now) }
 {
     let [word, fields @ ..] = fields else {
         return Err(LineFault::Kind(FaultKind::Word));
@@ -69,6 +72,7 @@ fn call_of(
     ensures ok { IfOk result (λ asked. call_in workers word.now (texts fields.now) ≡ Ok (live_of asked)) }
     ensures in_range { IfOk result (λ asked. IsValidLive workers (live_of asked)) }
     ensures err { IfErr result (IsFaultOfStep (call_in workers word.now (texts fields.now))) }
+    ensures memory { result ≡ Err LineFault.Memory → are_same word.now (codes "pair") ≡ true }
 {
     let line = plan_line(alloc, Version::Two, workers, word, fields)?;
     Ok(LiveLine::Call(line))

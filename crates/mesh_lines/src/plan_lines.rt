@@ -1,11 +1,12 @@
 //! The lines of a plan: the fields of each, from left to right.
-ghost use Rattle.std.specs.Prelude.{◌≡◌, ◌≤◌, ◌↔◌, ℕ, false, codes, Ok, Err, IfOk, IfErr, IsTrue, IsSome};
+ghost use Rattle.std.specs.Prelude.{◌≡◌, ◌≤◌, ◌↔◌, ℕ, false, true, codes, Ok, Err, IfOk, IfErr, IsTrue, IsSome};
 ghost use Rattle.model_words.specs.Classes.{row_of};
 ghost use Rattle.model_jobs.specs.JobFiles.{are_same, class_in, groups_in, line_in, of_class_in, of_groups_in, of_mesh_in, pair_in, run_in, sweep_in, words_in};
 ghost use Rattle.model_jobs.specs.Jobs.{Line, BeginMesh, CancelMesh, CancelClass, StepMesh, StepClass, WholeMesh};
 ghost use Rattle.mesh_fields.specs.Lines.{texts};
 ghost use Rattle.mesh_lines.specs.Plan.{line_of, line_of_mesh, read_line, search_in};
 ghost use Rattle.mesh_lines.specs.Reading.{IsFaultOfStep};
+ghost use Rattle.mesh_lines.specs.declared.faults.LineFault.{LineFault};
 
 use crate::faults::LineFault;
 use crate::{PlanLine, Search};
@@ -39,6 +40,7 @@ pub fn plan_line(
     requires { 1 ≤ workers }
     ensures ok { IfOk result (λ line. line_in version workers word.now (texts fields.now) ≡ Ok (line_of line)) }
     ensures err { IfErr result (IsFaultOfStep (line_in version workers word.now (texts fields.now))) }
+    ensures memory { result ≡ Err LineFault.Memory → are_same word.now (codes "pair") ≡ true }
 {
     if is_word(word, b"pair") {
         return pair_of(alloc, fields);

@@ -37,6 +37,7 @@ pub fn live<I: Source, O: Sink>(
     ensures stopped { OnErr result (HasStopped sizes.now (I.remaining input.old) (O.written output.old) (O.written output.new)) }
     ensures read { result ≡ Err ReplayError.Read → I.has_failed input.new ≡ true }
     ensures write { result ≡ Err ReplayError.Write → O.has_failed output.new ≡ true }
+    ensures memory { result ≡ Err ReplayError.Memory → (I.has_failed input.new ≡ false) × (O.has_failed output.new ≡ false) }
 {
     let mut session = Session::open(alloc, sizes)?;
     live_on(alloc, &mut session, input, output)
@@ -58,6 +59,7 @@ fn live_on<I: Source, O: Sink>(
     ensures stopped { OnErr result (HasStopped (sizes_of session.old) (I.remaining input.old) (O.written output.old) (O.written output.new)) }
     ensures read { result ≡ Err ReplayError.Read → I.has_failed input.new ≡ true }
     ensures write { result ≡ Err ReplayError.Write → O.has_failed output.new ≡ true }
+    ensures memory { result ≡ Err ReplayError.Memory → (I.has_failed input.new ≡ false) × (O.has_failed output.new ≡ false) }
 {
     let mut line = Vec::new(alloc);
     let mut buffer = room_to_read(alloc)?;
@@ -94,6 +96,7 @@ fn feed<I: Source, O: Sink>(
     ensures stopped { OnErr result (IsFedPart session.old (I.remaining input.old) (O.written output.old) (O.written output.new)) }
     ensures read { result ≡ Err ReplayError.Read → I.has_failed input.new ≡ true }
     ensures write { result ≡ Err ReplayError.Write → O.has_failed output.new ≡ true }
+    ensures memory { result ≡ Err ReplayError.Memory → (I.has_failed input.new ≡ false) × (O.has_failed output.new ≡ false) }
 {
     for _read in 0..u64::MAX {
         let count = read_some(input, buffer)?;
@@ -123,6 +126,7 @@ fn take_bytes<O: Sink>(
     ensures stopped { OnErr result (IsStopped session.old line.old.items bytes.now (O.written output.old) (O.written output.new)) }
     ensures kinds { IfErr result (λ error. (error ≡ ReplayError.Write) ⊎ (error ≡ ReplayError.Memory)) }
     ensures write { result ≡ Err ReplayError.Write → O.has_failed output.new ≡ true }
+    ensures memory { result ≡ Err ReplayError.Memory → O.has_failed output.new ≡ false }
 {
     for byte in bytes {
         if *byte != b'\n' {
@@ -172,6 +176,7 @@ fn write_answer<O: Sink>(
     ensures begun { OnErr result (AppendsBeginning (O.written output.old) (O.written output.new) (ended (told (sizes_of session.old) (state_of session.old) line.now).text)) }
     ensures kinds { IfErr result (λ error. (error ≡ ReplayError.Write) ⊎ (error ≡ ReplayError.Memory)) }
     ensures write { result ≡ Err ReplayError.Write → O.has_failed output.new ≡ true }
+    ensures memory { result ≡ Err ReplayError.Memory → O.has_failed output.new ≡ false }
 {
     let mut text = Vec::new(alloc);
     session.answer(alloc, line, &mut text)?;
@@ -186,6 +191,7 @@ fn write_line<O: Sink>(text: &mut Vec<u8>, output: &mut O) -> Result<(), ReplayE
     ensures begun { OnErr result (AppendsBeginning (O.written output.old) (O.written output.new) (ended text.old.items)) }
     ensures kinds { IfErr result (λ error. (error ≡ ReplayError.Write) ⊎ (error ≡ ReplayError.Memory)) }
     ensures write { result ≡ Err ReplayError.Write → O.has_failed output.new ≡ true }
+    ensures memory { result ≡ Err ReplayError.Memory → O.has_failed output.new ≡ false }
 {
     text.extend_from_slice(b"\n")?;
     write_lines(output, text.as_slice())
@@ -199,6 +205,7 @@ fn write_rest<O: Sink>(alloc: Global, rest: &[u8], output: &mut O) -> Result<(),
     ensures begun { OnErr result (AppendsBeginning (O.written output.old) (O.written output.new) (told_rest rest.now)) }
     ensures kinds { IfErr result (λ error. (error ≡ ReplayError.Write) ⊎ (error ≡ ReplayError.Memory)) }
     ensures write { result ≡ Err ReplayError.Write → O.has_failed output.new ≡ true }
+    ensures memory { result ≡ Err ReplayError.Memory → O.has_failed output.new ≡ false }
 {
     if rest.is_empty() {
         return Ok(());
