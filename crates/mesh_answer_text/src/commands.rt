@@ -59,7 +59,7 @@ fn add_poke(text: &mut Vec<u8>, address: u32, byte: u8) -> Result<(), AllocError
 }
 
 /// Adds the name of a command and its numbers, a space before each.
-fn add_named(text: &mut Vec<u8>, name: &[u8], numbers: &[u64]) -> Result<(), AllocError>
+pub(crate) fn add_named(text: &mut Vec<u8>, name: &[u8], numbers: &[u64]) -> Result<(), AllocError>
     ensures { OnOk result (text.new.items ≡ text.old.items ++ name.now ++ flat_map number_field numbers.now) }
 {
     text.extend_from_slice(name)?;
@@ -84,7 +84,7 @@ fn add_run(text: &mut Vec<u8>, bytes: &[u8]) -> Result<(), AllocError>
 }
 
 /// Adds numbers in decimal digits, a space before each.
-fn add_numbers(text: &mut Vec<u8>, numbers: &[u64]) -> Result<(), AllocError>
+pub(crate) fn add_numbers(text: &mut Vec<u8>, numbers: &[u64]) -> Result<(), AllocError>
     ensures { OnOk result (text.new.items ≡ text.old.items ++ flat_map number_field numbers.now) }
 {
     for number in numbers {

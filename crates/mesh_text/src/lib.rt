@@ -20,8 +20,8 @@ mod turns;
 pub use devices::{DeviceFault, Input, Output, Sink, Source};
 pub use faults::ReplayError;
 pub use mesh_answer_text::{
-    add_bytes, add_command, add_decimal, add_refusal, add_reply, digit, history_lines,
-    recorded_history,
+    add_bytes, add_command, add_decimal, add_plan_line, add_refusal, add_reply, digit,
+    history_lines, recorded_history,
 };
 pub use mesh_job::{Commands, Job, Plan, PlanLine, ReadFault, Script, Scripts, read_file};
 pub use model_words::{Command, FaultKind, MAX_BYTES, Reply, TextFault, Version};
