@@ -1,1 +1,2 @@
 pub mod Errors
+pub mod Explorations
