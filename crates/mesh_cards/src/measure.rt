@@ -1,4 +1,6 @@
 //! What has to be known before the first element is written.
+ghost use Rattle.std.specs.Prelude.{◌≡◌, ◌+◌, OnOk};
+
 use crate::frame::Frame;
 use crate::gathering::{Gathering, Line};
 use crate::layout::{Extent, Layout, MAX_PAGES, Shown, pages_of};
@@ -6,6 +8,7 @@ use crate::numbers::narrow;
 use crate::parts::groups_of;
 use crate::pills::caption_width;
 use std::alloc::{AllocError, Global};
+use std::marker::Model;
 
 /// What is known of a picture from its points.
 #[derive(Drop)]
@@ -16,6 +19,16 @@ pub struct Measure {
     widest: u32,
     extents: Vec<Extent>,
     lines: Option<(u32, u32)>,
+    // The number of the line that is taken in next.
+    next: usize,
+}
+
+impl Model for Measure {
+    ghost use Rattle.std.specs.Prelude.{ℕ};
+
+    ghost Value = { ℕ };
+
+    ghost view = { λ measure. measure.next };
 }
 
 /// What a picture is drawn by.
@@ -30,8 +43,10 @@ pub struct Measured {
 }
 
 impl Measure {
-    /// Nothing is known yet.
-    pub fn new(alloc: Global) -> Measure {
+    /// Nothing is known yet. The line of this number is taken in next.
+    pub fn new(alloc: Global, next: usize) -> Measure
+        ensures { result ≡ next }
+    {
         Measure {
             gathering: Gathering::new(alloc),
             spans: Vec::new(alloc),
@@ -39,11 +54,22 @@ impl Measure {
             widest: 0,
             extents: Vec::new(alloc),
             lines: None,
+            next,
         }
     }
 
+    /// The number of the line that is taken in next.
+    pub fn next_line(&self) -> usize
+        ensures { result ≡ self.now }
+    {
+        self.next
+    }
+
     /// Takes in a line of the plan, and what the heap looks like behind it. An error is an allocation failure.
-    pub fn point(&mut self, line: &Line<'_>, frame: &Frame) -> Result<(), AllocError> {
+    pub fn point(&mut self, line: &Line<'_>, frame: &Frame) -> Result<(), AllocError>
+        ensures { OnOk result (self.new ≡ line.now.number + 1) }
+    {
+        self.next = line.number as usize + 1;
         let first = match self.lines {
             Some((first, _)) => first,
             None => line.number,
@@ -59,7 +85,9 @@ impl Measure {
     }
 
     /// Measures a frame that is due.
-    fn measure(&mut self, frame: &Frame) -> Result<(), AllocError> {
+    fn measure(&mut self, frame: &Frame) -> Result<(), AllocError>
+        ensures { self.new ≡ self.old }
+    {
         self.extents.push(extent_of(&self.gathering, frame))?;
         self.widest = self.widest.max(widest_of(&self.gathering)?);
         self.physical = self.physical.max(physical_of(frame));

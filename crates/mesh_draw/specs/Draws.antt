@@ -1,6 +1,10 @@
--- What a picture has read and written where there is none, or not the whole of it.
-use Rattle.std.specs.Prelude.{ℕ, List, Option}
-use Rattle.std.specs.Io.KnownBytes.{Keeps}
+-- What a picture has read and written, whole or not.
+use Rattle.std.specs.Prelude.{◌≡◌, ℕ, List, Option, codes, length, max, min}
+use Rattle.std.specs.Io.KnownBytes.{Appends, Keeps}
+use Rattle.model_jobs.specs.Jobs.{Job}
+use Rattle.mesh_draw.specs.Points.{next_shown}
+use Rattle.mesh_draw.specs.declared.run.Shown.{Shown}
+use Rattle.mesh_picture.specs.Begins.{Begins}
 use Rattle.mesh_text.specs.Replay.{HasFound}
 use Rattle.mesh_text.specs.declared.faults.ReplayError.{ReplayError}
 use Rattle.mesh_text.specs.declared.faults.ReplayError.TheVariants.{Read, Write, Text, Memory}
@@ -11,3 +15,19 @@ HasNotDrawn left left' written written' Read = Keeps written written'
 HasNotDrawn left left' written written' Write = Unit {0}
 HasNotDrawn left left' written written' (Text fault) = HasFound left left' fault × Keeps written written'
 HasNotDrawn left left' written written' Memory = Unit {0}
+
+-- some bytes were written
+abbrev pub HasWritten : Option (List ℕ) → Option (List ℕ) → Type 0
+HasWritten written written' = (bytes : List ℕ) × Appends written written' bytes
+
+-- an SVG file was written: its beginning, at least
+pub record HasDrawn (written written' : Option (List ℕ)) : Type 0 where
+  pub text : List ℕ
+  pub wrote : Appends written written' text
+  pub is_svg : Begins (codes "<svg") text
+
+-- both painters were shown each point that is asked for, from the first line to the last one or the plan's end
+abbrev pub AreShown : Job → ℕ → ℕ → Shown → Type 0
+AreShown job from to shown =
+    (shown.measured ≡ next_shown (max from 1) (min (min to 1048576) (length job.plan)))
+    × (shown.drawn ≡ next_shown (max from 1) (min (min to 1048576) (length job.plan)))

@@ -1,3 +1,4 @@
+pub mod Captions
 pub mod Draws
 pub mod Frames
 pub mod Painters

@@ -5,8 +5,8 @@ use Rattle.mesh_draw.specs.declared.painters.Measuring.{Measuring}
 
 -- the number of the line that the measuring painter is shown next
 abbrev pub next_measured : Measuring → ℕ
-next_measured painter = painter.next
+next_measured painter = painter.measure
 
 -- the number of the line that the drawing one is shown next
 abbrev pub next_drawn : Drawing → ℕ
-next_drawn painter = painter.next
+next_drawn painter = painter.picture

@@ -5,11 +5,12 @@ use Rattle.model_jobs.specs.Texts.{ended}
 use Rattle.mesh_mutator.specs.Book.{Book}
 use Rattle.mesh_steps.specs.Always.{HasReadOnlyOfMeshes}
 use Rattle.mesh_text.specs.Turns.{IsAt, lines_up_to, state_up_to}
+use Rattle.mesh_draw.specs.Captions.{IsCaption}
 use Rattle.mesh_draw.specs.Frames.{IsFrame}
 use Rattle.mesh_cards.specs.declared.frame.Frame.{Frame}
 
--- what there is to show once so many lines of the plan are played: the answer to the last of them, and the heap where the job stands then
-pub record IsPoint (job : Job) (played : ℕ) (answer : List ℕ) (frame : Frame) : Type 0 where
+-- what there is to show once so many lines of the plan are played: what is said of the last of them, the answer to it, and the heap where the job stands then
+pub record IsPoint (job : Job) (played : ℕ) (words answer : List ℕ) (frame : Frame) : Type 0 where
   pub book : Book
   pub places : List ℕ
   pub at : IsAt job (state_up_to job played) book places
@@ -17,6 +18,7 @@ pub record IsPoint (job : Job) (played : ℕ) (answer : List ℕ) (frame : Frame
   pub shown : IsFrame book.heap frame
   pub before : ℕ
   pub last : before + 1 ≡ played
+  pub said : IsCaption job before words
   pub told : lines_up_to job played ≡ lines_up_to job before ++ ended answer
 
 -- the number of the line that is shown next, once so many are played, where the first one shown has this number

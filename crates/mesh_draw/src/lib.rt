@@ -1,7 +1,6 @@
 //! The picture of a job: what its heap looks like after each line of its plan, as one SVG file.
 #![tactic(auto)]
 
-mod captions;
 mod painters;
 mod points;
 mod run;

@@ -1,18 +1,19 @@
 //! The two painters of a picture: one that measures it, and one that draws it.
-ghost use Rattle.std.specs.Prelude.{◌≡◌};
+ghost use Rattle.std.specs.Prelude.{◌≡◌, [], IfOk, IfSome, Some, codes, false, length};
 ghost use Rattle.mesh_draw.specs.Painters.{next_drawn, next_measured};
+ghost use Rattle.mesh_picture.specs.Begins.{Begins};
 
 use crate::points::{Painter, Point};
 use crate::run::DrawOptions;
 use mesh_job::Job;
-use mesh_picture::{Header, Measure, Picture, Text};
+use mesh_picture::{Drawn, Header, Measure, Picture, Text};
+use mesh_text::{DeviceFault, Sink};
 use model_words::Version;
 use std::alloc::{AllocError, Global};
 
 /// The painter that learns how large a picture is. It draws nothing.
 #[derive(Drop)]
 pub(crate) struct Measuring {
-    next: usize,
     measure: Measure,
 }
 
@@ -22,23 +23,37 @@ impl Measuring {
         ensures { next_measured result ≡ from }
     {
         Measuring {
-            next: from,
-            measure: Measure::new(alloc),
+            measure: Measure::new(alloc, from),
         }
     }
 
-    /// The picture of a job that was measured, before its first point. An error is an allocation failure.
+    /// The number of the line that it is shown next.
+    pub fn next_line(&self) -> usize
+        ensures { result ≡ next_measured self.now }
+    {
+        self.measure.next_line()
+    }
+
+    /// The picture of a job that was measured, before its first point, which is the one behind line `first`. An error is an allocation failure.
     pub fn picture(
         self,
         alloc: Global,
         job: &Job,
         options: &DrawOptions<'_>,
-    ) -> Result<Picture, AllocError> {
+        first: usize,
+    ) -> Result<Picture, AllocError>
+        ensures { IfOk result (λ picture. picture ≡ first) }
+    {
         let columns = match options.columns {
             0 => None,
             columns => Some(columns),
         };
-        Picture::new(alloc, self.measure, options.title, header_of(job), columns)
+        let drawn = Drawn {
+            title: options.title,
+            columns,
+            first,
+        };
+        Picture::new(alloc, self.measure, header_of(job), drawn)
     }
 }
 
@@ -59,33 +74,35 @@ impl Painter for Measuring {
     ghost next = { next_measured };
 
     fn point(&mut self, point: &Point<'_>, _text: &mut Text) -> Result<(), AllocError> {
-        self.measure.point(point.line, point.frame)?;
-        self.next = point.line.number as usize + 1;
-        Ok(())
+        self.measure.point(point.line, point.frame)
     }
 }
 
 /// The painter that draws.
 #[derive(Drop)]
 pub(crate) struct Drawing {
-    next: usize,
     picture: Picture,
 }
 
 impl Drawing {
-    /// One that draws this picture, and is shown the point behind line `from` next. What stands before the first frame is added to `text`.
-    pub fn new(picture: Picture, from: usize, text: &mut Text) -> Drawing
-        ensures { next_drawn result ≡ from }
+    /// One that draws this picture. What stands before the first frame is added to `text`.
+    pub fn new(picture: Picture, text: &mut Text) -> Drawing
+        ensures next { next_drawn result ≡ picture }
+        ensures begins { text.old ≡ Some [] → IfSome text.new (Begins (codes "<svg")) }
     {
         picture.head(text);
-        Drawing {
-            next: from,
-            picture,
-        }
+        Drawing { picture }
+    }
+
+    /// The number of the line that it is shown next.
+    pub fn next_line(&self) -> usize
+        ensures { result ≡ next_drawn self.now }
+    {
+        self.picture.next_line()
     }
 
     /// Adds what stands behind the last point. An error is an allocation failure.
-    pub fn end(&mut self, text: &mut Text) -> Result<(), AllocError> {
+    pub fn end(&self, text: &mut Text) -> Result<(), AllocError> {
         self.picture.end(text)
     }
 }
@@ -94,8 +111,22 @@ impl Painter for Drawing {
     ghost next = { next_drawn };
 
     fn point(&mut self, point: &Point<'_>, text: &mut Text) -> Result<(), AllocError> {
-        self.picture.point(point.line, point.frame, text)?;
-        self.next = point.line.number as usize + 1;
-        Ok(())
+        self.picture.point(point.line, point.frame, text)
+    }
+}
+
+/// What takes in whatever a painter draws that only measures: nothing of it is kept.
+#[derive(Drop)]
+pub(crate) struct Nowhere;
+
+impl Sink for Nowhere {
+    ghost use Rattle.std.specs.Prelude.{None as NotKnown};
+
+    ghost written = { λ _. NotKnown };
+
+    ghost has_failed = { λ _. false };
+
+    fn write(&mut self, bytes: &[u8]) -> Result<usize, DeviceFault> {
+        Ok(bytes.len())
     }
 }

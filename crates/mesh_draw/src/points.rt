@@ -1,13 +1,16 @@
 //! The points of a plan, shown one by one.
-ghost use Rattle.std.specs.Prelude.{◌≡◌, ◌+◌, ◌≤◌, ◌<◌, ◌⊎◌, ℕ, Err, false, true, length, min, IfErr, OnOk};
+ghost use Rattle.std.specs.Prelude.{◌≡◌, ◌+◌, ◌≤◌, ◌<◌, ◌++◌, ◌⊎◌, ℕ, [], Err, None, Some, false, true, length, min, IfErr, IfOk, IsSomeAnd, OnOk};
+ghost use Rattle.std.specs.Io.KnownBytes.{Appends};
+ghost use Rattle.mesh_text.specs.Transfer.{AppendsBeginning};
+ghost use Rattle.mesh_draw.specs.Captions.{IsCaption, attempt_text};
+ghost use Rattle.mesh_draw.specs.Draws.{HasWritten};
 ghost use Rattle.mesh_text.specs.Turns.{StandsBehind};
 ghost use Rattle.mesh_draw.specs.Points.{IsPoint, next_shown};
 
-use crate::captions::add_line;
 use crate::shown::frame_of;
-use mesh_job::{Job, PlanLine};
+use mesh_job::{Command, Job, PlanLine};
 use mesh_picture::{Frame, Line, Text};
-use mesh_text::{ReplayError, Sink, Turns, write_all};
+use mesh_text::{ReplayError, Sink, Turns, add_command, add_decimal, add_plan_line, write_all};
 use std::alloc::{AllocError, Global};
 
 /// No plan has more lines: a job file has 1 MiB at most.
@@ -33,7 +36,7 @@ pub(crate) trait Painter {
     fn point(&mut self, point: &Point<'_>, text: &mut Text) -> Result<(), AllocError>
         requires few { point.now.line.now.number ≤ 1048576 }
         requires next { point.now.line.now.number ≡ next self.old }
-        requires shown { IsPoint point.now.job.now point.now.line.now.number point.now.line.now.answer.now point.now.frame.now }
+        requires shown { IsPoint point.now.job.now point.now.line.now.number point.now.line.now.words.now point.now.line.now.answer.now point.now.frame.now }
         ensures { OnOk result (next self.new ≡ next self.old + 1) };
 }
 
@@ -55,8 +58,10 @@ pub(crate) fn show_points<P: Painter, O: Sink>(
     requires next { P.next painter.old ≡ from }
     requires fresh { O.has_failed output.old ≡ false }
     ensures shown { OnOk result (P.next painter.new ≡ next_shown from (min to (length job.now.plan))) }
+    ensures wrote { OnOk result (HasWritten (O.written output.old) (O.written output.new)) }
     ensures ok { OnOk result (O.has_failed output.new ≡ false) }
     ensures write { result ≡ Err ReplayError.Write → O.has_failed output.new ≡ true }
+    ensures memory { result ≡ Err ReplayError.Memory → O.has_failed output.new ≡ false }
     ensures kinds { IfErr result (λ error. (error ≡ ReplayError.Write) ⊎ (error ≡ ReplayError.Memory)) }
 {
     let mut turns = Turns::open(alloc, job)?;
@@ -100,14 +105,14 @@ fn show_point<P: Painter>(
     if place + 1 < from {
         return turns.play(alloc, job, place, &mut answer);
     }
-    let words = words_at(alloc, job, turns, place);
+    let words = caption_at(alloc, job, turns, place)?;
     turns.play(alloc, job, place, &mut answer)?;
     let heap = turns.heap();
     heap.always();
     let frame = frame_of(alloc, heap)?;
     let line = Line {
         number: place as u32 + 1,
-        words: words.whole()?,
+        words: words.as_slice(),
         answer: answer.as_slice(),
     };
     let point = Point {
@@ -118,28 +123,52 @@ fn show_point<P: Painter>(
     painter.point(&point, text)
 }
 
-/// The words of the line of a plan at a place, counted from 0: of a worker's, the command that it attempts.
-fn words_at(alloc: Global, job: &Job, turns: &Turns, place: usize) -> Text
+/// What a picture says of the line of a plan at a place, counted from 0: of a worker's line the command that it attempts. An error is an allocation
+/// failure.
+fn caption_at(alloc: Global, job: &Job, turns: &Turns, place: usize) -> Result<Vec<u8>, AllocError>
     requires within { place < length job.now.plan }
     requires stands { StandsBehind job.now place turns.now }
+    ensures { IfOk result (λ words. IsCaption job.now place words.items) }
 {
-    let mut words = Text::new(alloc);
+    let mut words = Vec::new(alloc);
     let line = &job.plan.lines()[place];
     match line {
         PlanLine::Run(worker) => {
             let command = turns.next_command(job, *worker);
-            add_line(&mut words, line, command.as_ref());
+            add_attempt(&mut words, *worker, command)?;
+            Ok(words)
         }
-        _ => add_line(&mut words, line, None),
+        _ => {
+            add_plan_line(&mut words, line)?;
+            Ok(words)
+        }
     }
-    words
 }
 
-/// Writes what is gathered of a picture, and keeps none of it.
+/// Adds `worker W`, and the command that it attempts. An error is an allocation failure.
+fn add_attempt(text: &mut Vec<u8>, worker: u32, command: Option<Command>) -> Result<(), AllocError>
+    ensures { OnOk result (text.new.items ≡ text.old.items ++ attempt_text worker command) }
+{
+    text.extend_from_slice(b"worker ")?;
+    add_decimal(text, u64::from(worker))?;
+    match command {
+        None => Ok(()),
+        Some(command) => {
+            text.extend_from_slice(b": ")?;
+            add_command(text, &command)
+        }
+    }
+}
+
+/// Writes what is gathered of a picture, and keeps none of it. Memory comes only where it was refused for the text; then nothing was written.
 pub(crate) fn write_out<O: Sink>(output: &mut O, text: &mut Text) -> Result<(), ReplayError>
     requires { O.has_failed output.old ≡ false }
+    ensures wrote { OnOk result (IsSomeAnd text.old (λ bytes. Appends (O.written output.old) (O.written output.new) bytes)) }
+    ensures emptied { OnOk result (text.new ≡ Some []) }
     ensures ok { OnOk result (O.has_failed output.new ≡ false) }
     ensures write { result ≡ Err ReplayError.Write → O.has_failed output.new ≡ true }
+    ensures begun { result ≡ Err ReplayError.Write → IsSomeAnd text.old (λ bytes. AppendsBeginning (O.written output.old) (O.written output.new) bytes) }
+    ensures memory { result ≡ Err ReplayError.Memory → (text.old ≡ None) × (O.has_failed output.new ≡ false) }
     ensures kinds { IfErr result (λ error. (error ≡ ReplayError.Write) ⊎ (error ≡ ReplayError.Memory)) }
 {
     write_all(output, text.whole()?).map_err(|_| ReplayError::Write)?;

@@ -1,11 +1,13 @@
 //! The picture of a job, from its file to an SVG file.
-ghost use Rattle.std.specs.Prelude.{◌≡◌, ◌⊎◌, Err, false, true, IfErr, OnOk};
+ghost use Rattle.std.specs.Prelude.{◌≡◌, ◌⊎◌, ◌≤◌, Err, false, true, IfErr, IfOk, OnOk, length, min};
 ghost use Rattle.std.specs.Io.KnownBytes.{Keeps};
-ghost use Rattle.mesh_draw.specs.Draws.{HasNotDrawn};
+ghost use Rattle.mesh_draw.specs.Draws.{AreShown, HasDrawn, HasNotDrawn};
+ghost use Rattle.mesh_draw.specs.Painters.{next_measured};
+ghost use Rattle.mesh_draw.specs.Points.{next_shown};
 
-use crate::painters::{Drawing, Measuring};
+use crate::painters::{Drawing, Measuring, Nowhere};
 use crate::points::{MAX_LINES, show_points, write_out};
-use mesh_picture::Text;
+use mesh_picture::{Picture, Text};
 use mesh_text::{Job, ReplayError, Sink, Source, read_job};
 use std::alloc::Global;
 
@@ -37,12 +39,28 @@ pub fn draw<I: Source, O: Sink>(
     requires output { O.has_failed output.old ≡ false }
     ensures ok { OnOk result ((I.has_failed input.new ≡ false) × (O.has_failed output.new ≡ false)) }
     ensures none { IfErr result (HasNotDrawn (I.remaining input.old) (I.remaining input.new) (O.written output.old) (O.written output.new)) }
+    ensures drawn { OnOk result (HasDrawn (O.written output.old) (O.written output.new)) }
     ensures read { result ≡ Err ReplayError.Read → I.has_failed input.new ≡ true }
     ensures write { result ≡ Err ReplayError.Write → O.has_failed output.new ≡ true }
+    ensures memory { result ≡ Err ReplayError.Memory → O.has_failed output.new ≡ false }
 {
     let job = read_job(alloc, input)?;
-    paint(alloc, &job, output, options)
+    let shown = paint(alloc, &job, output, options)?;
+    all_shown(&job, options, &shown);
+    Ok(())
 }
+
+/// The numbers of the lines that the two painters would have been shown next.
+#[derive(Clone, Copy)]
+struct Shown {
+    measured: usize,
+    drawn: usize,
+}
+
+/// Where a picture was drawn, both painters were shown each point that its options ask for.
+fn all_shown(job: &Job, options: &DrawOptions<'_>, shown: &Shown)
+    requires { AreShown job.now options.now.from options.now.to shown.now }
+{}
 
 /// Draws a job.
 fn paint<O: Sink>(
@@ -50,20 +68,70 @@ fn paint<O: Sink>(
     job: &Job,
     output: &mut O,
     options: &DrawOptions<'_>,
-) -> Result<(), ReplayError>
+) -> Result<Shown, ReplayError>
     requires { O.has_failed output.old ≡ false }
+    ensures shown { IfOk result (AreShown job.now options.now.from options.now.to) }
+    ensures drawn { OnOk result (HasDrawn (O.written output.old) (O.written output.new)) }
     ensures ok { OnOk result (O.has_failed output.new ≡ false) }
+    ensures memory { result ≡ Err ReplayError.Memory → O.has_failed output.new ≡ false }
     ensures write { result ≡ Err ReplayError.Write → O.has_failed output.new ≡ true }
     ensures kinds { IfErr result (λ error. (error ≡ ReplayError.Write) ⊎ (error ≡ ReplayError.Memory)) }
 {
     let from = (options.from as usize).max(1);
     let to = (options.to as usize).min(MAX_LINES);
-    let mut text = Text::new(alloc);
+    let measuring = measured(alloc, job, from, to)?;
+    let measured = measuring.next_line();
+    let picture = measuring.picture(alloc, job, options, from)?;
+    let drawn = draw_all(alloc, job, from, to, picture, output)?;
+    Ok(Shown { measured, drawn })
+}
+
+/// The painter that was shown each point behind the lines `from` to `to`, and measured them.
+fn measured(alloc: Global, job: &Job, from: usize, to: usize) -> Result<Measuring, ReplayError>
+    requires some { 1 ≤ from }
+    requires few { to ≤ 1048576 }
+    ensures shown { IfOk result (λ painter. next_measured painter ≡ next_shown from (min to (length job.now.plan))) }
+    ensures kinds { IfErr result (λ error. error ≡ ReplayError.Memory) }
+{
     let mut measuring = Measuring::new(alloc, from);
-    show_points(alloc, job, from, to, &mut measuring, &mut text, output)?;
-    let picture = measuring.picture(alloc, job, options)?;
-    let mut drawing = Drawing::new(picture, from, &mut text);
+    let mut text = Text::new(alloc);
+    show_points(
+        alloc,
+        job,
+        from,
+        to,
+        &mut measuring,
+        &mut text,
+        &mut Nowhere,
+    )?;
+    Ok(measuring)
+}
+
+/// Draws the points behind the lines `from` to `to`, and gives the number of the line that would have been shown next.
+fn draw_all<O: Sink>(
+    alloc: Global,
+    job: &Job,
+    from: usize,
+    to: usize,
+    picture: Picture,
+    output: &mut O,
+) -> Result<usize, ReplayError>
+    requires some { 1 ≤ from }
+    requires few { to ≤ 1048576 }
+    requires next { picture ≡ from }
+    requires fresh { O.has_failed output.old ≡ false }
+    ensures shown { IfOk result (λ next. next ≡ next_shown from (min to (length job.now.plan))) }
+    ensures drawn { OnOk result (HasDrawn (O.written output.old) (O.written output.new)) }
+    ensures ok { OnOk result (O.has_failed output.new ≡ false) }
+    ensures write { result ≡ Err ReplayError.Write → O.has_failed output.new ≡ true }
+    ensures memory { result ≡ Err ReplayError.Memory → O.has_failed output.new ≡ false }
+    ensures kinds { IfErr result (λ error. (error ≡ ReplayError.Write) ⊎ (error ≡ ReplayError.Memory)) }
+{
+    let mut text = Text::new(alloc);
+    let mut drawing = Drawing::new(picture, &mut text);
+    write_out(output, &mut text)?;
     show_points(alloc, job, from, to, &mut drawing, &mut text, output)?;
     drawing.end(&mut text)?;
-    write_out(output, &mut text)
+    write_out(output, &mut text)?;
+    Ok(drawing.next_line())
 }

@@ -18,4 +18,4 @@ pub use mesh_cards::frame::{Counts, Frame, Home, Lead, Member, MeshProgress, Obj
 pub use mesh_cards::gathering::Line;
 pub use mesh_cards::measure::Measure;
 pub use mesh_svg::Text;
-pub use picture::{Header, Picture};
+pub use picture::{Drawn, Header, Picture};

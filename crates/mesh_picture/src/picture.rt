@@ -1,4 +1,7 @@
 //! The picture: a card for each change of the heap.
+ghost use Rattle.std.specs.Prelude.{◌≡◌, ◌+◌, [], IfOk, IfSome, OnOk, Some, codes};
+ghost use Rattle.mesh_picture.specs.Begins.{Begins};
+
 use crate::arrows::draw_arrows;
 use crate::legend::draw_legend;
 use crate::mesh_bar::draw_meshes;
@@ -14,6 +17,7 @@ use mesh_cards::numbers::narrow;
 use mesh_cards::pills::{LINE, draw_captions};
 use mesh_svg::{Area, Look, Text, add_rect};
 use std::alloc::{AllocError, Global};
+use std::marker::Model;
 
 /// The most letters of a title.
 const MAX_TITLE: usize = 64;
@@ -41,36 +45,76 @@ pub struct Picture {
     row: usize,
     column: u32,
     y: u32,
+    // The number of the line that is taken in next.
+    next: usize,
+}
+
+impl Model for Picture {
+    ghost use Rattle.std.specs.Prelude.{ℕ};
+
+    ghost Value = { ℕ };
+
+    ghost view = { λ picture. picture.next };
 }
 
 #[rattlefmt::skip]
 impl Drop for Picture {
-    fn drop(self) { let Picture { measured: _, title: _, header: _, gathering: _, row: _, column: _, y: _ } = self; }
+    fn drop(self) { let Picture { measured: _, title: _, header: _, gathering: _, row: _, column: _, y: _, next: _ } = self; }
+}
+
+/// How a picture is drawn.
+#[derive(Clone, Copy)]
+pub struct Drawn<'a> {
+    /// What stands above it.
+    pub title: &'a str,
+    /// How many frames stand side by side, if that is asked; else as many as fit.
+    pub columns: Option<u32>,
+    /// The number of the line that it is shown first.
+    pub first: usize,
 }
 
 impl Picture {
-    /// A picture of what was measured, before its first frame: with a title, and with so many frames side by side, or as many as fit. An
-    /// error is an allocation failure.
+    /// A picture of what was measured, before its first frame. An error is an allocation failure.
     pub fn new(
         alloc: Global,
         measure: Measure,
-        title: &str,
         header: Header,
-        columns: Option<u32>,
-    ) -> Result<Picture, AllocError> {
+        drawn: Drawn<'_>,
+    ) -> Result<Picture, AllocError>
+        ensures { IfOk result (λ picture. picture ≡ drawn.entry.first) }
+    {
         Ok(Picture {
-            measured: measure.finish(columns)?,
-            title: cut(alloc, title.as_bytes(), MAX_TITLE)?,
+            measured: measure.finish(drawn.columns)?,
+            title: cut(alloc, drawn.title.as_bytes(), MAX_TITLE)?,
             header,
             gathering: Gathering::new(alloc),
             row: 0,
             column: 0,
             y: HEAD,
+            next: drawn.first,
         })
     }
 
-    /// Adds what stands before the first frame.
-    pub fn head(&self, text: &mut Text) {
+    /// The number of the line that is taken in next.
+    pub fn next_line(&self) -> usize
+        ensures { result ≡ self.now }
+    {
+        self.next
+    }
+
+    /// Adds what stands before the first frame: a text that was empty begins as an SVG file does.
+    pub fn head(&self, text: &mut Text)
+        ensures { text.old ≡ Some [] → IfSome text.new (Begins (codes "<svg")) }
+    {
+        let mut head = text.empty();
+        self.draw_head(&mut head);
+        text.add(b"<svg");
+        text.add(head.bytes());
+        text.share_refusal(&head);
+    }
+
+    /// Draws what stands before the first frame, behind the first word of the file.
+    fn draw_head(&self, text: &mut Text) {
         let width = self
             .measured
             .layout
@@ -117,7 +161,10 @@ impl Picture {
         line: &Line<'_>,
         frame: &Frame,
         text: &mut Text,
-    ) -> Result<(), AllocError> {
+    ) -> Result<(), AllocError>
+        ensures { OnOk result (self.new ≡ line.now.number + 1) }
+    {
+        self.next = line.number as usize + 1;
         self.gathering.add(line)?;
         if !self.gathering.is_due(frame) {
             return self.gathering.keep_up(frame);
@@ -129,7 +176,7 @@ impl Picture {
     }
 
     /// Adds a last frame if there are lines behind the last change, and what stands behind all frames. An error is an allocation failure.
-    pub fn end(&mut self, text: &mut Text) -> Result<(), AllocError> {
+    pub fn end(&self, text: &mut Text) -> Result<(), AllocError> {
         if !self.gathering.captions.is_empty() {
             self.draw_last(text)?;
         }
@@ -148,7 +195,9 @@ impl Picture {
     }
 
     /// Goes on to the place of the next card.
-    fn step(&mut self) {
+    fn step(&mut self)
+        ensures { self.new ≡ self.old }
+    {
         self.column = self.column.saturating_add(1);
         if self.column >= self.measured.layout.columns {
             self.y = self

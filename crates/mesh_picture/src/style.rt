@@ -85,7 +85,7 @@ static HATCHING: [&str; 2] = [
 
 /// Adds the root element, which has a title for those who do not see the picture.
 pub(crate) fn add_svg(text: &mut Text, title: &[u8], width: u32, height: u32) {
-    text.add(b"<svg xmlns=\"http://www.w3.org/2000/svg\" role=\"img\"");
+    text.add(b" xmlns=\"http://www.w3.org/2000/svg\" role=\"img\"");
     add_attribute(text, "width", width / 10);
     add_attribute(text, "height", height / 10);
     text.add(b" viewBox=\"0 0 ");

@@ -2,6 +2,7 @@ use Rattle.std.proofs.Common.{◌≡◌, ◌+◌, ◌++◌, refl, subst, sym}
 use Rattle.model_jobs.specs.Texts.{ended}
 use Rattle.mesh_steps.specs.Always.{HasReadOnlyOfMeshes}
 use Rattle.mesh_text.specs.Turns.{book_of, lines_up_to, places_of}
+use Rattle.mesh_draw.specs.Captions.{IsCaption}
 use Rattle.mesh_draw.specs.Frames.{IsFrame}
 use Rattle.mesh_draw.proofs.points.show_point.Goals as goal
 
@@ -14,5 +15,6 @@ point-requires-clause-shown g c = record {
   shown = subst (λ h. IsFrame h c.in_ok-frame.frame) c.heap-heap.ensures c.in_ok-frame.ensures;
   before = c.args.place;
   last = refl;
-  told = subst (λ answer. lines_up_to c.args.job.now (c.args.place + 1) ≡ lines_up_to c.args.job.now c.args.place ++ ended answer) (sym c.as_slice.ensures.value) c.in_ok-play.ensures.told;
+  said = subst (IsCaption c.args.job.now c.args.place) (sym c.as_slice.ensures.value) c.in_ok-words.ensures;
+  told = subst (λ answer. lines_up_to c.args.job.now (c.args.place + 1) ≡ lines_up_to c.args.job.now c.args.place ++ ended answer) (sym c.as_slice-2.ensures.value) c.in_ok-play.ensures.told;
 }

@@ -1,5 +1,6 @@
 use Rattle.std.proofs.Common.{◌≡◌, ◌≤◌, ◌-◌, false, length, min}
 use Rattle.mesh_text.specs.Turns.{StandsBehind}
+use Rattle.mesh_draw.specs.Draws.{HasWritten}
 use Rattle.mesh_draw.specs.Points.{next_shown}
 use Rattle.mesh_draw.proofs.points.show_points.Given as goal
 
@@ -9,6 +10,7 @@ invariant-loop-played g l = record {
   few : l.played ≤ l.end;
   stands : StandsBehind l.job l.played l.turns;
   next : g.P.Painter.next l.painter ≡ next_shown l.from l.played;
+  wrote : HasWritten (g.O.Sink.written l.initial.output) (g.O.Sink.written l.output);
   fresh : g.O.Sink.has_failed l.output ≡ false;
 }
 
