@@ -1,8 +1,10 @@
 -- What an exploration tells where it stops, and which device has failed.
-use Rattle.std.specs.Prelude.{ℕ, Bool, List, codes}
+use Rattle.std.specs.Prelude.{ℕ, Bool, List, codes, take}
+use Rattle.mesh_command_line.specs.declared.explore_args.ExploreArgs.{ExploreArgs}
+use Rattle.mesh_explore_text.specs.Explorations.{HasExplored}
 use Rattle.mesh_explore_text.specs.declared.errors.ExploreError.{ExploreError}
 use Rattle.mesh_explore_text.specs.declared.errors.ExploreError.TheVariants.{Replay, TooManyStates, NoOutcome}
-use Rattle.mesh_run.specs.Runs.{EndsBy, HasFailed, Unsaid, error_text}
+use Rattle.mesh_run.specs.Runs.{EndsBy, HasFailed, Moves, error_text}
 use Rattle.mesh_run.specs.Seen.{Seen}
 use Rattle.mesh_run.specs.Status.{status_of_error}
 
@@ -24,7 +26,11 @@ HasFailedExplore input output (Replay error) = HasFailed input output error
 HasFailedExplore input output TooManyStates = Unit {0}
 HasFailedExplore input output NoOutcome = Unit {0}
 
--- an exploration ends, of which nothing is said that was read and written
-abbrev pub EndsExplore : Seen → Seen → ℕ → Type 0
-EndsExplore before after status =
-    EndsBy explore_status explore_text HasFailedExplore Unsaid (λ left left' written written' error. Unit {0}) before after status
+-- what an exploration reads and writes that these words ask for
+abbrev pub HasExploredBy : ExploreArgs → Moves
+HasExploredBy args = HasExplored (take args.meshes.count args.meshes.pairs) args.cancel args.states args.witness
+
+-- an exploration ends: with status 0 a listing of this job, these meshes and this cancel was written
+abbrev pub EndsExplore : ExploreArgs → Seen → Seen → ℕ → Type 0
+EndsExplore args before after status =
+    EndsBy explore_status explore_text HasFailedExplore (HasExploredBy args) (λ left left' written written' error. Unit {0}) before after status

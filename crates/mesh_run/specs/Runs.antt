@@ -69,7 +69,3 @@ pub record EndsBy {Error : Type 0} (status_of : Error → ℕ) (text_of : Error 
 -- so ends a run that stops for what stops a replay
 abbrev pub Ends : Moves → MovesBy ReplayError → Seen → Seen → ℕ → Type 0
 Ends Does Stops before after status = EndsBy status_of_error error_text HasFailed Does Stops before after status
-
--- nothing is said of what was read and written
-abbrev pub Unsaid : Moves
-Unsaid left left' written written' = Unit {0}

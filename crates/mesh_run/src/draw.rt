@@ -1,6 +1,7 @@
 //! The program's picture of a plan.
-ghost use Rattle.mesh_draw.specs.Draws.{HasNotDrawn};
-ghost use Rattle.mesh_run.specs.Runs.{Ends, IsSound, Unsaid};
+ghost use Rattle.std.specs.Prelude.{◌≡◌};
+ghost use Rattle.mesh_run.specs.Draws.{EndsDraw};
+ghost use Rattle.mesh_run.specs.Runs.{IsSound};
 
 use crate::runs::finished;
 use crate::{Devices, DrawArgs};
@@ -18,14 +19,24 @@ pub fn draw_run<I: Source, O: Sink, E: Sink>(
     devices: &mut Devices<I, O, E>,
 ) -> u8
     requires { IsSound devices.old }
-    ensures { Ends Unsaid HasNotDrawn devices.old devices.new result }
+    ensures { EndsDraw devices.old devices.new result }
 {
-    let options = DrawOptions {
+    let options = options_of(title, args);
+    let outcome = draw(alloc, &mut devices.input, &mut devices.output, &options);
+    finished(&mut devices.errors, outcome)
+}
+
+/// What a picture is asked to show.
+fn options_of<'a>(title: &'a str, args: &DrawArgs) -> DrawOptions<'a>
+    ensures title { result.title.now ≡ title.now }
+    ensures from { result.from ≡ args.now.from }
+    ensures to { result.to ≡ args.now.to }
+    ensures columns { result.columns ≡ args.now.columns }
+{
+    DrawOptions {
         title,
         from: args.from,
         to: args.to,
         columns: args.columns,
-    };
-    let outcome = draw(alloc, &mut devices.input, &mut devices.output, &options);
-    finished(&mut devices.errors, outcome)
+    }
 }

@@ -1,5 +1,5 @@
 //! The program's exploration of what a plan leaves.
-ghost use Rattle.std.specs.Prelude.{◌≡◌};
+ghost use Rattle.std.specs.Prelude.{◌≡◌, take};
 ghost use Rattle.model_jobs.specs.Texts.{ended};
 ghost use Rattle.mesh_explore_text.specs.declared.errors.ExploreError.{ExploreError};
 ghost use Rattle.mesh_run.specs.Explores.{EndsExplore, explore_status, explore_text};
@@ -25,20 +25,30 @@ pub fn explore_run<I: Source, O: Sink, E: Sink>(
     devices: &mut Devices<I, O, E>,
 ) -> u8
     requires { IsSound devices.old }
-    ensures { EndsExplore devices.old devices.new result }
+    ensures { EndsExplore args.now devices.old devices.new result }
 {
-    let options = ExploreOptions {
-        meshes: args.meshes.as_slice(),
-        cancel: args.cancel,
-        states: args.states,
-        witness: args.witness,
-    };
+    let options = options_of(args);
     match explore(alloc, &mut devices.input, &mut devices.output, &options) {
         Ok(()) => DONE,
         Err(error) => {
             tell(&mut devices.errors, explore_line_of(error).as_slice());
             explore_status_of(error)
         }
+    }
+}
+
+/// What is explored, and what is told of it.
+fn options_of(args: &ExploreArgs) -> ExploreOptions<'_>
+    ensures meshes { result.meshes.now ≡ take args.now.meshes.count args.now.meshes.pairs }
+    ensures cancel { result.cancel ≡ args.now.cancel }
+    ensures states { result.states ≡ args.now.states }
+    ensures witness { result.witness ≡ args.now.witness }
+{
+    ExploreOptions {
+        meshes: args.meshes.as_slice(),
+        cancel: args.cancel,
+        states: args.states,
+        witness: args.witness,
     }
 }
 

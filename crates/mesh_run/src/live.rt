@@ -1,7 +1,7 @@
 //! The program's live session.
-ghost use Rattle.mesh_live.specs.Runs.{HasLived, HasStopped};
+ghost use Rattle.mesh_run.specs.Draws.{EndsLive};
 ghost use Rattle.mesh_run.specs.LiveSizes.{session_sizes};
-ghost use Rattle.mesh_run.specs.Runs.{Ends, IsSound};
+ghost use Rattle.mesh_run.specs.Runs.{IsSound};
 
 use crate::runs::finished;
 use crate::{Devices, LiveArgs};
@@ -20,7 +20,7 @@ pub fn live_run<I: Source, O: Sink, E: Sink>(
     devices: &mut Devices<I, O, E>,
 ) -> u8
     requires { IsSound devices.old }
-    ensures { Ends (HasLived (session_sizes args.now)) (λ left _ written written' _. HasStopped (session_sizes args.now) left written written') devices.old devices.new result }
+    ensures { EndsLive (session_sizes args.now) devices.old devices.new result }
 {
     let sizes = Sizes {
         pages: args.pages,
