@@ -1,18 +1,16 @@
 -- A decimal field, and the number that it spells.
-use Rattle.std.proofs.Common.{◌≡◌, ℕ, ◌+◌, ◌-◌, ◌*◌, ◌%◌, ◌^◌, ◌<◌, ◌≤◌, true, false, ◌&&◌, if◌then◌else◌, List, [], ◌∷◌, ◌++◌, Ok, Err, length, get_or, take, drop, refl, sym, ap, ◌∙◌, arith, ⊎_elim, add-one, length-append}
+use Rattle.std.proofs.Common.{◌≡◌, ℕ, ◌+◌, ◌%◌, ◌^◌, ◌<◌, ◌≤◌, true, false, ◌&&◌, if◌then◌else◌, List, [], ◌∷◌, ◌++◌, Ok, Err, length, get_or, refl, sym, ap, ◌∙◌, arith, ⊎_elim, length-append}
 use Rattle.std.specs.Fmt.{decimal}
-use Rattle.std.proofs.Math.Seq.{take-suc}
 use Rattle.std.specs.List.{fold, list_all}
 use Rattle.std.proofs.lemmas.Bool.{and_parts, true≢false, cases_lt}
 use Rattle.std.proofs.lemmas.Fmt.{decimal_by_steps, digits_decimal, decimal-digits_value}
-use Rattle.std.proofs.lemmas.List.{take-append-drop, get_or_append_left}
+use Rattle.std.proofs.lemmas.List.{get_or_append_left}
 use Rattle.std.proofs.lemmas.List.Sums.{fold-append}
 use Rattle.std.proofs.lemmas.Str.Parse.{IsDigitsTest, FoldsDigits, IsNumeralModel, numerals_by_fold}
 use Rattle.model_jobs.proofs.FieldReadings.{same_by_test}
 use Rattle.model_jobs.specs.JobFiles.{are_same, is_between, with_decimal, decimal_value, number_in}
 use Rattle.model_words.specs.declared.faults.FaultKind.TheVariants.{Number}
 use Rattle.mesh_fields.specs.Fields.{is_decimal_digit}
-use Rattle.mesh_fields.proofs.Digits.{grows}
 use Rattle.mesh_fields.proofs.Sames.{fails, same_bytes, between_by_test}
 
 -- decimal digits give their number back
@@ -63,17 +61,6 @@ no_byte field none n small is = omega (arith, (first_of n small).0, ap length is
 -- nor do digits behind a leading zero
 pub zero_first : (field : List ℕ) → 2 ≤ length field → get_or field 0 0 ≡ 48 → IsNoNumber field
 zero_first field long lead n small is = grind (arith, first_of)
-
--- the number of one digit more
-pub next_value : (digits : List ℕ) (i : ℕ) → i < length digits → decimal_value (take (i + 1) digits) ≡ 10 * decimal_value (take i digits) + (get_or digits i 0 - 48)
-next_value digits i h =
-    ap (λ k. decimal_value (take k digits)) (add-one i) ∙ ap decimal_value (take-suc digits i 0 h) ∙ fold-append with_decimal 0 (take i digits) (get_or digits i 0 ∷ [])
-
--- with one more digit it is all that at most
-pub with_one_more : (digits : List ℕ) (i : ℕ) → i < length digits → decimal_value (take (i + 1) digits) ≤ decimal_value digits
-with_one_more digits i h =
-    let whole : decimal_value (take (i + 1) digits ++ drop (i + 1) digits) ≡ decimal_value digits = ap decimal_value (take-append-drop (i + 1) digits) in
-    omega (arith, fold-append with_decimal 0 (take (i + 1) digits) (drop (i + 1) digits), grows with_decimal (λ m d. omega arith) (decimal_value (take (i + 1) digits)) (drop (i + 1) digits))
 
 -- a field that spells a number is read as it, in its range
 pub number_spelt : (least most : ℕ) (field : List ℕ) (n : ℕ) → n < 2 ^ 64 → field ≡ decimal n

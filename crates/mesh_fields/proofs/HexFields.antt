@@ -1,15 +1,12 @@
 -- Fields of hexadecimal digits: a number, and bytes of two digits each.
-use Rattle.std.proofs.Common.{◌≡◌, ◌≢◌, ℕ, zero, suc, ◌+◌, ◌*◌, ◌/◌, ◌%◌, ◌^◌, ◌<◌, ◌≤◌, true, false, ◌&&◌, if◌then◌else◌, nat_le, Bool, List, [], ◌∷◌, ◌++◌, Option, Some, None, Result, Ok, Err, length, get_or, take, drop, ap, refl, sym, ◌∙◌, arith, inl, inr, append-nil, append_assoc, length-append, add-one}
+use Rattle.std.proofs.Common.{◌≡◌, ◌≢◌, ℕ, zero, suc, ◌+◌, ◌*◌, ◌/◌, ◌%◌, ◌^◌, ◌<◌, ◌≤◌, true, false, ◌&&◌, if◌then◌else◌, nat_le, Bool, List, [], ◌∷◌, ◌++◌, Option, Some, None, Result, Ok, Err, length, get_or, drop, ap, refl, sym, ◌∙◌, arith, inl, inr, append-nil, append_assoc, length-append}
 use Rattle.std.specs.Prelude.{◌⊎◌, is_some}
 use Rattle.std.specs.List.{fold, list_all}
 use Rattle.std.proofs.lemmas.Bool.Decides.{leb_tells}
 use Rattle.std.proofs.lemmas.Bool.{le-leb, lt-leb, and_parts, leb-true, true≢false}
 use Rattle.std.proofs.lemmas.Nat.{div_below}
-use Rattle.std.proofs.lemmas.List.{take-append-drop}
 use Rattle.std.proofs.lemmas.List.Folds.{list_all-append}
-use Rattle.std.proofs.lemmas.List.Sums.{fold-append}
 use Rattle.std.proofs.Math.Nat.{pow-suc}
-use Rattle.std.proofs.Math.Seq.{take-suc}
 use Rattle.model_jobs.proofs.Fields.{fewer_digits, value_of_digit}
 use Rattle.model_jobs.proofs.FieldReadings.{digit_told, same_by_test}
 use Rattle.model_jobs.specs.JobFiles.{are_same, hex_value, with_hex, hex_number, byte_from, bytes_from, bytes_in}
@@ -67,18 +64,6 @@ digits_behind more n (b ∷ bs) some are small =
     let one : hex_from more (with_hex n b) ≡ hex_from more n ++ b ∷ [] =
     ap (hex_from more) step ∙ one_more_digit more n value.0 some told.1 (omega (arith, large, small)) ∙ ap (λ (c : ℕ). hex_from more n ++ c ∷ []) (sym told.0) in
     later ∙ ap (λ (front : List ℕ). front ++ bs) one ∙ append_assoc (hex_from more n) (b ∷ []) bs
-
--- with one more digit it is the number of all that at most
-pub hex_with_one_more : (digits : List ℕ) (i digit : ℕ) → i < length digits → hex_value (get_or digits i 0) ≡ Some digit
-    → 16 * hex_number (take i digits) + digit ≤ hex_number digits
-hex_with_one_more digits i digit h is =
-    let told = digit_told (get_or digits i 0) digit is in
-    let next : hex_number (take (i + 1) digits) ≡ 16 * hex_number (take i digits) + digit =
-    ap (λ (k : ℕ). hex_number (take k digits)) (add-one i) ∙ ap hex_number (take-suc digits i 0 h)
-    ∙ fold-append with_hex 0 (take i digits) (get_or digits i 0 ∷ []) ∙ ap (λ (b : ℕ). with_hex (hex_number (take i digits)) b) told.0
-    ∙ with_digit (hex_number (take i digits)) digit told.1 in
-    let later = grows with_hex (λ m d. omega arith) (hex_number (take (i + 1) digits)) (drop (i + 1) digits) in
-    omega (arith, next, ap hex_number (take-append-drop (i + 1) digits), later, fold-append with_hex 0 (take (i + 1) digits) (drop (i + 1) digits))
 
 -- what isn't the spelling of a number in the range is refused
 refused : (more most : ℕ) (field : List ℕ) → (field ≡ hex_from more (hex_number field) → hex_number field ≤ most → ⊥) → hex_in more most field ≡ Err Number

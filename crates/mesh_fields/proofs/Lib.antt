@@ -1,6 +1,6 @@
 pub mod Decimals
 mod DigitTable
-mod Digits
+pub mod Digits
 pub mod FewFields
 pub mod HexFields
 pub mod KeptLines

@@ -1,3 +1,4 @@
+pub mod Bases
 pub mod Commands
 pub mod Fields
 pub mod KeptLines

@@ -1,11 +1,10 @@
 //! Fields of hexadecimal digits, which are in lower case.
-ghost use Rattle.std.specs.Prelude.{◌≡◌, ◌<◌, ◌≤◌, ◌^◌, ◌⊎◌, ◌↔◌, ℕ, suc, Ok, Err, true, false, IfSome, IfOk, IfErr, IsNone, IsTrue, length, slice_index};
-ghost use Rattle.std.specs.List.{list_all};
+ghost use Rattle.std.specs.Prelude.{◌≡◌, ◌<◌, ◌≤◌, ◌^◌, ◌↔◌, ℕ, suc, Ok, Err, IfSome, IfOk, IfErr, IsTrue, length, slice_index};
 ghost use Rattle.arrayvec.specs.ArrayVec.{array_vec_len};
-ghost use Rattle.model_jobs.specs.JobFiles.{address_in, byte_from, byte_in, bytes_in, hex_number, hex_value};
-ghost use Rattle.mesh_fields.specs.Fields.{hex_in, is_hex_digit};
+ghost use Rattle.model_jobs.specs.JobFiles.{address_in, byte_from, byte_in, bytes_in, hex_value};
+ghost use Rattle.mesh_fields.specs.Fields.{hex_in};
 
-use crate::numbers::with_digit;
+use crate::bases::Base;
 use arrayvec::ArrayVec;
 use model_words::{FaultKind, MAX_BYTES};
 
@@ -112,7 +111,7 @@ fn hex_within(field: &[u8], most: u64) -> Result<u64, FaultKind>
     if has_leading_zero(field) {
         return Err(FaultKind::Number);
     }
-    let Some(value) = digits_value(field) else {
+    let Some(value) = Base::Hex.value_of(field) else {
         return Err(FaultKind::Number);
     };
     if value > most {
@@ -129,18 +128,4 @@ pub fn has_leading_zero(digits: &[u8]) -> bool
         [first, _, ..] => *first == b'0',
         _ => false,
     }
-}
-
-/// The value of hexadecimal digits, where they are nothing else and the value fits 64 bits.
-fn digits_value(digits: &[u8]) -> Option<u64>
-    ensures digits { IfSome result (λ value. list_all is_hex_digit digits.now ≡ true) }
-    ensures value { IfSome result (λ value. value ≡ hex_number digits.now) }
-    ensures none { IsNone result → (list_all is_hex_digit digits.now ≡ false) ⊎ (2 ^ 64 ≤ hex_number digits.now) }
-{
-    let mut value = 0u64;
-    for byte in digits {
-        let next = digit(*byte)?;
-        value = with_digit(value, 16, next)?;
-    }
-    Some(value)
 }

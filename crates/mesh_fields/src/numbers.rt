@@ -1,9 +1,8 @@
 //! Decimal fields.
-ghost use Rattle.std.specs.Prelude.{◌≡◌, ◌≢◌, ◌+◌, ◌*◌, ◌<◌, ◌≤◌, ◌^◌, ◌⊎◌, ℕ, true, false, decimal, IfSome, IfOk, IsNone};
-ghost use Rattle.std.specs.List.{list_all};
-ghost use Rattle.model_jobs.specs.JobFiles.{decimal_value, number_in};
-ghost use Rattle.mesh_fields.specs.Fields.{is_decimal_digit};
+ghost use Rattle.std.specs.Prelude.{◌≡◌, ◌≢◌, ◌<◌, ◌≤◌, ◌^◌, ℕ, decimal, IfSome, IfOk, IsNone};
+ghost use Rattle.model_jobs.specs.JobFiles.{number_in};
 
+use crate::bases::Base;
 use crate::hex::has_leading_zero;
 use model_words::FaultKind;
 
@@ -18,42 +17,8 @@ fn decimal_of(field: &[u8]) -> Option<u64>
     if has_leading_zero(field) {
         return None;
     }
-    let number = digits_value(field)?;
+    let number = Base::Decimal.value_of(field)?;
     Some(number)
-}
-
-/// The value of decimal digits, where they are nothing else and the value fits 64 bits.
-fn digits_value(digits: &[u8]) -> Option<u64>
-    ensures digits { IfSome result (λ value. list_all is_decimal_digit digits.now ≡ true) }
-    ensures value { IfSome result (λ value. value ≡ decimal_value digits.now) }
-    ensures none { IsNone result → (list_all is_decimal_digit digits.now ≡ false) ⊎ (2 ^ 64 ≤ decimal_value digits.now) }
-{
-    let mut value = 0u64;
-    for byte in digits {
-        let next = digit(*byte)?;
-        value = with_digit(value, 10, next)?;
-    }
-    Some(value)
-}
-
-/// A number with one more digit at its end, where that fits 64 bits.
-#[inline]
-pub(crate) fn with_digit(number: u64, base: u64, digit: u8) -> Option<u64>
-    ensures some { IfSome result (λ longer. longer ≡ number * base + digit) }
-    ensures none { IsNone result → 2 ^ 64 ≤ number * base + digit }
-{
-    number.checked_mul(base)?.checked_add(u64::from(digit))
-}
-
-/// The value of a decimal digit.
-fn digit(byte: u8) -> Option<u8>
-    ensures some { IfSome result (λ value. (48 + value ≡ byte) × (is_decimal_digit byte ≡ true)) }
-    ensures none { IsNone result → is_decimal_digit byte ≡ false }
-{
-    match byte {
-        b'0'..=b'9' => Some(byte - b'0'),
-        _ => None,
-    }
 }
 
 /// A decimal field from `least` to `most`. NUMBER where it is anything else.

@@ -3,17 +3,16 @@ use Rattle.std.proofs.Common.{◌≡◌, ℕ, ◌+◌, ◌-◌, ◌*◌, ◌^◌
 use Rattle.std.specs.Fmt.{decimal}
 use Rattle.std.specs.List.{list_all}
 use Rattle.std.proofs.Math.Nat.{pow-suc, pow-le-pow_right}
-use Rattle.std.proofs.Math.Seq.{take-suc}
 use Rattle.std.proofs.lemmas.List.{take-append-drop}
 use Rattle.std.proofs.lemmas.List.Concat.{flat_map-append}
 use Rattle.std.proofs.lemmas.List.Folds.{list_all_more}
-use Rattle.std.proofs.lemmas.List.Sums.{fold-append}
 use Rattle.model_jobs.proofs.Fields.{with_digit}
 use Rattle.model_jobs.proofs.FieldReadings.{address_told, digit_told, digits_told}
-use Rattle.model_jobs.specs.JobFiles.{byte_from, decimal_value, hex_number, hex_value, with_hex}
+use Rattle.model_jobs.specs.JobFiles.{byte_from, decimal_value, hex_number, hex_value, with_decimal, with_hex}
 use Rattle.model_jobs.specs.Texts.{address_text, byte_text, bytes_text}
 use Rattle.mesh_fields.specs.Fields.{LeadsNoZero, is_decimal_digit, is_hex_digit}
-use Rattle.mesh_fields.proofs.Decimals.{digits_spell, next_value}
+use Rattle.mesh_fields.proofs.Decimals.{digits_spell}
+use Rattle.mesh_fields.proofs.Digits.{next_value}
 use Rattle.mesh_fields.proofs.HexFields.{hex_spelt}
 use Rattle.mesh_fields.proofs.Sames.{between_by_test}
 
@@ -34,7 +33,7 @@ one_read text place value within digit so_far =
     let ends = between_by_test 48 57 (get_or text place 0) digit in
     record {
       digits = list_all_more is_decimal_digit text place 0 within ∙ rw (so_far.digits, digit) refl;
-      value = omega (arith, so_far.value, next_value text place within);
+      value = omega (arith, so_far.value, next_value with_decimal text place within);
       below = omega (arith, so_far.below, ends.0, ends.1, pow-suc 10 place, ap (λ (k : ℕ). 10 ^ k) (add-one place));
     }
 
@@ -65,9 +64,7 @@ pub one_hex_read : (text : List ℕ) (place value digit : ℕ) → place < lengt
     → AreHexDigitsOf text (place + 1) (value * 16 + digit)
 one_hex_read text place value digit within is so_far =
     let told = digit_told (get_or text place 0) digit is in
-    let next : hex_number (take (place + 1) text) ≡ with_hex (hex_number (take place text)) (get_or text place 0) =
-    ap (λ (k : ℕ). hex_number (take k text)) (add-one place) ∙ ap hex_number (take-suc text place 0 within)
-    ∙ fold-append with_hex 0 (take place text) (get_or text place 0 ∷ []) in
+    let next : hex_number (take (place + 1) text) ≡ with_hex (hex_number (take place text)) (get_or text place 0) = next_value with_hex text place within in
     let sum : with_hex (hex_number (take place text)) (get_or text place 0) ≡ 16 * hex_number (take place text) + digit =
     ap (λ (b : ℕ). with_hex (hex_number (take place text)) b) told.0 ∙ with_digit (hex_number (take place text)) digit told.1 in
     record {
