@@ -1,18 +1,13 @@
 -- The search that a line `pair` asks for.
-use Rattle.std.proofs.Common.{◌≡◌, ℕ, ◌-◌, ◌≤◌, true, Bor, List, ◌∷◌, ◌++◌, [], length, get_or, take, drop, Result, Ok, ap, refl, sym, subst, ◌∙◌, arith}
-use Rattle.std.specs.Prelude.{codes, map}
-use Rattle.std.specs.List.{All}
-use Rattle.std.proofs.lemmas.List.{length-map, map-append, take_all}
-use Rattle.std.proofs.lemmas.List.Elements.{All-append, All-cons, All-nil}
+use Rattle.std.proofs.Common.{◌≡◌, ℕ, ◌-◌, ◌≤◌, true, Bor, List, ◌∷◌, [], length, get_or, take, drop, Result, Ok, refl, sym, subst, arith}
+use Rattle.std.specs.Prelude.{codes}
+use Rattle.std.proofs.lemmas.List.{length-map, take_all}
 use Rattle.model_jobs.proofs.FieldReadings.{same_by_test}
-use Rattle.model_jobs.specs.JobFiles.{IsValidLine, are_same, line_in, pair_in}
-use Rattle.model_jobs.specs.Jobs.{Line}
+use Rattle.model_jobs.specs.JobFiles.{are_same, line_in, pair_in}
 use Rattle.model_words.specs.declared.faults.FaultKind.{FaultKind}
 use Rattle.model_words.specs.declared.versions.Version.{Version}
-use Rattle.model_jobs.proofs.LineReadings.{line_in_range}
 use Rattle.mesh_fields.specs.Lines.{texts}
-use Rattle.mesh_lines.specs.Plan.{line_of, search_in}
-use Rattle.mesh_lines.specs.declared.plan.PlanLine.{PlanLine}
+use Rattle.mesh_lines.specs.Plan.{search_in}
 
 -- words that were read
 abbrev taken : List ℕ → Result (List ℕ) FaultKind

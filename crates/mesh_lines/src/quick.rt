@@ -2,11 +2,9 @@
 //! these, or isn't plain in any way: then it is read field by field.
 ghost use Rattle.std.specs.Prelude.{◌≡◌, ◌∷◌, ◌++◌, ◌≤◌, ℕ, codes, decimal, IfSome, IsSome};
 ghost use Rattle.model_words.specs.Classes.{row_of};
-ghost use Rattle.model_jobs.specs.JobFiles.{IsValidCommand, IsValidLine};
-ghost use Rattle.model_jobs.specs.Texts.{command_text, line_text};
 ghost use Rattle.model_words.specs.declared.versions.Version.{Version};
 ghost use Rattle.model_words.specs.declared.versions.Version.TheVariants.{Two as FileTwo};
-ghost use Rattle.mesh_lines.specs.Plan.{line_of};
+ghost use Rattle.mesh_lines.specs.Quick.{IsQuickCommand, IsQuickLine};
 
 use crate::PlanLine;
 use crate::plan_lines::is_class;
@@ -21,8 +19,7 @@ const MAX_LENGTH: u32 = 65_535;
 ///
 /// None of a line without its end, of one that has a fault, and of any other that is not one of the common ones: such lines are cut into fields.
 pub fn quick_command(text: &[u8]) -> Option<(Command, &[u8])>
-    ensures spelt { IfSome result (λ read. text.now ≡ command_text read.0 ++ 10 ∷ read.1.now) }
-    ensures valid { IfSome result (λ read. (version : Version) → IsValidCommand version read.0) }
+    ensures { IfSome result (λ read. IsQuickCommand text.now read.0 read.1.now) }
 {
     match text {
         [b'n', b'e', b'w', b' ', fields @ ..] => new_of(fields),
@@ -35,8 +32,7 @@ pub fn quick_command(text: &[u8]) -> Option<(Command, &[u8])>
 /// The same, for a command whose fields are cells alone, and for one of an address.
 #[inline]
 fn cells_command(text: &[u8]) -> Option<(Command, &[u8])>
-    ensures spelt { IfSome result (λ read. text.now ≡ command_text read.0 ++ 10 ∷ read.1.now) }
-    ensures valid { IfSome result (λ read. (version : Version) → IsValidCommand version read.0) }
+    ensures { IfSome result (λ read. IsQuickCommand text.now read.0 read.1.now) }
 {
     match text {
         [b'f', b'r', b'e', b'e', b' ', fields @ ..] => free_of(fields),
@@ -49,8 +45,7 @@ fn cells_command(text: &[u8]) -> Option<(Command, &[u8])>
 /// The same, for a command whose first field is an address.
 #[inline]
 fn address_command(text: &[u8]) -> Option<(Command, &[u8])>
-    ensures spelt { IfSome result (λ read. text.now ≡ command_text read.0 ++ 10 ∷ read.1.now) }
-    ensures valid { IfSome result (λ read. (version : Version) → IsValidCommand version read.0) }
+    ensures { IfSome result (λ read. IsQuickCommand text.now read.0 read.1.now) }
 {
     match text {
         [b'p', b'e', b'e', b'k', b' ', fields @ ..] => peek_of(fields),
@@ -72,8 +67,7 @@ fn cell_and_size(fields: &[u8]) -> Option<(u8, u32, &[u8])>
 
 /// `CELL LEN WORD` of a `new`
 fn new_of(fields: &[u8]) -> Option<(Command, &[u8])>
-    ensures spelt { IfSome result (λ read. codes "new" ++ 32 ∷ fields.now ≡ command_text read.0 ++ 10 ∷ read.1.now) }
-    ensures valid { IfSome result (λ read. (version : Version) → IsValidCommand version read.0) }
+    ensures { IfSome result (λ read. IsQuickCommand (codes "new" ++ 32 ∷ fields.now) read.0 read.1.now) }
 {
     let (to, len, rest) = cell_and_size(fields)?;
     let (word, rest) = word(rest, b'\n')?;
@@ -82,8 +76,7 @@ fn new_of(fields: &[u8]) -> Option<(Command, &[u8])>
 
 /// `CELL OFF HEX` of a `put`
 fn put_of(fields: &[u8]) -> Option<(Command, &[u8])>
-    ensures spelt { IfSome result (λ read. codes "put" ++ 32 ∷ fields.now ≡ command_text read.0 ++ 10 ∷ read.1.now) }
-    ensures valid { IfSome result (λ read. (version : Version) → IsValidCommand version read.0) }
+    ensures { IfSome result (λ read. IsQuickCommand (codes "put" ++ 32 ∷ fields.now) read.0 read.1.now) }
 {
     let (of, off, rest) = cell_and_size(fields)?;
     let (stored, rest) = bytes(rest, b'\n')?;
@@ -92,8 +85,7 @@ fn put_of(fields: &[u8]) -> Option<(Command, &[u8])>
 
 /// `CELL OFF LEN` of a `get`
 fn get_of(fields: &[u8]) -> Option<(Command, &[u8])>
-    ensures spelt { IfSome result (λ read. codes "get" ++ 32 ∷ fields.now ≡ command_text read.0 ++ 10 ∷ read.1.now) }
-    ensures valid { IfSome result (λ read. (version : Version) → IsValidCommand version read.0) }
+    ensures { IfSome result (λ read. IsQuickCommand (codes "get" ++ 32 ∷ fields.now) read.0 read.1.now) }
 {
     let (of, off, rest) = cell_and_size(fields)?;
     let (len, rest) = number(rest, 1, 32, b'\n')?;
@@ -102,8 +94,7 @@ fn get_of(fields: &[u8]) -> Option<(Command, &[u8])>
 
 /// `CELL` of a `free`
 fn free_of(fields: &[u8]) -> Option<(Command, &[u8])>
-    ensures spelt { IfSome result (λ read. codes "free" ++ 32 ∷ fields.now ≡ command_text read.0 ++ 10 ∷ read.1.now) }
-    ensures valid { IfSome result (λ read. (version : Version) → IsValidCommand version read.0) }
+    ensures { IfSome result (λ read. IsQuickCommand (codes "free" ++ 32 ∷ fields.now) read.0 read.1.now) }
 {
     let (of, rest) = cell(fields, b'\n')?;
     Some((Command::Free(of), rest))
@@ -111,8 +102,7 @@ fn free_of(fields: &[u8]) -> Option<(Command, &[u8])>
 
 /// `CELL FROM` of an `alias`
 fn alias_of(fields: &[u8]) -> Option<(Command, &[u8])>
-    ensures spelt { IfSome result (λ read. codes "alias" ++ 32 ∷ fields.now ≡ command_text read.0 ++ 10 ∷ read.1.now) }
-    ensures valid { IfSome result (λ read. (version : Version) → IsValidCommand version read.0) }
+    ensures { IfSome result (λ read. IsQuickCommand (codes "alias" ++ 32 ∷ fields.now) read.0 read.1.now) }
 {
     let (to, rest) = cell(fields, b' ')?;
     let (from, rest) = cell(rest, b'\n')?;
@@ -121,8 +111,7 @@ fn alias_of(fields: &[u8]) -> Option<(Command, &[u8])>
 
 /// `CELL` of an `addr`
 fn addr_of(fields: &[u8]) -> Option<(Command, &[u8])>
-    ensures spelt { IfSome result (λ read. codes "addr" ++ 32 ∷ fields.now ≡ command_text read.0 ++ 10 ∷ read.1.now) }
-    ensures valid { IfSome result (λ read. (version : Version) → IsValidCommand version read.0) }
+    ensures { IfSome result (λ read. IsQuickCommand (codes "addr" ++ 32 ∷ fields.now) read.0 read.1.now) }
 {
     let (at, rest) = cell(fields, b'\n')?;
     Some((Command::Addr(at), rest))
@@ -130,8 +119,7 @@ fn addr_of(fields: &[u8]) -> Option<(Command, &[u8])>
 
 /// `ADDR` of a `peek`
 fn peek_of(fields: &[u8]) -> Option<(Command, &[u8])>
-    ensures spelt { IfSome result (λ read. codes "peek" ++ 32 ∷ fields.now ≡ command_text read.0 ++ 10 ∷ read.1.now) }
-    ensures valid { IfSome result (λ read. (version : Version) → IsValidCommand version read.0) }
+    ensures { IfSome result (λ read. IsQuickCommand (codes "peek" ++ 32 ∷ fields.now) read.0 read.1.now) }
 {
     let (at, rest) = address(fields, b'\n')?;
     Some((Command::Peek(at), rest))
@@ -139,8 +127,7 @@ fn peek_of(fields: &[u8]) -> Option<(Command, &[u8])>
 
 /// `ADDR BYTE` of a `poke`
 fn poke_of(fields: &[u8]) -> Option<(Command, &[u8])>
-    ensures spelt { IfSome result (λ read. codes "poke" ++ 32 ∷ fields.now ≡ command_text read.0 ++ 10 ∷ read.1.now) }
-    ensures valid { IfSome result (λ read. (version : Version) → IsValidCommand version read.0) }
+    ensures { IfSome result (λ read. IsQuickCommand (codes "poke" ++ 32 ∷ fields.now) read.0 read.1.now) }
 {
     let (at, rest) = address(fields, b' ')?;
     let (stored, rest) = byte(rest, b'\n')?;
@@ -150,8 +137,7 @@ fn poke_of(fields: &[u8]) -> Option<(Command, &[u8])>
 /// The line of a plan that the text's first line is, in a job of so many workers, and the text behind that line's end. None as in `quick_command`.
 pub fn quick_line(text: &[u8], version: Version, workers: u32) -> Option<(PlanLine, &[u8])>
     requires { 1 ≤ workers }
-    ensures spelt { IfSome result (λ read. text.now ≡ line_text (line_of read.0) ++ 10 ∷ read.1.now) }
-    ensures valid { IfSome result (λ read. IsValidLine version workers (line_of read.0)) }
+    ensures { IfSome result (λ read. IsQuickLine version workers text.now read.0 read.1.now) }
 {
     match text {
         [b'r', b'u', b'n', b' ', fields @ ..] => run_of(fields, workers),
@@ -164,8 +150,7 @@ pub fn quick_line(text: &[u8], version: Version, workers: u32) -> Option<(PlanLi
 #[inline]
 fn run_of(fields: &[u8], workers: u32) -> Option<(PlanLine, &[u8])>
     requires { 1 ≤ workers }
-    ensures spelt { IfSome result (λ read. codes "run" ++ 32 ∷ fields.now ≡ line_text (line_of read.0) ++ 10 ∷ read.1.now) }
-    ensures valid { IfSome result (λ read. (version : Version) → IsValidLine version workers (line_of read.0)) }
+    ensures { IfSome result (λ read. (version : Version) → IsQuickLine version workers (codes "run" ++ 32 ∷ fields.now) read.0 read.1.now) }
 {
     let (worker, rest) = number(fields, 0, workers - 1, b'\n')?;
     Some((PlanLine::Run(worker), rest))
@@ -173,8 +158,7 @@ fn run_of(fields: &[u8], workers: u32) -> Option<(PlanLine, &[u8])>
 
 /// What is behind `step`: nothing in version 1, and the size of a class in version 2
 fn step_of(fields: &[u8], version: Version) -> Option<(PlanLine, &[u8])>
-    ensures spelt { IfSome result (λ read. codes "step" ++ fields.now ≡ line_text (line_of read.0) ++ 10 ∷ read.1.now) }
-    ensures valid { IfSome result (λ read. (workers : ℕ) → IsValidLine version workers (line_of read.0)) }
+    ensures { IfSome result (λ read. (workers : ℕ) → IsQuickLine version workers (codes "step" ++ fields.now) read.0 read.1.now) }
 {
     match version {
         Version::One => {
@@ -188,8 +172,7 @@ fn step_of(fields: &[u8], version: Version) -> Option<(PlanLine, &[u8])>
 /// `CLASS` of a `step`
 #[inline]
 fn class_step_of(fields: &[u8]) -> Option<(PlanLine, &[u8])>
-    ensures spelt { IfSome result (λ read. codes "step" ++ 32 ∷ fields.now ≡ line_text (line_of read.0) ++ 10 ∷ read.1.now) }
-    ensures valid { IfSome result (λ read. (workers : ℕ) → IsValidLine FileTwo workers (line_of read.0)) }
+    ensures { IfSome result (λ read. (workers : ℕ) → IsQuickLine FileTwo workers (codes "step" ++ 32 ∷ fields.now) read.0 read.1.now) }
 {
     let Some((class, rest)) = class(fields) else {
         return None;
