@@ -1,5 +1,5 @@
 -- Numbers that digits are read to, the first first.
-use Rattle.std.proofs.Common.{◌≡◌, ℕ, ◌+◌, ◌*◌, ◌<◌, ◌≤◌, true, false, Bool, if◌then◌else◌, List, [], ◌∷◌, Some, None, length, get_or, take, drop, ap, refl, ◌∙◌, arith, add-one}
+use Rattle.std.proofs.Common.{◌≡◌, ℕ, ◌+◌, ◌-◌, ◌*◌, ◌<◌, ◌≤◌, true, false, Bool, if◌then◌else◌, List, [], ◌∷◌, Some, None, length, get_or, take, drop, ap, refl, ◌∙◌, arith, add-one}
 use Rattle.std.specs.Prelude.{is_some}
 use Rattle.std.specs.List.{fold}
 use Rattle.std.proofs.Math.Seq.{take-suc}
@@ -44,6 +44,10 @@ if_none : (b : Bool) (x : ℕ) → (if b then Some x else None) ≡ None → b �
 if_none true x h = absurd (cc h)
 if_none false x h = refl
 
+-- the value of a decimal digit
+pub decimal_digit_value : (byte value : ℕ) → digit_value Decimal byte ≡ Some value → byte - 48 ≡ value
+decimal_digit_value byte value h = (if_some (is_decimal_digit byte) _ value h).1
+
 -- a byte with a value is a digit, and one without is none
 pub digit_is : (base : Base) (byte value : ℕ) → digit_value base byte ≡ Some value → is_digit base byte ≡ true
 digit_is Decimal byte value h = (if_some (is_decimal_digit byte) _ value h).0
@@ -57,7 +61,7 @@ no_digit_is Hex byte h = ap is_some h
 pub one_more_digit : (base : Base) (digits : List ℕ) (i value : ℕ) → i < length digits → digit_value base (get_or digits i 0) ≡ Some value
     → value_in base (take (i + 1) digits) ≡ value_in base (take i digits) * radix base + value
 one_more_digit Decimal digits i value h is =
-    omega (arith, next_value with_decimal digits i h, (if_some (is_decimal_digit (get_or digits i 0)) _ value is).1)
+    omega (arith, next_value with_decimal digits i h, decimal_digit_value (get_or digits i 0) value is)
 one_more_digit Hex digits i value h is =
     let told = digit_told (get_or digits i 0) value is in
     omega (arith, next_value with_hex digits i h, ap (λ (b : ℕ). with_hex (value_in Hex (take i digits)) b) told.0, with_digit (value_in Hex (take i digits)) value told.1)

@@ -7,7 +7,7 @@ use crate::hex;
 
 /// The base of a field's digits.
 #[derive(Clone, Copy)]
-pub(crate) enum Base {
+pub enum Base {
     /// Digits from 0 to 9.
     Decimal,
     /// Digits from 0 to f, in lower case.
@@ -17,7 +17,7 @@ pub(crate) enum Base {
 impl Base {
     /// How many digits the base has.
     #[inline]
-    fn radix(self) -> u64
+    pub fn radix(self) -> u64
         ensures { result ≡ radix self }
     {
         match self {
@@ -28,7 +28,7 @@ impl Base {
 
     /// The value of a digit of the base.
     #[inline]
-    fn digit(self, byte: u8) -> Option<u8>
+    pub fn digit(self, byte: u8) -> Option<u8>
         ensures { result ≡ digit_value self byte }
     {
         match self {
@@ -39,7 +39,7 @@ impl Base {
 
     /// The value of digits of the base, where they are nothing else and the value fits 64 bits.
     #[inline]
-    pub(crate) fn value_of(self, digits: &[u8]) -> Option<u64>
+    pub fn value_of(self, digits: &[u8]) -> Option<u64>
         ensures digits { IfSome result (λ value. list_all (is_digit self) digits.now ≡ true) }
         ensures value { IfSome result (λ value. value ≡ value_in self digits.now) }
         ensures none { IsNone result → (list_all (is_digit self) digits.now ≡ false) ⊎ (2 ^ 64 ≤ value_in self digits.now) }

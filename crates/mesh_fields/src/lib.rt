@@ -5,7 +5,7 @@
 //! none. Contracts see a text and a field as lists of bytes, and answer what the definitions of job files do.
 #![tactic(auto)]
 
-mod bases;
+pub mod bases;
 pub mod commands;
 pub mod hex;
 pub mod lines;

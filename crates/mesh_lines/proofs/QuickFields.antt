@@ -1,91 +1,81 @@
 -- Fields that are read digit by digit, with the bytes behind them.
-use Rattle.std.proofs.Common.{◌≡◌, ℕ, ◌+◌, ◌-◌, ◌*◌, ◌^◌, ◌<◌, ◌≤◌, true, List, [], ◌∷◌, ◌++◌, Some, Ok, length, get_or, take, drop, ap, refl, sym, ◌∙◌, arith, add-one, append_assoc}
+use Rattle.std.proofs.Common.{◌≡◌, ℕ, ◌+◌, ◌*◌, ◌^◌, ◌<◌, ◌≤◌, true, List, [], ◌∷◌, ◌++◌, Some, Ok, length, get_or, take, drop, ap, refl, sym, ◌∙◌, arith, add-one, append_assoc}
 use Rattle.std.specs.Fmt.{decimal}
 use Rattle.std.specs.List.{list_all}
 use Rattle.std.proofs.Math.Nat.{pow-suc, pow-le-pow_right}
 use Rattle.std.proofs.lemmas.List.{take-append-drop}
 use Rattle.std.proofs.lemmas.List.Concat.{flat_map-append}
 use Rattle.std.proofs.lemmas.List.Folds.{list_all_more}
-use Rattle.model_jobs.proofs.Fields.{with_digit}
 use Rattle.model_jobs.proofs.FieldReadings.{address_told, digit_told, digits_told}
-use Rattle.model_jobs.specs.JobFiles.{byte_from, decimal_value, hex_number, hex_value, with_decimal, with_hex}
+use Rattle.model_jobs.specs.JobFiles.{byte_from, hex_number}
 use Rattle.model_jobs.specs.Texts.{address_text, byte_text, bytes_text}
-use Rattle.mesh_fields.specs.Fields.{LeadsNoZero, is_decimal_digit, is_hex_digit}
+use Rattle.mesh_fields.specs.Bases.{digit_value, is_digit, radix, value_in}
+use Rattle.mesh_fields.specs.Fields.{LeadsNoZero}
+use Rattle.mesh_fields.specs.declared.bases.Base.{Base}
+use Rattle.mesh_fields.specs.declared.bases.Base.TheVariants.{Decimal, Hex}
 use Rattle.mesh_fields.proofs.Decimals.{digits_spell}
-use Rattle.mesh_fields.proofs.Digits.{next_value}
+use Rattle.mesh_fields.proofs.Digits.{decimal_digit_value, digit_is, one_more_digit}
 use Rattle.mesh_fields.proofs.HexFields.{hex_spelt}
 use Rattle.mesh_fields.proofs.Sames.{between_by_test}
+use Rattle.mesh_lines.specs.Quick.{most_digits, spelling}
 
--- so many decimal digits of a text were read to a number
-pub record AreDigitsOf (text : List ℕ) (place number : ℕ) : Type 0 where
-  pub digits : list_all is_decimal_digit (take place text) ≡ true
-  pub value : number ≡ decimal_value (take place text)
-  pub below : number < 10 ^ place
+-- so many digits of a text were read to a number
+pub record AreDigitsOf (base : Base) (text : List ℕ) (place number : ℕ) : Type 0 where
+  pub digits : list_all (is_digit base) (take place text) ≡ true
+  pub value : number ≡ value_in base (take place text)
+  pub below : number < radix base ^ place
 
--- a number of at most 19 digits fits 64 bits
-fits_digits : (value place : ℕ) → value < 10 ^ place → place ≤ 19 → value < 2 ^ 64
-fits_digits value place below few = let most : 10 ^ place ≤ 10 ^ 19 = pow-le-pow_right (omega arith) few in omega (arith, below, most)
+-- a digit of a base is below it
+digit_below : (base : Base) (byte value : ℕ) → digit_value base byte ≡ Some value → value < radix base
+digit_below Decimal byte value is =
+    let ends = between_by_test 48 57 byte (digit_is Decimal byte value is) in omega (arith, ends.0, ends.1, decimal_digit_value byte value is)
+digit_below Hex byte value is = (digit_told byte value is).1
+
+-- one digit more makes a number below the next power
+next_below : (base : Base) (place number value : ℕ) → number < radix base ^ place → value < radix base → number * radix base + value < radix base ^ (place + 1)
+next_below Decimal place number value below small = omega (arith, below, small, pow-suc 10 place, ap (λ (k : ℕ). 10 ^ k) (add-one place))
+next_below Hex place number value below small = omega (arith, below, small, pow-suc 16 place, ap (λ (k : ℕ). 16 ^ k) (add-one place))
 
 -- one digit more
-pub one_read : (text : List ℕ) (place value : ℕ) → place < length text → is_decimal_digit (get_or text place 0) ≡ true → AreDigitsOf text place value
-    → AreDigitsOf text (place + 1) (value * 10 + (get_or text place 0 - 48))
-one_read text place value within digit so_far =
-    let ends = between_by_test 48 57 (get_or text place 0) digit in
-    record {
-      digits = list_all_more is_decimal_digit text place 0 within ∙ rw (so_far.digits, digit) refl;
-      value = omega (arith, so_far.value, next_value with_decimal text place within);
-      below = omega (arith, so_far.below, ends.0, ends.1, pow-suc 10 place, ap (λ (k : ℕ). 10 ^ k) (add-one place));
-    }
+pub one_read : (base : Base) (text : List ℕ) (place number value : ℕ) → place < length text → digit_value base (get_or text place 0) ≡ Some value
+    → AreDigitsOf base text place number → AreDigitsOf base text (place + 1) (number * radix base + value)
+one_read base text place number value within is so_far = record {
+  digits = list_all_more (is_digit base) text place 0 within ∙ rw (so_far.digits, digit_is base (get_or text place 0) value is) refl;
+  value = ap (λ (n : ℕ). n * radix base + value) so_far.value ∙ sym (one_more_digit base text place value within is);
+  below = next_below base place number value so_far.below (digit_below base (get_or text place 0) value is);
+}
 
--- with one digit more a number of fewer than 19 digits fits 64 bits
-pub one_fits : (text : List ℕ) (place value : ℕ) → place < length text → place < 19 → is_decimal_digit (get_or text place 0) ≡ true
-    → AreDigitsOf text place value → value * 10 + (get_or text place 0 - 48) < 2 ^ 64
-one_fits text place value within few digit so_far = fits_digits _ _ (one_read _ _ _ within digit so_far).below (omega (arith, few))
+-- a number of no more digits than these is below the power of as many
+pub below_power : (base : Base) (number place most : ℕ) → number < radix base ^ place → place ≤ most → number < radix base ^ most
+below_power Decimal number place most below few = let power : 10 ^ place ≤ 10 ^ most = pow-le-pow_right (omega arith) few in omega (arith, below, power)
+below_power Hex number place most below few = let power : 16 ^ place ≤ 16 ^ most = pow-le-pow_right (omega arith) few in omega (arith, below, power)
+
+-- and fits 64 bits
+pub fits_digits : (base : Base) (number place : ℕ) → number < radix base ^ place → place ≤ most_digits base → number < 2 ^ 64
+fits_digits Decimal number place below few = omega (arith, below_power Decimal number place 19 below few)
+fits_digits Hex number place below few = omega (arith, below_power Hex number place 7 below few)
+
+-- with one digit more a number of fewer digits than these fits 64 bits
+pub one_fits : (base : Base) (text : List ℕ) (place number value : ℕ) → place < length text → place < most_digits base
+    → digit_value base (get_or text place 0) ≡ Some value → AreDigitsOf base text place number → number * radix base + value < 2 ^ 64
+one_fits base text place number value within few is so_far =
+    fits_digits base _ (place + 1) (one_read base text place number value within is so_far).below (omega (arith, few))
 
 -- digits without a leading zero are the spelling of their value
-pub value_spelt : (text : List ℕ) (place value : ℕ) → 1 ≤ length (take place text) → place ≤ 19 → AreDigitsOf text place value → LeadsNoZero (take place text)
-    → text ≡ decimal value ++ drop place text
-value_spelt text place value some few read leads =
-    let spelt = digits_spell (take place text) read.digits some leads (omega (arith, read.value, fits_digits value place read.below few)) in
-    sym (take-append-drop place text) ∙ ap (λ (front : List ℕ). front ++ drop place text) (spelt ∙ ap decimal (sym read.value))
+number_spelt : (base : Base) (digits : List ℕ) (number place : ℕ) → 1 ≤ length digits → place ≤ most_digits base → list_all (is_digit base) digits ≡ true
+    → number ≡ value_in base digits → number < radix base ^ place → LeadsNoZero digits → digits ≡ spelling base number
+number_spelt Decimal digits number place some few are is below leads =
+    digits_spell digits are some leads (omega (arith, is, fits_digits Decimal number place below few)) ∙ ap decimal (sym is)
+number_spelt Hex digits number place some few are is below leads =
+    let small = below_power Hex number place 7 below few in
+    let read = hex_spelt 7 268435455 digits (omega arith) some leads are (omega (arith, is, small)) in
+    (address_told digits (hex_number digits) read).0 ∙ ap address_text (sym is)
 
--- so many hexadecimal digits of a text were read to a number
-pub record AreHexDigitsOf (text : List ℕ) (place number : ℕ) : Type 0 where
-  pub digits : list_all is_hex_digit (take place text) ≡ true
-  pub value : number ≡ hex_number (take place text)
-  pub below : number < 16 ^ place
-
--- a number of at most 7 digits is the number of an address
-pub fits_address : (value place : ℕ) → value < 16 ^ place → place ≤ 7 → value ≤ 268435455
-fits_address value place below few = let most : 16 ^ place ≤ 16 ^ 7 = pow-le-pow_right (omega arith) few in omega (arith, below, most)
-
--- one digit more
-pub one_hex_read : (text : List ℕ) (place value digit : ℕ) → place < length text → hex_value (get_or text place 0) ≡ Some digit → AreHexDigitsOf text place value
-    → AreHexDigitsOf text (place + 1) (value * 16 + digit)
-one_hex_read text place value digit within is so_far =
-    let told = digit_told (get_or text place 0) digit is in
-    let next : hex_number (take (place + 1) text) ≡ with_hex (hex_number (take place text)) (get_or text place 0) = next_value with_hex text place within in
-    let sum : with_hex (hex_number (take place text)) (get_or text place 0) ≡ 16 * hex_number (take place text) + digit =
-    ap (λ (b : ℕ). with_hex (hex_number (take place text)) b) told.0 ∙ with_digit (hex_number (take place text)) digit told.1 in
-    record {
-      digits = list_all_more is_hex_digit text place 0 within ∙ rw (so_far.digits, is) refl;
-      value = omega (arith, so_far.value, next, sum);
-      below = omega (arith, so_far.below, told.1, pow-suc 16 place, ap (λ (k : ℕ). 16 ^ k) (add-one place));
-    }
-
--- with one digit more a number of fewer than 7 digits is still the number of an address
-pub one_hex_fits : (text : List ℕ) (place value digit : ℕ) → place < length text → place < 7 → hex_value (get_or text place 0) ≡ Some digit
-    → AreHexDigitsOf text place value → value * 16 + digit ≤ 268435455
-one_hex_fits text place value digit within few is so_far = fits_address _ _ (one_hex_read _ _ _ _ within is so_far).below (omega (arith, few))
-
--- digits without a leading zero are the spelling of the address that is their value
-pub address_is_spelt : (text : List ℕ) (place value : ℕ) → 1 ≤ length (take place text) → place ≤ 7 → AreHexDigitsOf text place value
-    → LeadsNoZero (take place text) → text ≡ address_text value ++ drop place text
-address_is_spelt text place value some few read leads =
-    let small = fits_address value place read.below few in
-    let is = hex_spelt 7 268435455 (take place text) (omega arith) some leads read.digits (omega (arith, read.value, small)) in
-    let told = address_told (take place text) (hex_number (take place text)) is in
-    sym (take-append-drop place text) ∙ ap (λ (front : List ℕ). front ++ drop place text) (told.0 ∙ ap address_text (sym read.value))
+pub value_spelt : (base : Base) (text : List ℕ) (place number : ℕ) → 1 ≤ length (take place text) → place ≤ most_digits base
+    → AreDigitsOf base text place number → LeadsNoZero (take place text) → text ≡ spelling base number ++ drop place text
+value_spelt base text place number some few read leads =
+    sym (take-append-drop place text)
+    ∙ ap (λ (front : List ℕ). front ++ drop place text) (number_spelt base (take place text) number place some few read.digits read.value read.below leads)
 
 -- two digits are the spelling of their byte
 pub byte_spelt : (text : List ℕ) (byte : ℕ) → 2 ≤ length text → byte_from (get_or text 0 0) (get_or text 1 0) ≡ Ok byte

@@ -1,12 +1,15 @@
 //! The fields of the lines that most texts have, each with the byte that ends it, in one pass over the text. None where a field isn't
 //! spelt so: then its line is read field by field.
-ghost use Rattle.std.specs.Prelude.{◌≡◌, ◌∷◌, ◌++◌, ◌≤◌, decimal, length, IfSome, IsTrue};
+ghost use Rattle.std.specs.Prelude.{◌≡◌, ◌∷◌, ◌++◌, ◌<◌, ◌≤◌, ◌^◌, decimal, length, IfSome, IsTrue};
 ghost use Rattle.std.specs.List.{All};
 ghost use Rattle.model_jobs.specs.Texts.{address_text, byte_text, bytes_text};
-ghost use Rattle.mesh_fields.specs.Fields.{LeadsNoZero, is_decimal_digit};
+ghost use Rattle.mesh_fields.specs.Bases.{radix};
+ghost use Rattle.mesh_fields.specs.Fields.{LeadsNoZero};
+ghost use Rattle.mesh_lines.specs.Quick.{most_digits, spelling};
 
 use arrayvec::ArrayVec;
-use mesh_fields::hex::{byte_of, digit, has_leading_zero};
+use mesh_fields::bases::Base;
+use mesh_fields::hex::{byte_of, has_leading_zero};
 use model_words::MAX_BYTES;
 
 /// The most decimal digits that are read: so many fit 64 bits, whatever they are.
@@ -26,14 +29,6 @@ pub(crate) fn behind(text: &[u8], byte: u8) -> Option<&[u8]>
     }
 }
 
-/// Whether the byte is a decimal digit.
-#[inline]
-fn is_decimal_digit(byte: u8) -> bool
-    ensures { result ≡ is_decimal_digit byte }
-{
-    byte.is_ascii_digit()
-}
-
 /// Whether some digits are the spelling of a number: there is one at least, and no zero before others.
 #[inline]
 fn spell_number(digits: &[u8]) -> bool
@@ -43,16 +38,21 @@ fn spell_number(digits: &[u8]) -> bool
     !digits.is_empty() && !has_leading_zero(digits)
 }
 
-/// The number that the text's first digits spell, and the bytes behind them.
+/// The number that the text's first digits of a base spell, `most` of them at most, and the bytes behind them.
 #[inline]
-fn digits(text: &[u8]) -> Option<(u64, &[u8])>
-    ensures { IfSome result (λ read. text.now ≡ decimal read.0 ++ read.1.now) }
+fn digits(text: &[u8], base: Base, most: usize) -> Option<(u64, &[u8])>
+    requires { most ≤ most_digits base }
+    ensures spelt { IfSome result (λ read. text.now ≡ spelling base read.0 ++ read.1.now) }
+    ensures below { IfSome result (λ read. read.0 < radix base ^ most) }
 {
-    let most = text.len().min(MOST_DIGITS);
+    let most = text.len().min(most);
     let mut value = 0u64;
     let mut place = 0;
-    while place < most && is_decimal_digit(text[place]) {
-        value = value * 10 + u64::from(text[place] - b'0');
+    while place < most {
+        let Some(next) = base.digit(text[place]) else {
+            break;
+        };
+        value = value * base.radix() + u64::from(next);
         place += 1;
     }
     if !spell_number(&text[..place]) {
@@ -66,7 +66,7 @@ fn digits(text: &[u8]) -> Option<(u64, &[u8])>
 pub(crate) fn word(text: &[u8], end: u8) -> Option<(u64, &[u8])>
     ensures { IfSome result (λ read. text.now ≡ decimal read.0 ++ end ∷ read.1.now) }
 {
-    let (value, rest) = digits(text)?;
+    let (value, rest) = digits(text, Base::Decimal, MOST_DIGITS)?;
     let rest = behind(rest, end)?;
     Some((value, rest))
 }
@@ -97,37 +97,15 @@ pub(crate) fn cell(text: &[u8], end: u8) -> Option<(u8, &[u8])>
     Some((value as u8, rest))
 }
 
-/// The number that the text's first hexadecimal digits spell, and the bytes behind them.
-#[inline]
-fn hex_digits(text: &[u8]) -> Option<(u32, &[u8])>
-    ensures spelt { IfSome result (λ read. text.now ≡ address_text read.0 ++ read.1.now) }
-    ensures most { IfSome result (λ read. read.0 ≤ 268435455) }
-{
-    let most = text.len().min(MOST_HEX_DIGITS);
-    let mut value = 0u32;
-    let mut place = 0;
-    while place < most {
-        let Some(next) = digit(text[place]) else {
-            break;
-        };
-        value = value * 16 + u32::from(next);
-        place += 1;
-    }
-    if !spell_number(&text[..place]) {
-        return None;
-    }
-    Some((value, &text[place..]))
-}
-
 /// An address, and the bytes behind its end.
 #[inline]
 pub(crate) fn address(text: &[u8], end: u8) -> Option<(u32, &[u8])>
     ensures spelt { IfSome result (λ read. text.now ≡ address_text read.0 ++ end ∷ read.1.now) }
     ensures most { IfSome result (λ read. read.0 ≤ 268435455) }
 {
-    let (value, rest) = hex_digits(text)?;
+    let (value, rest) = digits(text, Base::Hex, MOST_HEX_DIGITS)?;
     let rest = behind(rest, end)?;
-    Some((value, rest))
+    Some((value as u32, rest))
 }
 
 /// A byte, and the bytes behind its end.

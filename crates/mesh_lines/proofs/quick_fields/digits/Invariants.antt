@@ -5,7 +5,7 @@ use Rattle.mesh_lines.proofs.quick_fields.digits.Given as goal
 abbrev pub invariant-loop-place : goal.invariant-loop-place
 invariant-loop-place l = record {
   most : l.place ≤ l.most;
-  read : AreDigitsOf l.text l.place l.value;
+  read : AreDigitsOf l.base l.text l.place l.value;
 }
 
 abbrev pub decreases-loop-place : goal.decreases-loop-place
