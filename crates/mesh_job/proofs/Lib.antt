@@ -1,4 +1,5 @@
 pub mod FileEnds
+pub mod LineTakes
 pub mod ManyFields
 pub mod PackedScripts
 pub mod PlanReadings

@@ -1,5 +1,5 @@
 -- The lines of a text that are taken into a draft.
-use Rattle.std.proofs.Common.{◌≡◌, ℕ, ◌≤◌, true, false, not, nat_lt, List, [], ◌∷◌, ◌++◌, Ok, length, ap, append_assoc, refl, sym, ◌∙◌, arith}
+use Rattle.std.proofs.Common.{◌≡◌, ℕ, ◌<◌, ◌≤◌, true, false, not, nat_lt, List, [], ◌∷◌, ◌++◌, Ok, length, length-append, ap, append_assoc, refl, sym, ◌∙◌, arith}
 use Rattle.std.specs.List.{list_all}
 use Rattle.std.proofs.lemmas.Bool.{lt-leb}
 use Rattle.model_words.proofs.Chains.{refuse_if_went}
@@ -48,6 +48,10 @@ pub line_fault : (text line rest : List ℕ) (draft : Draft) (fault : LineFault)
 line_fault text line rest draft (LineKind kind) is going refused = λ number more. line_step_more text _ rest _ _ more is.lines going
     ∙ ap (after_line number (text_lines (rest ++ more))) (fields_taken _ _ is.short is.printable ∙ refused)
 line_fault text line rest draft LineMemory is going h = tt
+
+-- what is behind a line and its end is shorter
+pub behind_shorter : (text line rest : List ℕ) → text ≡ line ++ 10 ∷ rest → length rest < length text
+behind_shorter text line rest is = omega (arith, ap (λ (l : List ℕ). length l) is, length-append line (10 ∷ rest))
 
 -- a text that begins with the spelling of a line that is taken is read on from behind the line's end
 pub spelt_line_taken : (text line rest : List ℕ) (draft draft' : Draft) → text ≡ line ++ 10 ∷ rest → has_ended draft.section ≡ false

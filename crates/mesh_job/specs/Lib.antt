@@ -3,6 +3,7 @@ pub mod Faults
 pub mod Job
 pub mod Scripts
 pub mod Taken
+pub mod Takes
 pub use Rattle.model_words.specs.Commands
 pub use Rattle.model_jobs.specs.JobFiles
 pub use Rattle.model_jobs.specs.Jobs

@@ -1,10 +1,10 @@
 //! The job as far as its file was read, line by line.
-ghost use Rattle.std.specs.Prelude.{◌≡◌, ◌<◌, true, false, Ok, Err, length, OnOk, IfOk, IfErr, IfSome, IsNone};
+ghost use Rattle.std.specs.Prelude.{◌≡◌, true, false, Ok, Err, OnOk, IfErr};
 ghost use Rattle.std.specs.List.{list_any};
 ghost use Rattle.model_jobs.specs.JobFiles.{blank_draft, has_ended, is_empty, job_of, plan_line, script_line, take_fields, take_in, version_of};
-ghost use Rattle.mesh_fields.specs.Lines.{IsPartOfLine, texts};
+ghost use Rattle.mesh_fields.specs.Lines.{texts};
 ghost use Rattle.mesh_job.specs.Draft.{IsDraft, draft_of, is_behind_sizes, is_in_header, is_in_script, number_field_in, section_of};
-ghost use Rattle.mesh_lines.specs.Reading.{IsFaultOfLine, IsFaultOfStep, IsReadOn};
+ghost use Rattle.mesh_job.specs.Takes.{HasTakenLine, HasTakenQuickLine, IsMadeBy, IsMadeInPlaceBy};
 
 use crate::script::{close_script, push_line};
 use crate::{Job, Plan, PlanLine, Script, Scripts};
@@ -100,11 +100,7 @@ impl Draft {
     pub(crate) fn take_line<'a>(&mut self, text: &'a [u8]) -> Result<Option<&'a [u8]>, LineFault>
         requires draft { IsDraft self.old }
         requires going { has_ended (draft_of self.old).section ≡ false }
-        ensures draft { OnOk result (IsDraft self.new) }
-        ensures shorter { IfOk result (λ next. IfSome next (λ rest. length rest.now < length text.now)) }
-        ensures ok { IfOk result (λ next. IfSome next (λ rest. IsReadOn (draft_of self.old) text.now (draft_of self.new) rest.now)) }
-        ensures part { IfOk result (λ next. IsNone next → IsPartOfLine text.now × (self.new ≡ self.old)) }
-        ensures err { IfErr result (λ fault. IsFaultOfLine (draft_of self.old) text.now fault) }
+        ensures { HasTakenLine self.old self.new text.now result }
     {
         if let Some(rest) = self.take_quick_line(text)? {
             return Ok(Some(rest));
@@ -116,11 +112,7 @@ impl Draft {
     fn take_few_fields<'a>(&mut self, text: &'a [u8]) -> Result<Option<&'a [u8]>, LineFault>
         requires draft { IsDraft self.old }
         requires going { has_ended (draft_of self.old).section ≡ false }
-        ensures draft { OnOk result (IsDraft self.new) }
-        ensures shorter { IfOk result (λ next. IfSome next (λ rest. length rest.now < length text.now)) }
-        ensures ok { IfOk result (λ next. IfSome next (λ rest. IsReadOn (draft_of self.old) text.now (draft_of self.new) rest.now)) }
-        ensures part { IfOk result (λ next. IsNone next → IsPartOfLine text.now × (self.new ≡ self.old)) }
-        ensures err { IfErr result (λ fault. IsFaultOfLine (draft_of self.old) text.now fault) }
+        ensures { HasTakenLine self.old self.new text.now result }
     {
         let mut few = FewFields::new();
         if let Some(rest) = few_fields(text, &mut few) {
@@ -134,11 +126,7 @@ impl Draft {
     fn take_all_fields<'a>(&mut self, text: &'a [u8]) -> Result<Option<&'a [u8]>, LineFault>
         requires draft { IsDraft self.old }
         requires going { has_ended (draft_of self.old).section ≡ false }
-        ensures draft { OnOk result (IsDraft self.new) }
-        ensures shorter { IfOk result (λ next. IfSome next (λ rest. length rest.now < length text.now)) }
-        ensures ok { IfOk result (λ next. IfSome next (λ rest. IsReadOn (draft_of self.old) text.now (draft_of self.new) rest.now)) }
-        ensures part { IfOk result (λ next. IsNone next → IsPartOfLine text.now × (self.new ≡ self.old)) }
-        ensures err { IfErr result (λ fault. IsFaultOfLine (draft_of self.old) text.now fault) }
+        ensures { HasTakenLine self.old self.new text.now result }
     {
         let Some((line, rest)) = next_line(text)? else {
             return Ok(None);
@@ -153,10 +141,7 @@ impl Draft {
     #[inline]
     fn take_quick_line<'a>(&mut self, text: &'a [u8]) -> Result<Option<&'a [u8]>, AllocError>
         requires draft { IsDraft self.old }
-        ensures draft { OnOk result (IsDraft self.new) }
-        ensures shorter { IfOk result (λ next. IfSome next (λ rest. length rest.now < length text.now)) }
-        ensures some { IfOk result (λ next. IfSome next (λ rest. IsReadOn (draft_of self.old) text.now (draft_of self.new) rest.now)) }
-        ensures none { IfOk result (λ next. IsNone next → self.new ≡ self.old) }
+        ensures { HasTakenQuickLine self.old self.new text.now result }
     {
         match self.section {
             Section::Worker(_) => self.take_quick_command(text),
@@ -170,10 +155,7 @@ impl Draft {
     fn take_quick_command<'a>(&mut self, text: &'a [u8]) -> Result<Option<&'a [u8]>, AllocError>
         requires draft { IsDraft self.old }
         requires section { is_in_script self.old.section ≡ true }
-        ensures draft { OnOk result (IsDraft self.new) }
-        ensures shorter { IfOk result (λ next. IfSome next (λ rest. length rest.now < length text.now)) }
-        ensures some { IfOk result (λ next. IfSome next (λ rest. IsReadOn (draft_of self.old) text.now (draft_of self.new) rest.now)) }
-        ensures none { IfOk result (λ next. IsNone next → self.new ≡ self.old) }
+        ensures { HasTakenQuickLine self.old self.new text.now result }
     {
         lines_read_back();
         let Some((command, rest)) = quick_command(text) else {
@@ -188,10 +170,7 @@ impl Draft {
     fn take_quick_call<'a>(&mut self, text: &'a [u8]) -> Result<Option<&'a [u8]>, AllocError>
         requires draft { IsDraft self.old }
         requires section { self.old.section ≡ Section.Plan }
-        ensures draft { OnOk result (IsDraft self.new) }
-        ensures shorter { IfOk result (λ next. IfSome next (λ rest. length rest.now < length text.now)) }
-        ensures some { IfOk result (λ next. IfSome next (λ rest. IsReadOn (draft_of self.old) text.now (draft_of self.new) rest.now)) }
-        ensures none { IfOk result (λ next. IsNone next → self.new ≡ self.old) }
+        ensures { HasTakenQuickLine self.old self.new text.now result }
     {
         lines_read_back();
         let Some((line, rest)) = quick_line(text, self.version, self.workers) else {
@@ -205,9 +184,7 @@ impl Draft {
     fn take(&mut self, fields: &[&[u8]]) -> Result<(), LineFault>
         requires draft { IsDraft self.old }
         requires filled { list_any is_empty (texts fields.now) ≡ false }
-        ensures draft { OnOk result (IsDraft self.new) }
-        ensures ok { OnOk result (take_fields (draft_of self.old) (texts fields.now) ≡ Ok (draft_of self.new)) }
-        ensures err { IfErr result (IsFaultOfStep (take_fields (draft_of self.old) (texts fields.now))) }
+        ensures { IsMadeBy (take_fields (draft_of self.old) (texts fields.now)) self.new result }
     {
         let [word, fields @ ..] = fields else {
             return Err(LineFault::Kind(FaultKind::Word));
@@ -223,9 +200,7 @@ impl Draft {
     fn take_header(&mut self, word: &[u8], fields: &[&[u8]]) -> Result<(), FaultKind>
         requires draft { IsDraft self.old }
         requires section { is_in_header self.old.section ≡ true }
-        ensures draft { OnOk result (IsDraft self.new) }
-        ensures ok { OnOk result (take_in (section_of self.old.section) (draft_of self.old) word.now (texts fields.now) ≡ Ok (draft_of self.new)) }
-        ensures err { IfErr result (λ kind. take_in (section_of self.old.section) (draft_of self.old) word.now (texts fields.now) ≡ Err kind) }
+        ensures { IsMadeInPlaceBy (take_in (section_of self.old.section) (draft_of self.old) word.now (texts fields.now)) self.new result }
     {
         match self.section {
             Section::Version => {
@@ -249,9 +224,7 @@ impl Draft {
     fn take_workers(&mut self, word: &[u8], fields: &[&[u8]]) -> Result<(), FaultKind>
         requires draft { IsDraft self.old }
         requires section { is_behind_sizes self.old.section ≡ true }
-        ensures draft { OnOk result (IsDraft self.new) }
-        ensures ok { OnOk result (take_in (section_of self.old.section) (draft_of self.old) word.now (texts fields.now) ≡ Ok (draft_of self.new)) }
-        ensures err { IfErr result (λ kind. take_in (section_of self.old.section) (draft_of self.old) word.now (texts fields.now) ≡ Err kind) }
+        ensures { IsMadeInPlaceBy (take_in (section_of self.old.section) (draft_of self.old) word.now (texts fields.now)) self.new result }
     {
         match self.section {
             Section::Workers => {
@@ -276,9 +249,7 @@ impl Draft {
     ) -> Result<(), LineFault>
         requires section { self.old.section ≡ Section.Worker worker }
         requires draft { IsDraft self.old }
-        ensures draft { OnOk result (IsDraft self.new) }
-        ensures ok { OnOk result (script_line (draft_of self.old) worker word.now (texts fields.now) ≡ Ok (draft_of self.new)) }
-        ensures err { IfErr result (IsFaultOfStep (script_line (draft_of self.old) worker word.now (texts fields.now))) }
+        ensures { IsMadeBy (script_line (draft_of self.old) worker word.now (texts fields.now)) self.new result }
     {
         let next = worker + 1;
         if is_word(word, b"worker") && next < self.workers {
@@ -299,9 +270,7 @@ impl Draft {
     fn take_in_plan(&mut self, word: &[u8], fields: &[&[u8]]) -> Result<(), LineFault>
         requires section { self.old.section ≡ Section.Plan }
         requires draft { IsDraft self.old }
-        ensures draft { OnOk result (IsDraft self.new) }
-        ensures ok { OnOk result (plan_line (draft_of self.old) word.now (texts fields.now) ≡ Ok (draft_of self.new)) }
-        ensures err { IfErr result (IsFaultOfStep (plan_line (draft_of self.old) word.now (texts fields.now))) }
+        ensures { IsMadeBy (plan_line (draft_of self.old) word.now (texts fields.now)) self.new result }
     {
         if is_word(word, b"end") {
             no_field(fields)?;

@@ -1,12 +1,11 @@
-use Rattle.std.proofs.Common.{◌≡◌, ◌≤◌, ◌-◌, arith, drop, false, get_or, length, subst, sym, take, ℕ, List, [], ◌∷◌, Bor, Ok, Result}
+use Rattle.std.proofs.Common.{◌≡◌, ◌≤◌, ◌-◌, arith, drop, false, get_or, length, subst, sym, take, ℕ, List, [], ◌∷◌, Bor, Result}
 use Rattle.std.proofs.lemmas.List.{take_all}
 use Rattle.std.specs.List.{list_any}
-use Rattle.std.specs.Prelude.{IfErr, OnOk}
 use Rattle.model_jobs.specs.JobFiles.{Draft as PlainDraft, is_empty, take_fields, take_in}
 use Rattle.model_words.specs.declared.faults.FaultKind.{FaultKind}
 use Rattle.mesh_fields.specs.Lines.{texts}
 use Rattle.mesh_job.specs.Draft.{draft_of, section_of}
-use Rattle.mesh_lines.specs.Reading.{IsFaultOfStep}
+use Rattle.mesh_job.specs.Takes.{IsMadeBy}
 use Rattle.mesh_job.specs.declared.draft.Draft.{Draft}
 use Rattle.mesh_job.specs.declared.draft.Section.{Section}
 use Rattle.mesh_job.proofs.draft.Draft.take.Goals as goal
@@ -18,25 +17,15 @@ taken : (d : Draft) (all : List (Bor (List ℕ))) (other : Bor (List ℕ)) (sect
 taken d [] other section some filled is = absurd (omega (arith, some))
 taken d (word ∷ rest) other section some filled is = grind (arith, take_all)
 
-pub returns-in-Worker-clause-ok : goal.returns-in-Worker-clause-ok
-returns-in-Worker-clause-ok c =
+pub returns-in-Worker : goal.returns-in-Worker
+returns-in-Worker c =
     let is = taken c.args.self.now c.args.fields.now _ _ c.in-len1-up.len_at_least c.requires.filled c.in-Worker.is in
-    subst (λ (read : Result PlainDraft FaultKind). OnOk c.take_in_script.result (read ≡ Ok (draft_of c.take_in_script.new.self))) (sym is) c.take_in_script.ensures.ok
+    subst (λ (step : Result PlainDraft FaultKind). IsMadeBy step c.take_in_script.new.self c.take_in_script.result) (sym is) c.take_in_script.ensures
 
-pub returns-in-Worker-clause-err : goal.returns-in-Worker-clause-err
-returns-in-Worker-clause-err c =
-    let is = taken c.args.self.now c.args.fields.now _ _ c.in-len1-up.len_at_least c.requires.filled c.in-Worker.is in
-    subst (λ (read : Result PlainDraft FaultKind). IfErr c.take_in_script.result (IsFaultOfStep read)) (sym is) c.take_in_script.ensures.err
-
-pub returns-in-Plan-clause-ok : goal.returns-in-Plan-clause-ok
-returns-in-Plan-clause-ok c =
+pub returns-in-Plan : goal.returns-in-Plan
+returns-in-Plan c =
     let is = taken c.args.self.now c.args.fields.now _ _ c.in-len1-up.len_at_least c.requires.filled c.in-Plan.is in
-    subst (λ (read : Result PlainDraft FaultKind). OnOk c.take_in_plan.result (read ≡ Ok (draft_of c.take_in_plan.new.self))) (sym is) c.take_in_plan.ensures.ok
-
-pub returns-in-Plan-clause-err : goal.returns-in-Plan-clause-err
-returns-in-Plan-clause-err c =
-    let is = taken c.args.self.now c.args.fields.now _ _ c.in-len1-up.len_at_least c.requires.filled c.in-Plan.is in
-    subst (λ (read : Result PlainDraft FaultKind). IfErr c.take_in_plan.result (IsFaultOfStep read)) (sym is) c.take_in_plan.ensures.err
+    subst (λ (step : Result PlainDraft FaultKind). IsMadeBy step c.take_in_plan.new.self c.take_in_plan.result) (sym is) c.take_in_plan.ensures
 
 pub returns-in_ok-take_header-in_default-section : goal.returns-in_ok-take_header-in_default-section
 returns-in_ok-take_header-in_default-section c = grind (arith, taken)

@@ -6,8 +6,12 @@ use Rattle.mesh_job.specs.Draft.{draft_of}
 use Rattle.mesh_job.proofs.ScriptLines.{command_taken}
 use Rattle.mesh_job.proofs.draft.Draft.take_in_script.Goals as goal
 
-pub returns-in_ok-push_line-clause-ok : goal.returns-in_ok-push_line-clause-ok
-returns-in_ok-push_line-clause-ok c =
+pub returns-in_ok-push_line : goal.returns-in_ok-push_line
+returns-in_ok-push_line c =
     let no_worker : (are_same c.args.word.now (codes "worker") && nat_lt (c.args.worker + 1) c.args.self.now.workers) ≡ false = search (rules, tests) in
     let no_plan : (are_same c.args.word.now (codes "plan") && nat_eq (c.args.worker + 1) c.args.self.now.workers) ≡ false = search (rules, tests) in
-    command_taken (draft_of c.args.self.now) c.args.worker c.args.word.now (texts c.args.fields.now) _ no_worker no_plan c.in_ok-push_line.ensures.ok
+    record {
+      draft = search rules;
+      ok = command_taken (draft_of c.args.self.now) c.args.worker c.args.word.now (texts c.args.fields.now) _ no_worker no_plan c.in_ok-push_line.ensures.ok;
+      err = tt;
+    }

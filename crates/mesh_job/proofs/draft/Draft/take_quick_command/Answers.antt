@@ -7,7 +7,7 @@ use Rattle.mesh_job.specs.declared.draft.Section.{Section}
 use Rattle.mesh_job.specs.declared.draft.Section.TheVariants.{Version, Pages, History, Workers, FirstWorker, Worker, Plan, Ended}
 use Rattle.mesh_lines.specs.Reading.{IsReadOn}
 use Rattle.mesh_job.proofs.ScriptLines.{valid_in_range}
-use Rattle.mesh_job.proofs.TextLines.{spelt_line_taken}
+use Rattle.mesh_job.proofs.TextLines.{behind_shorter, spelt_line_taken}
 use Rattle.mesh_job.proofs.draft.Draft.take_quick_command.Goals as goal
 
 -- a section of commands as the definitions have it
@@ -28,9 +28,14 @@ in_script Ended is = absurd (true≢false (sym is))
 pub push-requires : goal.push-requires
 push-requires c = valid_in_range c.args.self.now.version c.in-Some.command (c.in-Some.ensures.valid c.args.self.now.version)
 
-pub returns-clause-some : goal.returns-clause-some
-returns-clause-some c =
+pub returns : goal.returns
+returns c =
     let here = in_script _ c.requires.section in
     let taken = c.lines_read_back.ensures.command (draft_of c.args.self.now) here.worker c.in-Some.command here.is (c.in-Some.ensures.valid c.args.self.now.version) in
-    subst (λ (script : List Command). IsReadOn (draft_of c.args.self.now) c.args.text.now (record (draft_of c.args.self.now) { script = script }) c.in-Some.rest.now)
-    (sym (search rules)) (spelt_line_taken _ _ _ _ _ c.in-Some.ensures.spelt (ap has_ended here.is) taken)
+    record {
+      draft = search rules;
+      shorter = behind_shorter _ _ _ c.in-Some.ensures.spelt;
+      some = subst (λ (script : List Command). IsReadOn (draft_of c.args.self.now) c.args.text.now (record (draft_of c.args.self.now) { script = script }) c.in-Some.rest.now)
+          (sym (search rules)) (spelt_line_taken _ _ _ _ _ c.in-Some.ensures.spelt (ap has_ended here.is) taken);
+      none = search rules;
+    }

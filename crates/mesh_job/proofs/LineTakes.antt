@@ -1,0 +1,14 @@
+-- A line that has a fault, which is handed on.
+use Rattle.std.proofs.Common.{◌≡◌, List, ℕ, Option, Result, Ok, Err, IsErrAnd, Bor, sym, subst}
+use Rattle.mesh_job.specs.Draft.{draft_of}
+use Rattle.mesh_job.specs.Takes.{HasTakenLine}
+use Rattle.mesh_job.specs.declared.draft.Draft.{Draft}
+use Rattle.mesh_lines.specs.Reading.{IsFaultOfLine}
+use Rattle.mesh_lines.specs.declared.faults.LineFault.{LineFault}
+
+-- the line's fault is what is answered of it
+pub line_refused : (old new : Draft) (text : List ℕ) (result : Result (Option (Bor (List ℕ))) LineFault) (fault : LineFault)
+    → IsErrAnd result (λ handed. handed ≡ fault) → IsFaultOfLine (draft_of old) text fault → HasTakenLine old new text result
+line_refused old new text (Ok next) fault handed found = absurd handed
+line_refused old new text (Err kept) fault handed found =
+    record { draft = tt; shorter = tt; ok = tt; part = tt; err = subst (IsFaultOfLine (draft_of old) text) (sym handed) found }
