@@ -16,7 +16,7 @@ use Rattle.mesh_answer_text.specs.Answers.{count_told, step_told}
 use Rattle.mesh_steps.specs.Heap.{arena_of}
 use Rattle.mesh_page_heap.specs.PageHeap.{counts_told}
 use Rattle.mesh_page_heap.specs.declared.answers.Report.{Report}
-use Rattle.mesh_text.specs.Turns.{IsAt, IsCall, IsNextAt, IsReport}
+use Rattle.mesh_text.specs.Turns.{IsAt, IsCall, IsNextAt}
 
 -- where a job stands after a call that left this table
 stands_after : (job : Job) (state : State) (old new : Book) (places : List ℕ) → IsAt job state old places → KeepsBook old new
@@ -60,7 +60,9 @@ pub look_call : (what : Table → Answer) (book : Book) (given : Answer) → giv
 look_call what book given is job state places at = record { answer_is = is ∙ ap what at.table; at = at }
 
 -- what a book counts is what a job counts
-pub report_call : (book : Book) (report : Report) → counts_told report ≡ report_of (length (arena_of book.heap)) (table_of_book book) → IsReport book (Reported (counts_told report))
+pub report_call : (book : Book) (report : Report) → counts_told report ≡ report_of (length (arena_of book.heap)) (table_of_book book)
+    → (job : Job) (state : State) (places : List ℕ) → IsAt job state book places
+    → IsNextAt job (told state (Reported (report_of job.pages state.table))) book places (Reported (counts_told report))
 report_call book report is job state places at = record {
   answer_is = ap Reported (is ∙ ap (λ n. report_of n (table_of_book book)) at.pages ∙ ap (λ t. report_of job.pages t) at.table);
   at = at;

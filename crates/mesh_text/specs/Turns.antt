@@ -44,11 +44,6 @@ pub record IsTold (job : Job) (next : Next) (book : Book) (places : List ℕ) (t
 abbrev pub IsCall : (State → Next) → Book → Book → Answer → Type 0
 IsCall call old new given = (job : Job) (state : State) (places : List ℕ) → IsAt job state old places → IsNextAt job (call state) new places given
 
--- wherever a job stands, this is the answer to a report
-abbrev pub IsReport : Book → Answer → Type 0
-IsReport book given = (job : Job) (state : State) (places : List ℕ) → IsAt job state book places
-    → IsNextAt job (told state (Reported (report_of job.pages state.table))) book places given
-
 -- the lines of answers, each with its end
 abbrev pub lines_of : List Answer → List ℕ
 lines_of answers = flat_map (λ a. ended (answer_text a)) answers

@@ -1,18 +1,15 @@
 //! A mesher's calls of a book, as the lines of a plan ask for them.
 ghost use Rattle.std.specs.Prelude.{◌≡◌, IfOk};
-ghost use Rattle.model_jobs.specs.Jobs.{PagesMeshed, PagesSwept, PairsFound, Reported, StepsLeft, busy_in, counted, step_answered, told};
-ghost use Rattle.model_heap.specs.Mesh.{begin, cancel, first_mesh, mesh_in, mesh_whole, step};
+ghost use Rattle.model_jobs.specs.Jobs.{PagesMeshed, PairsFound, StepsLeft, busy_in, counted, step_answered, told};
+ghost use Rattle.model_heap.specs.Mesh.{begin, cancel, first_mesh, mesh_whole, step};
 ghost use Rattle.model_search.specs.Search.{search, view_of};
-ghost use Rattle.model_heap.specs.Table.{sweep};
-ghost use Rattle.mesh_page_heap.specs.PageHeap.{counts_told};
 ghost use Rattle.mesh_answer_text.specs.Answers.{count_told, step_told};
-ghost use Rattle.mesh_text.specs.Turns.{IsCall, IsReport};
+ghost use Rattle.mesh_text.specs.Turns.{IsCall};
 
-use mesh_class::Class;
 use mesh_job::Search;
 use mesh_mutator::Book;
 use mesh_search::{Found, search_one};
-use mesh_steps::{Report, StepDone};
+use mesh_steps::StepDone;
 use model_words::{Refusal, Version};
 use std::alloc::{AllocError, Global};
 
@@ -44,16 +41,9 @@ pub(crate) fn step_first(book: &mut Book) -> Result<StepDone, Refusal>
     ensures { IsCall (λ state. step_answered state (step state.table (first_mesh state.table))) book.old book.new (step_told result) }
 {
     match book.first_running() {
-        Some(class) => step(book, class),
+        Some(class) => book.step(class),
         None => Err(Refusal::NoMesh),
     }
-}
-
-/// Makes the next step of the mesh of a class.
-pub(crate) fn step(book: &mut Book, class: Class) -> Result<StepDone, Refusal>
-    ensures { IsCall (λ state. step_answered state (step state.table (mesh_in state.table class))) book.old book.new (step_told result) }
-{
-    book.step(class)
 }
 
 /// Cancels the first running mesh.
@@ -61,16 +51,9 @@ pub(crate) fn cancel_first(book: &mut Book) -> Result<u32, Refusal>
     ensures { IsCall (λ state. counted state StepsLeft (cancel state.table (first_mesh state.table))) book.old book.new (count_told StepsLeft result) }
 {
     match book.first_running() {
-        Some(class) => cancel(book, class),
+        Some(class) => book.cancel(class),
         None => Err(Refusal::NoMesh),
     }
-}
-
-/// Cancels the mesh of a class.
-pub(crate) fn cancel(book: &mut Book, class: Class) -> Result<u32, Refusal>
-    ensures { IsCall (λ state. counted state StepsLeft (cancel state.table (mesh_in state.table class))) book.old book.new (count_told StepsLeft result) }
-{
-    book.cancel(class)
 }
 
 /// Meshes two groups by all steps. What is in the way is as in `begin`.
@@ -86,18 +69,4 @@ pub(crate) fn whole(
         Version::One => book.whole_alone(source, destination),
         Version::Two => book.mesh_whole(source, destination),
     }
-}
-
-/// Gives an empty group's pages back.
-pub(crate) fn sweep(book: &mut Book, group: u32) -> Result<u32, Refusal>
-    ensures { IsCall (λ state. counted state PagesSwept (sweep state.table group)) book.old book.new (count_told PagesSwept result) }
-{
-    book.sweep(group)
-}
-
-/// What the heap counts.
-pub(crate) fn report(book: &Book) -> Report
-    ensures { IsReport book.now (Reported (counts_told result)) }
-{
-    book.report()
 }

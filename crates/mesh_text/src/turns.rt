@@ -7,7 +7,7 @@ ghost use Rattle.mesh_lines.specs.Plan.{line_of};
 ghost use Rattle.model_jobs.specs.Texts.{ended};
 ghost use Rattle.mesh_text.specs.Turns.{IsAt, IsTold, StandsBehind, book_of, lines_up_to, places_of, worker_count};
 
-use crate::mesher::{begin, cancel, cancel_first, pair, report, step, step_first, sweep, whole};
+use crate::mesher::{begin, cancel_first, pair, step_first, whole};
 use mesh_answer_text::{add_counted, add_found, add_reply, add_report, add_step};
 use mesh_job::{Job, PlanLine, Script};
 use mesh_mutator::{Attempt, Book};
@@ -108,8 +108,8 @@ impl Turns {
             ),
             PlanLine::Step => add_step(text, step_first(book)),
             PlanLine::Cancel => add_counted(text, b"left ", cancel_first(book)),
-            PlanLine::StepClass(class) => add_step(text, step(book, *class)),
-            PlanLine::CancelClass(class) => add_counted(text, b"left ", cancel(book, *class)),
+            PlanLine::StepClass(class) => add_step(text, book.step(*class)),
+            PlanLine::CancelClass(class) => add_counted(text, b"left ", book.cancel(*class)),
             PlanLine::Whole {
                 source,
                 destination,
@@ -118,8 +118,8 @@ impl Turns {
                 b"meshed ",
                 whole(book, job.version, *source, *destination),
             ),
-            PlanLine::Sweep(group) => add_counted(text, b"swept ", sweep(book, *group)),
-            PlanLine::Report => add_report(text, report(book)),
+            PlanLine::Sweep(group) => add_counted(text, b"swept ", book.sweep(*group)),
+            PlanLine::Report => add_report(text, book.report()),
         }
     }
 
