@@ -12,7 +12,7 @@ mod roots;
 
 pub use attempts::Attempt;
 pub use book::Book;
-pub use entry::{Entry, command_again, reply_again};
+pub use entry::Entry;
 pub use journal::Journal;
 pub use model_words::{Command, Refusal, Reply};
 pub use roots::Roots;

@@ -2,7 +2,7 @@
 ghost use Rattle.std.specs.Prelude.{◌≡◌};
 ghost use Rattle.model_memory.specs.Reads.{is_read};
 
-use mesh_mutator::{Command, Reply, command_again, reply_again};
+use mesh_mutator::{Command, Reply};
 use std::marker::Model;
 
 /// One call of a seat: the command, its answer, and of a read how many entries the journal had that it saw.
@@ -31,8 +31,8 @@ impl Kept {
         ensures { result ≡ record { command = command.now; reply = reply.now; seen = seen } }
     {
         Kept {
-            command: command_again(command),
-            reply: reply_again(reply),
+            command: command.copied(),
+            reply: reply.copied(),
             seen,
         }
     }

@@ -34,6 +34,27 @@ pub enum Command {
     Copy(u8, u32, u8, u32, u32),
 }
 
+impl Command {
+    /// The same command. It takes no memory.
+    pub fn copied(&self) -> Command
+        ensures { result ≡ self.now }
+    {
+        match self {
+            Command::New(cell, len, word) => Command::New(*cell, *len, *word),
+            Command::Put(cell, off, bytes) => Command::Put(*cell, *off, copied_bytes(bytes)),
+            Command::Get(cell, off, len) => Command::Get(*cell, *off, *len),
+            Command::Free(cell) => Command::Free(*cell),
+            Command::Alias(to, from) => Command::Alias(*to, *from),
+            Command::Addr(cell) => Command::Addr(*cell),
+            Command::Peek(addr) => Command::Peek(*addr),
+            Command::Poke(addr, byte) => Command::Poke(*addr, *byte),
+            Command::Copy(to, to_off, from, from_off, len) => {
+                Command::Copy(*to, *to_off, *from, *from_off, *len)
+            }
+        }
+    }
+}
+
 impl Clone for Command {
     ghost is_clone = { λ command copy. copy ≡ command };
 
@@ -41,22 +62,7 @@ impl Clone for Command {
 
     /// The same command. It takes no memory.
     fn clone(&self) -> Result<Command, AllocError> {
-        match self {
-            Command::New(cell, len, word) => Ok(Command::New(*cell, *len, *word)),
-            Command::Put(cell, off, bytes) => {
-                let bytes = bytes.clone()?;
-                Ok(Command::Put(*cell, *off, bytes))
-            }
-            Command::Get(cell, off, len) => Ok(Command::Get(*cell, *off, *len)),
-            Command::Free(cell) => Ok(Command::Free(*cell)),
-            Command::Alias(to, from) => Ok(Command::Alias(*to, *from)),
-            Command::Addr(cell) => Ok(Command::Addr(*cell)),
-            Command::Peek(addr) => Ok(Command::Peek(*addr)),
-            Command::Poke(addr, byte) => Ok(Command::Poke(*addr, *byte)),
-            Command::Copy(to, to_off, from, from_off, len) => {
-                Ok(Command::Copy(*to, *to_off, *from, *from_off, *len))
-            }
-        }
+        Ok(self.copied())
     }
 }
 
@@ -77,6 +83,22 @@ pub enum Reply {
     Refused(Refusal),
 }
 
+impl Reply {
+    /// The same reply. It takes no memory.
+    pub fn copied(&self) -> Reply
+        ensures { result ≡ self.now }
+    {
+        match self {
+            Reply::Object(serial, addr) => Reply::Object(*serial, *addr),
+            Reply::Done => Reply::Done,
+            Reply::Bytes(bytes) => Reply::Bytes(copied_bytes(bytes)),
+            Reply::At(addr) => Reply::At(*addr),
+            Reply::Byte(byte) => Reply::Byte(*byte),
+            Reply::Refused(refusal) => Reply::Refused(*refusal),
+        }
+    }
+}
+
 impl Clone for Reply {
     ghost is_clone = { λ reply copy. copy ≡ reply };
 
@@ -84,18 +106,17 @@ impl Clone for Reply {
 
     /// The same reply. It takes no memory.
     fn clone(&self) -> Result<Reply, AllocError> {
-        match self {
-            Reply::Object(serial, addr) => Ok(Reply::Object(*serial, *addr)),
-            Reply::Done => Ok(Reply::Done),
-            Reply::Bytes(bytes) => {
-                let bytes = bytes.clone()?;
-                Ok(Reply::Bytes(bytes))
-            }
-            Reply::At(addr) => Ok(Reply::At(*addr)),
-            Reply::Byte(byte) => Ok(Reply::Byte(*byte)),
-            Reply::Refused(refusal) => Ok(Reply::Refused(*refusal)),
-        }
+        Ok(self.copied())
     }
+}
+
+/// The same bytes. It takes no memory.
+fn copied_bytes(bytes: &ArrayVec<u8, MAX_BYTES>) -> ArrayVec<u8, MAX_BYTES>
+    ensures { result ≡ bytes.now }
+{
+    let mut copy = ArrayVec::new();
+    copy.try_extend_from_slice(bytes.as_slice()).unwrap();
+    copy
 }
 
 /// The kinds of step of a running mesh, in their order. The order is this project's own choice.

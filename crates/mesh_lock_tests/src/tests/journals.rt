@@ -3,7 +3,7 @@ ghost use Rattle.model_words.specs.Commands.{IsInRange};
 
 use crate::tests::calls::{Answer, Call, command_of, reply_of};
 use crate::tests::check_that;
-use mesh_mutator::{Attempt, Book, Command, Entry, Journal, Reply, reply_again};
+use mesh_mutator::{Attempt, Book, Command, Entry, Journal, Reply};
 use model_words::Refusal;
 use std::process::Abort;
 
@@ -38,7 +38,7 @@ fn check_entry(rt: &impl Abort, book: &mut Book, command: &Command, reply: &Repl
 {
     let attempt = book.act(7, command);
     assert!(rt;
-        attempt == Attempt::Done(reply_again(reply)),
+        attempt == Attempt::Done(reply.copied()),
         "of {command:?}"
     );
     check_last(rt, book.journal(), command, reply);
