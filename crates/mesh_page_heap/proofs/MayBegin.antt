@@ -24,10 +24,11 @@ use Rattle.mesh_spans.specs.Groups.{first_of, table_group}
 use Rattle.mesh_spans.specs.Index.{GroupEntry, Index, IsIndex, group_at}
 use Rattle.mesh_page_heap.specs.Meshes.{IsPair, busy_by}
 use Rattle.mesh_page_heap.specs.PageHeap.{PageHeap, table_in}
-use Rattle.mesh_page_heap.specs.StepOrders.{IsStepOrderOf, order_steps}
+use Rattle.mesh_page_heap.specs.StepOrders.{IsStepOrderOf}
 use Rattle.mesh_page_heap.specs.declared.busy.Busy.{Busy}
 use Rattle.mesh_page_heap.specs.declared.busy.Busy.TheVariants.{Any, OfClass}
-use Rattle.mesh_page_heap.specs.declared.step_order.StepOrder.{StepOrder}
+use Rattle.mesh_running.specs.StepOrders.{order_steps}
+use Rattle.mesh_running.specs.declared.step_order.StepOrder.{StepOrder}
 
 -- a group of the index inside is one of the page heap that is seen
 pub group_seen : (inside seen : PageHeap) (n : ℕ) (o : Option GroupEntry) → inside ≡ seen → o ≡ group_at inside.index.groups n → group_at seen.index.groups n ≡ o

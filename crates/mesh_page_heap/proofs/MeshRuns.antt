@@ -19,13 +19,14 @@ use Rattle.model_heap.specs.Table.{Made, Mesh, Progress, Unwinding}
 use Rattle.model_words.specs.declared.commands.StepKind.{StepKind}
 use Rattle.model_words.specs.declared.commands.StepKind.TheVariants.{Copy, Protect, Release, Remap, Unprotect}
 use Rattle.model_words.specs.declared.refusals.Refusal.TheVariants.{TooLate}
+use Rattle.mesh_running.specs.StepOrders.{order_steps, steps_before, steps_of}
+use Rattle.mesh_running.specs.declared.step_order.StepOrder.{StepOrder}
 use Rattle.mesh_spans.specs.Changes.{IsMergeable}
 use Rattle.mesh_spans.specs.Index.{GroupEntry, IsIndex, group_at}
 use Rattle.mesh_page_heap.specs.Meshes.{IsRunning}
 use Rattle.mesh_page_heap.specs.PageHeap.{PageHeap, table_in}
-use Rattle.mesh_page_heap.specs.StepOrders.{IsStepOrderOf, order_steps}
+use Rattle.mesh_page_heap.specs.StepOrders.{IsStepOrderOf}
 use Rattle.mesh_page_heap.specs.Steps.{HasPage, IsReady}
-use Rattle.mesh_page_heap.specs.declared.step_order.StepOrder.{StepOrder}
 
 -- a mesh that runs in a page heap
 pub record Runs (g : PageHeap) (place : ℕ) (this : Mesh) : Type 0 where
@@ -77,9 +78,13 @@ none_running inside seen class same none =
     subst (λ (g : PageHeap). mesh_in (table_in g) class ≡ None) same (position_none (λ mesh. nat_eq mesh.class class) inside.meshes none)
 
 -- the step that an order tells is the layout's
-pub step_told : (l : Layout) (n : ℕ) (order : StepOrder) (made i : ℕ) (kind : StepKind) → IsStepOrderOf l n order → IsStepAt order.total order.slots order.pages made kind i
-    → IsStepAt (page_total l n) (slots_of (l.class n)) (pages_of (l.class n)) made kind i
-step_told l n order made i kind is at = grind arith
+pub step_told : (l : Layout) (n : ℕ) (order : StepOrder) (made i : ℕ) (kind : StepKind) → IsStepOrderOf l n order → made ≡ steps_before order kind + i
+    → i < steps_of order kind → IsStepAt (page_total l n) (slots_of (l.class n)) (pages_of (l.class n)) made kind i
+step_told l n order made i Protect is number within = grind arith
+step_told l n order made i Copy is number within = grind arith
+step_told l n order made i Remap is number within = grind arith
+step_told l n order made i Unprotect is number within = grind arith
+step_told l n order made i Release is number within = grind arith
 
 -- the steps of an order, counted by the layout
 pub steps_are : (l : Layout) (n : ℕ) (order : StepOrder) → IsStepOrderOf l n order → order_steps order ≡ 3 * page_total l n + slots_of (l.class n) + pages_of (l.class n)
@@ -207,7 +212,7 @@ module _ (g : PageHeap) (place : ℕ) (this : Mesh) (runs : Runs g place this) w
   source_pages = (some_pages g.index this.source sides.a runs.index sides.source).0
 
   -- a cancel after its first remap is refused
-  pub late_cancel : (d : ℕ) (order : StepOrder) → this.progress ≡ Made d → IsStepOrderOf (layout_of g.index) this.source order → order.total + order.slots < d
+  pub late_cancel : (d : ℕ) (order : StepOrder) → this.progress ≡ Made d → IsStepOrderOf (layout_of g.index) this.source order → order.virtual_pages + order.slots < d
       → cancel (table_in g) (mesh_in (table_in g) this.class) ≡ Err TooLate
   late_cancel d order at is late = grind (arith, cancel_late)
 

@@ -1,7 +1,7 @@
 //! The page heap: physical pages, page map, span index and running meshes together, without serials and without a meaning.
 //!
 //! `PageHeap` makes, finds, reads, stores and clears what stands in slots, and begins, steps and cancels meshes. How many steps a mesh has and which is
-//! next says `StepOrder`, and what one does to pages and page map `steps`. The heap of objects that mutators use stands on it (`mesh_steps`).
+//! next says `StepOrder` of `mesh_running`, and what one does to pages and page map `steps`. The heap of objects that mutators use stands on it (`mesh_steps`).
 //!
 //! A contract sees a page heap as its physical pages, its page map, its span index, the next virtual page and the running meshes.
 #![tactic(auto)]

@@ -2,3 +2,4 @@ pub use Rattle.model_heap.specs.Mesh
 pub use Rattle.model_heap.specs.Table
 pub mod Phases
 pub mod Running
+pub mod StepOrders

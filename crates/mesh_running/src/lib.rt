@@ -5,6 +5,8 @@
 
 mod phase;
 mod running;
+mod step_order;
 
 pub use phase::Phase;
 pub use running::Running;
+pub use step_order::{KINDS, MAX_MEMBERS, StepOrder, kind_name, place_of};

@@ -11,7 +11,7 @@ ghost use Rattle.mesh_page_heap.specs.Shown.{home_at, lead_at, member_at, object
 use super::PageHeap;
 use crate::Lead;
 use crate::running::mesh_of;
-use crate::step_order::StepOrder;
+use crate::step_order::order_of;
 use mesh_pagemap::Prot;
 use mesh_running::{Phase, Running};
 use mesh_spans::{Slot, Span, Spans};
@@ -85,7 +85,7 @@ impl PageHeap {
             return 0;
         };
         match mesh.phase() {
-            Phase::Made(made) => StepOrder::of(&self.spans, n).released_after(made),
+            Phase::Made(made) => order_of(&self.spans, n).released_after(made),
             Phase::Unwinding(_, _) => 0,
         }
     }

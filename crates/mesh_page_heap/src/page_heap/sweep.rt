@@ -8,7 +8,7 @@ ghost use Rattle.mesh_page_heap.specs.Sweeps.{CanUnmap, HasGone};
 
 use super::PageHeap;
 use crate::growth::give_pages;
-use crate::step_order::StepOrder;
+use crate::step_order::order_of;
 use crate::steps::virtual_page;
 use mesh_pagemap::PageMap;
 use mesh_spans::Spans;
@@ -45,7 +45,7 @@ fn unmap_group(map: &mut PageMap, spans: &Spans, n: u32)
     requires { CanUnmap (layout_of spans.now) map.old n }
     ensures { UnmapsGroup (layout_of spans.now) map.old map.new n }
 {
-    let total = StepOrder::of(spans, n).total;
+    let total = order_of(spans, n).virtual_pages;
     'pages: for i in 0..total {
         map.unmap(virtual_page(spans, n, i));
     }

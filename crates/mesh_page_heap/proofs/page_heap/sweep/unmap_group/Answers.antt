@@ -14,7 +14,7 @@ still_mapped l m m' n i v can so_far at =
 pub unmap-requires-clause-mapped : goal.unmap-requires-clause-mapped
 unmap-requires-clause-mapped c =
     still_mapped (layout_of c.args.spans.now) c.args.map.now c.pages.map c.args.n c.pages.i c.virtual_page.result c.requires c.pages.invariant record {
-      within = subst (λ (n : ℕ). c.pages.i < n) c.of-total.ensures.of.total c.pages-test.true;
+      within = subst (λ (n : ℕ). c.pages.i < n) c.order_of-total.ensures.of.total c.pages-test.true;
       at = sym c.virtual_page.ensures.value;
     }
 
