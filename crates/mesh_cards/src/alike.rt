@@ -1,6 +1,9 @@
 //! When two frames give one picture.
-use crate::frame::{Counts, Frame, MeshProgress, RunningMesh};
+ghost use Rattle.mesh_running.specs.StepOrders.{IsStepOrder};
+
+use crate::frame::{Counts, Frame, RunningMesh};
 use crate::numbers::narrow;
+use mesh_running::{MAX_MEMBERS, Phase, StepOrder};
 use std::alloc::{AllocError, Global};
 
 /// A copy of a frame.
@@ -65,24 +68,28 @@ fn are_alike_meshes(one: &Frame, mine: &RunningMesh, other: &Frame, its: &Runnin
 /// Whether a mesh was cancelled.
 fn is_unwinding(mesh: &RunningMesh) -> bool {
     match mesh.progress {
-        MeshProgress::Made(_) => false,
-        MeshProgress::Unwinding(_, _) => true,
+        Phase::Made(_) => false,
+        Phase::Unwinding(_, _) => true,
     }
 }
 
-/// How many members a group has.
-pub fn members_of(frame: &Frame, group: u32) -> u32 {
-    narrow(frame.members.iter().filter(|m| m.group == group).count())
+/// The step order of a mesh. A source with more members than a group can have counts as one with the most.
+pub fn order_of(frame: &Frame, mesh: &RunningMesh) -> StepOrder
+    ensures { IsStepOrder result }
+{
+    let members = frame
+        .members
+        .iter()
+        .filter(|m| m.group == mesh.source)
+        .count();
+    StepOrder::new(mesh.class, members.min(MAX_MEMBERS))
 }
 
 /// How many slots of its source a mesh has copied.
 pub fn copied_slots(frame: &Frame, mesh: &RunningMesh) -> u32 {
     match mesh.progress {
-        MeshProgress::Unwinding(_, _) => 0,
-        MeshProgress::Made(made) => {
-            let pages = members_of(frame, mesh.source).saturating_mul(mesh.class.pages());
-            made.saturating_sub(pages).min(mesh.class.slots())
-        }
+        Phase::Unwinding(_, _) => 0,
+        Phase::Made(made) => order_of(frame, mesh).copied_after(made),
     }
 }
 

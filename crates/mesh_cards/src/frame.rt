@@ -1,5 +1,6 @@
 //! What a picture shows of a heap.
 use mesh_class::Class;
+use mesh_running::Phase;
 
 /// A member of a group: a span, on virtual pages of its own.
 #[derive(Clone, Copy, PartialEq, Eq)]
@@ -49,15 +50,6 @@ pub struct Home {
     pub taken: bool,
 }
 
-/// How far a running mesh has come.
-#[derive(Clone, Copy, PartialEq, Eq)]
-pub enum MeshProgress {
-    /// So many of its steps were made.
-    Made(u32),
-    /// It was cancelled, and of the so many pages that it had protected so many can be written again.
-    Unwinding(u32, u32),
-}
-
 /// A running mesh.
 #[derive(Clone, Copy, PartialEq, Eq)]
 pub struct RunningMesh {
@@ -68,7 +60,7 @@ pub struct RunningMesh {
     /// The number of the destination.
     pub destination: u32,
     /// How far it has come.
-    pub progress: MeshProgress,
+    pub progress: Phase,
 }
 
 /// How many pages a heap has.

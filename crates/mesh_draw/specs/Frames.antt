@@ -2,17 +2,16 @@
 use Rattle.std.specs.Prelude.{◌≡◌, ℕ, zero, suc, ◌+◌, not, nat_lt, List, [], ◌∷◌, ◌++◌, Option, Some, None, slice_get, length}
 use Rattle.std.specs.Option.{option_map}
 use Rattle.model_words.specs.Classes.{pages_of, slots_of}
-use Rattle.model_heap.specs.Table.{Mesh, Progress, Made, Report, Unwinding, group_of, report_of}
+use Rattle.model_heap.specs.Table.{Mesh, Report, group_of, report_of}
 use Rattle.mesh_layout.specs.Meshes.{mesh_from}
 use Rattle.mesh_steps.specs.Heap.{Heap, arena_of, index_of, map_of, table_of}
 use Rattle.mesh_page_heap.specs.Shown.{home_at, lead_at, member_at, object_at, released_of}
+use Rattle.mesh_running.specs.Phases.{phase_of}
 use Rattle.mesh_cards.specs.declared.frame.Counts.{Counts}
 use Rattle.mesh_cards.specs.declared.frame.Frame.{Frame}
 use Rattle.mesh_cards.specs.declared.frame.Home.{Home}
 use Rattle.mesh_cards.specs.declared.frame.Lead.{Lead}
 use Rattle.mesh_cards.specs.declared.frame.Member.{Member}
-use Rattle.mesh_cards.specs.declared.frame.MeshProgress.{MeshProgress}
-use Rattle.mesh_cards.specs.declared.frame.MeshProgress.TheVariants as shown
 use Rattle.mesh_cards.specs.declared.frame.Object.{Object}
 use Rattle.mesh_cards.specs.declared.frame.RunningMesh.{RunningMesh}
 
@@ -60,14 +59,9 @@ abbrev pub home_row : Heap → ℕ → ℕ → Option Home
 home_row h n i =
     option_map (λ page. record { group = n; place = i; page = page; taken = not (nat_lt i (released_in h n)) }) (home_at (index_of h) n i)
 
--- how far a mesh has come
-abbrev pub progress_row : Progress → MeshProgress
-progress_row (Made d) = shown.Made d
-progress_row (Unwinding q u) = shown.Unwinding q u
-
 -- a running mesh
 abbrev pub mesh_row : Mesh → RunningMesh
-mesh_row mesh = record { class = mesh.class; source = mesh.source; destination = mesh.destination; progress = progress_row mesh.progress }
+mesh_row mesh = record { class = mesh.class; source = mesh.source; destination = mesh.destination; progress = phase_of mesh.progress }
 
 -- how many pages a heap has
 abbrev pub counts_row : Report → Counts

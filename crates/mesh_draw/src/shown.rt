@@ -3,11 +3,11 @@ ghost use Rattle.std.specs.Prelude.{◌≡◌, ◌<◌, ◌≤◌, ◌++◌, IfO
 ghost use Rattle.std.specs.Option.{option_map};
 ghost use Rattle.model_heap.specs.Table.{report_of};
 ghost use Rattle.mesh_steps.specs.Heap.{arena_of, table_of};
-ghost use Rattle.mesh_draw.specs.Frames.{AddsGroup, IsFrame, counts_row, first_in, home_row, homes_of_class, lead_row, leads_of_class, leads_of_member, listed, listing, member_row, members_of_class, mesh_row, meshes_of, object_row, objects_of_class, objects_of_member, progress_row};
+ghost use Rattle.mesh_draw.specs.Frames.{AddsGroup, IsFrame, counts_row, first_in, home_row, homes_of_class, lead_row, leads_of_class, leads_of_member, listed, listing, member_row, members_of_class, mesh_row, meshes_of, object_row, objects_of_class, objects_of_member};
 
 use mesh_class::Class;
-use mesh_picture::{Counts, Frame, Home, Lead, Member, MeshProgress, Object, RunningMesh};
-use mesh_steps::{Heap, Phase, Running};
+use mesh_picture::{Counts, Frame, Home, Lead, Member, Object, RunningMesh};
+use mesh_steps::Heap;
 use std::alloc::{AllocError, Global};
 
 /// How many members a group has at most.
@@ -206,18 +206,8 @@ fn mesh_at(heap: &Heap, place: usize) -> Option<RunningMesh>
         class: mesh.class(),
         source: mesh.source(),
         destination: mesh.destination(),
-        progress: progress_of(mesh),
+        progress: mesh.phase(),
     })
-}
-
-/// How far a mesh has come.
-fn progress_of(mesh: Running) -> MeshProgress
-    ensures { result ≡ progress_row mesh.progress }
-{
-    match mesh.phase() {
-        Phase::Made(made) => MeshProgress::Made(made),
-        Phase::Unwinding(protected, unprotected) => MeshProgress::Unwinding(protected, unprotected),
-    }
 }
 
 /// How many pages a heap has.
