@@ -6,9 +6,10 @@ ghost use Rattle.mesh_page_heap.specs.PageHeap.{counts_told};
 ghost use Rattle.mesh_answer_text.specs.Answers.{counted_text, step_told};
 
 use super::{add_decimal, add_refusal};
+use mesh_running::kind_name;
 use mesh_search::{Found, Pair};
 use mesh_steps::{Report, StepDone};
-use model_words::{Refusal, StepKind};
+use model_words::Refusal;
 use std::alloc::AllocError;
 
 /// Adds words and the number behind them that a call answered, or its refusal.
@@ -47,13 +48,8 @@ pub fn add_step(text: &mut Vec<u8>, step: Result<StepDone, Refusal>) -> Result<(
 fn add_step_done(text: &mut Vec<u8>, step: StepDone) -> Result<(), AllocError>
     ensures { OnOk result (text.new.items ≡ text.old.items ++ (kind_text step.kind ++ field (left_text step.left))) }
 {
-    match step.kind {
-        StepKind::Protect => add_count(text, b"protect left ", step.left),
-        StepKind::Copy => add_count(text, b"copy left ", step.left),
-        StepKind::Remap => add_count(text, b"remap left ", step.left),
-        StepKind::Unprotect => add_count(text, b"unprotect left ", step.left),
-        StepKind::Release => add_count(text, b"release left ", step.left),
-    }
+    text.extend_from_slice(kind_name(step.kind).as_bytes())?;
+    add_count(text, b" left ", step.left)
 }
 
 /// Adds `found K probes Q`, and each pair behind it.
