@@ -3,7 +3,7 @@ ghost use Rattle.mesh_running.specs.StepOrders.{IsStepOrder};
 
 use crate::frame::{Counts, Frame, RunningMesh};
 use crate::numbers::narrow;
-use mesh_running::{MAX_MEMBERS, Phase, StepOrder};
+use mesh_running::{MAX_MEMBERS, Progress, StepOrder};
 use std::alloc::{AllocError, Global};
 
 /// A copy of a frame.
@@ -68,8 +68,8 @@ fn are_alike_meshes(one: &Frame, mine: &RunningMesh, other: &Frame, its: &Runnin
 /// Whether a mesh was cancelled.
 fn is_unwinding(mesh: &RunningMesh) -> bool {
     match mesh.progress {
-        Phase::Made(_) => false,
-        Phase::Unwinding(_, _) => true,
+        Progress::Made(_) => false,
+        Progress::Unwinding(_, _) => true,
     }
 }
 
@@ -88,8 +88,8 @@ pub fn order_of(frame: &Frame, mesh: &RunningMesh) -> StepOrder
 /// How many slots of its source a mesh has copied.
 pub fn copied_slots(frame: &Frame, mesh: &RunningMesh) -> u32 {
     match mesh.progress {
-        Phase::Unwinding(_, _) => 0,
-        Phase::Made(made) => order_of(frame, mesh).copied_after(made),
+        Progress::Unwinding(_, _) => 0,
+        Progress::Made(made) => order_of(frame, mesh).copied_after(made),
     }
 }
 

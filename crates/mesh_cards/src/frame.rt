@@ -1,6 +1,6 @@
 //! What a picture shows of a heap.
 use mesh_class::Class;
-use mesh_running::Phase;
+use mesh_running::Progress;
 
 /// A member of a group: a span, on virtual pages of its own.
 #[derive(Clone, Copy, PartialEq, Eq)]
@@ -60,7 +60,7 @@ pub struct RunningMesh {
     /// The number of the destination.
     pub destination: u32,
     /// How far it has come.
-    pub progress: Phase,
+    pub progress: Progress,
 }
 
 /// How many pages a heap has.

@@ -6,7 +6,7 @@ use Rattle.model_heap.specs.Table.{Mesh, Report, group_of, report_of}
 use Rattle.mesh_layout.specs.Meshes.{mesh_from}
 use Rattle.mesh_steps.specs.Heap.{Heap, arena_of, index_of, map_of, table_of}
 use Rattle.mesh_page_heap.specs.Shown.{home_at, lead_at, member_at, object_at, released_of}
-use Rattle.mesh_running.specs.Phases.{phase_of}
+use Rattle.mesh_running.specs.Progress.{stored_progress}
 use Rattle.mesh_cards.specs.declared.frame.Counts.{Counts}
 use Rattle.mesh_cards.specs.declared.frame.Frame.{Frame}
 use Rattle.mesh_cards.specs.declared.frame.Home.{Home}
@@ -61,7 +61,7 @@ home_row h n i =
 
 -- a running mesh
 abbrev pub mesh_row : Mesh → RunningMesh
-mesh_row mesh = record { class = mesh.class; source = mesh.source; destination = mesh.destination; progress = phase_of mesh.progress }
+mesh_row mesh = record { class = mesh.class; source = mesh.source; destination = mesh.destination; progress = stored_progress mesh.progress }
 
 -- how many pages a heap has
 abbrev pub counts_row : Report → Counts

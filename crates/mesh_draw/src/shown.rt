@@ -206,7 +206,7 @@ fn mesh_at(heap: &Heap, place: usize) -> Option<RunningMesh>
         class: mesh.class(),
         source: mesh.source(),
         destination: mesh.destination(),
-        progress: mesh.phase(),
+        progress: mesh.progress(),
     })
 }
 

@@ -12,7 +12,7 @@ use Rattle.model_words.specs.declared.refusals.Refusal.{Refusal}
 use Rattle.mesh_pagemap.specs.Entries.{Entries, entry_code, page_of}
 use Rattle.mesh_spans.specs.Groups.{IsPicked, is_closed}
 use Rattle.mesh_spans.specs.Index.{Index, IsRecorded, IsSpan, IsVacant, address_in, index_code, span_at}
-use Rattle.mesh_running.specs.Phases.{mesh_code}
+use Rattle.mesh_running.specs.Progress.{mesh_code}
 use Rattle.model_words.specs.declared.answers.NewFault.{NewFault}
 use Rattle.mesh_page_heap.specs.declared.answers.Report.{Report}
 use Rattle.model_words.specs.declared.answers.NewFault.TheVariants.{Memory, Refused}

@@ -16,6 +16,6 @@ mod steps;
 
 pub use answers::{Lead, Occupied, Report};
 pub use busy::Busy;
-pub use mesh_running::{Phase, Running};
+pub use mesh_running::{Progress, Running};
 pub use model_words::{NewFault, StepDone};
 pub use page_heap::PageHeap;

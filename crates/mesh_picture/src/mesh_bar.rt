@@ -7,7 +7,7 @@ use mesh_cards::layout::BAR;
 use mesh_cards::lettering::{Face, Label};
 use mesh_cards::numbers::share;
 use mesh_cards::pills::INDENT;
-use mesh_running::{KINDS, Phase, StepOrder, kind_name};
+use mesh_running::{KINDS, Progress, StepOrder, kind_name};
 use mesh_svg::{Area, Look, Text, add_rect};
 use model_words::StepKind;
 
@@ -34,11 +34,11 @@ fn draw_mesh(text: &mut Text, frame: &Frame, mesh: &RunningMesh, x: u32, y: u32,
     draw_mesh_name(text, mesh, x, y);
     let left = x.saturating_add(NAME);
     match mesh.progress {
-        Phase::Made(made) => {
+        Progress::Made(made) => {
             let room = card.saturating_sub(INDENT + NAME + 120);
             draw_bar(text, order_of(frame, mesh), made, left, y, room)
         }
-        Phase::Unwinding(all, undone) => {
+        Progress::Unwinding(all, undone) => {
             draw_unwinding(text, all.saturating_sub(undone), left, y)
         }
     }

@@ -1,5 +1,5 @@
 pub use Rattle.model_heap.specs.Mesh
 pub use Rattle.model_heap.specs.Table
-pub mod Phases
+pub mod Progress
 pub mod Running
 pub mod StepOrders

@@ -3,10 +3,10 @@
 //! The heap keeps a list of them, and so does the table as a program. A contract sees a running mesh as that of the definitions.
 #![tactic(auto)]
 
-mod phase;
+mod progress;
 mod running;
 mod step_order;
 
-pub use phase::Phase;
+pub use progress::Progress;
 pub use running::Running;
 pub use step_order::{KINDS, MAX_MEMBERS, StepOrder, kind_name, place_of};

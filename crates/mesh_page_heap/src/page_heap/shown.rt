@@ -13,7 +13,7 @@ use crate::Lead;
 use crate::running::mesh_of;
 use crate::step_order::order_of;
 use mesh_pagemap::Prot;
-use mesh_running::{Phase, Running};
+use mesh_running::{Progress, Running};
 use mesh_spans::{Slot, Span, Spans};
 
 impl PageHeap {
@@ -84,9 +84,9 @@ impl PageHeap {
         let Some(mesh) = mesh_of(self.meshes.as_slice(), n) else {
             return 0;
         };
-        match mesh.phase() {
-            Phase::Made(made) => order_of(&self.spans, n).released_after(made),
-            Phase::Unwinding(_, _) => 0,
+        match mesh.progress() {
+            Progress::Made(made) => order_of(&self.spans, n).released_after(made),
+            Progress::Unwinding(_, _) => 0,
         }
     }
 

@@ -15,9 +15,9 @@ returns-in_default-mesh_of c =
 pub returns-in-Made : goal.returns-in-Made
 returns-in-Made c =
     rw (← c.self.view_is, ap (λ (ms : List Mesh). mesh_from c.args.n ms) (sym c.as_slice.ensures.value), ← c.in-Some-mesh_of.ensures, c.released_after.ensures)
-    (released_shown _ _ _ _ _ _ _ (sym c.in-Some.ensures) (sym c.in-Made.ensures.progress) c.order_of.ensures.of.total c.order_of.ensures.of.slots)
+    (released_shown _ _ _ _ _ _ _ (sym c.in-Some.ensures) (sym c.in-Made.ensures.value) c.order_of.ensures.of.total c.order_of.ensures.of.slots)
 
 pub returns-in-Unwinding : goal.returns-in-Unwinding
 returns-in-Unwinding c =
     rw (← c.self.view_is, ap (λ (ms : List Mesh). mesh_from c.args.n ms) (sym c.as_slice.ensures.value), ← c.in-Some-mesh_of.ensures)
-    (cancelled_released c.self.inside.spans c.args.n _ _ c.in-Some-mesh_of.mesh c.in-Some._group.now (sym c.in-Some.ensures) (sym c.in-Unwinding.ensures.progress))
+    (cancelled_released c.self.inside.spans c.args.n _ _ c.in-Some-mesh_of.mesh c.in-Some._group.now (sym c.in-Some.ensures) (sym c.in-Unwinding.ensures.value))
