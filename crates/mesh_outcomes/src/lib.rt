@@ -14,4 +14,4 @@ mod phase;
 pub use listing::{Exploration, Listing, explored_and_listed, listed};
 pub use notes::{Note, PhaseAt};
 pub use outcomes::Outcome;
-pub use phase::{MeshPhase, phase_at};
+pub use phase::{LastStep, phase_at};
