@@ -1,5 +1,6 @@
 //! What a picture shows of a heap.
 use mesh_class::Class;
+pub use mesh_pagemap::Mapping;
 use mesh_running::Progress;
 
 /// A member of a group: a span, on virtual pages of its own.
@@ -11,17 +12,6 @@ pub struct Member {
     pub class: Class,
     /// The span's first virtual page.
     pub first: u32,
-}
-
-/// Where a virtual page leads.
-#[derive(Clone, Copy, PartialEq, Eq)]
-pub struct Lead {
-    /// The virtual page.
-    pub page: u32,
-    /// The physical page.
-    pub to: u32,
-    /// Whether stores to it are held back.
-    pub read_only: bool,
 }
 
 /// A live object.
@@ -79,7 +69,7 @@ pub struct Frame {
     /// The members of all groups: groups ascending by number, members in their order.
     pub members: Vec<Member>,
     /// Where their pages lead: members in that order, each with its pages in theirs.
-    pub leads: Vec<Lead>,
+    pub leads: Vec<Mapping>,
     /// Their objects: members in that order, each with its objects ascending by slot.
     pub objects: Vec<Object>,
     /// The physical pages of the groups: groups ascending by number, each with its pages in their order.

@@ -1,6 +1,6 @@
 //! What lies in a page: the parts of objects.
 use crate::alike::copied_slots;
-use crate::frame::{Frame, Home, Lead, Member, Object, RunningMesh};
+use crate::frame::{Frame, Home, Mapping, Member, Object, RunningMesh};
 use mesh_class::Class;
 use std::alloc::{AllocError, Global};
 
@@ -96,8 +96,8 @@ fn add_part(
 }
 
 /// Where a virtual page leads.
-pub fn lead_of(frame: &Frame, page: u32) -> Option<&Lead> {
-    frame.leads.iter().find(|l| l.page == page)
+pub fn lead_of(frame: &Frame, page: u32) -> Option<&Mapping> {
+    frame.leads.iter().find(|l| l.virtual_page == page)
 }
 
 /// What lies in a page of a member.
@@ -164,7 +164,7 @@ fn add_group(
 fn state_in(frame: &Frame, member: &Member, home: &Home, unmapped: State) -> State {
     let page = member.first.saturating_add(home.place);
     match lead_of(frame, page) {
-        Some(lead) if lead.to == home.page => State::Live,
+        Some(lead) if lead.physical_page == home.page => State::Live,
         _ => unmapped,
     }
 }

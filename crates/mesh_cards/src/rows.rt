@@ -1,5 +1,5 @@
 //! The rows of the map of occupancy.
-use crate::frame::{Lead, Member, Object};
+use crate::frame::{Mapping, Member, Object};
 use mesh_class::Class;
 use std::alloc::{AllocError, Global};
 
@@ -45,7 +45,7 @@ impl Row {
     }
 
     /// Adds a member with its leads and objects.
-    pub fn add(&mut self, leads: &[Lead], objects: &[Object]) -> Result<(), AllocError> {
+    pub fn add(&mut self, leads: &[Mapping], objects: &[Object]) -> Result<(), AllocError> {
         self.members = self.members.saturating_add(1);
         self.read_only = self.read_only || leads.iter().any(|l| l.read_only);
         for object in objects {

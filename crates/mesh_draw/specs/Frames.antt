@@ -6,11 +6,11 @@ use Rattle.model_heap.specs.Table.{Mesh, Report, group_of, report_of}
 use Rattle.mesh_layout.specs.Meshes.{mesh_from}
 use Rattle.mesh_steps.specs.Heap.{Heap, arena_of, index_of, map_of, table_of}
 use Rattle.mesh_page_heap.specs.Shown.{home_at, lead_at, member_at, object_at, released_of}
+use Rattle.mesh_pagemap.specs.declared.mapping.Mapping.{Mapping}
 use Rattle.mesh_running.specs.Progress.{stored_progress}
 use Rattle.mesh_cards.specs.declared.frame.Counts.{Counts}
 use Rattle.mesh_cards.specs.declared.frame.Frame.{Frame}
 use Rattle.mesh_cards.specs.declared.frame.Home.{Home}
-use Rattle.mesh_cards.specs.declared.frame.Lead.{Lead}
 use Rattle.mesh_cards.specs.declared.frame.Member.{Member}
 use Rattle.mesh_cards.specs.declared.frame.Object.{Object}
 use Rattle.mesh_cards.specs.declared.frame.RunningMesh.{RunningMesh}
@@ -43,8 +43,8 @@ abbrev pub member_row : Heap → ℕ → ℕ → ℕ → Option Member
 member_row h n class place = option_map (λ first. record { group = n; class = class; first = first }) (first_in h n place)
 
 -- where a virtual page leads
-abbrev pub lead_row : Heap → ℕ → Option Lead
-lead_row h v = option_map (λ lead. record { page = v; to = lead.page; read_only = lead.read_only }) (lead_at (map_of h) v)
+abbrev pub lead_row : Heap → ℕ → Option Mapping
+lead_row h v = lead_at (map_of h) v
 
 -- the object in a slot of the member of a group at a place, which begins at this virtual page
 abbrev pub object_row : Heap → ℕ → ℕ → ℕ → ℕ → Option Object
@@ -72,11 +72,11 @@ abbrev pub members_of_class : Heap → ℕ → ℕ → List Member
 members_of_class h n class = below 8 (λ place. listed (member_row h n class place))
 
 -- where the pages of a member lead, which begins at this virtual page
-abbrev pub leads_of_member : Heap → ℕ → ℕ → List Lead
+abbrev pub leads_of_member : Heap → ℕ → ℕ → List Mapping
 leads_of_member h class first = below (pages_of class) (λ i. listed (lead_row h (first + i)))
 
 -- where the pages of the members of a group of a class lead
-abbrev pub leads_of_class : Heap → ℕ → ℕ → List Lead
+abbrev pub leads_of_class : Heap → ℕ → ℕ → List Mapping
 leads_of_class h n class = below 8 (λ place. listing (first_in h n place) (leads_of_member h class))
 
 -- the objects of the member of a group at a place, which begins at this virtual page
@@ -95,7 +95,7 @@ homes_of_class h n class = below (pages_of class) (λ i. listed (home_row h n i)
 abbrev pub members_of_group : Heap → ℕ → List Member
 members_of_group h n = listing (class_in h n) (members_of_class h n)
 
-abbrev pub leads_of_group : Heap → ℕ → List Lead
+abbrev pub leads_of_group : Heap → ℕ → List Mapping
 leads_of_group h n = listing (class_in h n) (leads_of_class h n)
 
 abbrev pub objects_of_group : Heap → ℕ → List Object

@@ -6,6 +6,6 @@ mod points;
 mod run;
 mod shown;
 
-pub use mesh_picture::{Counts, Frame, Home, Lead, Member, Object, RunningMesh};
+pub use mesh_picture::{Counts, Frame, Home, Mapping, Member, Object, RunningMesh};
 pub use run::{DrawOptions, draw};
 pub use shown::frame_of;

@@ -3,10 +3,10 @@ ghost use Rattle.std.specs.Prelude.{◌≡◌, ◌<◌, ◌≤◌, ◌++◌, IfO
 ghost use Rattle.std.specs.Option.{option_map};
 ghost use Rattle.model_heap.specs.Table.{report_of};
 ghost use Rattle.mesh_steps.specs.Heap.{arena_of, table_of};
-ghost use Rattle.mesh_draw.specs.Frames.{AddsGroup, IsFrame, counts_row, first_in, home_row, homes_of_class, lead_row, leads_of_class, leads_of_member, listed, listing, member_row, members_of_class, mesh_row, meshes_of, object_row, objects_of_class, objects_of_member};
+ghost use Rattle.mesh_draw.specs.Frames.{AddsGroup, IsFrame, counts_row, first_in, home_row, homes_of_class, leads_of_class, leads_of_member, listed, listing, member_row, members_of_class, mesh_row, meshes_of, object_row, objects_of_class, objects_of_member};
 
 use mesh_class::Class;
-use mesh_picture::{Counts, Frame, Home, Lead, Member, Object, RunningMesh};
+use mesh_picture::{Counts, Frame, Home, Mapping, Member, Object, RunningMesh};
 use mesh_steps::Heap;
 use std::alloc::{AllocError, Global};
 
@@ -75,7 +75,12 @@ fn member_at(heap: &Heap, group: u32, class: Class, place: usize) -> Option<Memb
 }
 
 /// Adds where the pages of a group's members lead.
-fn add_leads(rows: &mut Vec<Lead>, heap: &Heap, group: u32, class: Class) -> Result<(), AllocError>
+fn add_leads(
+    rows: &mut Vec<Mapping>,
+    heap: &Heap,
+    group: u32,
+    class: Class,
+) -> Result<(), AllocError>
     ensures { OnOk result (rows.new.items ≡ rows.old.items ++ leads_of_class heap.now group class) }
 {
     for place in 0..MAX_MEMBERS {
@@ -86,7 +91,7 @@ fn add_leads(rows: &mut Vec<Lead>, heap: &Heap, group: u32, class: Class) -> Res
 
 /// Adds where the pages of a member lead, where there is one.
 fn add_member_leads(
-    rows: &mut Vec<Lead>,
+    rows: &mut Vec<Mapping>,
     heap: &Heap,
     class: Class,
     member: Option<u32>,
@@ -98,22 +103,9 @@ fn add_member_leads(
         return Ok(());
     };
     for place in 0..class.pages() {
-        add(rows, lead_at(heap, first + place))?;
+        add(rows, heap.lead(first + place))?;
     }
     Ok(())
-}
-
-/// Where a virtual page leads.
-fn lead_at(heap: &Heap, page: u32) -> Option<Lead>
-    requires { 1 ≤ page }
-    ensures { result ≡ lead_row heap.now page }
-{
-    let lead = heap.lead(page)?;
-    Some(Lead {
-        page,
-        to: lead.page,
-        read_only: lead.read_only,
-    })
 }
 
 /// Adds the objects of a group's members.

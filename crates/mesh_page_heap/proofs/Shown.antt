@@ -14,7 +14,7 @@ use Rattle.model_heap.specs.Table.{Made, Mesh, Unwinding, has_number}
 use Rattle.mesh_spans.specs.Groups.{first_of, groups_of}
 use Rattle.mesh_spans.specs.Index.{GroupEntry, Index, IsIndex, IsMember, group_at, no_span, record_at}
 use Rattle.mesh_page_heap.specs.Shown.{lead_at, member_at, object_at, released_of}
-use Rattle.mesh_page_heap.specs.declared.answers.Lead.{Lead}
+use Rattle.mesh_pagemap.specs.declared.mapping.Mapping.{Mapping}
 
 -- nothing stands in no list
 nothing_at : (place : ℕ) → slice_get (members_in None) place ≡ None
@@ -59,7 +59,7 @@ pub leads_nowhere : (m : Entries) (v : ℕ) → is_mapped m v ≡ false → lead
 unfolding is_mapped
 leads_nowhere m v unmapped = nowhere (map.get m v) unmapped
   where
-    nowhere : (entry : _) → is_some entry ≡ false → option_map {U = Lead} (λ (e : ℕ × Prot). record { page = e.0; read_only = reads_only e.1 }) entry ≡ None
+    nowhere : (entry : _) → is_some entry ≡ false → option_map {U = Mapping} (λ (e : ℕ × Prot). record { virtual_page = v; physical_page = e.0; read_only = reads_only e.1 }) entry ≡ None
     nowhere None is = refl
     nowhere (Some e) is = absurd (cc is)
 

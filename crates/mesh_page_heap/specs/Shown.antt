@@ -8,7 +8,7 @@ use Rattle.model_heap.specs.Table.{Group, Made, Mesh, Progress, Slot, Unwinding}
 use Rattle.mesh_layout.specs.Indexes.{pages_in}
 use Rattle.mesh_pagemap.specs.Entries.{Entries, reads_only}
 use Rattle.mesh_spans.specs.Index.{Index, group_at, named_in}
-use Rattle.mesh_page_heap.specs.declared.answers.Lead.{Lead}
+use Rattle.mesh_pagemap.specs.declared.mapping.Mapping.{Mapping}
 
 -- the member of a group at a place, by its first virtual page
 abbrev pub member_at : Option Group → ℕ → Option ℕ
@@ -26,8 +26,8 @@ object_at None place k = None
 object_at (Some group) place k = object_of (slice_get group.members place) (slice_index_or group.slots k None)
 
 -- where a virtual page leads
-abbrev pub lead_at : Entries → ℕ → Option Lead
-lead_at m v = option_map (λ entry. record { page = entry.0; read_only = reads_only entry.1 }) (map.get m v)
+abbrev pub lead_at : Entries → ℕ → Option Mapping
+lead_at m v = option_map (λ entry. record { virtual_page = v; physical_page = entry.0; read_only = reads_only entry.1 }) (map.get m v)
 
 -- the physical page at a place of a group's pages
 abbrev pub home_at : Index → ℕ → ℕ → Option ℕ

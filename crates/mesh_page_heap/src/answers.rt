@@ -19,15 +19,6 @@ pub struct Report {
     pub saved: u32,
 }
 
-/// Where a virtual page leads.
-#[derive(Clone, Copy, PartialEq, Eq)]
-pub struct Lead {
-    /// The physical page.
-    pub page: u32,
-    /// Whether stores to it are held back.
-    pub read_only: bool,
-}
-
 /// Where an object stands in whose slot an address is.
 #[derive(Clone, Copy)]
 pub struct Occupied {

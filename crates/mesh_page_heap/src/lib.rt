@@ -14,8 +14,9 @@ mod running;
 mod step_order;
 mod steps;
 
-pub use answers::{Lead, Occupied, Report};
+pub use answers::{Occupied, Report};
 pub use busy::Busy;
+pub use mesh_pagemap::Mapping;
 pub use mesh_running::{Progress, Running};
 pub use model_words::{NewFault, StepDone};
 pub use page_heap::PageHeap;

@@ -6,8 +6,10 @@
 //! `Maps`, `Unmaps`, `Remaps`, `Protects` of `specs/Entries.antt`), so that a caller need not look inside the map.
 #![tactic(auto)]
 
+mod mapping;
 mod pagemap;
 mod prot;
 
+pub use mapping::Mapping;
 pub use pagemap::{LAST_VIRTUAL_PAGE, PageMap};
 pub use prot::Prot;

@@ -1,6 +1,6 @@
 //! Where each virtual page leads, drawn.
 use crate::pages::{GROUP_COLOURS, Scene};
-use mesh_cards::frame::{Frame, Lead};
+use mesh_cards::frame::{Frame, Mapping};
 use mesh_cards::layout::{LABELS, PAGE_HEIGHT};
 use mesh_cards::parts::{group_of, lead_of};
 use mesh_svg::{Look, Text, add_path};
@@ -11,7 +11,7 @@ const BEND: u32 = 320;
 /// Draws an arrow from each virtual page to the physical page that it leads to.
 pub(crate) fn draw_arrows(text: &mut Text, scene: &Scene) {
     for lead in scene.now.leads.as_slice() {
-        if let Some(left) = scene.layout.find_page(lead.page) {
+        if let Some(left) = scene.layout.find_page(lead.virtual_page) {
             draw_lead(text, scene, lead, middle(scene, left));
         }
     }
@@ -28,7 +28,7 @@ fn physical_middle(scene: &Scene, page: u32) -> u32 {
 }
 
 /// Draws where a page leads, from a place; and where it led before, if that has changed.
-fn draw_lead(text: &mut Text, scene: &Scene, lead: &Lead, from: u32) {
+fn draw_lead(text: &mut Text, scene: &Scene, lead: &Mapping, from: u32) {
     let was = earlier_target(scene, lead);
     if let Some(page) = was {
         draw_curve(
@@ -40,7 +40,7 @@ fn draw_lead(text: &mut Text, scene: &Scene, lead: &Lead, from: u32) {
         );
     }
     let look = lead_look(scene.now, lead, was.is_some());
-    let to = physical_middle(scene, lead.to);
+    let to = physical_middle(scene, lead.physical_page);
     draw_curve(
         text,
         scene,
@@ -52,26 +52,26 @@ fn draw_lead(text: &mut Text, scene: &Scene, lead: &Lead, from: u32) {
 }
 
 /// The physical page that a page led to before, if it was another one.
-fn earlier_target(scene: &Scene, lead: &Lead) -> Option<u32> {
-    let was = lead_of(scene.before?, lead.page)?;
-    if was.to == lead.to {
+fn earlier_target(scene: &Scene, lead: &Mapping) -> Option<u32> {
+    let was = lead_of(scene.before?, lead.virtual_page)?;
+    if was.physical_page == lead.physical_page {
         None
     } else {
-        Some(was.to)
+        Some(was.physical_page)
     }
 }
 
 /// The colour of an arrow: its group's, or that of a change.
-fn lead_look(frame: &Frame, lead: &Lead, changed: bool) -> Look {
+fn lead_look(frame: &Frame, lead: &Mapping, changed: bool) -> Look {
     if changed {
         Look::of("chg")
     } else {
-        Look::nth("a", group_of(frame, lead.page) % GROUP_COLOURS)
+        Look::nth("a", group_of(frame, lead.virtual_page) % GROUP_COLOURS)
     }
 }
 
 /// The rule of the style for an arrow's line: dashed where stores are held back.
-fn line_rule(lead: &Lead, changed: bool) -> &'static str {
+fn line_rule(lead: &Mapping, changed: bool) -> &'static str {
     match (lead.read_only, changed) {
         (false, false) => "",
         (true, false) => "hold",

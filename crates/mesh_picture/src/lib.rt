@@ -14,7 +14,7 @@ mod pages;
 mod picture;
 mod style;
 
-pub use mesh_cards::frame::{Counts, Frame, Home, Lead, Member, Object, RunningMesh};
+pub use mesh_cards::frame::{Counts, Frame, Home, Mapping, Member, Object, RunningMesh};
 pub use mesh_cards::gathering::Line;
 pub use mesh_cards::measure::Measure;
 pub use mesh_svg::Text;

@@ -11,4 +11,4 @@ mod heap;
 
 pub use answers::{Ref, Stored};
 pub use heap::Heap;
-pub use mesh_page_heap::{Lead, NewFault, Progress, Report, Running, StepDone};
+pub use mesh_page_heap::{Mapping, NewFault, Progress, Report, Running, StepDone};

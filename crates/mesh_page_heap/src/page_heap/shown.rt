@@ -9,10 +9,9 @@ ghost use Rattle.mesh_page_heap.specs.PageHeap.{table_in};
 ghost use Rattle.mesh_page_heap.specs.Shown.{home_at, lead_at, member_at, object_at, released_of};
 
 use super::PageHeap;
-use crate::Lead;
 use crate::running::mesh_of;
 use crate::step_order::order_of;
-use mesh_pagemap::Prot;
+use mesh_pagemap::{Mapping, Prot};
 use mesh_running::{Progress, Running};
 use mesh_spans::{Slot, Span, Spans};
 
@@ -53,7 +52,7 @@ impl PageHeap {
     }
 
     /// Where a virtual page leads. None only where it isn't mapped.
-    pub fn lead(&self, v: u32) -> Option<Lead>
+    pub fn lead(&self, v: u32) -> Option<Mapping>
         requires { 1 ≤ v }
         ensures { result ≡ lead_at self.now.map v }
     {
@@ -61,8 +60,9 @@ impl PageHeap {
             return None;
         }
         let (page, prot) = self.store.map.lookup(v)?;
-        Some(Lead {
-            page: page.number(),
+        Some(Mapping {
+            virtual_page: v,
+            physical_page: page.number(),
             read_only: prot == Prot::ReadOnly,
         })
     }

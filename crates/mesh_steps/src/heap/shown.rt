@@ -8,7 +8,7 @@ ghost use Rattle.mesh_steps.specs.Heap.{arena_of, index_of, map_of, table_of};
 ghost use Rattle.mesh_page_heap.specs.Shown.{home_at, lead_at, member_at, object_at, released_of};
 
 use super::Heap;
-use crate::{Lead, Running};
+use crate::{Mapping, Running};
 use mesh_class::Class;
 
 impl Heap {
@@ -66,7 +66,7 @@ impl Heap {
     }
 
     /// Where a virtual page leads; they are counted from 1. None only where it is not mapped.
-    pub fn lead(&self, page: u32) -> Option<Lead>
+    pub fn lead(&self, page: u32) -> Option<Mapping>
         requires { 1 ≤ page }
         ensures { result ≡ lead_at (map_of self.now) page }
     {

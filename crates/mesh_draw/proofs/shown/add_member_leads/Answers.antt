@@ -6,4 +6,4 @@ use Rattle.mesh_draw.proofs.shown.add_member_leads.Goals as goal
 pub loop-place-preserved : goal.loop-place-preserved
 loop-place-preserved c =
     rows_more (λ i. listed (lead_row c.args.heap.now (c.in-Some.first + i))) c.loop-place.place c.args.rows.now.items c.loop-place.rows.items c.add.new.rows.items
-    c.loop-place.invariant (c.in_ok-add.ensures ∙ ap (λ row. c.loop-place.rows.items ++ listed row) c.lead_at.ensures)
+    c.loop-place.invariant (c.in_ok-add.ensures ∙ ap (λ row. c.loop-place.rows.items ++ listed row) c.lead.ensures)
