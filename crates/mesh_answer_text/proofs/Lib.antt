@@ -1,4 +1,5 @@
 pub mod Digits
 pub mod HistoryParts
+pub mod JobTexts
 pub mod PartTexts
 pub mod RecordedTexts

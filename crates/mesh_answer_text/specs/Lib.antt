@@ -3,4 +3,5 @@ pub mod Histories
 pub mod HistoryRows
 pub mod RecordingRows
 pub mod Recordings
+pub mod JobTexts
 pub use Rattle.model_words.specs.Commands

@@ -1,7 +1,7 @@
-//! Commands, lines of a plan, answers and histories as text.
+//! Commands, lines of a plan, jobs, answers and histories as text.
 //!
 //! The `add_..` functions add to a text what a line of a replay says: the answer to a command, a search, a step or a report; or a command or a line of
-//! a plan as a job file has it. `history_lines` is the text of a history in which each worker's answers stand together, and `recorded_history` that of one whose
+//! a plan as a job file has it, or a whole job. `history_lines` is the text of a history in which each worker's answers stand together, and `recorded_history` that of one whose
 //! entries stand in their order, each with its command. An error is an allocation failure throughout.
 #![tactic(auto)]
 
@@ -9,6 +9,7 @@ mod answers;
 mod commands;
 mod histories;
 pub mod history_rows;
+mod jobs;
 mod plan_lines;
 pub mod recording_rows;
 mod recordings;
@@ -19,5 +20,6 @@ pub use answers::{
 };
 pub use commands::add_command;
 pub use histories::history_lines;
+pub use jobs::{add_job, add_job_start, add_longer_job, begun_texts_go_on};
 pub use plan_lines::add_plan_line;
 pub use recordings::{recorded_history, recorded_journal};
