@@ -1,8 +1,8 @@
 #!/usr/bin/env python3
-"""Writes the crate mesh_rows, and the tables of mesh_in_memory and mesh_explore_tests, from the files under jobs/rows and jobs/explore.
+"""Writes the crate mesh_rows, and the tables of mesh_program_tests and mesh_explore_tests, from the files under jobs/rows and jobs/explore.
 
 Each folder there is a subject, and each NAME.job in it a row: NAME.out has the lines that the job is answered, or NAME.err the fault of a file
-that is no job. In mesh_rows a subject becomes a spec file, and a function whose clauses are its rows; in mesh_in_memory the rows become tables, one
+that is no job. In mesh_rows a subject becomes a spec file, and a function whose clauses are its rows; in mesh_program_tests the rows become tables, one
 a subject. The smaller explorations under jobs/explore become a table of mesh_explore_tests. Run it from the top of the repository after a row was
 added or changed; what it writes is committed.
 """
@@ -13,7 +13,7 @@ import subprocess
 
 ROWS = pathlib.Path("jobs/rows")
 CRATE = pathlib.Path("crates/mesh_rows")
-TABLES = pathlib.Path("crates/mesh_in_memory")
+TABLES = pathlib.Path("crates/mesh_program_tests")
 # The definitions are computed on files below this length; the longer one is there for the program alone.
 MAX_BYTES = 100_000
 
@@ -137,7 +137,7 @@ def write_tables():
             lines += table(folder.name.upper(), f"Rows of {folder.name.replace('_', ' ')}: of each its name, its file and its answers.", rows, ".out")
     faults = [row for row in sorted(ROWS.glob("*/*.job")) if row.with_suffix(".err").exists() and len(file_text(row)) < 1000]
     lines += table("FAULTS", "Of each short file that is no job its name, its bytes and the line of its fault.", faults, ".err")
-    (TABLES / "src" / "files.rt").write_text("\n".join(lines))
+    (TABLES / "src" / "memory" / "files.rt").write_text("\n".join(lines))
 
 
 def is_few(job):

@@ -1,0 +1,156 @@
+//! The calls of a heap: an object is named by its serial.
+ghost use Rattle.std.specs.Prelude.{◌≤◌};
+
+use crate::tests::heap::calls::{
+    BLOCKED, Call, DONE, NO_MEMORY, Told, UNMADE, freed, left, loaded, made, mesher_answer, number,
+    refused, reported, running, stepped,
+};
+use arrayvec::ArrayVec;
+use mesh_class::{Class, class_of};
+use mesh_steps::{Heap, NewFault, Ref, Stored};
+use model_words::MAX_BYTES;
+use std::alloc::{AllocError, Global};
+use std::process::Abort;
+
+/// Asserts that so many bytes can be loaded or copied at once.
+pub(crate) fn check_length(rt: &impl Abort, len: u32)
+    ensures some { 1 ≤ len }
+    ensures most { len ≤ 32 }
+{
+    assert!(rt; 1 <= len && len <= 32, "{len} bytes");
+}
+
+/// How many objects are made at most.
+pub(crate) const MAX_OBJECTS: usize = 32;
+
+/// A heap with the addresses of its objects, by serial.
+#[derive(Drop)]
+pub(crate) struct TriedHeap {
+    heap: Heap,
+    addresses: ArrayVec<u32, MAX_OBJECTS>,
+}
+
+impl TriedHeap {
+    /// A heap with no object.
+    pub(crate) fn open(alloc: Global, pages: u32) -> Result<TriedHeap, AllocError>
+        requires some { 1 ≤ pages }
+        requires most { pages ≤ 4096 }
+    {
+        Ok(TriedHeap {
+            heap: Heap::open(alloc, pages)?,
+            addresses: ArrayVec::new(),
+        })
+    }
+
+    /// What a call is answered.
+    pub(crate) fn answer(&mut self, rt: &impl Abort, call: Call) -> Told {
+        match call {
+            Call::New(len, word) => self.make(len, word),
+            Call::Read(serial, off, len) => {
+                read(
+                    rt,
+                    &self.heap,
+                    object(rt, &self.addresses, serial),
+                    off,
+                    len,
+                )
+            },
+            Call::Write(serial, off, bytes) => {
+                write(
+                    rt,
+                    &mut self.heap,
+                    object(rt, &self.addresses, serial),
+                    off,
+                    bytes,
+                )
+            },
+            Call::Copy(to, to_off, from, from_off, len) => {
+                check_length(rt, len);
+                let target = object(rt, &self.addresses, to);
+                let source = object(rt, &self.addresses, from);
+                told(self.heap.copy(target, to_off, source, from_off, len))
+            },
+            Call::Poke(addr, byte) => told(self.heap.poke(addr, byte)),
+            Call::Peek(addr) => peek(&self.heap, addr),
+            Call::Free(serial) => free(&mut self.heap, object(rt, &self.addresses, serial)),
+            _ => meshed(rt, &mut self.heap, call),
+        }
+    }
+
+    /// Makes an object.
+    fn make(&mut self, len: u32, word: u64) -> Told {
+        if self.heap.is_full() || self.addresses.is_full() {
+            return UNMADE;
+        }
+        match self.heap.new(len, word) {
+            Ok(object) => {
+                self.addresses.push(object.addr);
+                made(object.serial, object.addr)
+            },
+            Err(NewFault::Refused(refusal)) => refused(refusal),
+            Err(NewFault::Memory) => NO_MEMORY,
+        }
+    }
+}
+
+/// The reference to the object of a serial, of objects at these addresses.
+fn object(rt: &impl Abort, addresses: &ArrayVec<u32, MAX_OBJECTS>, serial: u32) -> Ref {
+    let addr = addresses.get(serial as usize).expect(rt, "an object");
+    Ref {
+        serial,
+        addr: *addr,
+    }
+}
+
+/// Reads 1 to 32 bytes.
+fn read(rt: &impl Abort, heap: &Heap, object: Ref, off: u32, len: u32) -> Told {
+    check_length(rt, len);
+    match heap.read(object, off, len) {
+        Ok(bytes) => loaded(bytes.len(), number(bytes.as_slice())),
+        Err(refusal) => refused(refusal),
+    }
+}
+
+/// Writes 1 to 32 bytes.
+fn write(rt: &impl Abort, heap: &mut Heap, object: Ref, off: u32, bytes: &[u8]) -> Told {
+    assert!(rt;
+        !bytes.is_empty() && bytes.len() <= MAX_BYTES,
+        "a write of too few or too many"
+    );
+    told(heap.write(object, off, bytes))
+}
+
+/// Loads the byte at an address.
+fn peek(heap: &Heap, addr: u32) -> Told {
+    match heap.peek(addr) {
+        Ok(byte) => loaded(1, byte as u64),
+        Err(refusal) => refused(refusal),
+    }
+}
+
+/// Frees an object.
+fn free(heap: &mut Heap, object: Ref) -> Told {
+    match heap.free(object) {
+        Ok(()) => DONE,
+        Err(refusal) => refused(refusal),
+    }
+}
+
+/// What a store's answer is.
+fn told(stored: Stored) -> Told {
+    match stored {
+        Stored::Done => DONE,
+        Stored::Blocked => BLOCKED,
+        Stored::Refused(refusal) => refused(refusal),
+    }
+}
+
+/// What a mesher's call is answered.
+fn meshed(rt: &impl Abort, heap: &mut Heap, call: Call) -> Told {
+    mesher_answer!(rt, heap, call)
+}
+
+/// The class of a size that is one's.
+pub(crate) fn class_at(rt: &impl Abort, size: u32) -> Class {
+    class_of(size).expect(rt, "a class")
+}

@@ -1,0 +1,116 @@
+//! The worked views and their searches, by calls.
+ghost use Rattle.std.specs.Prelude.{◌≡◌};
+
+use crate::tests::search::indexes::views_of;
+use mesh_search::{ClassView, Found, Pair, part, search_one, shuffle};
+use std::process::Abort;
+
+/// Four groups of the class 2048: of eight objects the second, fourth, fifth and seventh are freed.
+pub(crate) static WORKED: [u32; 4] = [0b01, 0b01, 0b10, 0b10];
+
+/// The words of the worked searches.
+pub(crate) static WORDS: [u64; 3] = [2, 0, 5];
+
+/// Two groups, source first.
+pub(crate) fn pair(source: u32, destination: u32) -> Pair {
+    Pair {
+        source,
+        destination,
+    }
+}
+
+/// Whether a search found these pairs by so many tries.
+pub(crate) fn has_found(found: &Found, pairs: &[Pair], probes: u64) -> bool {
+    found.probes == probes && found.pairs.as_slice() == pairs
+}
+
+#[test]
+fn four_are_shuffled(rt: HostRuntime) {
+    let order = shuffle(rt.alloc(), &[0, 1, 2, 3], &WORDS).expect(&rt, "memory");
+    check_order(&rt, order.as_slice());
+}
+
+/// Asserts that four places come in their worked order.
+fn check_order(rt: &impl Abort, order: &[u32]) {
+    assert_eq!(rt; order, [2, 0, 3, 1].as_slice());
+}
+
+#[test]
+fn longer_parts_come_first(rt: HostRuntime) {
+    assert!(&rt; part(5, 3, 0) == (0, 2) && part(5, 3, 1) == (2, 2) && part(5, 3, 2) == (4, 1));
+}
+
+#[test]
+fn views_have_their_candidates(rt: HostRuntime) {
+    let views = views_of(&rt, 2048, &WORKED);
+    check_views(&rt, views.as_slice());
+}
+
+/// Asserts that there are so many.
+pub(crate) fn check_count(rt: &impl Abort, count: usize, wanted: usize)
+    ensures { count ≡ wanted }
+{
+    assert_eq!(rt; count, wanted);
+}
+
+/// Asserts that of the ten views the last one has the four groups, and the others have none.
+fn check_views(rt: &impl Abort, views: &[ClassView]) {
+    check_count(rt, views.len(), 10);
+    for k in 0..views.len() {
+        check_numbers(rt, &views[k], if k == 9 { 4 } else { 0 });
+    }
+}
+
+/// Asserts that a view has so many candidates, and that their numbers ascend from 0.
+fn check_numbers(rt: &impl Abort, view: &ClassView, count: usize) {
+    check_count(rt, view.len(), count);
+    for i in 0..view.len() {
+        assert!(rt; view.number(i) == i as u32);
+    }
+}
+
+/// Asserts what a search of the view of a place, of ten views, finds in so many rounds by these words: pairs, by so many tries.
+fn check(
+    rt: &(impl Abort + AllocGlobal),
+    views: &[ClassView],
+    place: usize,
+    words: &[u64],
+    t: u32,
+    pairs: &[Pair],
+    probes: u64,
+) {
+    check_count(rt, views.len(), 10);
+    let view = views.get(place).expect(rt, "a class");
+    let found = search_one(rt.alloc(), view, words, t).expect(rt, "memory");
+    assert!(rt;
+        has_found(&found, pairs, probes),
+        "in {t} rounds of view {place}"
+    );
+}
+
+#[test]
+fn worked_pairs_are_found(rt: HostRuntime) {
+    let views = views_of(&rt, 2048, &WORKED);
+    check_worked(&rt, views.as_slice());
+}
+
+/// Asserts what the worked searches of the views of the four groups find.
+fn check_worked(rt: &(impl Abort + AllocGlobal), views: &[ClassView]) {
+    check(rt, views, 9, &WORDS, 0, &[], 0);
+    check(rt, views, 9, &WORDS, 1, &[], 2);
+    check(rt, views, 9, &WORDS, 2, &[pair(1, 2), pair(3, 0)], 4);
+    check(rt, views, 9, &[], 1, &[pair(2, 0), pair(3, 1)], 2);
+    check(rt, views, 2, &[9], 3, &[], 0);
+}
+
+#[test]
+fn an_empty_group_is_no_candidate(rt: HostRuntime) {
+    let views = views_of(&rt, 2048, &[0b01, 0b01, 0b10, 0b00]);
+    check(&rt, views.as_slice(), 9, &WORDS, 2, &[pair(0, 2)], 1);
+}
+
+#[test]
+fn the_group_with_fewer_objects_is_the_source(rt: HostRuntime) {
+    let views = views_of(&rt, 1024, &[0b1000, 0b0111]);
+    check(&rt, views.as_slice(), 7, &[], 1, &[pair(0, 1)], 1);
+}

@@ -1,7 +1,0 @@
--- Whether a slow source has failed.
-use Rattle.std.specs.Prelude.{Bool}
-use Rattle.mesh_in_memory.specs.declared.slow.SlowSource.{SlowSource}
-
--- a call of it came when none was left
-abbrev pub slow_has_failed : SlowSource → Bool
-slow_has_failed source = source.failed

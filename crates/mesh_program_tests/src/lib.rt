@@ -1,0 +1,9 @@
+//! Tests of the program's runs over memory: replays, histories judged, explorations, live sessions and scripts in threads; and of command lines that
+//! ask for no run.
+//!
+//! `memory` has what the tests share; of the rest nothing but the tests is proved.
+#![tactic(auto)]
+
+pub mod memory;
+#[cfg(test)]
+mod tests;

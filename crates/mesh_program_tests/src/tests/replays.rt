@@ -1,0 +1,37 @@
+//! Replays: the worked rows, failing devices, faulty files and recorded histories.
+
+ghost use Rattle.std.specs.Prelude.{◌≡◌, false};
+
+use crate::memory::Ran;
+use mesh_run::{Input, Output, Source, replay_history_run, replay_run};
+use std::alloc::Global;
+
+mod devices;
+mod faults;
+mod histories;
+mod rows;
+
+/// Replays what a source gives to memory, and prints the answers.
+fn replayed_from<I: Source + Drop>(alloc: Global, input: I) -> Ran
+    requires { I.has_failed input ≡ false }
+{
+    let mut input = input;
+    let mut output = Output::new(Vec::new(alloc));
+    let mut errors = Output::new(Vec::new(alloc));
+    let status = replay_run(alloc, &mut input, &mut output, &mut errors);
+    Ran::of_outputs(status, output, errors)
+}
+
+/// Replays a file from memory to memory, and prints the recorded history of its journal.
+fn history_of(alloc: Global, file: &[u8]) -> Ran {
+    let mut input = Input::new(file);
+    let mut output = Output::new(Vec::new(alloc));
+    let mut errors = Output::new(Vec::new(alloc));
+    let status = replay_history_run(alloc, &mut input, &mut output, &mut errors);
+    Ran::of_outputs(status, output, errors)
+}
+
+/// Replays a file from memory to memory, and prints its answers.
+fn replayed(alloc: Global, file: &[u8]) -> Ran {
+    replayed_from(alloc, Input::new(file))
+}

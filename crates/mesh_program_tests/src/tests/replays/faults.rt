@@ -1,0 +1,48 @@
+//! Files that are no job.
+use crate::tests::check;
+use crate::tests::replays::replayed;
+use crate::memory::files::FIRST_FILE;
+use crate::memory::{LENGTHS, ROW_END, faulty_files, fields, letters};
+use std::process::Abort;
+use std::test::Fail;
+
+#[test]
+fn tells_each_fault(rt: HostRuntime) {
+    for row in faulty_files().split(ROW_END) {
+        let (name, file, fault) = fields(row);
+        let run = replayed(rt.alloc(), file.as_bytes());
+        check(&rt, run.wrote(b"", fault, 2), &run, name);
+    }
+}
+
+/// Asserts what is said of a file of so many bytes `a`, with a line end or none.
+fn check_length(
+    rt: &(impl Abort + AllocGlobal),
+    count: usize,
+    has_end: bool,
+    fault: &str,
+) -> Result<(), Fail> {
+    let file = letters(rt.alloc(), count, has_end)?;
+    let run = replayed(rt.alloc(), file.as_slice());
+    check(rt, run.wrote(b"", fault, 2), &run, count);
+    Ok(())
+}
+
+#[test]
+fn tells_faults_of_lengths(rt: HostRuntime) -> Result<(), Fail> {
+    for (count, has_end, kind) in LENGTHS.iter() {
+        let fault = format!(in rt.alloc(); "line 1: {kind}\n")?;
+        check_length(&rt, *count, *has_end, fault.as_str())?;
+    }
+    check_length(&rt, 1_048_576, false, "line 1: LONG_LINE\n")?;
+    check_length(&rt, 1_048_577, false, "line 0: TOO_LONG\n")
+}
+
+#[test]
+fn takes_no_beginning_of_a_file(rt: HostRuntime) {
+    for count in 0..FIRST_FILE.len() {
+        let run = replayed(rt.alloc(), &FIRST_FILE.as_bytes()[..count]);
+        let is_refused = run.output.is_empty() && run.status == 2;
+        assert!(rt; is_refused, "of {count} bytes");
+    }
+}

@@ -1,0 +1,120 @@
+//! The worked rows.
+use crate::tests::replays::replayed;
+use crate::memory::files::{
+    ABANDONED, CANCELS, MUTATORS, SEARCHES, SMALL_STEPS, VERSION_2, WHOLE_MESHES,
+};
+use crate::memory::{ROW_END, fields};
+use std::alloc::Global;
+use std::process::Abort;
+
+/// The first row of a table that is not answered as it should be, by its name.
+fn wrong_row(alloc: Global, table: &'static str) -> Option<&'static str> {
+    for row in table.split(ROW_END) {
+        let (name, file, answers) = fields(row);
+        let run = replayed(alloc, file.as_bytes());
+        if !run.wrote(answers.as_bytes(), "", 0) {
+            return Some(name);
+        }
+    }
+    None
+}
+
+#[test]
+fn answers_the_rows_of_each_subject(rt: HostRuntime) {
+    let subjects = [
+        ABANDONED,
+        CANCELS,
+        MUTATORS,
+        SEARCHES,
+        SMALL_STEPS,
+        VERSION_2,
+        WHOLE_MESHES,
+    ];
+    for table in subjects {
+        if let Some(name) = wrong_row(rt.alloc(), table) {
+            panic!(rt; "{name}");
+        }
+    }
+}
+
+/// How many lines the long plan has: their answers are more than what is written at once.
+const LONG_PLAN: usize = 4000;
+
+#[test]
+fn answers_a_long_plan(rt: HostRuntime) {
+    let mut file = text_of(
+        &rt,
+        "mesh 1\npages 1\nhistory 0\nworkers 1\nworker 0\nplan\n",
+    );
+    let mut answers = text_of(&rt, "");
+    for _ in 0..LONG_PLAN {
+        add(&rt, &mut file, "run 0\n");
+        add(&rt, &mut answers, "over\n");
+    }
+    add(&rt, &mut file, "end\n");
+    check(&rt, file.as_str(), answers.as_str());
+}
+
+/// Asserts that a file is answered so.
+fn check(rt: &(impl Abort + AllocGlobal), file: &str, answers: &str) {
+    let run = replayed(rt.alloc(), file.as_bytes());
+    assert!(rt; run.wrote(answers.as_bytes(), "", 0));
+}
+
+/// How many spans of three pages use up the addresses but for three pages.
+const SPANS: u32 = 21_844;
+
+/// The bytes of a page, and the pages of each of these spans.
+const PAGE_BYTES: u32 = 4096;
+
+const SPAN_PAGES: u32 = 3;
+
+#[test]
+fn uses_up_all_addresses(rt: HostRuntime) {
+    let file = file_of_all(&rt);
+    let answers = answers_of_all(&rt);
+    check(&rt, file.as_str(), answers.as_str());
+}
+
+/// The file in which each span is used and swept in turn.
+fn file_of_all(rt: &(impl Abort + AllocGlobal)) -> String {
+    let mut file = text_of(rt, "mesh 1\npages 4\nhistory 65536\nworkers 1\nworker 0\n");
+    for _ in 0..SPANS {
+        add(rt, &mut file, "new 0 384 0\nfree 0\n");
+    }
+    add(
+        rt,
+        &mut file,
+        "new 0 384 31\npeek fffffff\nnew 1 16 0\nplan\n",
+    );
+    for group in 0..SPANS {
+        write!(file, "run 0\nrun 0\nsweep {group}\n").expect(rt, "memory");
+    }
+    add(rt, &mut file, "run 0\nrun 0\nrun 0\nend\n");
+    file
+}
+
+/// The lines that it is answered.
+fn answers_of_all(rt: &(impl Abort + AllocGlobal)) -> String {
+    let mut answers = text_of(rt, "");
+    for group in 0..SPANS {
+        let address = (group * SPAN_PAGES + 1) * PAGE_BYTES;
+        write!(answers, "object {group} at {address:x}\ndone\nswept 3\n").expect(rt, "memory");
+    }
+    add(
+        rt,
+        &mut answers,
+        "object 21844 at ffffe80\nbyte 00\nrefused 4 NO_ADDRESSES\n",
+    );
+    answers
+}
+
+/// A text that begins so.
+fn text_of(rt: &(impl Abort + AllocGlobal), front: &str) -> String {
+    String::from_str(rt.alloc(), front).expect(rt, "memory")
+}
+
+/// Adds to a text.
+fn add(rt: &impl Abort, text: &mut String, more: &str) {
+    text.push_str(more).expect(rt, "memory");
+}

@@ -1,0 +1,119 @@
+//! Recorded histories, and what is found of them.
+ghost use Rattle.std.specs.Prelude.{◌≡◌, false};
+
+use crate::tests::check;
+use crate::memory::{ROW_END, Ran, SlowSource, fields, in_memory};
+use mesh_run::{Input, Source, check_run};
+use std::alloc::Global;
+use std::process::Abort;
+
+/// Histories that the plain memory takes, a row each: its name, its text and the line of its verdict.
+static LEGAL: &str = "\
+no entry|history 1\n|legal 0 entries\n#\
+one entry|history 1\n0 new 3 4 7 -> object 9 at 1000\n|legal 1 entries\n#\
+bytes that were never stored|history 1\n0 new 3 4 7 -> object 9 at 1000\n0 get 3 0 4 -> bytes 00000000\n|legal 2 entries\n#\
+bytes that were stored|history 1\n0 new 3 4 7 -> object 9 at 1000\n1 put 3 1 6869 -> done\n2 get 3 0 4 -> bytes 00686900\n|legal 3 entries\n#\
+an address|history 1\n0 new 3 4 7 -> object 9 at 1000\n0 addr 3 -> at 1000\n|legal 2 entries\n#\
+an empty cell|history 1\n0 get 4 0 1 -> refused 5 EMPTY\n|legal 1 entries\n#\
+a freed object|history 1\n0 new 3 4 7 -> object 9 at 1000\n0 free 3 -> done\n0 get 3 0 1 -> refused 6 FREED\n0 peek 1000 -> refused 8 STRAY\n|legal 4 entries\n#\
+past the object|history 1\n0 new 3 4 7 -> object 9 at 1000\n0 put 3 3 6869 -> refused 7 OUTSIDE\n|legal 2 entries\n#\
+a cell beside it|history 1\n0 new 3 4 7 -> object 9 at 1000\n0 alias 4294967295 3 -> done\n0 free 3 -> done\n0 addr 4294967295 -> refused 6 FREED\n|legal 4 entries\n#\
+a copy that overlaps itself|history 1\n0 new 3 4 7 -> object 9 at 1000\n0 put 3 0 01020304 -> done\n0 copy 3 1 3 0 3 -> done\n0 get 3 0 4 -> bytes 01010203\n|legal 4 entries\n#\
+a copy of an empty cell|history 1\n0 new 3 4 7 -> object 9 at 1000\n0 copy 3 0 4 0 1 -> refused 5 EMPTY\n|legal 2 entries\n#\
+the byte behind one|history 1\n0 new 3 4 7 -> object 9 at 1000\n0 new 4 1 7 -> object 8 at 1004\n|legal 2 entries\n#\
+the byte before one|history 1\n0 new 3 4 7 -> object 9 at 1000\n0 new 4 1 7 -> object 8 at fff\n|legal 2 entries\n#\
+the address of a freed one|history 1\n0 new 3 4 7 -> object 9 at 1000\n0 free 3 -> done\n0 new 4 4 7 -> object 8 at 1000\n|legal 3 entries\n#\
+no byte|history 1\n0 new 3 0 7 -> refused 1 ZERO\n|legal 1 entries\n#\
+a refusal that an allocator may have|history 1\n0 new 3 1 7 -> refused 3 NO_PAGES\n0 new 3 1 7 -> refused 4 NO_ADDRESSES\n0 new 3 1 7 -> refused 2 TOO_LARGE\n|legal 3 entries\n#\
+the greatest object|history 1\n0 new 0 4294967295 7 -> object 4294967295 at ffffffffffff\n0 put 0 4294967294 ff -> done\n0 get 0 4294967293 2 -> bytes 00ff\n|legal 3 entries\n";
+
+/// Histories that it doesn't take, in such rows too.
+static ILLEGAL: &str = "\
+another byte|history 1\n0 new 3 4 7 -> object 9 at 1000\n1 put 3 1 6869 -> done\n2 get 3 1 2 -> bytes 6868\n0 oops\n|line 4: answer differs: bytes 6869 wanted\n#\
+fewer bytes|history 1\n0 new 3 4 7 -> object 9 at 1000\n0 get 3 0 4 -> bytes 000000\n|line 3: answer differs: bytes 00000000 wanted\n#\
+a store that is lost|history 1\n0 new 3 4 7 -> object 9 at 1000\n0 poke 1003 ff -> done\n0 peek 1003 -> byte 00\n|line 4: answer differs: byte ff wanted\n#\
+another address|history 1\n0 new 3 4 7 -> object 9 at 1000\n0 addr 3 -> at 1001\n|line 3: answer differs: at 1000 wanted\n#\
+an empty cell that is told freed|history 1\n0 get 4 0 1 -> refused 6 FREED\n|line 2: answer differs: refused 5 EMPTY wanted\n#\
+a load of a freed object|history 1\n0 new 3 4 7 -> object 9 at 1000\n0 free 3 -> done\n0 get 3 0 1 -> bytes 00\n|line 4: answer differs: refused 6 FREED wanted\n#\
+a free of a freed object|history 1\n0 new 3 4 7 -> object 9 at 1000\n0 free 3 -> done\n0 free 3 -> done\n|line 4: answer differs: refused 6 FREED wanted\n#\
+a store past the object|history 1\n0 new 3 4 7 -> object 9 at 1000\n0 put 3 3 6869 -> done\n|line 3: answer differs: refused 7 OUTSIDE wanted\n#\
+a refused live object|history 1\n0 new 3 4 7 -> object 9 at 1000\n0 get 3 0 1 -> refused 6 FREED\n|line 3: live object is refused\n#\
+the last byte of one is the first of another|history 1\n0 new 3 4 7 -> object 9 at 1000\n0 new 4 1 7 -> object 8 at 1003\n|line 3: overlaps object 9\n#\
+one around another|history 1\n0 new 3 4 7 -> object 9 at 1000\n0 new 4 64 7 -> object 8 at ff0\n|line 3: overlaps object 9\n#\
+one within another|history 1\n0 new 3 4 7 -> object 9 at 1000\n0 new 4 2 7 -> object 8 at 1001\n|line 3: overlaps object 9\n#\
+the serial of a freed one|history 1\n0 new 3 4 7 -> object 9 at 1000\n0 free 3 -> done\n0 new 4 4 7 -> object 9 at 2000\n|line 4: serial again\n#\
+no byte, and an object|history 1\n0 new 3 0 7 -> object 9 at 1000\n|line 2: answer differs: refused 1 ZERO wanted\n#\
+a refusal that no new has|history 1\n0 new 3 1 7 -> refused 5 EMPTY\n|line 2: answer differs: object wanted\n#\
+a new that is done|history 1\n0 new 3 1 7 -> done\n|line 2: answer differs: object wanted\n";
+
+/// Texts that are no histories, in such rows too: the line of each is that of its fault.
+static FAULTS: &str = "\
+an empty file||line 1: CUT\n#\
+another head|history 2\n|line 1: NUMBER\n#\
+no head|0 new 3 4 7 -> object 9 at 1000\n|line 1: WORD\n#\
+a line that is cut off|history 1\n0 new 3 4 7 -> object 9 at 1000\n0 free 3 -> done|line 3: CUT\n#\
+a wrong word|history 1\n0 run 3 -> done\n|line 2: WORD\n#\
+no arrow|history 1\n0 free 3\n|line 2: WORD\n#\
+a worker that is none|history 1\n65536 free 3 -> refused 5 EMPTY\n|line 2: NUMBER\n#\
+an address of 49 bits|history 1\n0 peek 1000000000000 -> refused 8 STRAY\n|line 2: NUMBER\n#\
+a wrong name of a refusal|history 1\n0 free 3 -> refused 5 FREED\n|line 2: WORD\n#\
+half a byte|history 1\n0 put 3 0 6 -> refused 5 EMPTY\n|line 2: HEX\n";
+
+/// The histories that are legal, and those that are not. All that go over them ask for them here, so that the proof of one function alone goes
+/// through each table.
+fn legal() -> &'static str {
+    LEGAL
+}
+
+fn illegal() -> &'static str {
+    ILLEGAL
+}
+
+/// Judges the history that a source gives.
+fn judged<I: Source + Drop>(alloc: Global, input: I) -> Ran
+    requires { I.has_failed input ≡ false }
+{
+    let mut devices = in_memory(alloc, input);
+    let status = check_run(alloc, &mut devices);
+    Ran::of(status, devices)
+}
+
+/// Asserts that the histories of a table are judged so, with this status.
+fn check_verdicts(rt: &(impl Abort + AllocGlobal), table: &str, status: u8) {
+    for row in table.split(ROW_END) {
+        let (name, text, verdict) = fields(row);
+        let run = judged(rt.alloc(), Input::new(text.as_bytes()));
+        check(rt, run.wrote(verdict.as_bytes(), "", status), &run, name);
+    }
+}
+
+#[test]
+fn finds_what_the_plain_memory_takes(rt: HostRuntime) {
+    check_verdicts(&rt, legal(), 0);
+    check_verdicts(&rt, illegal(), 1);
+}
+
+/// Asserts the same where the histories are read byte by byte.
+fn check_slowly(rt: &(impl Abort + AllocGlobal), table: &str, status: u8) {
+    for row in table.split(ROW_END) {
+        let (name, text, verdict) = fields(row);
+        let input = SlowSource::new(text.as_bytes(), text.len() + 1);
+        let run = judged(rt.alloc(), input);
+        check(rt, run.wrote(verdict.as_bytes(), "", status), &run, name);
+    }
+}
+
+#[test]
+fn finds_the_same_byte_by_byte(rt: HostRuntime) {
+    check_slowly(&rt, legal(), 0);
+    check_slowly(&rt, illegal(), 1);
+}
+
+#[test]
+fn tells_the_faults_of_a_history(rt: HostRuntime) {
+    for row in FAULTS.split(ROW_END) {
+        let (name, text, fault) = fields(row);
+        let run = judged(rt.alloc(), Input::new(text.as_bytes()));
+        check(&rt, run.wrote(b"", fault, 2), &run, name);
+    }
+}

@@ -1,0 +1,97 @@
+//! Explorations, over memory.
+ghost use Rattle.std.specs.Prelude.{◌≡◌, false};
+
+use crate::tests::check;
+use crate::memory::{Ran, SlowSource, in_memory};
+use mesh_run::{Args, ExploreArgs, Input, Source, arguments, explore_run};
+use std::process::Abort;
+
+/// The words of a small exploration, of 64 states and two outcomes.
+static STORE: [&str; 5] = ["meshrun", "explore", "a.job", "--mesh", "1:0"];
+
+/// Its file.
+const STORE_FILE: &str =
+    "mesh 1\npages 16\nhistory 64\nworkers 2\nworker 0\nnew 0 2048 0\nnew 1 2048 0\nnew 2 2048 0\nnew 3 2048 0\nfree 0\nfree 3\nput 2 0 aa\nget 2 0 1\nworker 1\nget 2 0 1\nplan\nrun 0\nrun 0\nrun 0\nrun 0\nrun 0\nrun 0\nend\n";
+
+/// What its second outcome is printed as.
+const SECOND: &str =
+    "mesh 1\npages 16\nhistory 64\nworkers 2\nworker 0\nnew 0 2048 0\nnew 1 2048 0\nnew 2 2048 0\nnew 3 2048 0\nfree 0\nfree 3\nput 2 0 aa\nget 2 0 1\nworker 1\nget 2 0 1\nplan\nrun 0\nrun 0\nrun 0\nrun 0\nrun 0\nrun 0\nrun 1\nrun 0\nrun 0\nbegin 1 0\nstep\nstep\nstep\nstep\nstep\nstep\nend\n";
+
+/// Words behind those, and the line and the status that such a run ends with.
+static STOPS: [(&[&str], &str, u8); 5] = [
+    (&["--states", "63"], "too many states\n", 1),
+    (
+        &["--states", "63", "--witness", "9"],
+        "too many states\n",
+        1,
+    ),
+    (&["--states", "1"], "too many states\n", 1),
+    (&["--witness", "2"], "no such outcome\n", 2),
+    (&["--witness", "1000000"], "no such outcome\n", 2),
+];
+
+/// Runs an exploration with these words.
+fn explored<I: Source + Drop>(rt: &(impl Abort + AllocGlobal), words: &[&str], input: I) -> Ran
+    requires { I.has_failed input ≡ false }
+{
+    let args = asked(rt, words);
+    let mut devices = in_memory(rt.alloc(), input);
+    let status = explore_run(rt.alloc(), &args, &mut devices);
+    Ran::of(status, devices)
+}
+
+/// The exploration that these words ask for.
+fn asked(rt: &(impl Abort + AllocGlobal), words: &[&str]) -> ExploreArgs {
+    match arguments(rt.alloc(), words) {
+        Ok(Args::Explore(_, args)) => args,
+        _ => panic!(rt; "nothing explored"),
+    }
+}
+
+#[test]
+fn prints_an_outcome_as_a_job(rt: HostRuntime) {
+    let words = with(&rt, &["--witness", "1"]);
+    let input = SlowSource::new(STORE_FILE.as_bytes(), STORE_FILE.len() + 1);
+    let run = explored(&rt, words.as_slice(), input);
+    let goes = run.wrote(SECOND.as_bytes(), "", 0);
+    check(&rt, goes, &run, "the second outcome");
+}
+
+#[test]
+fn tells_why_it_stops(rt: HostRuntime) {
+    for (more, line, status) in STOPS.iter() {
+        check_stop(&rt, more, line, *status);
+    }
+}
+
+/// Asserts that an exploration with these words more ends with this line and this status.
+fn check_stop(
+    rt: &(impl Abort + AllocGlobal),
+    more: &[&'static str],
+    line: &'static str,
+    status: u8,
+) {
+    let words = with(rt, more);
+    let input = Input::new(STORE_FILE.as_bytes());
+    let run = explored(rt, words.as_slice(), input);
+    check(rt, run.wrote(b"", line, status), &run, line);
+}
+
+#[test]
+fn tells_a_read_that_fails(rt: HostRuntime) {
+    for calls in [0, 1, STORE_FILE.len()] {
+        let input = SlowSource::new(STORE_FILE.as_bytes(), calls);
+        let run = explored(&rt, STORE.as_slice(), input);
+        check(&rt, run.wrote(b"", "read fault\n", 1), &run, calls);
+    }
+}
+
+/// The words of the small exploration with these behind them.
+fn with(rt: &(impl Abort + AllocGlobal), more: &[&'static str]) -> Vec<&'static str> {
+    let mut words = Vec::new(rt.alloc());
+    words
+        .extend_from_slice(STORE.as_slice())
+        .expect(rt, "memory");
+    words.extend_from_slice(more).expect(rt, "memory");
+    words
+}

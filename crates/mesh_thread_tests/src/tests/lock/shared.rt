@@ -1,0 +1,524 @@
+//! Seats, settled histories and threads that share a book.
+ghost use Rattle.std.specs.Prelude.{◌≤◌, length};
+ghost use Rattle.model_words.specs.Commands.{IsInRange};
+
+use crate::tests::lock::calls::{Answer, Call, GROUPS, command_of, reply_of};
+use crate::tests::{check_count, check_that};
+use arrayvec::ArrayVec;
+use mesh_class::{Class, class_of};
+use mesh_lock::{FinishError, Seat, Shared};
+use mesh_mutator::{Attempt, Book, Command, Reply};
+use mesh_steps::Report;
+use model_words::{Refusal, StepKind};
+use std::alloc::{AllocError, Global};
+use std::process::Abort;
+use std::rt::Clock;
+use std::sync::Wait;
+use std::sync::atomic::AtomicBool;
+use std::sync::atomic::Ordering::SeqCst;
+use std::thread;
+use std::thread::{Threads, join};
+use std::time::Duration;
+
+/// A book of so many pages and so many entries behind a lock, with a seat for each count.
+fn opened(
+    rt: &(impl Abort + AllocGlobal),
+    pages: u32,
+    entries: u32,
+    counts: &[usize],
+) -> (Shared, Vec<Seat>)
+    requires some_pages { 1 ≤ pages }
+    requires most { pages ≤ 4096 }
+    requires few_entries { entries ≤ 65536 }
+    requires some { 1 ≤ length counts.now }
+    requires few { length counts.now ≤ 64 }
+{
+    let book = Book::open(rt.alloc(), pages, entries).expect(rt, "memory");
+    Shared::open(rt.alloc(), book, counts).expect(rt, "memory")
+}
+
+/// What is done with a book behind a lock and its seats.
+#[derive(Clone, Copy)]
+enum Usage {
+    // Two threads make an object each, and read it back.
+    Threads,
+    // An object gets a second name, by which it is read.
+    Alias,
+    // A mesh is begun and cancelled, and an empty group swept.
+    Mesher,
+    // A store is held back by a mesh.
+    HeldBack,
+    // A seat calls more than the book has room for.
+    Full,
+    // Each of two readers waits for the other one.
+    Readers,
+}
+
+impl Usage {
+    /// How many calls each seat has room for.
+    fn counts(self) -> &'static [usize]
+        ensures some { 1 ≤ length result.now }
+        ensures few { length result.now ≤ 64 }
+    {
+        match self {
+            Usage::Threads | Usage::Alias => &[4, 4],
+            Usage::Mesher | Usage::HeldBack => &[16],
+            Usage::Full => &[4],
+            Usage::Readers => &[1],
+        }
+    }
+
+    /// Uses the book.
+    fn of<R: Abort + Clock + Threads + Wait + Sync>(
+        self,
+        rt: &R,
+        alloc: Global,
+        shared: &Shared,
+        seats: &mut [Seat],
+    ) {
+        match (self, seats) {
+            (Usage::Threads, [first, second]) => work_beside(rt, shared, first, second),
+            (Usage::Alias, [first, _]) => read_by_alias(rt, shared, first),
+            (Usage::Mesher, [seat]) => take_the_lock(rt, alloc, shared, seat),
+            (Usage::HeldBack, [seat]) => hold_back(rt, shared, seat),
+            (Usage::Full, [seat]) => fill(rt, shared, seat),
+            (Usage::Readers, _) => meet(rt, shared),
+            _ => assert!(rt; false, "another count of seats"),
+        }
+    }
+}
+
+/// What a book comes to.
+#[derive(Drop)]
+struct Closed {
+    // How many entries its history has.
+    entries: usize,
+    // What its heap counts.
+    report: Report,
+}
+
+/// Opens a book of so many pages and so many entries, uses it, and finishes it.
+fn used<R: Abort + AllocGlobal + Clock + Threads + Wait + Sync>(
+    rt: &R,
+    pages: u32,
+    entries: u32,
+    usage: Usage,
+) -> Closed
+    requires some { 1 ≤ pages }
+    requires most { pages ≤ 4096 }
+    requires few { entries ≤ 65536 }
+{
+    let (shared, mut seats) = opened(rt, pages, entries, usage.counts());
+    usage.of(rt, rt.alloc(), &shared, seats.as_mut_slice());
+    finished(rt, shared, seats)
+}
+
+/// Finishes a book.
+fn finished(rt: &(impl Abort + AllocGlobal), shared: Shared, seats: Vec<Seat>) -> Closed {
+    let ended = shared.finish(rt.alloc(), seats).expect(rt, "a history");
+    Closed {
+        entries: ended.history.len(),
+        report: ended.heap.report(),
+    }
+}
+
+/// A `New` of a cell.
+fn new_object(cell: u8) -> Command
+    ensures { IsInRange result }
+{
+    Command::New(cell, 2048, 0)
+}
+
+/// A `Get` of the first two bytes of a cell's object.
+fn get_bytes(cell: u8) -> Command
+    ensures { IsInRange result }
+{
+    Command::Get(cell, 0, 2)
+}
+
+/// A thread's work: an object, its bytes, and whether they are read back.
+fn works<R: Wait>(rt: &R, shared: &Shared, seat: &mut Seat, cell: u8) -> bool {
+    let mut bytes = ArrayVec::new();
+    bytes.push(0x68);
+    bytes.push(0x69);
+    shared.retry_call(rt, seat, &new_object(cell));
+    shared.retry_call(rt, seat, &Command::Put(cell, 0, bytes));
+    match shared.retry_call(rt, seat, &get_bytes(cell)) {
+        Attempt::Done(Reply::Bytes(found)) => found.as_slice() == [0x68, 0x69].as_slice(),
+        _ => false,
+    }
+}
+
+/// Lets two threads work beside one another.
+fn work_beside<R: Abort + Threads + Wait + Sync>(
+    rt: &R,
+    shared: &Shared,
+    first: &mut Seat,
+    second: &mut Seat,
+) {
+    let (a, b) = join(
+        rt,
+        || works(rt, shared, first, 0),
+        || works(rt, shared, second, 1),
+    );
+    check_that(rt, a && b, "each reads its bytes");
+}
+
+#[test]
+fn two_threads_share_a_book(rt: HostRuntime) {
+    check_count(&rt, used(&rt, 16, 64, Usage::Threads).entries, 6);
+}
+
+/// Asserts that a command of a seat is done, and answered so.
+fn check(
+    rt: &(impl Abort + Wait),
+    shared: &Shared,
+    seat: &mut Seat,
+    call: Call,
+    answer: Answer,
+    name: &str,
+) {
+    let command = command_of(rt, call);
+    let attempt = shared.call(rt, seat, &command);
+    let wanted = Attempt::Done(reply_of(rt, answer));
+    assert!(rt; attempt == wanted, "of {command:?}, {name}");
+}
+
+/// Which of two books is asked.
+#[derive(Clone, Copy)]
+enum Asked {
+    // The one that is finished.
+    Own,
+    // Another one.
+    Other,
+}
+
+/// What is asked before a book is finished: of which book, from the seat of which place, and the call with its answer. The seats of the book
+/// that is finished have the places 0 and 1, those of the other one the places from 2 on.
+type Turn = (Asked, usize, (Call, Answer));
+
+/// An object made in cell 0, the first of its book.
+const MADE: (Call, Answer) = (Call::New(0, 2048), Answer::Object(0, 0x1000));
+
+/// A read of its first bytes.
+const READ: (Call, Answer) = (Call::Get(0, 0, 2), Answer::Bytes(&[0, 0]));
+
+/// By their names, what is asked before a book is finished, the places of the seats that are handed in, and the fault that is told.
+static MISFITS: [(&str, &[Turn], &[usize], FinishError); 7] = [
+    (
+        "an entry of no call of seat 0",
+        &[(Asked::Own, 2, MADE)],
+        &[0, 1],
+        FinishError::SeatDiffers { seat: 0, call: 0 },
+    ),
+    (
+        "seats in the other order",
+        &[],
+        &[1, 0],
+        FinishError::SeatMissing(0),
+    ),
+    ("one seat of two", &[], &[0], FinishError::SeatMissing(1)),
+    (
+        "one seat more",
+        &[],
+        &[0, 1, 2],
+        FinishError::SeatMissing(2),
+    ),
+    (
+        "an entry of a worker without a seat",
+        &[(Asked::Own, 4, MADE)],
+        &[0, 1],
+        FinishError::SeatMissing(2),
+    ),
+    (
+        "a call that stands in another journal",
+        &[(Asked::Other, 0, MADE), (Asked::Other, 0, READ)],
+        &[0, 1],
+        FinishError::SeatDiffers { seat: 0, call: 0 },
+    ),
+    (
+        "a read that saw another journal",
+        &[(Asked::Other, 3, MADE), (Asked::Other, 0, READ)],
+        &[0, 1],
+        FinishError::ReadDiffers { seat: 0, call: 0 },
+    ),
+];
+
+/// The seats of two books in one row of places.
+fn placed(rt: &(impl Abort + AllocGlobal), own: Vec<Seat>, other: Vec<Seat>) -> Vec<Option<Seat>> {
+    let mut places = Vec::new(rt.alloc());
+    add_seats(rt, &mut places, own);
+    add_seats(rt, &mut places, other);
+    places
+}
+
+/// Adds seats to a row of places.
+fn add_seats(rt: &impl Abort, places: &mut Vec<Option<Seat>>, seats: Vec<Seat>) {
+    for seat in seats {
+        places.push(Some(seat)).expect(rt, "memory");
+    }
+}
+
+/// Asks what a turn asks.
+fn take_turn(
+    rt: &(impl Abort + Wait),
+    own: &Shared,
+    other: &Shared,
+    places: &mut [Option<Seat>],
+    turn: &Turn,
+    name: &str,
+) {
+    let (asked, place, (call, answer)) = turn;
+    let book = match asked {
+        Asked::Own => own,
+        Asked::Other => other,
+    };
+    let seat = places.get_mut(*place).expect(rt, "a place").as_mut();
+    check(rt, book, seat.expect(rt, "a seat"), *call, *answer, name);
+}
+
+/// Takes the seats of these places.
+fn taken(
+    rt: &(impl Abort + AllocGlobal),
+    places: &mut [Option<Seat>],
+    handed: &[usize],
+) -> Vec<Seat> {
+    let mut seats = Vec::new(rt.alloc());
+    for place in handed {
+        let seat = places.get_mut(*place).expect(rt, "a place").take();
+        seats.push(seat.expect(rt, "a seat")).expect(rt, "memory");
+    }
+    seats
+}
+
+/// The fault that is told when these seats are handed in after these turns.
+fn told(
+    rt: &(impl Abort + AllocGlobal + Wait),
+    turns: &[Turn],
+    handed: &[usize],
+    name: &str,
+) -> FinishError {
+    let (own, own_seats) = opened(rt, 16, 64, &[4, 4]);
+    let (other, other_seats) = opened(rt, 16, 64, &[4, 4, 4]);
+    let mut places = placed(rt, own_seats, other_seats);
+    for turn in turns {
+        take_turn(rt, &own, &other, places.as_mut_slice(), turn, name);
+    }
+    let seats = taken(rt, places.as_mut_slice(), handed);
+    fault_of(rt, own, seats)
+}
+
+/// The fault that is told when a book is finished with these seats.
+fn fault_of(rt: &(impl Abort + AllocGlobal), shared: Shared, seats: Vec<Seat>) -> FinishError {
+    let ended = shared.finish(rt.alloc(), seats);
+    ended.err().expect(rt, "a fault")
+}
+
+#[test]
+fn seats_that_do_not_fit_are_told(rt: HostRuntime) {
+    for (name, turns, handed, fault) in MISFITS.iter() {
+        let error = told(&rt, turns, handed, name);
+        assert!(&rt; error == *fault, "of {name}: {error}");
+    }
+}
+
+/// An object, a second name of it, and a read by that.
+static ALIASED: [(Call, Answer); 3] = [
+    (Call::New(0, 2048), Answer::Object(0, 0x1000)),
+    (Call::Alias(1, 0), Answer::Done),
+    (Call::Get(1, 0, 2), Answer::Bytes(&[0, 0])),
+];
+
+/// Reads an object by its second name.
+fn read_by_alias(rt: &(impl Abort + Wait), shared: &Shared, seat: &mut Seat) {
+    for (call, answer) in ALIASED.iter() {
+        check(rt, shared, seat, *call, *answer, "an alias");
+    }
+}
+
+#[test]
+fn reads_come_into_the_history(rt: HostRuntime) {
+    check_count(&rt, used(&rt, 16, 64, Usage::Alias).entries, 3);
+}
+
+/// What is there before a mesher comes: two groups of class 2,048, each with one object.
+fn set_up(rt: &(impl Abort + Wait), shared: &Shared, seat: &mut Seat) -> Class {
+    for call in GROUPS.iter() {
+        shared.call(rt, seat, &command_of(rt, *call));
+    }
+    class_of(2048).expect(rt, "a class")
+}
+
+/// A call of a mesher.
+#[derive(Clone, Copy)]
+enum Meshing {
+    // Of a source into a destination.
+    Begin(u32, u32),
+    Step,
+    Cancel,
+    // Of a group.
+    Sweep(u32),
+}
+
+impl Meshing {
+    fn name(self) -> &'static str {
+        match self {
+            Meshing::Begin(_, _) => "Begin",
+            Meshing::Step => "Step",
+            Meshing::Cancel => "Cancel",
+            Meshing::Sweep(_) => "Sweep",
+        }
+    }
+}
+
+/// What a mesher's call under the lock is answered: of a step which it was, and steps to come or pages that came free.
+fn meshed(
+    rt: &impl Wait,
+    shared: &Shared,
+    class: Class,
+    meshing: Meshing,
+) -> Result<(Option<StepKind>, u32), Refusal> {
+    let mut book = shared.book.write(rt);
+    match meshing {
+        Meshing::Begin(source, destination) => Ok((None, book.begin(source, destination)?)),
+        Meshing::Step => {
+            let done = book.step(class)?;
+            Ok((Some(done.kind), done.left))
+        },
+        Meshing::Cancel => Ok((None, book.cancel(class)?)),
+        Meshing::Sweep(group) => Ok((None, book.sweep(group)?)),
+    }
+}
+
+/// A mesh that is begun and cancelled.
+static CANCELLED: [(Meshing, Option<StepKind>, u32); 4] = [
+    (Meshing::Begin(1, 0), None, 6),
+    (Meshing::Step, Some(StepKind::Protect), 5),
+    (Meshing::Cancel, None, 1),
+    (Meshing::Step, Some(StepKind::Unprotect), 0),
+];
+
+/// An empty group that is swept: a page comes free.
+static SWEPT: [(Meshing, Option<StepKind>, u32); 1] = [(Meshing::Sweep(0), None, 1)];
+
+/// Asserts that a mesher's calls, one after another and each under the lock, are answered so.
+fn play(
+    rt: &(impl Abort + Wait),
+    shared: &Shared,
+    class: Class,
+    calls: &[(Meshing, Option<StepKind>, u32)],
+) {
+    for (meshing, kind, count) in calls {
+        let answer = meshed(rt, shared, class, *meshing);
+        check_that(rt, answer == Ok((*kind, *count)), meshing.name());
+    }
+}
+
+/// Whether group 1 alone may be paired.
+fn has_one_group<R: Wait>(
+    rt: &R,
+    alloc: Global,
+    shared: &Shared,
+    class: Class,
+) -> Result<bool, AllocError> {
+    let view = shared.book.read(rt).view(alloc, class)?;
+    Ok(view.len() == 1 && view.number(0) == 1)
+}
+
+/// Begins a mesh and cancels it, and sweeps the group that is empty then.
+fn take_the_lock(rt: &(impl Abort + Wait), alloc: Global, shared: &Shared, seat: &mut Seat) {
+    let class = set_up(rt, shared, seat);
+    play(rt, shared, class, &CANCELLED);
+    shared.call(rt, seat, &Command::Free(1));
+    play(rt, shared, class, &SWEPT);
+    let left = has_one_group(rt, alloc, shared, class).expect(rt, "memory");
+    check_that(rt, left, "group 1 is the only one");
+}
+
+#[test]
+fn a_mesher_takes_the_lock(rt: HostRuntime) {
+    let report = Report {
+        objects: 1,
+        bytes: 2048,
+        mapped: 1,
+        taken: 1,
+        saved: 0,
+    };
+    let closed = used(&rt, 16, 64, Usage::Mesher);
+    check_that(&rt, closed.report == report, "one object is left");
+}
+
+/// Stores into the object of a read-only page.
+fn hold_back(rt: &(impl Abort + Wait), shared: &Shared, seat: &mut Seat) {
+    let class = set_up(rt, shared, seat);
+    let before = shared.book.read(rt).running(class);
+    play(rt, shared, class, &CANCELLED[..2]);
+    let behind = shared.book.read(rt).running(class);
+    check_that(rt, !before && behind, "a mesh runs, and none did");
+    let put = command_of(rt, Call::Put(2, 0, &[0x68]));
+    let stored = shared.call(rt, seat, &put);
+    check_that(rt, stored == Attempt::Blocked, "the store is held back");
+    check_that(rt, seat.calls().len() == 6, "and isn't kept");
+}
+
+#[test]
+fn a_call_tells_that_it_is_held_back(rt: HostRuntime) {
+    check_count(&rt, used(&rt, 16, 64, Usage::HeldBack).entries, 6);
+}
+
+/// Three objects of half a page.
+static HALF_PAGES: [(Call, Answer); 3] = [
+    (Call::New(0, 2048), Answer::Object(0, 0x1000)),
+    (Call::New(1, 2048), Answer::Object(1, 0x1800)),
+    (Call::New(2, 2048), Answer::Refused(Refusal::NoPages)),
+];
+
+/// Calls once more than there is room for.
+fn fill(rt: &(impl Abort + Wait), shared: &Shared, seat: &mut Seat) {
+    for (call, answer) in HALF_PAGES.iter() {
+        check(rt, shared, seat, *call, *answer, "one page");
+    }
+    let fourth = shared.call(rt, seat, &new_object(3));
+    let is_full = fourth == Attempt::HistoryFull;
+    check_that(rt, is_full, "there is room for three entries");
+}
+
+#[test]
+fn the_book_is_the_one_handed_in(rt: HostRuntime) {
+    check_count(&rt, used(&rt, 1, 3, Usage::Full).entries, 3);
+}
+
+/// How often a reader looks for the other one, and for how many microseconds it sleeps after each look.
+const TURNS: u32 = 1_000_000;
+
+const TURN: u64 = 10;
+
+/// Takes the shared lock and holds it until the other reader has it too: whether it came.
+fn meets<R: Clock + Wait>(rt: &R, shared: &Shared, own: &AtomicBool, other: &AtomicBool) -> bool {
+    let book = shared.book.read(rt);
+    own.store(true, SeqCst);
+    for _ in 0..TURNS {
+        if other.load(SeqCst) {
+            return book.journal().is_empty();
+        }
+        thread::sleep(rt, Duration::from_micros(TURN));
+    }
+    false
+}
+
+/// Lets two readers hold the lock at once.
+fn meet<R: Abort + Clock + Threads + Wait + Sync>(rt: &R, shared: &Shared) {
+    let first = AtomicBool::new(false);
+    let second = AtomicBool::new(false);
+    let (a, b) = join(
+        rt,
+        || meets(rt, shared, &first, &second),
+        || meets(rt, shared, &second, &first),
+    );
+    check_that(rt, a && b, "both hold the lock");
+}
+
+#[test]
+fn two_reads_run_at_once(rt: HostRuntime) {
+    check_count(&rt, used(&rt, 16, 64, Usage::Readers).entries, 0);
+}

@@ -1,0 +1,629 @@
+//! Scripts on threads with meshers at work, held at points by a gate.
+ghost use Rattle.std.specs.Prelude.{◌≡◌, ◌≤◌, length};
+ghost use Rattle.std.specs.List.{All};
+ghost use Rattle.model_words.specs.Commands.{IsInRange};
+
+use crate::tests::runs::gates::{Event, Hold, Holding, Mark};
+use crate::tests::{check_count, check_that};
+use arrayvec::ArrayVec;
+use mesh_class::class_of;
+use mesh_job::Commands;
+use mesh_mutator::{Book, Command, Entry, Reply};
+use mesh_shared::{Ended, Gate, MeshPlan, run_abandoned, run_threads};
+use mesh_steps::{Heap, Report};
+use model_words::{Refusal, StepKind};
+use std::ops::Range;
+use std::process::Abort;
+use std::rt::Clock;
+use std::sync::Wait;
+use std::thread::Threads;
+
+/// A part of a script.
+#[derive(Clone, Copy)]
+enum Part {
+    // Of each cell from the first up to the second, which has none, an object of this length.
+    Made(u8, u8, u32),
+    // The objects of these cells.
+    Freed(&'static [u8]),
+    // To the object of a cell, its first byte.
+    Stored(u8, u8),
+    // From the object of a cell, its first byte, so many times.
+    Read(u8, u32),
+}
+
+/// The script of these parts, one after another.
+fn script_of(rt: &(impl Abort + AllocGlobal), parts: &[Part]) -> Commands {
+    let mut script = Commands::new(rt.alloc());
+    for part in parts {
+        add_part(rt, &mut script, *part);
+    }
+    script
+}
+
+/// Adds the commands of a part.
+fn add_part(rt: &impl Abort, script: &mut Commands, part: Part) {
+    match part {
+        Part::Made(first, end, len) => {
+            for cell in first..end {
+                script.push(Command::New(cell, len, 0)).expect(rt, "memory");
+            }
+        }
+        Part::Freed(cells) => {
+            for cell in cells {
+                script.push(Command::Free(*cell)).expect(rt, "memory");
+            }
+        }
+        Part::Stored(cell, byte) => script.push(put(cell, byte)).expect(rt, "memory"),
+        Part::Read(cell, times) => {
+            for _ in 0..times {
+                script.push(Command::Get(cell, 0, 1)).expect(rt, "memory");
+            }
+        }
+    }
+}
+
+/// A store of an object's first byte.
+fn put(cell: u8, byte: u8) -> Command
+    ensures { IsInRange result }
+{
+    let mut bytes = ArrayVec::new();
+    bytes.push(byte);
+    Command::Put(cell, 0, bytes)
+}
+
+/// One script, as a run takes it.
+fn alone<'a>(script: &'a Commands) -> [&'a [Command]; 1]
+    ensures { All (λ script. All IsInRange script.now) result }
+{
+    [script.as_slice()]
+}
+
+/// Two scripts, as a run takes them.
+fn both<'a>(first: &'a Commands, second: &'a Commands) -> [&'a [Command]; 2]
+    ensures { All (λ script. All IsInRange script.now) result }
+{
+    [first.as_slice(), second.as_slice()]
+}
+
+/// A plan of so many rounds, searchers and meshers: one round of tries a search, all words 0.
+fn plan_of(rt: &impl AllocGlobal, rounds: u32, workers: u32, meshers: u32) -> MeshPlan
+    ensures searchers { result.workers ≡ workers }
+    ensures meshers { result.meshers ≡ meshers }
+{
+    MeshPlan {
+        t: 1,
+        rounds,
+        workers,
+        words: Vec::new(rt.alloc()),
+        meshers,
+    }
+}
+
+/// A run of one script or two, and how it goes.
+struct Course {
+    // Each script in its parts.
+    first: &'static [Part],
+    second: Option<&'static [Part]>,
+    // What all has to be.
+    events: &'static [Event],
+    holds: &'static [Hold],
+    // The first of two events wants the second to have been.
+    orders: &'static [(Event, Event)],
+    scale: Scale,
+}
+
+/// How much a run has of what.
+#[derive(Clone, Copy)]
+struct Scale {
+    // How many pages the arena has.
+    pages: u32,
+    // How many entries the journal has room for.
+    room: u32,
+    // The plan: rounds, searchers, 1 to 16, and meshers, 1 to 10.
+    rounds: u32,
+    searchers: u32,
+    meshers: u32,
+}
+
+/// Two rounds of one mesher, which searches alone.
+const USUAL: Scale = Scale {
+    pages: 16,
+    room: 64,
+    rounds: 2,
+    searchers: 1,
+    meshers: 1,
+};
+
+/// How often a worker tries where meshers are abandoned.
+const TRIES: u32 = 10;
+
+/// The marks of these events.
+fn marks_of(rt: &(impl Abort + AllocGlobal), events: &[Event]) -> Vec<Mark> {
+    let mut marks = Vec::new(rt.alloc());
+    for event in events {
+        marks.push(Mark::of(*event)).expect(rt, "memory");
+    }
+    marks
+}
+
+/// Runs the scripts of a course, with meshers that are abandoned after so many calls, if any, and asserts that it goes so.
+fn ran<R: Abort + AllocGlobal + Clock + Threads + Wait + Sync>(
+    rt: &R,
+    course: &Course,
+    scripts: &[&[Command]],
+    calls: Option<u32>,
+) -> Seen
+    requires some { 1 ≤ length scripts.now }
+    requires few { length scripts.now ≤ 64 }
+    requires range { All (λ script. All IsInRange script.now) scripts.now }
+{
+    let marks = marks_of(rt, course.events);
+    let gate = Holding::new(rt, marks.as_slice(), course.holds, course.orders);
+    let seen = ran_past(rt, course.scale, scripts, calls, &gate);
+    assert!(rt; gate.went_well(), "with {calls:?} calls of a mesher");
+    seen
+}
+
+/// Asserts that a scale is within its bounds.
+fn check_scale(rt: &impl Abort, scale: Scale)
+    ensures some_pages { 1 ≤ scale.pages }
+    ensures most_pages { scale.pages ≤ 4096 }
+    ensures some_searchers { 1 ≤ scale.searchers }
+    ensures most_searchers { scale.searchers ≤ 16 }
+    ensures some_meshers { 1 ≤ scale.meshers }
+    ensures most_meshers { scale.meshers ≤ 10 }
+    ensures few_entries { scale.room ≤ 65536 }
+{
+    assert!(rt; 1 <= scale.pages && scale.pages <= 4096, "pages");
+    assert!(rt; 1 <= scale.searchers && scale.searchers <= 16, "searchers");
+    assert!(rt; 1 <= scale.meshers && scale.meshers <= 10, "meshers");
+    assert!(rt; scale.room <= 65_536, "room");
+}
+
+/// Runs scripts past a gate on a fresh book, and looks at what it comes to.
+fn ran_past<R: Abort + AllocGlobal + Threads + Wait + Sync, G: Gate + Sync>(
+    rt: &R,
+    scale: Scale,
+    scripts: &[&[Command]],
+    calls: Option<u32>,
+    gate: &G,
+) -> Seen
+    requires some { 1 ≤ length scripts.now }
+    requires few { length scripts.now ≤ 64 }
+    requires range { All (λ script. All IsInRange script.now) scripts.now }
+{
+    check_scale(rt, scale);
+    let plan = plan_of(rt, scale.rounds, scale.searchers, scale.meshers);
+    let book = Book::open(rt.alloc(), scale.pages, scale.room).expect(rt, "memory");
+    let ended = match calls {
+        None => run_threads(rt, rt.alloc(), book, scripts, &plan, gate),
+        Some(calls) => run_abandoned(rt, rt.alloc(), book, scripts, &plan, calls, TRIES, gate),
+    };
+    look_at(ended.expect(rt, "a history"))
+}
+
+/// Runs the scripts of a course so, and looks at what it comes to.
+fn played<R: Abort + AllocGlobal + Clock + Threads + Wait + Sync>(
+    rt: &R,
+    course: &Course,
+    calls: Option<u32>,
+) -> Seen {
+    let first = script_of(rt, course.first);
+    match course.second {
+        None => ran(rt, course, &alone(&first), calls),
+        Some(parts) => {
+            let second = script_of(rt, parts);
+            ran(rt, course, &both(&first, &second), calls)
+        }
+    }
+}
+
+/// How many entries of a history are a worker's.
+fn count_of(history: &[Entry], worker: u32) -> usize {
+    history
+        .iter()
+        .filter(|entry| entry.worker == worker)
+        .count()
+}
+
+/// How many entries of a history are refused for want of pages.
+fn no_pages_count(history: &[Entry]) -> usize {
+    history
+        .iter()
+        .filter(|entry| entry.reply == Reply::Refused(Refusal::NoPages))
+        .count()
+}
+
+/// How many steps a class of the heap still takes.
+fn steps_left(heap: &mut Heap, size: u32) -> u32 {
+    let Ok(class) = class_of(size) else {
+        return 0;
+    };
+    for made in 0..1000 {
+        if heap.step(class) == Err(Refusal::NoMesh) {
+            return made;
+        }
+    }
+    1000
+}
+
+/// The size of each class.
+static SIZES: [u32; 10] = [16, 32, 64, 128, 256, 384, 512, 1024, 1536, 2048];
+
+/// How many steps all classes of the heap together still take.
+fn all_steps_left(heap: &mut Heap) -> u32 {
+    let mut left = 0u32;
+    for size in SIZES.iter() {
+        left = left.saturating_add(steps_left(heap, *size));
+    }
+    left
+}
+
+/// Whether the first of the addresses holds a byte, and each other one a zero.
+fn begins_with(heap: &Heap, addresses: Range<u32>, front: u8) -> bool {
+    let mut wanted = front;
+    for address in addresses {
+        if heap.peek(address) != Ok(wanted) {
+            return false;
+        }
+        wanted = 0;
+    }
+    true
+}
+
+/// Whether the objects of the cells 1 and 2 have the bytes that `STORER` stores.
+fn keep_bytes(heap: &Heap) -> bool {
+    begins_with(heap, 0x1800..0x2000, 0xab) && begins_with(heap, 0x2000..0x2800, 0xcd)
+}
+
+/// What a run comes to.
+#[derive(Drop)]
+struct Seen {
+    // How many entries of the history are the first script's, and how many the second one's.
+    entries: (usize, usize),
+    // How many are refused for want of pages.
+    no_pages: usize,
+    // What the heap counts.
+    report: Report,
+    // Whether those objects have the bytes that `STORER` stores then, and whether they have them once no class takes a step.
+    keeps_bytes: (bool, bool),
+    // How many steps all classes together still took.
+    steps_left: u32,
+}
+
+/// Looks at what a run came to, and makes the steps that are left.
+fn look_at(mut ended: Ended) -> Seen {
+    seen_of(ended.history.as_slice(), &mut ended.heap)
+}
+
+/// Looks at a run's history and heap, and makes the steps that are left.
+fn seen_of(history: &[Entry], heap: &mut Heap) -> Seen {
+    let report = heap.report();
+    let kept = keep_bytes(heap);
+    let steps_left = all_steps_left(heap);
+    Seen {
+        entries: (count_of(history, 0), count_of(history, 1)),
+        no_pages: no_pages_count(history),
+        report,
+        keeps_bytes: (kept, keep_bytes(heap)),
+        steps_left,
+    }
+}
+
+/// Asserts how many entries of the history are the first script's, and how many the second one's.
+fn check_entries(rt: &impl Abort, seen: &Seen, wanted: (usize, usize)) {
+    assert_eq!(rt; seen.entries, wanted);
+}
+
+/// Two groups of class 2,048 with one object each, of the cells 1 and 2, and four reads of the second object.
+const READER: &[Part] = &[
+    Part::Made(0, 4, 2048),
+    Part::Freed(&[0, 3]),
+    Part::Read(2, 4),
+];
+
+/// A read of an empty cell, and a store to the second object.
+const WRITER: &[Part] = &[Part::Read(9, 1), Part::Stored(2, 0xcd)];
+
+/// A reader, who makes the groups before, reads while the second object is copied, and a writer stores only once that is remapped.
+static READ_IN_A_COPY: Course = Course {
+    first: READER,
+    second: Some(WRITER),
+    events: &[
+        Event::Called(0, 5),
+        Event::Called(0, 6),
+        Event::Called(1, 0),
+        Event::Called(1, 1),
+        Event::Stepped(0, StepKind::Copy),
+        Event::Stepped(0, StepKind::Remap),
+    ],
+    holds: &[
+        Hold(Event::Searching, &[Event::Called(0, 5)], 0),
+        Hold(
+            Event::Called(0, 5),
+            &[Event::Called(1, 0), Event::Stepped(0, StepKind::Copy)],
+            0,
+        ),
+        Hold(
+            Event::Called(1, 0),
+            &[Event::Called(0, 5), Event::Stepped(0, StepKind::Copy)],
+            0,
+        ),
+        Hold(
+            Event::Stepped(0, StepKind::Copy),
+            &[Event::Called(0, 6)],
+            10_000,
+        ),
+    ],
+    orders: &[(Event::Called(1, 1), Event::Stepped(0, StepKind::Remap))],
+    scale: USUAL,
+};
+
+#[test]
+fn a_reader_runs_during_a_copy(rt: HostRuntime) {
+    let seen = played(&rt, &READ_IN_A_COPY, None);
+    check_entries(&rt, &seen, (10, 2));
+    check_that(&rt, seen.steps_left == 0, "no step is left");
+}
+
+/// Two reads of an empty cell, an object and a read of it.
+const FOUR_CALLS: &[Part] = &[Part::Read(9, 2), Part::Made(0, 1, 16), Part::Read(0, 1)];
+
+/// Two searchers are at work between the first call and the third.
+static SEARCH_BESIDE: Course = Course {
+    first: FOUR_CALLS,
+    second: None,
+    events: &[Event::Searching, Event::Called(0, 2)],
+    holds: &[
+        Hold(Event::Called(0, 0), &[Event::Searching], 0),
+        Hold(Event::Searching, &[Event::Called(0, 2)], 0),
+    ],
+    orders: &[],
+    scale: Scale {
+        pages: 16,
+        room: 8,
+        rounds: 1,
+        searchers: 2,
+        meshers: 1,
+    },
+};
+
+#[test]
+fn a_search_runs_beside_a_script(rt: HostRuntime) {
+    let seen = played(&rt, &SEARCH_BESIDE, None);
+    check_entries(&rt, &seen, (4, 0));
+}
+
+/// Three reads of an empty cell.
+const THREE_READS: &[Part] = &[Part::Read(9, 3)];
+
+/// The first call waits for a searcher at a class, and that searcher waits for the second call.
+static SEARCH_BETWEEN_READS: Course = Course {
+    first: THREE_READS,
+    second: None,
+    events: &[Event::Searching, Event::Called(0, 1)],
+    holds: &[
+        Hold(Event::Called(0, 0), &[Event::Searching], 0),
+        Hold(Event::FirstSearching, &[Event::Called(0, 1)], 0),
+    ],
+    orders: &[],
+    scale: Scale {
+        pages: 16,
+        room: 8,
+        rounds: 1,
+        searchers: 2,
+        meshers: 1,
+    },
+};
+
+#[test]
+fn a_search_runs_between_reads(rt: HostRuntime) {
+    let seen = played(&rt, &SEARCH_BETWEEN_READS, None);
+    check_entries(&rt, &seen, (3, 0));
+}
+
+/// Three objects of half a page on an arena of one page.
+static ONE_PAGE: Course = Course {
+    first: &[Part::Made(0, 3, 2048)],
+    second: None,
+    events: &[],
+    holds: &[],
+    orders: &[],
+    scale: Scale {
+        pages: 1,
+        room: 3,
+        rounds: 1,
+        searchers: 1,
+        meshers: 1,
+    },
+};
+
+#[test]
+fn a_book_of_one_page_has_no_second(rt: HostRuntime) {
+    let seen = played(&rt, &ONE_PAGE, None);
+    check_count(&rt, seen.no_pages, 1);
+    check_that(&rt, seen.report.taken == 1, "one page is taken");
+}
+
+/// A read of an empty cell.
+const ONE_READ: &[Part] = &[Part::Read(9, 1)];
+
+/// Each of two reads waits for the other one.
+static TWO_READS: Course = Course {
+    first: ONE_READ,
+    second: Some(ONE_READ),
+    events: &[Event::Reading(0, 0), Event::Reading(1, 0)],
+    holds: &[
+        Hold(Event::Reading(0, 0), &[Event::Reading(1, 0)], 0),
+        Hold(Event::Reading(1, 0), &[Event::Reading(0, 0)], 0),
+    ],
+    orders: &[],
+    scale: Scale {
+        pages: 16,
+        room: 8,
+        rounds: 0,
+        searchers: 1,
+        meshers: 1,
+    },
+};
+
+#[test]
+fn two_scripts_read_at_once(rt: HostRuntime) {
+    let seen = played(&rt, &TWO_READS, None);
+    check_entries(&rt, &seen, (1, 1));
+}
+
+/// Of sixteen objects of class 512 from cell 4 on all but two: those are the objects of two groups that can be meshed.
+const OF_SMALL_GROUPS: &[u8] = &[4, 5, 6, 7, 8, 9, 10, 13, 14, 15, 16, 17, 18, 19];
+
+/// Each of two copies waits for the other one.
+static TWO_COPIES: Course = Course {
+    first: &[
+        Part::Made(0, 4, 2048),
+        Part::Freed(&[0, 3]),
+        Part::Made(4, 20, 512),
+        Part::Freed(OF_SMALL_GROUPS),
+    ],
+    second: None,
+    events: &[
+        Event::Called(0, 35),
+        Event::Stepped(0, StepKind::Copy),
+        Event::Stepped(1, StepKind::Copy),
+    ],
+    holds: &[
+        Hold(Event::Searching, &[Event::Called(0, 35)], 0),
+        Hold(
+            Event::Stepped(0, StepKind::Copy),
+            &[Event::Stepped(1, StepKind::Copy)],
+            0,
+        ),
+        Hold(
+            Event::Stepped(1, StepKind::Copy),
+            &[Event::Stepped(0, StepKind::Copy)],
+            0,
+        ),
+    ],
+    orders: &[],
+    scale: Scale {
+        pages: 16,
+        room: 64,
+        rounds: 2,
+        searchers: 1,
+        meshers: 2,
+    },
+};
+
+#[test]
+fn two_meshers_copy_at_once(rt: HostRuntime) {
+    let seen = played(&rt, &TWO_COPIES, None);
+    check_entries(&rt, &seen, (36, 0));
+    let Report { mapped, taken, .. } = seen.report;
+    check_that(&rt, mapped == 4 && taken == 2, "each class is on one page");
+}
+
+/// Six groups with one object each, three of them in each of the two slots.
+const SIX_GROUPS: &[Part] = &[Part::Made(0, 12, 2048), Part::Freed(&[1, 3, 5, 6, 8, 10])];
+
+/// The search waits for the last command.
+static SEARCH_BEHIND: Course = Course {
+    first: SIX_GROUPS,
+    second: None,
+    events: &[Event::Called(0, 17)],
+    holds: &[Hold(Event::Searching, &[Event::Called(0, 17)], 0)],
+    orders: &[],
+    scale: USUAL,
+};
+
+#[test]
+fn every_pair_is_meshed(rt: HostRuntime) {
+    let seen = played(&rt, &SEARCH_BEHIND, None);
+    let report = Report {
+        objects: 6,
+        bytes: 12_288,
+        mapped: 6,
+        taken: 3,
+        saved: 3,
+    };
+    check_that(&rt, seen.report == report, "three pages are saved");
+}
+
+/// The same two groups, a byte stored in each of the two objects, and four reads of the second one.
+const STORER: &[Part] = &[
+    Part::Made(0, 4, 2048),
+    Part::Freed(&[0, 3]),
+    Part::Stored(1, 0xab),
+    Part::Stored(2, 0xcd),
+    Part::Read(2, 4),
+];
+
+/// The search waits for the stores, and the reads wait for the mesh.
+static MESH_AMID: Course = Course {
+    first: STORER,
+    second: None,
+    events: &[Event::Called(0, 7), Event::Begun(0)],
+    holds: &[
+        Hold(Event::Searching, &[Event::Called(0, 7)], 0),
+        Hold(Event::Called(0, 7), &[Event::Begun(0)], 0),
+    ],
+    orders: &[],
+    scale: USUAL,
+};
+
+/// The same of a mesher that makes no call, and so begins no mesh that one could wait for.
+static NO_MESH: Course = Course {
+    first: STORER,
+    second: None,
+    events: &[Event::Called(0, 7)],
+    holds: &[Hold(Event::Searching, &[Event::Called(0, 7)], 0)],
+    orders: &[],
+    scale: USUAL,
+};
+
+/// Asserts that all commands were answered, that both objects keep their bytes, also to the end, and that so many steps were left.
+fn check_abandoned(rt: &impl Abort, seen: &Seen, left: u32) {
+    check_entries(rt, seen, (12, 0));
+    check_that(
+        rt,
+        seen.keeps_bytes == (true, true),
+        "both keep their bytes",
+    );
+    check_that(rt, seen.steps_left == left, "steps are left");
+}
+
+#[test]
+fn a_mesher_is_abandoned_after_each_call(rt: HostRuntime) {
+    for calls in 0..8 {
+        let course = if calls == 0 { &NO_MESH } else { &MESH_AMID };
+        let seen = played(&rt, course, Some(calls));
+        let left = if calls == 0 { 0 } else { 7 - calls };
+        check_abandoned(&rt, &seen, left);
+    }
+}
+
+/// A writer stores only once the page is read-only.
+static STORE_HELD_BACK: Course = Course {
+    first: READER,
+    second: Some(WRITER),
+    events: &[
+        Event::Called(0, 5),
+        Event::Begun(0),
+        Event::Stepped(0, StepKind::Protect),
+    ],
+    holds: &[
+        Hold(Event::Searching, &[Event::Called(0, 5)], 0),
+        Hold(Event::Called(0, 5), &[Event::Begun(0)], 0),
+        Hold(
+            Event::Called(1, 0),
+            &[Event::Stepped(0, StepKind::Protect)],
+            0,
+        ),
+    ],
+    orders: &[],
+    scale: USUAL,
+};
+
+#[test]
+fn a_store_is_given_up(rt: HostRuntime) {
+    let seen = played(&rt, &STORE_HELD_BACK, Some(2));
+    check_entries(&rt, &seen, (10, 1));
+}
