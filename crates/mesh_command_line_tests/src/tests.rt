@@ -243,33 +243,10 @@ fn check_lines(rt: &(impl Abort + AllocGlobal), table: &str) {
 }
 
 #[test]
-fn reads_what_is_printed(rt: HostRuntime) {
-    check_lines(&rt, PRINTED);
-}
-
-#[test]
-fn reads_checks(rt: HostRuntime) {
-    check_lines(&rt, CHECKED);
-}
-
-#[test]
-fn reads_numbers(rt: HostRuntime) {
-    check_lines(&rt, NUMBERS);
-}
-
-#[test]
-fn reads_what_is_drawn(rt: HostRuntime) {
-    check_lines(&rt, SHOWN);
-}
-
-#[test]
-fn reads_what_is_explored(rt: HostRuntime) {
-    check_lines(&rt, EXPLORED);
-}
-
-#[test]
-fn reads_sizes(rt: HostRuntime) {
-    check_lines(&rt, SIZES);
+fn reads_what_each_line_asks_for(rt: HostRuntime) {
+    for table in [PRINTED, CHECKED, NUMBERS, SHOWN, EXPLORED, SIZES] {
+        check_lines(&rt, table);
+    }
 }
 
 /// Asserts that a command line is refused for an error.

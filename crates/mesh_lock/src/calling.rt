@@ -3,15 +3,15 @@ ghost use Rattle.std.specs.Prelude.{◌≡◌, ◌↔◌, ◌<◌, ◌≤◌, le
 ghost use Rattle.model_words.specs.Commands.{IsInRange};
 ghost use Rattle.model_memory.specs.Reads.{is_read};
 ghost use Rattle.mesh_mutator.specs.declared.attempts.Attempt.{Attempt};
-ghost use Rattle.mesh_seats.specs.Seat.{IsNew, IsStore, IsTaken};
-ghost use Rattle.mesh_lock.specs.Tries.{AreMade, IsTried};
+ghost use Rattle.mesh_lock.specs.Seat.{IsNew, IsStore, IsTaken};
+ghost use Rattle.mesh_lock.specs.CallBudgets.{IsSpent, IsUsedUp};
 
+use crate::call_budget::CallBudget;
 use crate::guarded::{act, look};
 use crate::shared::Shared;
-use crate::tries::Tries;
+use crate::{Seat, is_read};
 use mesh_mutator::{Attempt, Command};
 use mesh_search::{Actor, Gate, Point};
-use mesh_seats::{Seat, is_read};
 use std::sync::Wait;
 
 /// A mutator of a shared book, past a gate.
@@ -66,13 +66,13 @@ impl<'a, R: Wait, G: Gate> Mutator<'a, R, G> {
     }
 
     /// Attempts until one isn't Blocked, or all tries were made, which must be one at least. A Blocked result means that each of them was Blocked.
-    pub fn retry_up_to(&self, seat: &mut Seat, command: &Command, tries: &mut Tries) -> Attempt
+    pub fn retry_up_to(&self, seat: &mut Seat, command: &Command, tries: &mut CallBudget) -> Attempt
         requires range { IsInRange command.now }
-        requires some { AreMade tries.old → ⊥ }
+        requires some { IsUsedUp tries.old → ⊥ }
         ensures taken { IsTaken seat.old seat.new command.now result }
         ensures full { seat.old.room ≤ length seat.old.calls → result ≡ Attempt.HistoryFull }
         ensures read { is_read command.now ≡ true → (result ≡ Attempt.HistoryFull) ↔ (seat.old.room ≤ length seat.old.calls) }
-        ensures spent { result ≡ Attempt.Blocked → AreMade tries.new }
+        ensures spent { result ≡ Attempt.Blocked → IsUsedUp tries.new }
         ensures most { tries.new.most ≡ tries.old.most }
         ensures not_blocked { tries.old.most ≡ None → result ≡ Attempt.Blocked → ⊥ }
     {
@@ -81,7 +81,7 @@ impl<'a, R: Wait, G: Gate> Mutator<'a, R, G> {
             if !is_blocked(&attempt) {
                 return attempt;
             }
-            if tries.is_over() {
+            if tries.is_used_up() {
                 return attempt;
             }
         }
@@ -89,13 +89,13 @@ impl<'a, R: Wait, G: Gate> Mutator<'a, R, G> {
     }
 
     /// One attempt, and counts it.
-    fn attempt_counted(&self, seat: &mut Seat, command: &Command, tries: &mut Tries) -> Attempt
+    fn attempt_counted(&self, seat: &mut Seat, command: &Command, tries: &mut CallBudget) -> Attempt
         requires range { IsInRange command.now }
-        requires some { AreMade tries.old → ⊥ }
+        requires some { IsUsedUp tries.old → ⊥ }
         ensures taken { IsTaken seat.old seat.new command.now result }
         ensures full { seat.old.room ≤ length seat.old.calls → result ≡ Attempt.HistoryFull }
         ensures read { is_read command.now ≡ true → (result ≡ Attempt.HistoryFull) ↔ (seat.old.room ≤ length seat.old.calls) }
-        ensures counted { IsTried tries.old tries.new }
+        ensures counted { IsSpent tries.old tries.new }
     {
         tries.spend();
         self.attempt(seat, command)

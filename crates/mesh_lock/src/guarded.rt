@@ -7,10 +7,10 @@ ghost use Rattle.model_words.specs.Commands.{IsInRange};
 ghost use Rattle.model_memory.specs.Reads.{is_read};
 ghost use Rattle.mesh_mutator.specs.Book.{IsAttempt, IsLooked};
 ghost use Rattle.mesh_mutator.specs.declared.attempts.Attempt.{Attempt};
-ghost use Rattle.mesh_seats.specs.Seat.{IsNew, IsNoted, IsStore, noted};
+ghost use Rattle.mesh_lock.specs.Seat.{IsNew, IsNoted, IsStore, noted};
 
+use crate::Seat;
 use mesh_mutator::{Attempt, Book, Command, Reply};
-use mesh_seats::Seat;
 
 /// One attempt of a seat's mutator at a command that is recorded, under the number of its seat. The seat keeps it where it is done.
 pub(crate) fn act(book: &mut Book, seat: &mut Seat, command: &Command) -> Attempt

@@ -5,13 +5,13 @@ ghost use Rattle.model_memory.specs.Reads.{is_read};
 ghost use Rattle.mesh_mutator.specs.declared.attempts.Attempt.{Attempt};
 ghost use Rattle.model_memory.specs.Plain.{Entry};
 ghost use Rattle.mesh_mutator.specs.Book.{memory_in};
-ghost use Rattle.mesh_seats.specs.Seat.{IsEmptySeats, IsTaken};
-ghost use Rattle.mesh_seats.specs.Settle.{IsEnd, IsFault};
+ghost use Rattle.mesh_lock.specs.Seat.{IsEmptySeats, IsTaken};
+ghost use Rattle.mesh_lock.specs.Settle.{IsEnd, IsFault};
 
 use crate::calling::Mutator;
+use crate::{Ended, FinishError, OpenError, Seat, settle};
 use mesh_mutator::{Attempt, Book, Command};
 use mesh_search::NoGate;
-use mesh_seats::{Ended, FinishError, OpenError, Seat, settle};
 use std::alloc::{AllocError, Global};
 use std::sync::{RwLock, Wait};
 

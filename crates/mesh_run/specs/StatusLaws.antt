@@ -7,7 +7,7 @@ use Rattle.mesh_run.specs.Status.{status_of_error}
 use Rattle.mesh_run.specs.Threads.{stop_of, threads_status, threads_text}
 use Rattle.mesh_run.specs.declared.threads_error.ThreadsError.{ThreadsError}
 use Rattle.mesh_run.specs.declared.threads_error.ThreadsError.TheVariants.{Replay, TooShort, Thread, Run}
-use Rattle.mesh_seats.specs.declared.faults.FinishError.{FinishError}
+use Rattle.mesh_lock.specs.declared.faults.FinishError.{FinishError}
 use Rattle.mesh_shared.specs.declared.stops.RunError.{RunError}
 use Rattle.mesh_shared.specs.declared.stops.RunError.TheVariants.{Memory as RunMemory, Thread as RunThread, History, Finish}
 use Rattle.mesh_text.specs.declared.faults.ReplayError.{ReplayError}

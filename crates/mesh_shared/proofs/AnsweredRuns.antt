@@ -14,7 +14,7 @@ use Rattle.mesh_shared.specs.declared.mesher.Meshes.{Meshes}
 use Rattle.mesh_shared.specs.declared.plan.MeshPlan.{MeshPlan}
 use Rattle.mesh_shared.specs.declared.stops.RunError.{RunError}
 use Rattle.mesh_shared.specs.declared.stops.RunError.TheVariants.{Memory}
-use Rattle.mesh_shared.specs.declared.stops.Stop.{Stop}
+use Rattle.mesh_shared.specs.declared.stops.EarlyExit.{EarlyExit}
 use Rattle.mesh_shared.specs.declared.worker.Served.{Served}
 use Rattle.mesh_shared.specs.declared.worker.Works.{Works}
 use Rattle.mesh_shared.proofs.JoinedThreads.{all_meshed, all_served, if_ok_both, if_ok_three, none_of_all}
@@ -24,7 +24,7 @@ untold : (P : Service → Type 0) (answer : Result Service RunError) → answer 
 untold P answer is = subst (λ (a : Result Service RunError). IfOk a P) (sym is) tt
 
 -- an answer that is no error tells that all scripts were served
-pub answer_served : (tries : Option ℕ) (scripts : List (List Command)) (handles : List (PromisedHandle Served Works)) (refused : Option Stop)
+pub answer_served : (tries : Option ℕ) (scripts : List (List Command)) (handles : List (PromisedHandle Served Works)) (refused : Option EarlyExit)
     (joined : Result Joined AllocError) (answer : Result Service RunError) → IfErr joined (λ _. answer ≡ Err Memory)
     → IfOk joined (λ threads. IsAnswer refused threads.ends.items threads.served.items answer) → IfOk joined (λ threads. HaveServed handles threads.served.items)
     → (refused ≡ None → AreAtWork tries scripts handles) → IfOk answer (λ service. AreServed tries scripts service.seats.items service.workers.items)
@@ -37,7 +37,7 @@ answer_served tries scripts handles refused (Ok threads) answer failed is have w
     is.unstopped is.seats is.workers
 
 -- and that all meshers meshed
-pub answer_meshed : (plan : MeshPlan) (most : Option ℕ) (handles : List (PromisedHandle MesherEnd Meshes)) (refused : Option Stop)
+pub answer_meshed : (plan : MeshPlan) (most : Option ℕ) (handles : List (PromisedHandle MesherEnd Meshes)) (refused : Option EarlyExit)
     (joined : Result Joined AllocError) (answer : Result Service RunError) → IfErr joined (λ _. answer ≡ Err Memory)
     → IfOk joined (λ threads. IsAnswer refused threads.ends.items threads.served.items answer) → IfOk joined (λ threads. HaveMeshed handles threads.ends.items)
     → (refused ≡ None → AreMeshing plan most handles) → IfOk answer (λ service. AreMeshed plan most service.meshers.items)

@@ -8,26 +8,26 @@ use Rattle.model_words.specs.declared.commands.Command.{Command}
 use Rattle.mesh_shared.specs.Joined.{AreAtWork, AreMeshing, HaveMeshed, HaveServed, stops_of}
 use Rattle.mesh_shared.specs.MesherRuns.{AreMeshed, HasMeshed}
 use Rattle.mesh_shared.specs.Runs.{AreServed, HasEnded, HasWorked, IsBeginning, commands_in, script_of}
-use Rattle.mesh_seats.specs.Seat.{Seat, calls_of_seats}
+use Rattle.mesh_lock.specs.Seat.{Seat, calls_of_seats}
 use Rattle.mesh_shared.specs.Stops.{first_stop}
 use Rattle.mesh_shared.specs.declared.mesher.Meshed.{Meshed}
 use Rattle.mesh_shared.specs.declared.mesher.MesherEnd.{MesherEnd}
 use Rattle.mesh_shared.specs.declared.mesher.Meshes.{Meshes}
 use Rattle.mesh_shared.specs.declared.plan.MeshPlan.{MeshPlan}
-use Rattle.mesh_shared.specs.declared.stops.Stop.{Stop}
+use Rattle.mesh_shared.specs.declared.stops.EarlyExit.{EarlyExit}
 use Rattle.mesh_shared.specs.declared.worker.Served.{Served}
 use Rattle.mesh_shared.specs.declared.worker.Worked.{Worked}
 use Rattle.mesh_shared.specs.declared.worker.Works.{Works}
 use Rattle.mesh_shared.proofs.WorkerRuns.{each_and_one_more, seat_there}
 use Rattle.mesh_shared.proofs.SeveralStops.{none_stopped, nothing_ahead, nothing_behind, nothing_first}
-use Rattle.mesh_seats.proofs.BuiltHistories.{index_any}
+use Rattle.mesh_lock.proofs.BuiltHistories.{index_any}
 
 -- where nothing is told of all threads, nothing stopped a mesher or a worker
-pub none_of_all : (refused : Option Stop) (ends : List MesherEnd) (served : List Served) → first_stop (stops_of refused ends served) ≡ None
+pub none_of_all : (refused : Option EarlyExit) (ends : List MesherEnd) (served : List Served) → first_stop (stops_of refused ends served) ≡ None
     → (refused ≡ None) × (first_stop (map (λ one. one.stop) ends) ≡ None) × (first_stop (map (λ one. one.stop) served) ≡ None)
 none_of_all refused ends served none =
-    let of_ends : List (Option Stop) = map (λ (one : MesherEnd). one.stop) ends in
-    let of_served : List (Option Stop) = map (λ (one : Served). one.stop) served in
+    let of_ends : List (Option EarlyExit) = map (λ (one : MesherEnd). one.stop) ends in
+    let of_served : List (Option EarlyExit) = map (λ (one : Served). one.stop) served in
     let both = nothing_first refused (of_ends ++ of_served) none in
     (both.0, nothing_ahead of_ends of_served both.1, nothing_behind of_ends of_served both.1)
 
@@ -91,7 +91,7 @@ worked_at tries scripts handles served have work none w below =
     = subst (λ (t : Option ℕ). HasWorked t (slice_index_or handles w h).promise.script.now one.seat.calls one.worked.tried one.stop) its.0 did in
     let of_script : HasWorked tries (script_of scripts w) one.seat.calls one.worked.tried one.stop
     = subst (λ (l : List Command). HasWorked tries l one.seat.calls one.worked.tried one.stop) its.1 of_tries in
-    (one, found.2, found.3, subst (λ (x : Option Stop). HasWorked tries (script_of scripts w) one.seat.calls one.worked.tried x) ended of_script)
+    (one, found.2, found.3, subst (λ (x : Option EarlyExit). HasWorked tries (script_of scripts w) one.seat.calls one.worked.tried x) ended of_script)
 
 -- where all scripts are at work and nothing stopped a worker, all are served
 pub all_served : (tries : Option ℕ) (scripts : List (List Command)) (handles : List (PromisedHandle Served Works)) (served : List Served) (seats : List Seat)
@@ -142,7 +142,7 @@ all_meshed plan most handles ends told have meshing none are = record {
       = subst (λ (x : MesherEnd). HasMeshed p.rounds p.number p.most x.meshed x.stop) found.1 (have.kept q h one within) in
       let of_plan : HasMeshed plan.rounds q most one.meshed one.stop
       = subst (λ (m : Meshes). HasMeshed m.rounds m.number m.most one.meshed one.stop) (meshing.each q h within) did in
-      let unstopped : HasMeshed plan.rounds q most one.meshed None = subst (λ (x : Option Stop). HasMeshed plan.rounds q most one.meshed x) ended of_plan in
+      let unstopped : HasMeshed plan.rounds q most one.meshed None = subst (λ (x : Option EarlyExit). HasMeshed plan.rounds q most one.meshed x) ended of_plan in
       let same : slice_index_or told q d ≡ one.meshed = ap (λ (l : List Meshed). slice_index_or l q d) are ∙ found.2 d in
       subst (λ (x : Meshed). HasMeshed plan.rounds q most x None) (sym same) unstopped;
 }

@@ -2,7 +2,7 @@
 use Rattle.std.proofs.Common.{◌≡◌, ℕ, zero, suc, ◌+◌, ◌-◌, ◌*◌, ◌≤◌, List, [], length, min, take, drop, ap, sym, ◌∙◌, arith, refl, inl, inr}
 use Rattle.std.proofs.lemmas.Bool.Decides.{leb_tells}
 use Rattle.std.proofs.lemmas.List.{length-drop, take_all}
-use Rattle.mesh_seats.proofs.BuiltHistories.{drop_all}
+use Rattle.mesh_lock.proofs.BuiltHistories.{drop_all}
 
 -- as many as there are, or 256
 few_words : (xs : List ℕ) (n : ℕ) → n ≡ min (length xs) 256 → take n xs ≡ take 256 xs

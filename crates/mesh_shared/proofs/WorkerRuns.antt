@@ -10,11 +10,11 @@ use Rattle.model_memory.specs.Seats.{Call, calls_of}
 use Rattle.model_words.specs.declared.commands.Command.{Command}
 use Rattle.model_words.specs.declared.commands.Reply.{Reply}
 use Rattle.mesh_shared.specs.Runs.{AreServed, AreWorked, HasBegun, HasRun, HasWorked, IsBeginning, commands_by, commands_in, script_of}
-use Rattle.mesh_seats.specs.Seat.{Keeps, Seat, calls_of_seats, empty_seats}
-use Rattle.mesh_seats.specs.Settle.{IsEnd}
-use Rattle.mesh_lock.specs.Tries.{AreMade}
-use Rattle.mesh_lock.specs.declared.tries.Tries.{Tries}
-use Rattle.mesh_shared.specs.declared.stops.Stop.{Stop}
+use Rattle.mesh_lock.specs.Seat.{Keeps, Seat, calls_of_seats, empty_seats}
+use Rattle.mesh_lock.specs.Settle.{IsEnd}
+use Rattle.mesh_lock.specs.CallBudgets.{IsUsedUp}
+use Rattle.mesh_lock.specs.declared.call_budget.CallBudget.{CallBudget}
+use Rattle.mesh_shared.specs.declared.stops.EarlyExit.{EarlyExit}
 use Rattle.mesh_shared.specs.declared.worker.Served.{Served}
 use Rattle.mesh_shared.specs.declared.worker.Worked.{Worked}
 
@@ -35,14 +35,14 @@ pub call_answered : (k : ℕ) (d : Command) (script : List Command) (old new : S
 call_answered k d script old new command reply is below at keeps = grind (arith, map-append, take_more)
 
 -- where a try may be made, not all were made at first
-pub some_tries : (most : Option ℕ) (tries : Tries) → tries.most ≡ most → tries.made ≡ 0 → IfSome most (λ n. 1 ≤ n) → AreMade tries → ⊥
+pub some_tries : (most : Option ℕ) (tries : CallBudget) → tries.most ≡ most → tries.made ≡ 0 → IfSome most (λ n. 1 ≤ n) → IsUsedUp tries → ⊥
 some_tries most tries same none some made =
     let zero : most ≡ Some 0 = sym same ∙ made ∙ ap (λ (n : ℕ). Some n) none in
     let low : 1 ≤ 0 = subst (λ (m : Option ℕ). IfSome m (λ n. 1 ≤ n)) zero some in
     absurd (omega (arith, low))
 
 -- a worker that was stopped before its script's end
-pub worked_partly : (tries : Option ℕ) (k : ℕ) (script : List Command) (old new : Seat) (tried : ℕ) (stop : Stop)
+pub worked_partly : (tries : Option ℕ) (k : ℕ) (script : List Command) (old new : Seat) (tried : ℕ) (stop : EarlyExit)
     → commands_in old.calls ≡ take k script → new ≡ old → HasWorked tries script new.calls tried (Some stop)
 worked_partly tries k script old new tried stop is same = record {
   begun = begins k script (commands_in new.calls) (ap (λ (s : Seat). commands_in s.calls) same ∙ is);

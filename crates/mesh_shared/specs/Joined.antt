@@ -7,7 +7,7 @@ use Rattle.model_words.specs.declared.commands.Command.{Command}
 use Rattle.mesh_shared.specs.declared.plan.MeshPlan.{MeshPlan}
 use Rattle.mesh_shared.specs.declared.mesher.MesherEnd.{MesherEnd}
 use Rattle.mesh_shared.specs.declared.mesher.Meshes.{Meshes}
-use Rattle.mesh_shared.specs.declared.stops.Stop.{Stop}
+use Rattle.mesh_shared.specs.declared.stops.EarlyExit.{EarlyExit}
 use Rattle.mesh_shared.specs.declared.worker.Served.{Served}
 use Rattle.mesh_shared.specs.declared.worker.Works.{Works}
 
@@ -36,5 +36,5 @@ pub record HaveMeshed (handles : List (PromisedHandle MesherEnd Meshes)) (ends :
       → HasMeshed (slice_index_or handles q h).promise.rounds (slice_index_or handles q h).promise.number (slice_index_or handles q h).promise.most (slice_index_or ends q d).meshed (slice_index_or ends q d).stop
 
 -- what stopped the threads of a run: where one was refused, then of the meshers and of the workers
-abbrev pub stops_of : Option Stop → List MesherEnd → List Served → List (Option Stop)
+abbrev pub stops_of : Option EarlyExit → List MesherEnd → List Served → List (Option EarlyExit)
 stops_of refused ends served = refused ∷ map (λ one. one.stop) ends ++ map (λ one. one.stop) served

@@ -2,10 +2,9 @@
 use Rattle.std.specs.Prelude.{◌≡◌, ℕ, suc, ◌*◌, ◌%◌, ◌<◌, ◌≤◌, ◌==◌, if◌then◌else◌, List, [], ◌∷◌, Option, Some, None, drop, length, map, slice_index_or, take}
 use Rattle.model_search.specs.Search.{Found, View, search, views}
 use Rattle.model_heap.specs.Table.{Table}
-use Rattle.mesh_shared.specs.declared.calls.Calls.{Calls}
 use Rattle.mesh_shared.specs.declared.mesher.Meshed.{Meshed}
 use Rattle.mesh_shared.specs.declared.plan.MeshPlan.{MeshPlan}
-use Rattle.mesh_shared.specs.declared.stops.Stop.{Stop}
+use Rattle.mesh_shared.specs.declared.stops.EarlyExit.{EarlyExit}
 
 -- the words of a round: those from number 256 times the round on, 256 of them as far as there are any
 abbrev pub words_in : List ℕ → ℕ → List ℕ
@@ -31,18 +30,9 @@ pub record HasSearched (plan : MeshPlan) (number round : ℕ) (own : List View) 
   pub of_classes : AreOwn plan number own
   pub by_words : found ≡ map (λ view. search view (words_in plan.words.items round) plan.t) own
 
--- the calls are over
-abbrev pub IsOver : Calls → Type 0
-IsOver calls = calls.most ≡ Some calls.made
-
--- one call more was made
-pub record IsSpent (old new : Calls) : Type 0 where
-  pub most : new.most ≡ old.most
-  pub made : (n : ℕ) → old.most ≡ Some n → new.made ≡ suc old.made
-
 -- what a mesher tells: its number; that it made all rounds, each pair of which was refused or meshed to its end, unless its calls were over or it was
 -- stopped; and with an end to its calls, that no more were answered
-pub record HasMeshed (rounds number : ℕ) (most : Option ℕ) (told : Meshed) (stop : Option Stop) : Type 0 where
+pub record HasMeshed (rounds number : ℕ) (most : Option ℕ) (told : Meshed) (stop : Option EarlyExit) : Type 0 where
   pub named : told.number ≡ number
   pub whole : (most ≡ Some told.calls → ⊥) → stop ≡ None → told.rounds ≡ rounds
   pub few : (n : ℕ) → most ≡ Some n → told.calls ≤ n

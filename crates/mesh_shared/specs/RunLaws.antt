@@ -8,8 +8,8 @@ use Rattle.model_words.specs.declared.commands.Reply.TheVariants.{Refused}
 use Rattle.model_words.specs.declared.refusals.Refusal.TheVariants.{Zero}
 use Rattle.mesh_shared.specs.Runs.{HasBegun, HasRun}
 use Rattle.mesh_shared.specs.Stops.{first_stop}
-use Rattle.mesh_shared.specs.declared.stops.Stop.{Stop}
-use Rattle.mesh_shared.specs.declared.stops.Stop.TheVariants.{Memory as NoMemory, Thread, History}
+use Rattle.mesh_shared.specs.declared.stops.EarlyExit.{EarlyExit}
+use Rattle.mesh_shared.specs.declared.stops.EarlyExit.TheVariants.{Memory as NoMemory, Thread, History}
 
 -- two scripts: one command of worker 0, two of worker 1, each a `new` of no byte for a cell of its own
 abbrev pub two_scripts : List (List Command)
@@ -61,20 +61,20 @@ abbrev pub ExchangedIsNoBeginning : Type 0
 ExchangedIsNoBeginning = (end : Memory) → HasBegun two_scripts exchanged end → ⊥
 
 -- the order in which stops are told: want of memory, a thread, the journal
-abbrev pub place_of : Stop → ℕ
+abbrev pub place_of : EarlyExit → ℕ
 place_of NoMemory = 0
 place_of Thread = 1
 place_of History = 2
 
 -- what is told stopped some thread
 abbrev pub ToldIsThere : Type 0
-ToldIsThere = (stops : List (Option Stop)) (stop : Stop) → first_stop stops ≡ Some stop → (i : ℕ) × (slice_get stops i ≡ Some (Some stop))
+ToldIsThere = (stops : List (Option EarlyExit)) (stop : EarlyExit) → first_stop stops ≡ Some stop → (i : ℕ) × (slice_get stops i ≡ Some (Some stop))
 
 -- and nothing that stopped a thread comes before it in the order
 abbrev pub ToldIsFirst : Type 0
-ToldIsFirst = (stops : List (Option Stop)) (stop other : Stop) (i : ℕ) → first_stop stops ≡ Some stop → slice_get stops i ≡ Some (Some other)
+ToldIsFirst = (stops : List (Option EarlyExit)) (stop other : EarlyExit) (i : ℕ) → first_stop stops ≡ Some stop → slice_get stops i ≡ Some (Some other)
     → place_of stop ≤ place_of other
 
 -- nothing is told only where nothing stopped a thread
 abbrev pub NothingIsToldOfNone : Type 0
-NothingIsToldOfNone = (stops : List (Option Stop)) (stop : Stop) (i : ℕ) → first_stop stops ≡ None → slice_get stops i ≡ Some (Some stop) → ⊥
+NothingIsToldOfNone = (stops : List (Option EarlyExit)) (stop : EarlyExit) (i : ℕ) → first_stop stops ≡ None → slice_get stops i ≡ Some (Some stop) → ⊥

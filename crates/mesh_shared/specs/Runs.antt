@@ -6,9 +6,9 @@ use Rattle.model_memory.specs.Plain.{Entry, IsLegal}
 use Rattle.model_memory.specs.Reads.{Kept, kept_by}
 use Rattle.model_memory.specs.Seats.{calls_of}
 use Rattle.model_words.specs.declared.commands.Command.{Command}
-use Rattle.mesh_seats.specs.Seat.{Seat, calls_of_seats}
+use Rattle.mesh_lock.specs.Seat.{Seat, calls_of_seats}
 use Rattle.mesh_shared.specs.declared.plan.MeshPlan.{MeshPlan}
-use Rattle.mesh_shared.specs.declared.stops.Stop.{Stop}
+use Rattle.mesh_shared.specs.declared.stops.EarlyExit.{EarlyExit}
 use Rattle.mesh_shared.specs.declared.worker.Worked.{Worked}
 
 -- a plan has 1 to 16 searchers and 1 to 10 meshers
@@ -52,7 +52,7 @@ abbrev pub HasEnded : Option ℕ → List Command → List Command → ℕ → T
 HasEnded tries script called tried = ((called ≡ script) × (tried ≡ 0)) ⊎ ((tries ≡ Some tried) × (length called < length script))
 
 -- the calls are a beginning of the script, and all of it where tries had no end and nothing stopped the worker; where nothing stopped it, it tells how it ended
-pub record HasWorked (tries : Option ℕ) (script : List Command) (calls : List Kept) (tried : ℕ) (stop : Option Stop) : Type 0 where
+pub record HasWorked (tries : Option ℕ) (script : List Command) (calls : List Kept) (tried : ℕ) (stop : Option EarlyExit) : Type 0 where
   pub begun : IsBeginning (commands_in calls) script
   pub whole : tries ≡ None → stop ≡ None → commands_in calls ≡ script
   pub ended : stop ≡ None → HasEnded tries script (commands_in calls) tried

@@ -6,12 +6,12 @@ use Rattle.mesh_shared.specs.declared.joining.Service.{Service}
 use Rattle.mesh_shared.specs.declared.mesher.MesherEnd.{MesherEnd}
 use Rattle.mesh_shared.specs.declared.stops.RunError.{RunError}
 use Rattle.mesh_shared.specs.declared.stops.RunError.TheVariants.{Memory}
-use Rattle.mesh_shared.specs.declared.stops.Stop.{Stop}
+use Rattle.mesh_shared.specs.declared.stops.EarlyExit.{EarlyExit}
 use Rattle.mesh_shared.specs.declared.worker.Served.{Served}
 
 -- where something stopped a thread, the first stop is told; where nothing did, what the threads did, or want of memory
-pub record IsAnswer (refused : Option Stop) (ends : List MesherEnd) (served : List Served) (answer : Result Service RunError) : Type 0 where
-  pub stopped : (stop : Stop) → first_stop (stops_of refused ends served) ≡ Some stop → answer ≡ Err (error_of stop)
+pub record IsAnswer (refused : Option EarlyExit) (ends : List MesherEnd) (served : List Served) (answer : Result Service RunError) : Type 0 where
+  pub stopped : (stop : EarlyExit) → first_stop (stops_of refused ends served) ≡ Some stop → answer ≡ Err (error_of stop)
   pub unstopped : OnOk answer (first_stop (stops_of refused ends served) ≡ None)
   pub memory : first_stop (stops_of refused ends served) ≡ None → IfErr answer (λ error. error ≡ Memory)
   pub seats : IfOk answer (λ service. service.seats.items ≡ map (λ one. one.seat) served)

@@ -4,11 +4,11 @@ use Rattle.mesh_search.specs.declared.faults.SearchError.{SearchError}
 use Rattle.mesh_search.specs.declared.faults.SearchError.TheVariants.{Memory as SearchMemory, Thread as SearchThread}
 use Rattle.mesh_shared.specs.declared.stops.RunError.{RunError}
 use Rattle.mesh_shared.specs.declared.stops.RunError.TheVariants.{Memory as NoMemory, Thread as NoThread, History as NoRoom}
-use Rattle.mesh_shared.specs.declared.stops.Stop.{Stop}
-use Rattle.mesh_shared.specs.declared.stops.Stop.TheVariants.{Memory, Thread, History}
+use Rattle.mesh_shared.specs.declared.stops.EarlyExit.{EarlyExit}
+use Rattle.mesh_shared.specs.declared.stops.EarlyExit.TheVariants.{Memory, Thread, History}
 
 -- of two stops want of memory is told first, then a thread, then the journal
-abbrev pub first_of : Stop → Stop → Stop
+abbrev pub first_of : EarlyExit → EarlyExit → EarlyExit
 first_of Memory other = Memory
 first_of Thread Memory = Memory
 first_of Thread Thread = Thread
@@ -16,23 +16,23 @@ first_of Thread History = Thread
 first_of History other = other
 
 -- of two ends, where a thread that came to its own end has none to tell
-abbrev pub either_stop : Option Stop → Option Stop → Option Stop
+abbrev pub either_stop : Option EarlyExit → Option EarlyExit → Option EarlyExit
 either_stop None other = other
 either_stop (Some stop) None = Some stop
 either_stop (Some stop) (Some other) = Some (first_of stop other)
 
 -- of all ends
-abbrev pub first_stop : List (Option Stop) → Option Stop
+abbrev pub first_stop : List (Option EarlyExit) → Option EarlyExit
 first_stop [] = None
 first_stop (stop ∷ stops) = either_stop stop (first_stop stops)
 
 -- the error that tells a stop
-abbrev pub error_of : Stop → RunError
+abbrev pub error_of : EarlyExit → RunError
 error_of Memory = NoMemory
 error_of Thread = NoThread
 error_of History = NoRoom
 
 -- the stop that tells why a search ended
-abbrev pub stop_of : SearchError → Stop
+abbrev pub stop_of : SearchError → EarlyExit
 stop_of SearchMemory = Memory
 stop_of SearchThread = Thread

@@ -7,17 +7,17 @@ ghost use Rattle.model_heap.specs.Mesh.{begin, mesh_in, mesh_of_class, step};
 ghost use Rattle.mesh_mutator.specs.Book.{table_of_book};
 ghost use Rattle.mesh_mutator.specs.Mesher.{KeepsBook};
 ghost use Rattle.mesh_steps.specs.HeapMeshes.{IsAnswered, IsMeshBegun, IsStepMade};
-ghost use Rattle.mesh_shared.specs.MesherRuns.{IsOver, IsSpent};
+ghost use Rattle.mesh_lock.specs.CallBudgets.{IsSpent, IsUsedUp};
 
-use crate::calls::Calls;
 use mesh_class::Class;
+use mesh_lock::CallBudget;
 use mesh_mutator::{Book, Refusal};
 use mesh_search::Pair;
 use mesh_steps::StepDone;
 
 /// Begins a mesh of a pair, as the book does. A call that is answered is counted.
-pub(crate) fn begin(book: &mut Book, pair: Pair, calls: &mut Calls) -> Result<u32, Refusal>
-    requires { IsOver calls.old → ⊥ }
+pub(crate) fn begin(book: &mut Book, pair: Pair, calls: &mut CallBudget) -> Result<u32, Refusal>
+    requires { IsUsedUp calls.old → ⊥ }
     ensures answered { IsAnswered KeepsBook book.old book.new (begin mesh_of_class (table_of_book book.old) pair.source pair.destination) result
         (IsMeshBegun mesh_of_class book.old.heap book.new.heap pair.source pair.destination) }
     ensures counted { OnOk result (IsSpent calls.old calls.new) }
@@ -29,8 +29,12 @@ pub(crate) fn begin(book: &mut Book, pair: Pair, calls: &mut Calls) -> Result<u3
 }
 
 /// Makes the next step of the mesh of a class, as the book does. A call that is answered is counted.
-pub(crate) fn step(book: &mut Book, class: Class, calls: &mut Calls) -> Result<StepDone, Refusal>
-    requires { IsOver calls.old → ⊥ }
+pub(crate) fn step(
+    book: &mut Book,
+    class: Class,
+    calls: &mut CallBudget,
+) -> Result<StepDone, Refusal>
+    requires { IsUsedUp calls.old → ⊥ }
     ensures answered { IsAnswered KeepsBook book.old book.new (step (table_of_book book.old) (mesh_in (table_of_book book.old) class)) result
         (IsStepMade book.old.heap book.new.heap class) }
     ensures counted { OnOk result (IsSpent calls.old calls.new) }

@@ -4,13 +4,13 @@ ghost use Rattle.mesh_shared.specs.Joined.{HaveMeshed, HaveServed, stops_of};
 ghost use Rattle.mesh_shared.specs.Services.{IsAnswer};
 ghost use Rattle.mesh_shared.specs.Stops.{error_of, first_stop};
 ghost use Rattle.mesh_shared.specs.declared.stops.RunError.{RunError};
-ghost use Rattle.mesh_shared.specs.declared.stops.Stop.{Stop};
+ghost use Rattle.mesh_shared.specs.declared.stops.EarlyExit.{EarlyExit};
 
 use crate::mesher::{Meshed, MesherEnd, Meshes};
-use crate::stops::{RunError, Stop, either_stop};
+use crate::stops::{EarlyExit, RunError, either_stop};
 use crate::worker::{Served, Worked, Works};
+use mesh_lock::Seat;
 use mesh_search::drop_results;
-use mesh_seats::Seat;
 use std::alloc::{AllocError, Global};
 use std::thread;
 use std::thread::{PromisedHandle, Threads};
@@ -60,7 +60,7 @@ pub(crate) struct Service {
 /// The answer of a run by what its threads gave back. Memory comes where they couldn't be joined into lists.
 pub(crate) fn answer_of(
     alloc: Global,
-    refused: Option<Stop>,
+    refused: Option<EarlyExit>,
     joined: Result<Joined, AllocError>,
 ) -> Result<Service, RunError>
     ensures unjoined { IfErr joined (λ _. result ≡ Err RunError.Memory) }
@@ -74,11 +74,11 @@ pub(crate) fn answer_of(
 /// memory for the lists is refused.
 fn service_of(
     alloc: Global,
-    refused: Option<Stop>,
+    refused: Option<EarlyExit>,
     served: Vec<Served>,
     ends: Vec<MesherEnd>,
 ) -> Result<Service, RunError>
-    ensures stopped { (stop : Stop) → first_stop (stops_of refused ends.items served.items) ≡ Some stop → result ≡ Err (error_of stop) }
+    ensures stopped { (stop : EarlyExit) → first_stop (stops_of refused ends.items served.items) ≡ Some stop → result ≡ Err (error_of stop) }
     ensures unstopped { OnOk result (first_stop (stops_of refused ends.items served.items) ≡ None) }
     ensures memory { first_stop (stops_of refused ends.items served.items) ≡ None → IfErr result (λ error. error ≡ RunError.Memory) }
     ensures seats { IfOk result (λ service. service.seats.items ≡ map (λ one. one.seat) served.items) }
@@ -108,7 +108,11 @@ fn lists_of(alloc: Global, served: Vec<Served>, ends: Vec<MesherEnd>) -> Result<
 }
 
 /// The first of what stopped the threads of a run: where one was refused, then of the meshers and of the workers.
-fn first_stop_of(refused: Option<Stop>, ends: &[MesherEnd], served: &[Served]) -> Option<Stop>
+fn first_stop_of(
+    refused: Option<EarlyExit>,
+    ends: &[MesherEnd],
+    served: &[Served],
+) -> Option<EarlyExit>
     ensures { result ≡ first_stop (stops_of refused ends.now served.now) }
 {
     let mut stop = refused;

@@ -4,7 +4,6 @@
 //! settles the seats at the end. `run_abandoned` lets meshers go and workers give up; `run_within` also returns what meshers and workers did. All go past a gate, by which tests hold a thread at a point.
 #![tactic(auto)]
 
-mod calls;
 mod guarded;
 mod joining;
 mod mesher;

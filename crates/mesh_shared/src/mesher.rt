@@ -1,14 +1,14 @@
 //! A mesher of a run.
 ghost use Rattle.std.specs.Prelude.{◌≡◌, ◌+◌, ◌↔◌, ◌≤◌, IfOk, IsTrue, None, length, map};
 ghost use Rattle.model_search.specs.Search.{search, views};
-ghost use Rattle.mesh_shared.specs.MesherRuns.{AreOwn, HasMeshed, HasSearched, IsOver, own_views, words_in};
+ghost use Rattle.mesh_shared.specs.MesherRuns.{AreOwn, HasMeshed, HasSearched, own_views, words_in};
+ghost use Rattle.mesh_lock.specs.CallBudgets.{IsUsedUp};
 
-use crate::calls::Calls;
 use crate::guarded::{begin, step};
 use crate::plan::MeshPlan;
-use crate::stops::Stop;
+use crate::stops::EarlyExit;
 use mesh_class::Class;
-use mesh_lock::Shared;
+use mesh_lock::{CallBudget, Shared};
 use mesh_search::{Actor, ClassView, Found, Gate, Pair, Point, search};
 use mesh_steps::StepDone;
 use model_words::Refusal;
@@ -45,7 +45,7 @@ pub(crate) struct MesherEnd {
     /// What the mesher did.
     pub meshed: Meshed,
     /// Why it ended before its rounds did. A mesher whose calls were over has nothing to tell.
-    pub stop: Option<Stop>,
+    pub stop: Option<EarlyExit>,
 }
 
 /// That a mesher has its number, made all rounds where nothing ended it, and was answered no more often than it may be.
@@ -91,7 +91,7 @@ impl<'a, R: Threads + Wait + Sync, G: Gate + Sync> Mesher<'a, R, G> {
         requires own { 1 ≤ self.now.plan.now.meshers }
         ensures { HasMeshed self.now.plan.now.rounds self.now.number most result.meshed result.stop }
     {
-        let mut calls = Calls::of(most);
+        let mut calls = CallBudget::of(most);
         let (rounds, stop) = self.make_rounds(&mut calls);
         let meshed = Meshed {
             number: self.number,
@@ -102,16 +102,16 @@ impl<'a, R: Threads + Wait + Sync, G: Gate + Sync> Mesher<'a, R, G> {
     }
 
     /// Makes the rounds one after another: how many were made to their ends, and what stopped it.
-    fn make_rounds(&self, calls: &mut Calls) -> (u32, Option<Stop>)
+    fn make_rounds(&self, calls: &mut CallBudget) -> (u32, Option<EarlyExit>)
         requires some { 1 ≤ self.now.plan.now.workers }
         requires most { self.now.plan.now.workers ≤ 16 }
         requires own { 1 ≤ self.now.plan.now.meshers }
-        ensures whole { (IsOver calls.new → ⊥) → result.1 ≡ None → result.0 ≡ self.now.plan.now.rounds }
+        ensures whole { (IsUsedUp calls.new → ⊥) → result.1 ≡ None → result.0 ≡ self.now.plan.now.rounds }
         ensures most { calls.new.most ≡ calls.old.most }
     {
         let mut whole = 0;
         for round in 0..self.plan.rounds {
-            if calls.is_over() {
+            if calls.is_used_up() {
                 return (whole, None);
             }
             match self.make_round(round, calls) {
@@ -127,13 +127,13 @@ impl<'a, R: Threads + Wait + Sync, G: Gate + Sync> Mesher<'a, R, G> {
     }
 
     /// Searches the views of its classes, outside the lock, and meshes what was found, classes ascending.
-    fn make_round(&self, round: u32, calls: &mut Calls) -> Result<Round, Stop>
+    fn make_round(&self, round: u32, calls: &mut CallBudget) -> Result<Round, EarlyExit>
         requires some { 1 ≤ self.now.plan.now.workers }
         requires most { self.now.plan.now.workers ≤ 16 }
         requires own { 1 ≤ self.now.plan.now.meshers }
         ensures round { IfOk result (λ made. made.round ≡ round) }
         ensures searched { IfOk result (λ made. HasSearched self.now.plan.now self.now.number round made.views.items made.found.items) }
-        ensures whole { (IsOver calls.new → ⊥) → IfOk result (λ made. made.whole ≡ length made.found.items) }
+        ensures whole { (IsUsedUp calls.new → ⊥) → IfOk result (λ made. made.whole ≡ length made.found.items) }
         ensures most { calls.new.most ≡ calls.old.most }
     {
         let plan = self.plan;
@@ -166,9 +166,9 @@ impl<'a, R: Threads + Wait + Sync, G: Gate + Sync> Mesher<'a, R, G> {
     }
 
     /// Meshes what was found in each view. Gives in how many of them each pair was refused, or meshed to its end.
-    fn mesh_all(&self, views: &[ClassView], found: &[Found], calls: &mut Calls) -> usize
+    fn mesh_all(&self, views: &[ClassView], found: &[Found], calls: &mut CallBudget) -> usize
         requires { length views.now ≡ length found.now }
-        ensures whole { (IsOver calls.new → ⊥) → result ≡ length found.now }
+        ensures whole { (IsUsedUp calls.new → ⊥) → result ≡ length found.now }
         ensures most { calls.new.most ≡ calls.old.most }
     {
         let mut whole = 0;
@@ -183,14 +183,14 @@ impl<'a, R: Threads + Wait + Sync, G: Gate + Sync> Mesher<'a, R, G> {
     }
 
     /// Meshes pairs of a class one after another, as long as there are calls. Gives how many were refused, or meshed to their ends.
-    fn mesh_pairs(&self, class: Class, pairs: &[Pair], calls: &mut Calls) -> usize
-        ensures whole { (IsOver calls.new → ⊥) → result ≡ length pairs.now }
-        ensures over { IsOver calls.old → IsOver calls.new }
+    fn mesh_pairs(&self, class: Class, pairs: &[Pair], calls: &mut CallBudget) -> usize
+        ensures whole { (IsUsedUp calls.new → ⊥) → result ≡ length pairs.now }
+        ensures over { IsUsedUp calls.old → IsUsedUp calls.new }
         ensures most { calls.new.most ≡ calls.old.most }
     {
         let mut ended = 0;
         for k in 0..pairs.len() {
-            if calls.is_over() {
+            if calls.is_used_up() {
                 return ended;
             }
             if has_ended(self.mesh_pair(class, pairs[k], calls)) {
@@ -201,14 +201,14 @@ impl<'a, R: Threads + Wait + Sync, G: Gate + Sync> Mesher<'a, R, G> {
     }
 
     /// Meshes a pair step by step, unless it is refused by now: how many steps were left when it ended.
-    fn mesh_pair(&self, class: Class, pair: Pair, calls: &mut Calls) -> Result<u32, Refusal>
-        requires { IsOver calls.old → ⊥ }
-        ensures ended { (IsOver calls.new → ⊥) → IfOk result (λ left. left ≡ 0) }
+    fn mesh_pair(&self, class: Class, pair: Pair, calls: &mut CallBudget) -> Result<u32, Refusal>
+        requires { IsUsedUp calls.old → ⊥ }
+        ensures ended { (IsUsedUp calls.new → ⊥) → IfOk result (λ left. left ≡ 0) }
         ensures most { calls.new.most ≡ calls.old.most }
     {
         let mut left = self.begin(pair, calls)?;
         for _ in self.rt.forever() {
-            if calls.is_over() {
+            if calls.is_used_up() {
                 return Ok(left);
             }
             left = self.step(class, calls)?.left;
@@ -220,8 +220,8 @@ impl<'a, R: Threads + Wait + Sync, G: Gate + Sync> Mesher<'a, R, G> {
     }
 
     /// Begins a mesh under the exclusive lock: how many steps are to come.
-    fn begin(&self, pair: Pair, calls: &mut Calls) -> Result<u32, Refusal>
-        requires { IsOver calls.old → ⊥ }
+    fn begin(&self, pair: Pair, calls: &mut CallBudget) -> Result<u32, Refusal>
+        requires { IsUsedUp calls.old → ⊥ }
         ensures { calls.new.most ≡ calls.old.most }
     {
         let left = begin(&mut self.shared.book.write(self.rt), pair, calls)?;
@@ -230,8 +230,8 @@ impl<'a, R: Threads + Wait + Sync, G: Gate + Sync> Mesher<'a, R, G> {
     }
 
     /// Makes a step of the mesh that it began, under the exclusive lock.
-    fn step(&self, class: Class, calls: &mut Calls) -> Result<StepDone, Refusal>
-        requires { IsOver calls.old → ⊥ }
+    fn step(&self, class: Class, calls: &mut CallBudget) -> Result<StepDone, Refusal>
+        requires { IsUsedUp calls.old → ⊥ }
         ensures { calls.new.most ≡ calls.old.most }
     {
         let done = step(&mut self.shared.book.write(self.rt), class, calls)?;

@@ -2,10 +2,10 @@
 ghost use Rattle.std.specs.Prelude.{◌≡◌};
 ghost use Rattle.mesh_shared.specs.Stops.{either_stop, error_of, first_of, stop_of};
 ghost use Rattle.mesh_shared.specs.declared.stops.RunError.{RunError};
-ghost use Rattle.mesh_shared.specs.declared.stops.Stop.{Stop};
+ghost use Rattle.mesh_shared.specs.declared.stops.EarlyExit.{EarlyExit};
 
+use mesh_lock::{FinishError, OpenError};
 use mesh_search::SearchError;
-use mesh_seats::{FinishError, OpenError};
 use std::alloc::AllocError;
 use std::thread::SpawnError;
 use thiserror::Error;
@@ -53,21 +53,21 @@ impl From<FinishError> for RunError {
     }
 }
 
-impl From<Stop> for RunError {
+impl From<EarlyExit> for RunError {
     ghost from_gives = { λ stop error. error ≡ error_of stop };
 
-    fn from(stop: Stop) -> RunError {
+    fn from(stop: EarlyExit) -> RunError {
         match stop {
-            Stop::Memory => RunError::Memory,
-            Stop::Thread => RunError::Thread,
-            Stop::History => RunError::History,
+            EarlyExit::Memory => RunError::Memory,
+            EarlyExit::Thread => RunError::Thread,
+            EarlyExit::History => RunError::History,
         }
     }
 }
 
 /// Why a thread ended before it was done.
 #[derive(Clone, Copy, PartialEq, Eq)]
-pub(crate) enum Stop {
+pub(crate) enum EarlyExit {
     /// Memory was refused.
     Memory,
     /// A thread couldn't be started, or a searcher's answer isn't the one that was asked for.
@@ -76,48 +76,48 @@ pub(crate) enum Stop {
     History,
 }
 
-impl From<AllocError> for Stop {
-    ghost from_gives = { λ _ stop. stop ≡ Stop.Memory };
+impl From<AllocError> for EarlyExit {
+    ghost from_gives = { λ _ stop. stop ≡ EarlyExit.Memory };
 
-    fn from(_refused: AllocError) -> Stop {
-        Stop::Memory
+    fn from(_refused: AllocError) -> EarlyExit {
+        EarlyExit::Memory
     }
 }
 
-impl<T: Drop> From<SpawnError<T>> for Stop {
-    ghost from_gives = { λ _ stop. stop ≡ Stop.Thread };
+impl<T: Drop> From<SpawnError<T>> for EarlyExit {
+    ghost from_gives = { λ _ stop. stop ≡ EarlyExit.Thread };
 
-    fn from(_refused: SpawnError<T>) -> Stop {
-        Stop::Thread
+    fn from(_refused: SpawnError<T>) -> EarlyExit {
+        EarlyExit::Thread
     }
 }
 
-impl From<SearchError> for Stop {
+impl From<SearchError> for EarlyExit {
     ghost from_gives = { λ error stop. stop ≡ stop_of error };
 
-    fn from(error: SearchError) -> Stop {
+    fn from(error: SearchError) -> EarlyExit {
         match error {
-            SearchError::Memory => Stop::Memory,
-            SearchError::Thread => Stop::Thread,
+            SearchError::Memory => EarlyExit::Memory,
+            SearchError::Thread => EarlyExit::Thread,
         }
     }
 }
 
-impl Stop {
+impl EarlyExit {
     /// The one of two that is told.
-    fn first_of(self, other: Stop) -> Stop
+    fn first_of(self, other: EarlyExit) -> EarlyExit
         ensures { result ≡ first_of self other }
     {
         match (self, other) {
-            (Stop::Memory, _) | (_, Stop::Memory) => Stop::Memory,
-            (Stop::Thread, _) | (_, Stop::Thread) => Stop::Thread,
-            _ => Stop::History,
+            (EarlyExit::Memory, _) | (_, EarlyExit::Memory) => EarlyExit::Memory,
+            (EarlyExit::Thread, _) | (_, EarlyExit::Thread) => EarlyExit::Thread,
+            _ => EarlyExit::History,
         }
     }
 }
 
 /// The one of two ends that is told.
-pub(crate) fn either_stop(one: Option<Stop>, other: Option<Stop>) -> Option<Stop>
+pub(crate) fn either_stop(one: Option<EarlyExit>, other: Option<EarlyExit>) -> Option<EarlyExit>
     ensures { result ≡ either_stop one other }
 {
     match (one, other) {

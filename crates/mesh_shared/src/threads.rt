@@ -10,12 +10,11 @@ ghost use Rattle.mesh_shared.specs.Runs.{AreServed, AreWorked, HasBegun, HasRun,
 use crate::joining::{Service, answer_of, join_all};
 use crate::mesher::{Meshed, Mesher, MesherEnd, Meshes};
 use crate::plan::{Limits, MeshPlan};
-use crate::stops::{RunError, Stop};
+use crate::stops::{EarlyExit, RunError};
 use crate::worker::{Served, Worked, Works, serve};
-use mesh_lock::Shared;
+use mesh_lock::{Ended, Seat, Shared};
 use mesh_mutator::{Book, Command};
 use mesh_search::Gate;
-use mesh_seats::{Ended, Seat};
 use std::alloc::{AllocError, Global};
 use std::sync::Wait;
 use std::thread;
@@ -89,6 +88,15 @@ pub struct Ran {
     pub workers: Vec<Worked>,
 }
 
+/// What the threads of a run share.
+#[derive(Drop)]
+struct RunContext<'s, R, G> {
+    rt: &'s R,
+    alloc: Global,
+    gate: &'s G,
+    shared: &'s Shared,
+}
+
 /// Runs scripts as `run_threads` does, with meshers and workers that stop at these limits, and also returns what each of them did.
 ///
 /// It is for callers who want to know that: `run_threads` sets no limits, and `run_abandoned` both. A mesher that wasn't stopped by its limit of calls
@@ -113,7 +121,13 @@ pub fn run_within<R: Threads + Wait + Sync, G: Gate + Sync>(
 {
     let counts = counts_of(alloc, scripts)?;
     let (shared, seats) = Shared::open(alloc, book, counts.as_slice())?;
-    let service = serve_all(rt, alloc, &shared, seats, scripts, plan, limits, gate)?;
+    let context = RunContext {
+        rt,
+        alloc,
+        gate,
+        shared: &shared,
+    };
+    let service = serve_all(context, seats, scripts, plan, limits)?;
     let ended = shared.finish(alloc, service.seats)?;
     Ok(Ran {
         ended,
@@ -144,14 +158,11 @@ fn counts_of(alloc: Global, scripts: &[&[Command]]) -> Result<Vec<usize>, AllocE
 
 /// Serves each script from its seat, and meshes meanwhile. Gives the seats back once all threads have ended, and what meshers and workers tell.
 fn serve_all<R: Threads + Wait + Sync, G: Gate + Sync>(
-    rt: &R,
-    alloc: Global,
-    shared: &Shared,
+    context: RunContext<'_, R, G>,
     seats: Vec<Seat>,
     scripts: &[&[Command]],
     plan: &MeshPlan,
     limits: Limits,
-    gate: &G,
 ) -> Result<Service, RunError>
     requires many { vec_len seats ≡ length scripts.now }
     requires empty { All (λ seat. seat.calls ≡ []) seats.items }
@@ -161,6 +172,10 @@ fn serve_all<R: Threads + Wait + Sync, G: Gate + Sync>(
     ensures served { IfOk result (λ service. AreServed limits.tries (map (λ script. script.now) scripts.now) service.seats.items service.workers.items) }
     ensures meshed { IfOk result (λ service. AreMeshed plan.now limits.calls service.meshers.items) }
 {
+    let rt = context.rt;
+    let alloc = context.alloc;
+    let gate = context.gate;
+    let shared = context.shared;
     thread::scope(
         thread::scope_env(),
         rt,
@@ -176,26 +191,20 @@ fn serve_all<R: Threads + Wait + Sync, G: Gate + Sync>(
             let mut workers = Vec::with_capacity(alloc, seats.len())?;
             let mut meshers = Vec::with_capacity(alloc, plan.meshers as usize)?;
             let tries = limits.tries;
-            let unserved = start_workers(
-                scope,
-                rt,
-                gate,
-                shared,
-                seats,
-                scripts,
-                tries,
-                &mut workers,
-            );
-            let unmeshed = start_meshers(
-                scope,
+            let context = RunContext {
                 rt,
                 alloc,
                 gate,
                 shared,
-                plan,
-                limits.calls,
-                &mut meshers,
-            );
+            };
+            let unserved = start_workers(scope, context, seats, scripts, tries, &mut workers);
+            let context = RunContext {
+                rt,
+                alloc,
+                gate,
+                shared,
+            };
+            let unmeshed = start_meshers(scope, context, plan, limits.calls, &mut meshers);
             let refused = unmeshed.or(unserved);
             let joined = join_all(rt, workers, meshers);
             answer_of(alloc, refused, joined)
@@ -206,14 +215,12 @@ fn serve_all<R: Threads + Wait + Sync, G: Gate + Sync>(
 /// Starts a thread for each seat, which serves its script, until one is refused: what refused it is told.
 fn start_workers<'s, E, R: Threads + Wait + Sync, G: Gate + Sync>(
     scope: &'s Scope<'s, E>,
-    rt: &'s R,
-    gate: &'s G,
-    shared: &'s Shared,
+    context: RunContext<'s, R, G>,
     seats: Vec<Seat>,
     scripts: &'s [&'s [Command]],
     tries: Option<u32>,
     workers: &mut Vec<PromisedHandle<Served, Works<'s>>>,
-) -> Option<Stop>
+) -> Option<EarlyExit>
     requires many { vec_len seats ≡ length scripts.now }
     requires empty { All (λ seat. seat.calls ≡ []) seats.items }
     requires range { All (λ script. All IsInRange script.now) scripts.now }
@@ -222,6 +229,9 @@ fn start_workers<'s, E, R: Threads + Wait + Sync, G: Gate + Sync>(
     requires none { workers.old.items ≡ [] }
     ensures { result ≡ None → AreAtWork tries (map (λ script. script.now) scripts.now) workers.new.items }
 {
+    let rt = context.rt;
+    let gate = context.gate;
+    let shared = context.shared;
     for seat in seats {
         let script = scripts[workers.len()];
         let job = move || -> Served
@@ -239,26 +249,37 @@ fn start_workers<'s, E, R: Threads + Wait + Sync, G: Gate + Sync>(
 /// Starts a thread for each mesher, and tells what refused the last that was refused.
 fn start_meshers<'s, E, R: Threads + Wait + Sync, G: Gate + Sync>(
     scope: &'s Scope<'s, E>,
-    rt: &'s R,
-    alloc: Global,
-    gate: &'s G,
-    shared: &'s Shared,
+    context: RunContext<'s, R, G>,
     plan: &'s MeshPlan,
     most: Option<u32>,
     meshers: &mut Vec<PromisedHandle<MesherEnd, Meshes>>,
-) -> Option<Stop>
+) -> Option<EarlyExit>
     requires plan { IsFairPlan plan.now }
     requires room { plan.now.meshers ≤ vec_capacity meshers.old }
     requires none { meshers.old.items ≡ [] }
     ensures { result ≡ None → AreMeshing plan.now most meshers.new.items }
 {
+    let rt = context.rt;
+    let alloc = context.alloc;
+    let gate = context.gate;
+    let shared = context.shared;
     let mut refused = None;
     let rounds = plan.rounds;
     for number in 0..plan.meshers {
         let job = move || -> MesherEnd
             requires { (1 ≤ plan.now.workers) × (plan.now.workers ≤ 16) × (1 ≤ plan.now.meshers) }
             ensures { HasMeshed plan.entry.now.rounds number most result.meshed result.stop }
-        { mesh(rt, alloc, gate, shared, plan, number, most) };
+        {
+            let mesher = Mesher {
+                rt,
+                alloc,
+                gate,
+                shared,
+                plan,
+                number,
+            };
+            mesher.mesh(most)
+        };
         let meshes = Meshes {
             rounds,
             number,
@@ -270,30 +291,4 @@ fn start_meshers<'s, E, R: Threads + Wait + Sync, G: Gate + Sync>(
         }
     }
     refused
-}
-
-/// The meshing of one mesher.
-fn mesh<R: Threads + Wait + Sync, G: Gate + Sync>(
-    rt: &R,
-    alloc: Global,
-    gate: &G,
-    shared: &Shared,
-    plan: &MeshPlan,
-    number: u32,
-    most: Option<u32>,
-) -> MesherEnd
-    requires some { 1 ≤ plan.now.workers }
-    requires most { plan.now.workers ≤ 16 }
-    requires own { 1 ≤ plan.now.meshers }
-    ensures { HasMeshed plan.now.rounds number most result.meshed result.stop }
-{
-    let mesher = Mesher {
-        rt,
-        alloc,
-        gate,
-        shared,
-        plan,
-        number,
-    };
-    mesher.mesh(most)
 }

@@ -4,11 +4,10 @@ ghost use Rattle.std.specs.List.{All};
 ghost use Rattle.model_words.specs.Commands.{IsInRange};
 ghost use Rattle.mesh_shared.specs.Runs.{HasWorked};
 
-use crate::stops::Stop;
-use mesh_lock::{Mutator, Shared, Tries, call_number};
+use crate::stops::EarlyExit;
+use mesh_lock::{CallBudget, Mutator, Seat, Shared, call_number};
 use mesh_mutator::{Attempt, Command};
 use mesh_search::{Actor, Gate, Point};
-use mesh_seats::Seat;
 use std::sync::Wait;
 use std::thread::Promise;
 
@@ -27,7 +26,7 @@ pub(crate) struct Served {
     /// How the script ended.
     pub worked: Worked,
     /// Why the worker ended before its script did. A worker that gave up a command which was held back has nothing to tell.
-    pub stop: Option<Stop>,
+    pub stop: Option<EarlyExit>,
 }
 
 /// That the calls of a worker's seat are a beginning of its script, and all of it where nothing stopped it and it gave up no command.
@@ -67,7 +66,7 @@ fn work<R: Wait, G: Gate>(
     seat: &mut Seat,
     script: &[Command],
     most: Option<u32>,
-) -> (Worked, Option<Stop>)
+) -> (Worked, Option<EarlyExit>)
     requires empty { seat.old.calls ≡ [] }
     requires range { All IsInRange script.now }
     requires tries { IfSome most (λ tries. 1 ≤ tries) }
@@ -75,15 +74,15 @@ fn work<R: Wait, G: Gate>(
 {
     let mutator = Mutator::of(rt, gate, shared);
     for i in 0..script.len() {
-        let mut tries = Tries::of(most);
+        let mut tries = CallBudget::of(most);
         match mutator.retry_up_to(seat, &script[i], &mut tries) {
             Attempt::Done(_) => gate.arrive(
                 Actor::Worker(seat.number()),
                 Point::Called(call_number(i)),
             ),
             Attempt::Blocked => return (Worked { tried: tries.made }, None),
-            Attempt::HistoryFull => return (Worked { tried: 0 }, Some(Stop::History)),
-            Attempt::OutOfMemory => return (Worked { tried: 0 }, Some(Stop::Memory)),
+            Attempt::HistoryFull => return (Worked { tried: 0 }, Some(EarlyExit::History)),
+            Attempt::OutOfMemory => return (Worked { tried: 0 }, Some(EarlyExit::Memory)),
         }
     }
     (Worked { tried: 0 }, None)

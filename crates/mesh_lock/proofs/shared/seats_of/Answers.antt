@@ -1,7 +1,7 @@
 use Rattle.std.proofs.Common.{List, ℕ, ap, ◌∙◌, arith}
 use Rattle.std.proofs.lemmas.List.{take_all}
-use Rattle.mesh_seats.specs.Seat.{empty_seats}
-use Rattle.mesh_seats.proofs.MadeSeats.{seats_more}
+use Rattle.mesh_lock.specs.Seat.{empty_seats}
+use Rattle.mesh_lock.proofs.MadeSeats.{seats_more}
 use Rattle.mesh_lock.proofs.shared.seats_of.Goals as goal
 
 pub loop-k-preserved : goal.loop-k-preserved

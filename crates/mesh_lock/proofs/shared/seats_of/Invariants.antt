@@ -1,5 +1,5 @@
 use Rattle.std.proofs.Common.{◌≡◌, ◌≤◌, length, take, vec_len, vec_capacity}
-use Rattle.mesh_seats.specs.Seat.{empty_seats}
+use Rattle.mesh_lock.specs.Seat.{empty_seats}
 use Rattle.mesh_lock.proofs.shared.seats_of.Given as goal
 
 abbrev pub invariant-loop-k : goal.invariant-loop-k

@@ -1,7 +1,7 @@
 use Rattle.std.proofs.Common.{◌≡◌, ◌⊎◌, inl, inr, refl}
 use Rattle.mesh_run.specs.Threads.{stop_of}
 use Rattle.mesh_run.specs.declared.threads_error.ThreadsError.TheVariants.{Replay, Run, Thread}
-use Rattle.mesh_seats.specs.declared.faults.FinishError.{FinishError}
+use Rattle.mesh_lock.specs.declared.faults.FinishError.{FinishError}
 use Rattle.mesh_shared.specs.declared.stops.RunError.{RunError}
 use Rattle.mesh_shared.specs.declared.stops.RunError.TheVariants.{Memory as RunMemory, Thread as RunThread, History, Finish}
 use Rattle.mesh_text.specs.declared.faults.ReplayError.TheVariants.{Memory}

@@ -20,7 +20,7 @@ each_more {X} P xs ys x n many is each here i d below =
 pub loop-k-preserved : goal.loop-k-preserved
 loop-k-preserved g c = (
   c.push_reserved.ensures.len ∙ ap (λ (n : ℕ). n + 1) c.loop-k.invariant.0,
-  subst (λ (n : ℕ). c.args.workers ≤ n) (sym c.push_reserved.ensures.capacity) c.loop-k.invariant.1,
+  subst (λ (n : ℕ). c.args.cut.workers ≤ n) (sym c.push_reserved.ensures.capacity) c.loop-k.invariant.1,
   each_more (λ (h : PromisedHandle (Result Part AllocError) RightIn). h.promise ≡ c.args.within) c.loop-k.handles.items _ c.in-Ok.handle c.loop-k.k
       (sym c.loop-k.handles.ok.0 ∙ c.loop-k.invariant.0) c.push_reserved.ensures.items c.loop-k.invariant.2 c.in-Ok.ensures.ok,
 )

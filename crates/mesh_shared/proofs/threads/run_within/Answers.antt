@@ -2,7 +2,7 @@ use Rattle.std.proofs.Common.{◌≡◌, [], ℕ, length, map, vec_len, List, Bo
 use Rattle.std.proofs.lemmas.List.{length-map}
 use Rattle.std.specs.List.{All}
 use Rattle.model_words.specs.declared.commands.Command.{Command}
-use Rattle.mesh_seats.specs.Seat.{Seat}
+use Rattle.mesh_lock.specs.Seat.{Seat}
 use Rattle.mesh_shared.proofs.WorkerRuns.{opened_empty, opened_many, run_begun, run_whole, run_worked}
 use Rattle.mesh_shared.proofs.threads.run_within.Goals as goal
 

@@ -2,7 +2,7 @@ use Rattle.std.proofs.Common.{◌≡◌, ◌<◌, ◌≤◌, List, ℕ, suc, len
 use Rattle.std.specs.declared.thread.PromisedHandle.{PromisedHandle}
 use Rattle.model_words.specs.declared.commands.Command.{Command}
 use Rattle.std.proofs.lemmas.List.{length-map}
-use Rattle.mesh_seats.specs.Seat.{Seat}
+use Rattle.mesh_lock.specs.Seat.{Seat}
 use Rattle.mesh_shared.specs.Runs.{script_of}
 use Rattle.mesh_shared.specs.declared.worker.Served.{Served}
 use Rattle.mesh_shared.specs.declared.worker.Works.{Works}

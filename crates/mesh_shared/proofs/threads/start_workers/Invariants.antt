@@ -1,6 +1,6 @@
 use Rattle.std.proofs.Common.{◌≡◌, ◌≤◌, ◌<◌, ◌+◌, ℕ, [], length, map, slice_index_or, vec_len, vec_capacity}
 use Rattle.std.specs.Vec.Iter.{into_iter_items, into_iter_len}
-use Rattle.mesh_seats.specs.Seat.{Seat}
+use Rattle.mesh_lock.specs.Seat.{Seat}
 use Rattle.mesh_shared.specs.Runs.{script_of}
 use Rattle.mesh_shared.proofs.threads.start_workers.Given as goal
 

@@ -1,8 +1,8 @@
 //! The journal of a book, entry by entry.
 ghost use Rattle.model_words.specs.Commands.{IsInRange};
 
-use crate::tests::lock::calls::{Answer, Call, command_of, reply_of};
 use crate::tests::check_that;
+use crate::tests::lock::calls::{Answer, Call, command_of, reply_of};
 use mesh_mutator::{Attempt, Book, Command, Entry, Journal, Reply};
 use model_words::Refusal;
 use std::process::Abort;

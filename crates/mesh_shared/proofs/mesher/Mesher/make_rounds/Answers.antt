@@ -1,6 +1,6 @@
 use Rattle.std.proofs.Common.{◌≡◌, Bool, false, ◌∙◌, arith}
 use Rattle.std.specs.Bool.{IsTrue}
-use Rattle.mesh_shared.specs.MesherRuns.{IsOver}
+use Rattle.mesh_lock.specs.CallBudgets.{IsUsedUp}
 use Rattle.mesh_shared.proofs.mesher.Mesher.make_rounds.Goals as goal
 use Rattle.mesh_shared.proofs.mesher.Mesher.make_rounds.Goals.{then-is_whole, else-is_whole}
 
@@ -11,7 +11,7 @@ pub loop-round-preserved : goal.loop-round-preserved
 loop-round-preserved g c =
     let kept = c.make_round.ensures.most in
     let was = c.loop-round.invariant in
-    let before : IsOver c.loop-round.calls → ⊥ = λ over. not_told _ c.if-is_over.false (c.is_over.ensures.1 over) in
+    let before : IsUsedUp c.loop-round.calls → ⊥ = λ over. not_told _ c.if-is_used_up.false (c.is_used_up.ensures.1 over) in
     elim c.if-is_whole.branch [
       | then-is_whole w ↦ (
         kept ∙ was.0,

@@ -1,0 +1,34 @@
+-- What is handed out at the end, and what stands against it.
+use Rattle.std.specs.Prelude.{◌≡◌, ℕ, ◌<◌, List, None, Some, map}
+use Rattle.std.specs.List.{All}
+use Rattle.model_memory.specs.Memory.{Memory}
+use Rattle.model_memory.specs.Plain.{Entry, IsLegal}
+use Rattle.model_memory.specs.Reads.{AreRight, ReadDiffers, built, call_of, kept_by, recorded}
+use Rattle.model_memory.specs.Seats.{AreSettled, Call, SeatDiffers, calls_of, missing_seat}
+use Rattle.mesh_lock.specs.Seat.{Seat, calls_of_seats, numbers_of}
+use Rattle.mesh_lock.specs.declared.faults.FinishError.{FinishError}
+use Rattle.mesh_lock.specs.declared.faults.FinishError.TheVariants.{Memory as NoMemory, ReadDiffers as ReadError, SeatDiffers as SeatError, SeatMissing}
+
+-- the calls of each seat that aren't reads
+abbrev pub recorded_of : List Seat → List (List Call)
+recorded_of seats = map recorded (calls_of_seats seats)
+
+-- the history of journal and seats: it is legal and ends in this memory, and each worker's entries are the calls of its seat, in their order
+pub record IsEnd (count : ℕ) (seats : List Seat) (entries history : List Entry) (end : Memory) : Type 0 where
+  pub seated : missing_seat count (numbers_of seats) entries ≡ None
+  pub settled : AreSettled count (recorded_of seats) entries
+  pub right : AreRight (calls_of_seats seats) entries
+  pub is_built : history ≡ built (calls_of_seats seats) entries
+  pub legal : IsLegal history end
+  pub calls : (w : ℕ) → w < count → calls_of w history ≡ map call_of (kept_by (calls_of_seats seats) w)
+  pub no_other : All (λ entry. entry.worker < count) history
+
+-- each error holds where it is told, and no earlier one does
+abbrev pub IsFault : ℕ → List Seat → List Entry → FinishError → Type 0
+IsFault count seats entries (SeatMissing w) = missing_seat count (numbers_of seats) entries ≡ Some w
+IsFault count seats entries (SeatError w i) =
+    (missing_seat count (numbers_of seats) entries ≡ None) × (w < count) × SeatDiffers (recorded_of seats) entries w i
+IsFault count seats entries (ReadError w i) =
+    (missing_seat count (numbers_of seats) entries ≡ None) × AreSettled count (recorded_of seats) entries × (w < count)
+    × ReadDiffers (calls_of_seats seats) entries w i
+IsFault count seats entries NoMemory = (missing_seat count (numbers_of seats) entries ≡ None) × AreSettled count (recorded_of seats) entries

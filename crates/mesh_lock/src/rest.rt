@@ -1,0 +1,47 @@
+//! `Rest`, what is left of a seat's calls.
+ghost use Rattle.std.specs.Prelude.{◌≡◌};
+ghost use Rattle.std.specs.List.{All};
+ghost use Rattle.mesh_lock.specs.Seat.{IsKept};
+
+use crate::kept::Kept;
+use std::marker::Model;
+
+/// What is left of a seat's calls.
+#[derive(Drop)]
+pub struct Rest<'a> {
+    calls: &'a [Kept],
+}
+
+impl<'a> Model for Rest<'a> {
+    ghost use Rattle.std.specs.List.{All};
+    ghost use Rattle.std.specs.Prelude.{List};
+    ghost use Rattle.std.specs.Coded.{coded_list};
+    ghost use Rattle.model_memory.specs.Reads.{Kept as PlainKept};
+    ghost use Rattle.mesh_lock.specs.Seat.{IsKept, kept_code};
+
+    ghost Value = { List PlainKept };
+
+    ghost coded = { coded_list kept_code };
+
+    ghost view = { λ r. r.calls.now };
+
+    ghost invariant = { λ r. All IsKept r.calls.now };
+}
+
+impl<'a> Rest<'a> {
+    /// These are left.
+    pub(crate) fn of(calls: &'a [Kept]) -> Rest<'a>
+        requires { All IsKept calls.now }
+        ensures { result ≡ calls.now }
+    {
+        Rest { calls }
+    }
+
+    /// The calls.
+    pub(crate) fn calls(&self) -> &'a [Kept]
+        ensures calls { result.now ≡ self.now }
+        ensures kept { All IsKept result.now }
+    {
+        self.calls
+    }
+}

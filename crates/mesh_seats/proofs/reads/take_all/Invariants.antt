@@ -1,9 +1,0 @@
-use Rattle.mesh_seats.proofs.TakenReads.{LeftBelow}
-use Rattle.mesh_seats.proofs.BuiltHistories.{IsTakenUpTo}
-use Rattle.mesh_seats.proofs.reads.take_all.Given as goal
-
-abbrev pub invariant-loop-w : goal.invariant-loop-w
-invariant-loop-w l = record {
-  taken : IsTakenUpTo l.n l.w l.plain l.initial.rests l.rests l.initial.history.items l.history.items;
-  left : LeftBelow l.n l.plain l.initial.rests l.rests l.w;
-}

@@ -1,6 +1,0 @@
-use Rattle.mesh_seats.specs.Seat.{calls_of_seats}
-use Rattle.mesh_seats.proofs.WalkRounds.{Goes}
-use Rattle.mesh_seats.proofs.walk.weave.Given as goal
-
-abbrev pub invariant-loop-n : goal.invariant-loop-n
-invariant-loop-n l = Goes (calls_of_seats l.seats) l.journal.entries l.n l.plain l.rests.items l.history.items l.told
