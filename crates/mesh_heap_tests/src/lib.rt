@@ -1,4 +1,4 @@
-//! Tests of the heap and what it stands on, call by call: the search for pairs, the plain memory, and the heap with its meshes and its book.
+//! Tests of the heap and of what it stands on: the search for pairs, the plain memory, the heap, its meshes and the book.
 //!
 //! The crate has no function of its own, so nothing of it but its tests is proved.
 #![tactic(auto)]

@@ -1,5 +1,6 @@
-//! Tests of the program's runs over memory: replays, histories judged, explorations, live sessions and scripts in threads; and of command lines that
-//! ask for no run.
+//! Tests of the program's runs over memory, and of command lines that ask for no run.
+//!
+//! The runs are replays, histories judged, explorations, live sessions and scripts in threads.
 //!
 //! `memory` has what the tests share; of the rest nothing but the tests is proved.
 #![tactic(auto)]

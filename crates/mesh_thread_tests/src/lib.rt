@@ -1,4 +1,4 @@
-//! Tests of a book that threads share: behind a lock, with its seats and its one history, and scripts on threads beside meshers.
+//! Tests of a book that threads share: behind a lock, and as scripts on threads beside meshers.
 //!
 //! The crate has no function of its own, so nothing of it but its tests is proved.
 #![tactic(auto)]

@@ -1,5 +1,6 @@
-//! The heap without its bytes: the table of groups, slots and running meshes, the steps of a mesh, the places of addresses, and what a heap means; and
-//! what is proved of these definitions alone, a file a thought. Its only other code is `Occupant`, an object in a slot as every keeper of a table
+//! The heap without its bytes: the table, the steps of a mesh, the places of addresses, and what a heap means.
+//!
+//! Definitions, and what is proved of them alone, a file a thought. The only other code is `Occupant`, an object in a slot as every keeper of a table
 //! stores it.
 #![tactic(auto)]
 

@@ -1,5 +1,6 @@
-//! Jobs: their texts, how a text is read, what each line is answered, and what a whole text prints; and what is proved of these definitions alone, a
-//! file a thought. It has no other code.
+//! Jobs: their texts, how a text is read, what each line is answered, and what a whole text prints.
+//!
+//! Definitions, and what is proved of them alone, a file a thought. The crate has no other code.
 #![tactic(auto)]
 
 pub mod job_laws;

@@ -1,5 +1,6 @@
-//! The plain memory of separate objects: its steps, its legal histories, what seats were answered and what they read; and what is proved of these
-//! definitions alone, a file a thought. It has no other code.
+//! The plain memory of separate objects: its steps, its legal histories, and what seats were answered and read.
+//!
+//! Definitions, and what is proved of them alone, a file a thought. The crate has no other code.
 #![tactic(auto)]
 
 pub mod address_laws;

@@ -1,4 +1,6 @@
-//! The split search: which groups a mesher may pair; and what is proved of its definition alone. It has no other code.
+//! The split search: which groups a mesher may pair.
+//!
+//! Its definition, and what is proved of it alone. The crate has no other code.
 #![tactic(auto)]
 
 pub mod search_laws;

@@ -1,5 +1,6 @@
-//! The words that every layer of Mesh speaks: what a mutator may ask, what it may be answered, and why it may be refused; the size classes; and how a chain
-//! of steps is refused.
+//! The words that every layer of Mesh speaks: commands, answers, refusals, faults, and the size classes.
+//!
+//! Also how a chain of steps is refused: by the first step that is.
 #![tactic(auto)]
 
 mod answers;
