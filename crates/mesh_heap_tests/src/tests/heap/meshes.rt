@@ -18,18 +18,8 @@ struct Start {
     calls: &'static [(Call, Answer)],
 }
 
-/// No object.
-static NO_OBJECTS: Start = Start {
-    pages: 16,
-    objects: 0,
-    len: 2048,
-    slot: 0x800,
-    freed: &[],
-    calls: &[],
-};
-
-/// Four objects of the class 2048.
-static FOUR_OBJECTS: Start = Start {
+/// Four objects of the class 2048, two a group.
+const FOUR: Start = Start {
     pages: 16,
     objects: 4,
     len: 2048,
@@ -38,65 +28,47 @@ static FOUR_OBJECTS: Start = Start {
     calls: &[],
 };
 
+/// No object.
+static NO_OBJECTS: Start = Start { objects: 0, ..FOUR };
+
+/// Four objects of the class 2048.
+static FOUR_OBJECTS: Start = FOUR;
+
 /// Eight objects of the class 2048.
-static EIGHT_OBJECTS: Start = Start {
-    pages: 16,
-    objects: 8,
-    len: 2048,
-    slot: 0x800,
-    freed: &[],
-    calls: &[],
-};
+static EIGHT_OBJECTS: Start = Start { objects: 8, ..FOUR };
 
 /// Nine groups of the class 2048 whose objects were freed.
 static EMPTIED: Start = Start {
-    pages: 16,
     objects: 18,
-    len: 2048,
-    slot: 0x800,
     freed: &[0, 1, 2, 3, 4, 5, 6, 7, 8, 9, 10, 11, 12, 13, 14, 15, 16, 17],
-    calls: &[],
+    ..FOUR
 };
 
 /// Two groups with one object each: the first has slot 1, the second slot 0.
 static TWO_GROUPS: Start = Start {
-    pages: 16,
-    objects: 4,
-    len: 2048,
-    slot: 0x800,
     freed: &[0, 3],
-    calls: &[],
+    ..FOUR
 };
 
 /// The same in an arena of two pages.
 static TWO_PAGES: Start = Start {
     pages: 2,
-    objects: 4,
-    len: 2048,
-    slot: 0x800,
     freed: &[0, 3],
-    calls: &[],
+    ..FOUR
 };
 
 /// The two groups, with a byte in the second object and their mesh begun.
 static BEGUN: Start = Start {
-    pages: 16,
-    objects: 4,
-    len: 2048,
-    slot: 0x800,
     freed: &[0, 3],
     calls: &[
         (Call::Write(2, 0, &[0xab]), Answer::Done),
         (Call::Begin(1, 0), Answer::Left(6)),
     ],
+    ..FOUR
 };
 
 /// The two groups, after a mesh that was cancelled when one slot was copied, and unwound.
 static UNWOUND: Start = Start {
-    pages: 16,
-    objects: 4,
-    len: 2048,
-    slot: 0x800,
     freed: &[0, 3],
     calls: &[
         (Call::Write(2, 0, &[0xab]), Answer::Done),
@@ -106,15 +78,14 @@ static UNWOUND: Start = Start {
         (Call::Cancel(2048), Answer::Left(1)),
         (Call::Step(2048), Answer::Stepped(StepKind::Unprotect, 0)),
     ],
+    ..FOUR
 };
 
 /// Two groups of three pages, with seven objects and one, and their mesh begun. The last object crosses from its group's first page to the second.
 static LONG: Start = Start {
-    pages: 16,
     objects: 11,
     len: 1500,
     slot: 0x600,
-    freed: &[],
     calls: &[
         (Call::Write(10, 1020, CROSSING), Answer::Done),
         (Call::Free(2), Answer::Done),
@@ -122,11 +93,11 @@ static LONG: Start = Start {
         (Call::Free(9), Answer::Done),
         (Call::Begin(1, 0), Answer::Left(20)),
     ],
+    ..FOUR
 };
 
 /// Sixteen objects in four groups, of which one in each group stays, in four different slots. The groups are meshed two by two.
 static MESHED_TWICE: Start = Start {
-    pages: 16,
     objects: 16,
     len: 1024,
     slot: 0x400,
@@ -135,14 +106,11 @@ static MESHED_TWICE: Start = Start {
         (Call::Whole(1, 0), Answer::Pages(1)),
         (Call::Whole(3, 2), Answer::Pages(1)),
     ],
+    ..FOUR
 };
 
 /// Beside the two groups two of the class 1024, with three objects and one.
 static TWO_CLASSES: Start = Start {
-    pages: 16,
-    objects: 4,
-    len: 2048,
-    slot: 0x800,
     freed: &[0, 3],
     calls: &[
         (Call::New(1024, 0), Answer::Made(4, 0x3000)),
@@ -158,6 +126,7 @@ static TWO_CLASSES: Start = Start {
         (Call::Free(10), Answer::Done),
         (Call::Free(11), Answer::Done),
     ],
+    ..FOUR
 };
 
 /// Has a heap and a book begin so.

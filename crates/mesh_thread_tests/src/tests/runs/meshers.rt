@@ -134,6 +134,15 @@ const USUAL: Scale = Scale {
     meshers: 1,
 };
 
+/// One round of one mesher, which two searchers search for.
+const TWO_SEARCHERS: Scale = Scale {
+    pages: 16,
+    room: 8,
+    rounds: 1,
+    searchers: 2,
+    meshers: 1,
+};
+
 /// How often a worker tries where meshers are abandoned.
 const TRIES: u32 = 10;
 
@@ -379,13 +388,7 @@ static SEARCH_BESIDE: Course = Course {
         Hold(Event::Searching, &[Event::Called(0, 2)], 0),
     ],
     orders: &[],
-    scale: Scale {
-        pages: 16,
-        room: 8,
-        rounds: 1,
-        searchers: 2,
-        meshers: 1,
-    },
+    scale: TWO_SEARCHERS,
 };
 
 #[test]
@@ -407,13 +410,7 @@ static SEARCH_BETWEEN_READS: Course = Course {
         Hold(Event::FirstSearching, &[Event::Called(0, 1)], 0),
     ],
     orders: &[],
-    scale: Scale {
-        pages: 16,
-        room: 8,
-        rounds: 1,
-        searchers: 2,
-        meshers: 1,
-    },
+    scale: TWO_SEARCHERS,
 };
 
 #[test]
