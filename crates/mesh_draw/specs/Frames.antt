@@ -3,17 +3,17 @@ use Rattle.std.specs.Prelude.{◌≡◌, ℕ, zero, suc, ◌+◌, not, nat_lt, L
 use Rattle.std.specs.Option.{option_map}
 use Rattle.model_words.specs.Classes.{pages_of, slots_of}
 use Rattle.model_heap.specs.Table.{Mesh, Report, group_of, report_of}
-use Rattle.mesh_layout.specs.Meshes.{mesh_from}
+use Rattle.mesh_page_heap.specs.MeshLayouts.{mesh_from}
 use Rattle.mesh_steps.specs.Heap.{Heap, arena_of, index_of, map_of, table_of}
 use Rattle.mesh_page_heap.specs.Shown.{home_at, lead_at, member_at, object_at, released_of}
 use Rattle.mesh_pagemap.specs.declared.mapping.Mapping.{Mapping}
 use Rattle.mesh_running.specs.Progress.{stored_progress}
-use Rattle.mesh_cards.specs.declared.frame.Counts.{Counts}
-use Rattle.mesh_cards.specs.declared.frame.Frame.{Frame}
-use Rattle.mesh_cards.specs.declared.frame.Home.{Home}
-use Rattle.mesh_cards.specs.declared.frame.Member.{Member}
-use Rattle.mesh_cards.specs.declared.frame.Object.{Object}
-use Rattle.mesh_cards.specs.declared.frame.RunningMesh.{RunningMesh}
+use Rattle.mesh_picture.specs.declared.frame.Counts.{Counts}
+use Rattle.mesh_picture.specs.declared.frame.Frame.{Frame}
+use Rattle.mesh_picture.specs.declared.frame.Home.{Home}
+use Rattle.mesh_picture.specs.declared.frame.Member.{Member}
+use Rattle.mesh_picture.specs.declared.frame.Object.{Object}
+use Rattle.mesh_picture.specs.declared.frame.RunningMesh.{RunningMesh}
 
 -- what a function lists for each number below another, one after the other
 abbrev pub below : {A : Type 0} → ℕ → (ℕ → List A) → List A

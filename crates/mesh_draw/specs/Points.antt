@@ -7,7 +7,7 @@ use Rattle.mesh_steps.specs.Always.{HasReadOnlyOfMeshes}
 use Rattle.mesh_text.specs.Turns.{IsAt, lines_up_to, state_up_to}
 use Rattle.mesh_draw.specs.Captions.{IsCaption}
 use Rattle.mesh_draw.specs.Frames.{IsFrame}
-use Rattle.mesh_cards.specs.declared.frame.Frame.{Frame}
+use Rattle.mesh_picture.specs.declared.frame.Frame.{Frame}
 
 -- what there is to show once so many lines of the plan are played: what is said of the last of them, the answer to it, and the heap where the job stands then
 pub record IsPoint (job : Job) (played : ℕ) (words answer : List ℕ) (frame : Frame) : Type 0 where

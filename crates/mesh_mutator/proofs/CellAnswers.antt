@@ -25,7 +25,7 @@ use Rattle.mesh_mutator.proofs.Chains.{after_same, first_is, made_of, test_same,
 use Rattle.mesh_mutator.specs.Book.{AreRooted, Cells, IsLooked, IsNamedBy, IsOutcome, IsPerformed, KeepsHeap, attempt_of, cell_at, memory_in, serial_of, serials_of}
 use Rattle.mesh_mutator.specs.declared.attempts.Attempt.TheVariants.{Done}
 use Rattle.mesh_steps.specs.Heap.{Heap, IsFree, IsMade, IsStore, arena_of, byte_at_address, bytes_at, freed_at, live_records, map_of, plain_of, referred, stored_at, stored_at_address, table_of}
-use Rattle.mesh_layout.specs.PageHeap.{bytes_in, targets_of}
+use Rattle.mesh_page_heap.specs.PageHeapInvariant.{bytes_in, targets_of}
 use Rattle.mesh_steps.specs.declared.answers.Ref.{Ref}
 use Rattle.mesh_steps.specs.declared.answers.Stored.{Stored}
 use Rattle.mesh_steps.specs.declared.answers.Stored.TheVariants.{Blocked as StoreBlocked, Done as StoreDone, Refused as StoreRefused}

@@ -1,6 +1,6 @@
 -- The headline: what holds of a book at any moment, whatever was asked of it before.
 use Rattle.std.specs.Prelude.{◌≡◌, ℕ, List, Some}
-use Rattle.mesh_layout.specs.PageHeap.{targets_of}
+use Rattle.mesh_page_heap.specs.PageHeapInvariant.{targets_of}
 use Rattle.model_memory.specs.Memory.{Memory}
 use Rattle.model_heap.specs.Places.{Record, place_of, IsIn, record_with}
 use Rattle.model_memory.specs.Plain.{Entry, IsLegal}

@@ -5,17 +5,17 @@ use Rattle.std.proofs.lemmas.List.{get_or-set_other, get_or-set_same, get_or_pas
 use Rattle.std.proofs.lemmas.Option.{slice_get-get_or}
 use Rattle.mesh_arena.specs.Pages.{IsTaken, Pages, free_count}
 use Rattle.mesh_class.specs.Classes.{pages_of}
-use Rattle.mesh_layout.proofs.Changes.{open_calm}
-use Rattle.mesh_layout.proofs.Groups.{entry_in_table, none_in_table}
-use Rattle.mesh_layout.proofs.Loops.{gives_group}
-use Rattle.mesh_layout.proofs.PageHeapChanges.{page_heap_sweep}
-use Rattle.mesh_layout.proofs.PageHeapSteps.{page_heap_orderly}
-use Rattle.mesh_layout.specs.Growth.{AreTaken, GivesFirst}
-use Rattle.mesh_layout.specs.Indexes.{class_in, layout_of, members_in, pages_in, slots_in, table_with}
-use Rattle.mesh_layout.specs.Layout.{IsHeldBy, IsOrderly, Stage}
-use Rattle.mesh_layout.specs.Meshes.{stage_of}
-use Rattle.mesh_layout.specs.PageHeap.{IsPageHeap}
-use Rattle.mesh_layout.specs.Steps.{UnmapsGroup}
+use Rattle.mesh_page_heap.proofs.Changes.{open_calm}
+use Rattle.mesh_page_heap.proofs.Groups.{entry_in_table, none_in_table}
+use Rattle.mesh_page_heap.proofs.Loops.{gives_group}
+use Rattle.mesh_page_heap.proofs.PageHeapChanges.{page_heap_sweep}
+use Rattle.mesh_page_heap.proofs.PageHeapSteps.{page_heap_orderly}
+use Rattle.mesh_page_heap.specs.Growth.{AreTaken, GivesFirst}
+use Rattle.mesh_page_heap.specs.Indexes.{class_in, layout_of, members_in, pages_in, slots_in, table_with}
+use Rattle.mesh_page_heap.specs.Layout.{IsHeldBy, IsOrderly, Stage}
+use Rattle.mesh_page_heap.specs.MeshLayouts.{stage_of}
+use Rattle.mesh_page_heap.specs.PageHeapInvariant.{IsPageHeap}
+use Rattle.mesh_page_heap.specs.StepChanges.{UnmapsGroup}
 use Rattle.model_heap.proofs.TableChanges.{sweep_sound}
 use Rattle.model_heap.proofs.TiedTables.{filled_counted}
 use Rattle.model_heap.specs.Table.{Counted, Slot, group_of, has_number, is_meshing, sweep}

@@ -7,7 +7,7 @@ use Rattle.std.proofs.lemmas.List.{get_or-set_other, set-get_or, set-set, set_co
 use Rattle.mesh_arena.specs.Pages.{Pages, is_taken, IsTaken, Takes, Gives}
 use Rattle.mesh_pagemap.specs.Entries.{Entries, Maps}
 use Rattle.mesh_pagemap.specs.declared.prot.Prot.TheVariants.{ReadWrite}
-use Rattle.mesh_layout.specs.Growth.{TakesAll, MapsFirst, AreTaken, given_back}
+use Rattle.mesh_page_heap.specs.Growth.{TakesAll, MapsFirst, AreTaken, given_back}
 
 different : (a : Pages) (p q : ℕ) → IsTaken a p → is_taken a q ≡ false → p ≢ q
 different a p q taken free same = let at : is_taken a p ≡ false = ap (λ (n : ℕ). is_taken a n) same ∙ free in cc

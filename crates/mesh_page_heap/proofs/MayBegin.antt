@@ -3,11 +3,11 @@ use Rattle.std.proofs.Common.{◌≡◌, ◌≢◌, ℕ, ◌+◌, ◌<◌, ◌�
 use Rattle.std.proofs.lemmas.List.{length-map}
 use Rattle.mesh_class.specs.Classes.{slots_of}
 use Rattle.mesh_bits.specs.Bits.{are_meshable}
-use Rattle.mesh_layout.proofs.Beginnings.{Begins, Closes, page_heap_begins}
-use Rattle.mesh_layout.proofs.Groups.{IsEntry, entry_in_table, none_in_table, table_entry}
-use Rattle.mesh_layout.proofs.MadeSteps.{pages_counted}
-use Rattle.mesh_layout.specs.Indexes.{layout_of}
-use Rattle.mesh_layout.specs.PageHeap.{IsPageHeap}
+use Rattle.mesh_page_heap.proofs.Beginnings.{Begins, Closes, page_heap_begins}
+use Rattle.mesh_page_heap.proofs.Groups.{IsEntry, entry_in_table, none_in_table, table_entry}
+use Rattle.mesh_page_heap.proofs.MadeSteps.{pages_counted}
+use Rattle.mesh_page_heap.specs.Indexes.{layout_of}
+use Rattle.mesh_page_heap.specs.PageHeapInvariant.{IsPageHeap}
 use Rattle.model_heap.proofs.BeginRefusals.{busy_class, many_members, may_go, no_destination, no_source, other_class, overlapping, same_group}
 use Rattle.model_heap.proofs.FewMeshes.{few_meshes}
 use Rattle.model_heap.proofs.MayBegin.{may_begin_gives}

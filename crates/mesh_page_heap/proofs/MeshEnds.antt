@@ -6,15 +6,15 @@ use Rattle.std.proofs.lemmas.List.{get_or-set_other, get_or-set_same}
 use Rattle.std.proofs.Math.ListN.{length-set}
 use Rattle.mesh_arena.specs.Pages.{Pages}
 use Rattle.mesh_class.specs.Classes.{pages_of, slots_of}
-use Rattle.mesh_layout.specs.Indexes.{layout_of}
-use Rattle.mesh_layout.specs.Layout.{page_total, virtual_page}
-use Rattle.mesh_layout.specs.PageHeap.{IsPageHeap}
-use Rattle.mesh_layout.specs.Steps.{IsStepAt, Makes}
-use Rattle.mesh_layout.proofs.Beginnings.{Flags}
-use Rattle.mesh_layout.proofs.MadeSteps.{Unites, page_heap_ends, page_heap_goes}
-use Rattle.mesh_layout.proofs.MeshPlaces.{progress_set, without_at}
-use Rattle.mesh_layout.proofs.StepEffects.{step_has_effect, unwinding_has_effect}
-use Rattle.mesh_layout.proofs.UnwoundMeshes.{Holds, Reopens, cancel_holds, cancel_stops, unwind_ends, unwind_goes}
+use Rattle.mesh_page_heap.specs.Indexes.{layout_of}
+use Rattle.mesh_page_heap.specs.Layout.{page_total, virtual_page}
+use Rattle.mesh_page_heap.specs.PageHeapInvariant.{IsPageHeap}
+use Rattle.mesh_page_heap.specs.StepChanges.{IsStepAt, Makes}
+use Rattle.mesh_page_heap.proofs.Beginnings.{Flags}
+use Rattle.mesh_page_heap.proofs.MadeSteps.{Unites, page_heap_ends, page_heap_goes}
+use Rattle.mesh_page_heap.proofs.MeshPlaces.{progress_set, without_at}
+use Rattle.mesh_page_heap.proofs.StepEffects.{step_has_effect, unwinding_has_effect}
+use Rattle.mesh_page_heap.proofs.UnwoundMeshes.{Holds, Reopens, cancel_holds, cancel_stops, unwind_ends, unwind_goes}
 use Rattle.model_heap.specs.Mesh.{merged, with_progress, without_mesh}
 use Rattle.model_heap.specs.Table.{Made, Mesh, Unwinding}
 use Rattle.model_words.specs.declared.commands.StepKind.{StepKind}

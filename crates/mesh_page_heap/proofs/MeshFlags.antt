@@ -2,7 +2,7 @@
 use Rattle.std.proofs.Common.{◌≡◌, ℕ, Bool, true, false, not, ◌&&◌, ◌||◌, nat_eq, is_some, IsSome, Option, Some, None, ap, refl, ◌∙◌, inl, inr}
 use Rattle.std.specs.Option.{option_map}
 use Rattle.std.proofs.lemmas.Bool.Decides.{eqb_tells}
-use Rattle.mesh_layout.proofs.Beginnings.{Closes, Flags, flag_kept, flag_same, flag_slots, same_twice}
+use Rattle.mesh_page_heap.proofs.Beginnings.{Closes, Flags, flag_kept, flag_same, flag_slots, same_twice}
 use Rattle.mesh_spans.specs.Changes.{with_mesh}
 use Rattle.mesh_spans.specs.Groups.{groups_of, is_closed}
 use Rattle.mesh_spans.specs.Index.{GroupEntry, Index, group_at}

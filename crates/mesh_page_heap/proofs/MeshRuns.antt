@@ -3,17 +3,17 @@ use Rattle.std.proofs.Common.{◌≡◌, ℕ, ◌+◌, ◌-◌, ◌*◌, ◌<◌
 use Rattle.std.proofs.lemmas.Bool.{eqb-true}
 use Rattle.std.proofs.lemmas.Option.{get_or_from_slice_get, slice_get_within}
 use Rattle.mesh_class.specs.Classes.{pages_of, slots_of}
-use Rattle.mesh_layout.specs.Indexes.{class_in, layout_of, members_in}
-use Rattle.mesh_layout.specs.Layout.{IsHeldBy, IsOrderly, Layout, Stage, page_total, virtual_page}
-use Rattle.mesh_layout.specs.Meshes.{mesh_from, stage_at, stage_of, stage_with}
-use Rattle.mesh_layout.specs.PageHeap.{IsPageHeap}
-use Rattle.mesh_layout.specs.Steps.{IsStepAt}
-use Rattle.mesh_layout.proofs.Homes.{dest_held}
-use Rattle.mesh_layout.proofs.MadeSteps.{HasSides, has_sides, pages_counted, some_pages}
-use Rattle.mesh_layout.proofs.MeshList.{from_found}
-use Rattle.mesh_layout.proofs.MeshPlaces.{position_finds, position_none}
-use Rattle.mesh_layout.proofs.PageHeapSteps.{page_heap_orderly}
-use Rattle.mesh_layout.proofs.UnwoundMeshes.{cancel_late, unwinding_cancelled}
+use Rattle.mesh_page_heap.specs.Indexes.{class_in, layout_of, members_in}
+use Rattle.mesh_page_heap.specs.Layout.{IsHeldBy, IsOrderly, Layout, Stage, page_total, virtual_page}
+use Rattle.mesh_page_heap.specs.MeshLayouts.{mesh_from, stage_at, stage_of, stage_with}
+use Rattle.mesh_page_heap.specs.PageHeapInvariant.{IsPageHeap}
+use Rattle.mesh_page_heap.specs.StepChanges.{IsStepAt}
+use Rattle.mesh_page_heap.proofs.Homes.{dest_held}
+use Rattle.mesh_page_heap.proofs.MadeSteps.{HasSides, has_sides, pages_counted, some_pages}
+use Rattle.mesh_page_heap.proofs.MeshList.{from_found}
+use Rattle.mesh_page_heap.proofs.MeshPlaces.{position_finds, position_none}
+use Rattle.mesh_page_heap.proofs.PageHeapSteps.{page_heap_orderly}
+use Rattle.mesh_page_heap.proofs.UnwoundMeshes.{cancel_late, unwinding_cancelled}
 use Rattle.model_heap.specs.Mesh.{cancel, mesh_in}
 use Rattle.model_heap.specs.Table.{Made, Mesh, Progress, Unwinding}
 use Rattle.model_words.specs.declared.commands.StepKind.{StepKind}

@@ -10,13 +10,13 @@ use Rattle.std.proofs.lemmas.List.{get_or_past}
 use Rattle.std.proofs.lemmas.Option.{get_or_from_slice_get, slice_get-get_or}
 use Rattle.mesh_arena.specs.Pages.{free_count}
 use Rattle.mesh_class.specs.Classes.{pages_of, slots_of, IsClass}
-use Rattle.mesh_layout.proofs.Groups.{first_is}
-use Rattle.mesh_layout.proofs.PageHeapChanges.{page_heap_grow}
-use Rattle.mesh_layout.specs.Growth.{MapsFirst, TakesAll}
-use Rattle.mesh_layout.specs.Indexes.{layout_of, members_in, table_with}
-use Rattle.mesh_layout.specs.Layout.{IsLiveAt}
-use Rattle.mesh_layout.specs.PageHeap.{IsPageHeap}
-use Rattle.mesh_layout.specs.Steps.{Keeps}
+use Rattle.mesh_page_heap.proofs.Groups.{first_is}
+use Rattle.mesh_page_heap.proofs.PageHeapChanges.{page_heap_grow}
+use Rattle.mesh_page_heap.specs.Growth.{MapsFirst, TakesAll}
+use Rattle.mesh_page_heap.specs.Indexes.{layout_of, members_in, table_with}
+use Rattle.mesh_page_heap.specs.Layout.{IsLiveAt}
+use Rattle.mesh_page_heap.specs.PageHeapInvariant.{IsPageHeap}
+use Rattle.mesh_page_heap.specs.StepChanges.{Keeps}
 use Rattle.model_heap.proofs.NewObjects.{span_sound}
 use Rattle.model_heap.proofs.NewPlaces.{fresh_picked}
 use Rattle.model_heap.proofs.OpenGroups.{found_open, open_tests}

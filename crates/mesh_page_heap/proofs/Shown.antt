@@ -4,12 +4,12 @@ use Rattle.std.specs.Option.{option_map}
 use Rattle.std.specs.FinMap as map
 use Rattle.std.proofs.lemmas.List.{length-map}
 use Rattle.std.proofs.lemmas.Option.{get_or_from_slice_get, none-some, slice_get-get_or, slice_get-map, slice_get_past, slice_get_within}
-use Rattle.mesh_layout.proofs.Groups.{entry_in_table, none_in_table}
-use Rattle.mesh_layout.specs.Indexes.{layout_of, members_in}
+use Rattle.mesh_page_heap.proofs.Groups.{entry_in_table, none_in_table}
+use Rattle.mesh_page_heap.specs.Indexes.{layout_of, members_in}
 use Rattle.mesh_pagemap.specs.Entries.{Entries, is_mapped, reads_only}
 use Rattle.mesh_pagemap.specs.declared.prot.Prot.{Prot}
 use Rattle.mesh_class.specs.Classes.{slots_of}
-use Rattle.mesh_layout.specs.Layout.{page_total}
+use Rattle.mesh_page_heap.specs.Layout.{page_total}
 use Rattle.model_heap.specs.Table.{Made, Mesh, Unwinding, has_number}
 use Rattle.mesh_spans.specs.Groups.{first_of, groups_of}
 use Rattle.mesh_spans.specs.Index.{GroupEntry, Index, IsIndex, IsMember, group_at, no_span, record_at}

@@ -6,16 +6,16 @@ use Rattle.std.proofs.lemmas.List.{get_or-set_other, get_or-set_same, length-rep
 use Rattle.std.proofs.lemmas.Option.{get_or_from_slice_get, slice_get_within}
 use Rattle.mesh_arena.specs.Pages.{Pages, free_count}
 use Rattle.mesh_class.specs.Classes.{slots_of}
-use Rattle.mesh_layout.proofs.Changes.{index_alike, open_calm}
-use Rattle.mesh_layout.proofs.Ends.{page_heap_make}
-use Rattle.mesh_layout.proofs.PageHeapChanges.{entry_groups, page_heap_free, page_heap_put}
-use Rattle.mesh_layout.proofs.PageHeapSteps.{page_heap_orderly}
-use Rattle.mesh_layout.proofs.LiveObjects.{calm_open}
-use Rattle.mesh_layout.proofs.Stores.{store_others}
-use Rattle.mesh_layout.specs.Indexes.{class_in, layout_of, slots_in, table_with}
-use Rattle.mesh_layout.specs.Layout.{IsCovered}
-use Rattle.mesh_layout.specs.Meshes.{stage_of}
-use Rattle.mesh_layout.specs.PageHeap.{IsPageHeap}
+use Rattle.mesh_page_heap.proofs.Changes.{index_alike, open_calm}
+use Rattle.mesh_page_heap.proofs.Ends.{page_heap_make}
+use Rattle.mesh_page_heap.proofs.PageHeapChanges.{entry_groups, page_heap_free, page_heap_put}
+use Rattle.mesh_page_heap.proofs.PageHeapSteps.{page_heap_orderly}
+use Rattle.mesh_page_heap.proofs.LiveObjects.{calm_open}
+use Rattle.mesh_page_heap.proofs.Stores.{store_others}
+use Rattle.mesh_page_heap.specs.Indexes.{class_in, layout_of, slots_in, table_with}
+use Rattle.mesh_page_heap.specs.Layout.{IsCovered}
+use Rattle.mesh_page_heap.specs.MeshLayouts.{stage_of}
+use Rattle.mesh_page_heap.specs.PageHeapInvariant.{IsPageHeap}
 use Rattle.model_heap.specs.Sound.{IsSound}
 use Rattle.model_heap.specs.Table.{Slot, Table, changed_at, emptied_at, slot_address, with_object_in}
 use Rattle.mesh_spans.specs.Groups.{groups_of, is_closed}

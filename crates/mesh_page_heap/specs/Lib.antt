@@ -1,6 +1,15 @@
+pub mod EffectLaws
+pub mod Effects
+pub mod Growth
+pub mod Indexes
+pub mod Layout
+pub mod MeshLayouts
 pub mod Meshes
 pub mod PageHeap
+pub mod PageHeapInvariant
+pub mod Progress
+pub mod Shown
+pub mod StepChanges
 pub mod StepOrders
 pub mod Steps
-pub mod Shown
 pub mod Sweeps

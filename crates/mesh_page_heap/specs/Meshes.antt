@@ -1,9 +1,9 @@
 -- How meshes begin, go on, are cancelled and end.
 use Rattle.std.specs.Prelude.{◌≡◌, ◌≢◌, ℕ, Bool, false, List, Ok, Some, slice_get, slice_set}
 use Rattle.std.specs.List.{remove}
-use Rattle.mesh_layout.specs.Effects.{HasEffect}
-use Rattle.mesh_layout.specs.Indexes.{class_in, layout_of, members_in, pages_in, slots_in}
-use Rattle.mesh_layout.specs.Steps.{Keeps}
+use Rattle.mesh_page_heap.specs.Effects.{HasEffect}
+use Rattle.mesh_page_heap.specs.Indexes.{class_in, layout_of, members_in, pages_in, slots_in}
+use Rattle.mesh_page_heap.specs.StepChanges.{Keeps}
 use Rattle.model_heap.specs.Mesh.{Pair, any_mesh, begin, cancel, may_begin, mesh_in, mesh_of_class, step}
 use Rattle.model_heap.specs.Table.{Mesh, Table, Unwinding}
 use Rattle.mesh_spans.specs.Groups.{groups_of, is_closed}

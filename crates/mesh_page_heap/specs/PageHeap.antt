@@ -4,9 +4,9 @@ use Rattle.std.specs.Coded.{Coded, code_by, coded×, coded_ℕ, coded_list, code
 use Rattle.std.specs.FinMap as map
 use Rattle.mesh_arena.specs.Pages.{Pages, byte_at}
 use Rattle.mesh_class.specs.Classes.{slots_of}
-use Rattle.mesh_layout.specs.Indexes.{layout_of, table_with}
-use Rattle.mesh_layout.specs.Layout.{IsLiveAt}
-use Rattle.mesh_layout.specs.Steps.{Keeps}
+use Rattle.mesh_page_heap.specs.Indexes.{layout_of, table_with}
+use Rattle.mesh_page_heap.specs.Layout.{IsLiveAt}
+use Rattle.mesh_page_heap.specs.StepChanges.{Keeps}
 use Rattle.model_heap.specs.Table.{Group, Mesh, Slot, Report as PlainReport, Table, emptied_at, is_open, place_in, placed_in, room_for_span, with_group, with_object_in, with_span}
 use Rattle.model_words.specs.declared.refusals.Refusal.{Refusal}
 use Rattle.mesh_pagemap.specs.Entries.{Entries, entry_code, page_of}

@@ -5,7 +5,7 @@ use Rattle.std.specs.FinMap as map
 use Rattle.model_words.specs.Classes.{slots_of}
 use Rattle.model_heap.specs.Mesh.{page_count}
 use Rattle.model_heap.specs.Table.{Group, Made, Mesh, Progress, Slot, Unwinding}
-use Rattle.mesh_layout.specs.Indexes.{pages_in}
+use Rattle.mesh_page_heap.specs.Indexes.{pages_in}
 use Rattle.mesh_pagemap.specs.Entries.{Entries, reads_only}
 use Rattle.mesh_spans.specs.Index.{Index, group_at, named_in}
 use Rattle.mesh_pagemap.specs.declared.mapping.Mapping.{Mapping}

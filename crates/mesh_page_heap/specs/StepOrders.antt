@@ -1,7 +1,7 @@
 -- The step order of a mesh from a group, by the layout.
 use Rattle.std.specs.Prelude.{◌≡◌, ℕ}
 use Rattle.mesh_class.specs.Classes.{pages_of, slots_of}
-use Rattle.mesh_layout.specs.Layout.{Layout, page_total}
+use Rattle.mesh_page_heap.specs.Layout.{Layout, page_total}
 use Rattle.mesh_running.specs.declared.step_order.StepOrder.{StepOrder}
 
 -- the step order of a mesh from a group

@@ -5,7 +5,7 @@ use Rattle.mesh_class.specs.Classes.{IsClass, pages_of, slots_of}
 use Rattle.model_words.specs.declared.commands.StepKind.{StepKind}
 use Rattle.model_words.specs.declared.commands.StepKind.TheVariants.{Copy, Protect, Release, Remap, Unprotect}
 use Rattle.mesh_pagemap.specs.Entries.{Entries, IsMapped}
-use Rattle.mesh_layout.specs.Layout.{Layout, page_total, virtual_page}
+use Rattle.mesh_page_heap.specs.Layout.{Layout, page_total, virtual_page}
 
 -- two groups of a class have their physical pages, all different
 pub record HaveBothPages (l : Layout) (arena : Pages) (source destination : ℕ) : Type 0 where

@@ -1,8 +1,8 @@
 -- What a sweep does to a page heap.
 use Rattle.std.specs.Prelude.{◌≡◌, ℕ, ◌<◌, false, Ok}
-use Rattle.mesh_layout.specs.Indexes.{layout_of}
-use Rattle.mesh_layout.specs.Layout.{IsPageOf, Layout}
-use Rattle.mesh_layout.specs.Steps.{Keeps}
+use Rattle.mesh_page_heap.specs.Indexes.{layout_of}
+use Rattle.mesh_page_heap.specs.Layout.{IsPageOf, Layout}
+use Rattle.mesh_page_heap.specs.StepChanges.{Keeps}
 use Rattle.model_heap.specs.Table.{sweep}
 use Rattle.mesh_pagemap.specs.Entries.{Entries, IsMapped, is_mapped}
 use Rattle.mesh_page_heap.specs.PageHeap.{PageHeap, table_in}

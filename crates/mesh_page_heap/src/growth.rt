@@ -1,7 +1,7 @@
 //! Physical pages for a new span.
 ghost use Rattle.std.specs.Prelude.{◌≡◌, ◌+◌, ◌<◌, ◌≤◌, length};
 ghost use Rattle.mesh_arena.specs.Pages.{free_count};
-ghost use Rattle.mesh_layout.specs.Growth.{TakesAll, MapsFirst, GivesFirst, AreTaken, AreUnmapped, given_back};
+ghost use Rattle.mesh_page_heap.specs.Growth.{TakesAll, MapsFirst, GivesFirst, AreTaken, AreUnmapped, given_back};
 
 use arrayvec::ArrayVec;
 use mesh_arena::{Arena, Page};

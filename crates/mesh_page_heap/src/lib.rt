@@ -8,15 +8,19 @@
 
 mod answers;
 mod busy;
+mod effects;
 mod growth;
 mod page_heap;
+mod progress;
 mod running;
 mod step_order;
 mod steps;
 
 pub use answers::{Occupied, Report};
 pub use busy::Busy;
+pub use effects::effects_are_determined;
 pub use mesh_pagemap::Mapping;
 pub use mesh_running::{Progress, Running};
 pub use model_words::{NewFault, StepDone};
 pub use page_heap::PageHeap;
+pub use progress::{meshes_by_steps, unwinding_by_steps};

@@ -4,9 +4,9 @@ ghost use Rattle.std.specs.Bool.{OnFalse};
 ghost use Rattle.std.specs.Option.{option_map};
 ghost use Rattle.mesh_arena.specs.Pages.{run_of};
 ghost use Rattle.mesh_class.specs.Classes.{IsClass, slots_of};
-ghost use Rattle.mesh_layout.specs.Indexes.{layout_of};
-ghost use Rattle.mesh_layout.specs.Layout.{AreInObject};
-ghost use Rattle.mesh_layout.specs.PageHeap.{IsPageHeap};
+ghost use Rattle.mesh_page_heap.specs.Indexes.{layout_of};
+ghost use Rattle.mesh_page_heap.specs.Layout.{AreInObject};
+ghost use Rattle.mesh_page_heap.specs.PageHeapInvariant.{IsPageHeap};
 ghost use Rattle.model_search.specs.Search.{view_of};
 ghost use Rattle.model_heap.specs.Sound.{IsSound};
 ghost use Rattle.model_heap.specs.Table.{empty_table, group_of, report_of, slot_address};
@@ -48,7 +48,7 @@ pub struct PageHeap {
 }
 
 impl Model for PageHeap {
-    ghost use Rattle.mesh_layout.specs.PageHeap.{IsPageHeap};
+    ghost use Rattle.mesh_page_heap.specs.PageHeapInvariant.{IsPageHeap};
     ghost use Rattle.mesh_page_heap.specs.PageHeap.{PageHeap as Parts, page_heap_code};
 
     ghost Value = { Parts };

@@ -1,6 +1,6 @@
 //! What is asked of the list of the running meshes, and done to it.
 ghost use Rattle.std.specs.Prelude.{◌≡◌, nat_eq, position, slice_set, length, ◌<◌};
-ghost use Rattle.mesh_layout.specs.Meshes.{mesh_from};
+ghost use Rattle.mesh_page_heap.specs.MeshLayouts.{mesh_from};
 
 use arrayvec::ArrayVec;
 use mesh_class::Class;

@@ -1,6 +1,6 @@
 //! The step order of a mesh from a group of the index.
 ghost use Rattle.std.specs.Prelude.{IsSome};
-ghost use Rattle.mesh_layout.specs.Indexes.{layout_of};
+ghost use Rattle.mesh_page_heap.specs.Indexes.{layout_of};
 ghost use Rattle.mesh_running.specs.StepOrders.{IsStepOrder};
 ghost use Rattle.mesh_spans.specs.Index.{group_at};
 ghost use Rattle.mesh_page_heap.specs.StepOrders.{IsStepOrderOf};

@@ -2,9 +2,9 @@
 ghost use Rattle.std.specs.Prelude.{◌≡◌, ◌+◌, ◌*◌, ◌/◌, ◌%◌, ◌<◌, ◌≤◌};
 ghost use Rattle.mesh_arena.specs.Pages.{free_count};
 ghost use Rattle.mesh_class.specs.Classes.{pages_of};
-ghost use Rattle.mesh_layout.specs.Indexes.{layout_of};
-ghost use Rattle.mesh_layout.specs.Layout.{page_total, virtual_page};
-ghost use Rattle.mesh_layout.specs.Steps.{Copies, CopiesSlot, Makes};
+ghost use Rattle.mesh_page_heap.specs.Indexes.{layout_of};
+ghost use Rattle.mesh_page_heap.specs.Layout.{page_total, virtual_page};
+ghost use Rattle.mesh_page_heap.specs.StepChanges.{Copies, CopiesSlot, Makes};
 ghost use Rattle.mesh_page_heap.specs.Steps.{CanCopy, HaveBothPages, IsReady};
 
 use mesh_arena::{Arena, Page};

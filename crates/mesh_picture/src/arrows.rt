@@ -1,8 +1,8 @@
 //! Where each virtual page leads, drawn.
+use crate::frame::{Frame, Mapping};
+use crate::layout::{LABELS, PAGE_HEIGHT};
 use crate::pages::{GROUP_COLOURS, Scene};
-use mesh_cards::frame::{Frame, Mapping};
-use mesh_cards::layout::{LABELS, PAGE_HEIGHT};
-use mesh_cards::parts::{group_of, lead_of};
+use crate::parts::{group_of, lead_of};
 use mesh_svg::{Look, Text, add_path};
 
 /// How far an arrow goes straight at both ends.

@@ -1,6 +1,6 @@
 //! What the signs of a picture mean, drawn.
-use mesh_cards::layout::MARGIN;
-use mesh_cards::lettering::{Face, Label, width_of};
+use crate::layout::MARGIN;
+use crate::lettering::{Face, Label, width_of};
 use mesh_svg::{Area, Look, Text, add_rect};
 
 /// The colour that stands for all objects.

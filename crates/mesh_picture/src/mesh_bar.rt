@@ -1,12 +1,12 @@
 //! The bars of running meshes, drawn.
 ghost use Rattle.mesh_running.specs.StepOrders.{IsStepOrder};
 
-use mesh_cards::alike::order_of;
-use mesh_cards::frame::{Frame, RunningMesh};
-use mesh_cards::layout::BAR;
-use mesh_cards::lettering::{Face, Label};
-use mesh_cards::numbers::share;
-use mesh_cards::pills::INDENT;
+use crate::alike::order_of;
+use crate::frame::{Frame, RunningMesh};
+use crate::layout::BAR;
+use crate::lettering::{Face, Label};
+use crate::numbers::share;
+use crate::pills::INDENT;
 use mesh_running::{KINDS, Progress, StepOrder, kind_name};
 use mesh_svg::{Area, Look, Text, add_rect};
 use model_words::StepKind;

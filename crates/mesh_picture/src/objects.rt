@@ -1,7 +1,7 @@
 //! The slots and objects of a page, drawn.
-use mesh_cards::lettering::{Face, Label, width_of};
-use mesh_cards::numbers::share;
-use mesh_cards::parts::{Part, State};
+use crate::lettering::{Face, Label, width_of};
+use crate::numbers::share;
+use crate::parts::{Part, State};
 use mesh_class::Class;
 use mesh_svg::{Area, Look, Text, add_point, add_rect, begin_path, end_path};
 

@@ -1,10 +1,10 @@
 //! The map of occupancy, drawn: a row for each group.
+use crate::frame::{Frame, RunningMesh};
+use crate::layout::{MAX_ROWS, ROW};
+use crate::lettering::{Face, Label};
+use crate::numbers::{narrow, share};
 use crate::pages::{GROUP_COLOURS, Scene};
-use mesh_cards::frame::{Frame, RunningMesh};
-use mesh_cards::layout::{MAX_ROWS, ROW};
-use mesh_cards::lettering::{Face, Label};
-use mesh_cards::numbers::{narrow, share};
-use mesh_cards::rows::Row;
+use crate::rows::Row;
 use mesh_class::Class;
 use mesh_svg::{Area, Look, Text, add_rect};
 use std::alloc::AllocError;

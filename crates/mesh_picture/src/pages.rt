@@ -1,9 +1,9 @@
 //! The virtual and the physical pages of a frame, drawn.
+use crate::frame::{Frame, Member};
+use crate::layout::{LABELS, LANE, Layout, PAGE_HEIGHT, Shown};
+use crate::lettering::{Face, Label};
 use crate::objects::{draw_grid, draw_parts};
-use mesh_cards::frame::{Frame, Member};
-use mesh_cards::layout::{LABELS, LANE, Layout, PAGE_HEIGHT, Shown};
-use mesh_cards::lettering::{Face, Label};
-use mesh_cards::parts::{Contents, held_by, held_otherwise, lead_of, member_parts};
+use crate::parts::{Contents, held_by, held_otherwise, lead_of, member_parts};
 use mesh_svg::{Area, Look, Text, add_path, add_rect};
 use std::alloc::AllocError;
 

@@ -3,18 +3,18 @@ ghost use Rattle.std.specs.Prelude.{◌≡◌, ◌+◌, [], IfOk, IfSome, OnOk, 
 ghost use Rattle.mesh_picture.specs.Begins.{Begins};
 
 use crate::arrows::draw_arrows;
+use crate::frame::{Counts, Frame};
+use crate::gathering::{Gathering, Line, cut};
+use crate::layout::{BAR, BETWEEN, HEAD, MARGIN};
 use crate::legend::draw_legend;
+use crate::lettering::{Face, Label, width_of};
+use crate::measure::{Measure, Measured};
 use crate::mesh_bar::draw_meshes;
+use crate::numbers::narrow;
 use crate::occupancy::draw_groups;
 use crate::pages::{Scene, draw_physical, draw_row_names, draw_virtual};
+use crate::pills::{LINE, draw_captions};
 use crate::style::{add_style, add_svg};
-use mesh_cards::frame::{Counts, Frame};
-use mesh_cards::gathering::{Gathering, Line, cut};
-use mesh_cards::layout::{BAR, BETWEEN, HEAD, MARGIN};
-use mesh_cards::lettering::{Face, Label, width_of};
-use mesh_cards::measure::{Measure, Measured};
-use mesh_cards::numbers::narrow;
-use mesh_cards::pills::{LINE, draw_captions};
 use mesh_svg::{Area, Look, Text, add_rect};
 use std::alloc::{AllocError, Global};
 use std::marker::Model;

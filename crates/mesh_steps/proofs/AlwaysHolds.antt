@@ -3,8 +3,8 @@ use Rattle.std.proofs.Common.{◌≡◌, ℕ, zero, suc, ◌+◌, ◌/◌, ◌<�
 use Rattle.std.specs.List.{list_any, range_with_len}
 use Rattle.std.proofs.lemmas.Bool.Decides.{eqb_tells}
 use Rattle.mesh_arena.specs.Pages.{IsTaken}
-use Rattle.mesh_layout.proofs.LiveObjects.{page_taken}
-use Rattle.mesh_layout.specs.PageHeap.{IsPageHeap, targets_of}
+use Rattle.mesh_page_heap.proofs.LiveObjects.{page_taken}
+use Rattle.mesh_page_heap.specs.PageHeapInvariant.{IsPageHeap, targets_of}
 use Rattle.model_heap.proofs.Holders.{objects_apart}
 use Rattle.model_heap.specs.Places.{place_of}
 use Rattle.mesh_pagemap.specs.Entries.{Entries, page_of}

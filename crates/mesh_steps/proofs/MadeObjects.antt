@@ -3,9 +3,9 @@ use Rattle.std.proofs.Common.{◌≡◌, ℕ, ◌+◌, ◌-◌, ◌<◌, ◌≤�
 use Rattle.std.specs.Result.{IsErrAnd}
 use Rattle.std.proofs.lemmas.List.{get_or-replicate, length-replicate}
 use Rattle.mesh_arena.specs.Pages.{Pages}
-use Rattle.mesh_layout.proofs.Groups.{entry_in_table}
-use Rattle.mesh_layout.proofs.Meaning.{live_at, record_live}
-use Rattle.mesh_layout.specs.PageHeap.{bytes_in, targets_of}
+use Rattle.mesh_page_heap.proofs.Groups.{entry_in_table}
+use Rattle.mesh_page_heap.proofs.Meaning.{live_at, record_live}
+use Rattle.mesh_page_heap.specs.PageHeapInvariant.{bytes_in, targets_of}
 use Rattle.model_heap.proofs.FreedObjects.{free_means}
 use Rattle.model_heap.proofs.MadeObjects.{new_means}
 use Rattle.model_heap.proofs.Meanings.{meaning_next}

@@ -2,14 +2,14 @@
 use Rattle.std.proofs.Common.{◌≡◌, ℕ, suc, ◌+◌, ◌-◌, ◌<◌, false, nat_eq, find, slice_index, List, Some, Result, Ok, Err, IfOk, IfErr, IsOk, ap, refl, sym, subst, ◌∙◌, arith}
 use Rattle.std.specs.Option.{option_map}
 use Rattle.mesh_class.specs.Classes.{pages_of}
-use Rattle.mesh_layout.proofs.Groups.{IsEntry, table_entry}
-use Rattle.mesh_layout.proofs.MadeSteps.{pages_counted}
-use Rattle.mesh_layout.proofs.StepEffects.{page_is}
-use Rattle.mesh_layout.proofs.WholeSteps.{IsWholeBy, whole_by_class}
-use Rattle.mesh_layout.specs.Layout.{page_total, virtual_page}
-use Rattle.mesh_layout.proofs.Heaps.{transition_means, transition_tied}
-use Rattle.mesh_layout.specs.Indexes.{layout_of}
-use Rattle.mesh_layout.specs.Steps.{Keeps}
+use Rattle.mesh_page_heap.proofs.Groups.{IsEntry, table_entry}
+use Rattle.mesh_page_heap.proofs.MadeSteps.{pages_counted}
+use Rattle.mesh_page_heap.proofs.StepEffects.{page_is}
+use Rattle.mesh_page_heap.proofs.WholeSteps.{IsWholeBy, whole_by_class}
+use Rattle.mesh_page_heap.specs.Layout.{page_total, virtual_page}
+use Rattle.mesh_page_heap.proofs.Heaps.{transition_means, transition_tied}
+use Rattle.mesh_page_heap.specs.Indexes.{layout_of}
+use Rattle.mesh_page_heap.specs.StepChanges.{Keeps}
 use Rattle.model_heap.proofs.TableChanges.{begin_sound, cancel_sound, step_sound, sweep_sound}
 use Rattle.model_heap.proofs.TiedTables.{begin_tied, cancel_tied, step_tied, sweep_tied}
 use Rattle.model_heap.specs.Mesh.{Stepped, begin, cancel, mesh_in, page_count, step, virtual_pages}

@@ -8,12 +8,12 @@ use Rattle.std.proofs.lemmas.List.FromFn.{length-map-range_with_len}
 use Rattle.std.proofs.lemmas.Option.{slice_get_within}
 use Rattle.mesh_arena.specs.Pages.{run_of}
 use Rattle.mesh_class.specs.Classes.{pages_of, slots_of}
-use Rattle.mesh_layout.proofs.Groups.{entry_in_table, table_entry}
-use Rattle.mesh_layout.proofs.Homes.{slot_end}
-use Rattle.mesh_layout.proofs.Meaning.{record_live}
-use Rattle.mesh_layout.specs.Indexes.{layout_of}
-use Rattle.mesh_layout.specs.Layout.{AreInObject}
-use Rattle.mesh_layout.specs.PageHeap.{bytes_in, targets_of}
+use Rattle.mesh_page_heap.proofs.Groups.{entry_in_table, table_entry}
+use Rattle.mesh_page_heap.proofs.Homes.{slot_end}
+use Rattle.mesh_page_heap.proofs.Meaning.{record_live}
+use Rattle.mesh_page_heap.specs.Indexes.{layout_of}
+use Rattle.mesh_page_heap.specs.Layout.{AreInObject}
+use Rattle.mesh_page_heap.specs.PageHeapInvariant.{bytes_in, targets_of}
 use Rattle.model_heap.proofs.GroupPages.{found_sound}
 use Rattle.model_heap.proofs.Holders.{no_holder, one_holder}
 use Rattle.model_heap.proofs.Meanings.{bytes_read, meaning_objects}

@@ -1,12 +1,12 @@
 -- What a store does to the plain memory that a heap stands for.
 use Rattle.std.proofs.Common.{◌≡◌, ℕ, ◌+◌, ◌<◌, ◌≤◌, Bool, List, [], ◌∷◌, Some, Result, Ok, Err, length, ap, subst, refl, sym, ◌∙◌, arith}
 use Rattle.mesh_arena.specs.Pages.{Pages, free_count}
-use Rattle.mesh_layout.proofs.Meaning.{store_means_here}
-use Rattle.mesh_layout.proofs.PageHeapSteps.{page_heap_orderly}
-use Rattle.mesh_layout.proofs.LiveObjects.{blocked_is, open_is}
-use Rattle.mesh_layout.specs.Indexes.{layout_of}
-use Rattle.mesh_layout.specs.Layout.{AreInObject}
-use Rattle.mesh_layout.specs.PageHeap.{IsPageHeap, bytes_in, targets_of}
+use Rattle.mesh_page_heap.proofs.Meaning.{store_means_here}
+use Rattle.mesh_page_heap.proofs.PageHeapSteps.{page_heap_orderly}
+use Rattle.mesh_page_heap.proofs.LiveObjects.{blocked_is, open_is}
+use Rattle.mesh_page_heap.specs.Indexes.{layout_of}
+use Rattle.mesh_page_heap.specs.Layout.{AreInObject}
+use Rattle.mesh_page_heap.specs.PageHeapInvariant.{IsPageHeap, bytes_in, targets_of}
 use Rattle.model_heap.proofs.Meanings.{byte_read}
 use Rattle.model_heap.proofs.TiedMemories.{stored_tied}
 use Rattle.model_memory.specs.Memory.{Memory}

@@ -5,10 +5,10 @@ use Rattle.mesh_arena.specs.Pages.{IsTaken}
 use Rattle.model_heap.specs.Mesh.{read_only_pages}
 use Rattle.model_heap.specs.Places.{Record, holds, place_of, IsIn, record_with}
 use Rattle.mesh_pagemap.specs.Entries.{is_read_only}
-use Rattle.mesh_layout.specs.Indexes.{layout_of}
-use Rattle.mesh_layout.specs.Layout.{IsLaidOut}
-use Rattle.mesh_layout.specs.Meshes.{stage_of}
-use Rattle.mesh_layout.specs.PageHeap.{targets_of}
+use Rattle.mesh_page_heap.specs.Indexes.{layout_of}
+use Rattle.mesh_page_heap.specs.Layout.{IsLaidOut}
+use Rattle.mesh_page_heap.specs.MeshLayouts.{stage_of}
+use Rattle.mesh_page_heap.specs.PageHeapInvariant.{targets_of}
 use Rattle.mesh_steps.specs.Heap.{Heap, arena_of, index_of, live_records, map_of, table_of}
 
 -- no two live objects have an address in common

@@ -2,7 +2,7 @@
 use Rattle.std.specs.Prelude.{◌≡◌, ℕ, ◌+◌, ◌-◌, ◌<◌, ◌≤◌, Bool, true, false, not, nat_eq, List, [], ◌∷◌, length, Option, Some, None, Result, Ok, Err, IsOk, slice_index, slice_range, refl}
 use Rattle.std.specs.Coded.{Coded, code_by, coded×, coded_ℕ}
 use Rattle.mesh_arena.specs.Pages.{Pages}
-use Rattle.mesh_layout.specs.PageHeap.{bytes_in, targets_of}
+use Rattle.mesh_page_heap.specs.PageHeapInvariant.{bytes_in, targets_of}
 use Rattle.model_words.specs.Classes.{class_for}
 use Rattle.model_memory.specs.Memory.{Memory, Object, object_of, with_object, with_new}
 use Rattle.model_heap.specs.Places.{Record, meaning, object_at, records_of, record_with}

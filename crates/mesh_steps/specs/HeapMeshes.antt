@@ -1,6 +1,6 @@
 -- What a mesher's calls do to a heap: it means what it meant, and its table is the definition's.
 use Rattle.std.specs.Prelude.{◌≡◌, ℕ, ◌-◌, ◌<◌, ◌≤◌, Bool, false, slice_index, List, Option, Some, Result, Err, Ok, IfErr, IfOk}
-use Rattle.mesh_layout.specs.Effects.{HasEffect}
+use Rattle.mesh_page_heap.specs.Effects.{HasEffect}
 use Rattle.model_heap.specs.Mesh.{begin, cancel, mesh_in, mesh_whole, page_count, step, virtual_pages}
 use Rattle.model_heap.specs.MeshLaws.{steps_of_class}
 use Rattle.model_heap.specs.Table.{Group, Mesh, Table, group_of, sweep}

@@ -2,8 +2,8 @@
 ghost use Rattle.std.specs.Prelude.{◌≡◌, ◌<◌, ◌≤◌, IfSome, slice_get};
 ghost use Rattle.mesh_arena.specs.Pages.{is_taken};
 ghost use Rattle.model_heap.specs.Table.{group_of};
-ghost use Rattle.mesh_layout.specs.Indexes.{members_in};
-ghost use Rattle.mesh_layout.specs.Meshes.{mesh_from};
+ghost use Rattle.mesh_page_heap.specs.Indexes.{members_in};
+ghost use Rattle.mesh_page_heap.specs.MeshLayouts.{mesh_from};
 ghost use Rattle.mesh_spans.specs.Index.{group_at};
 ghost use Rattle.mesh_page_heap.specs.PageHeap.{table_in};
 ghost use Rattle.mesh_page_heap.specs.Shown.{home_at, lead_at, member_at, object_at, released_of};

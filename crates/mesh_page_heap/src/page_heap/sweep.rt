@@ -1,7 +1,7 @@
 //! Empty groups' pages given back.
 ghost use Rattle.std.specs.Prelude.{◌≡◌, Err, IfErr, IfOk};
-ghost use Rattle.mesh_layout.specs.Indexes.{layout_of};
-ghost use Rattle.mesh_layout.specs.Steps.{UnmapsGroup};
+ghost use Rattle.mesh_page_heap.specs.Indexes.{layout_of};
+ghost use Rattle.mesh_page_heap.specs.StepChanges.{UnmapsGroup};
 ghost use Rattle.model_heap.specs.Table.{sweep};
 ghost use Rattle.mesh_page_heap.specs.PageHeap.{table_in};
 ghost use Rattle.mesh_page_heap.specs.Sweeps.{CanUnmap, HasGone};

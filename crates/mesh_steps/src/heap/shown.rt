@@ -3,7 +3,7 @@ ghost use Rattle.std.specs.Prelude.{◌≡◌, ◌<◌, ◌≤◌, IfSome, slice
 ghost use Rattle.std.specs.Option.{option_map};
 ghost use Rattle.mesh_arena.specs.Pages.{is_taken};
 ghost use Rattle.model_heap.specs.Table.{group_of};
-ghost use Rattle.mesh_layout.specs.Meshes.{mesh_from};
+ghost use Rattle.mesh_page_heap.specs.MeshLayouts.{mesh_from};
 ghost use Rattle.mesh_steps.specs.Heap.{arena_of, index_of, map_of, table_of};
 ghost use Rattle.mesh_page_heap.specs.Shown.{home_at, lead_at, member_at, object_at, released_of};
 

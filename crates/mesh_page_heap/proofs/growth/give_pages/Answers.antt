@@ -1,6 +1,6 @@
 use Rattle.std.proofs.Common.{◌≡◌, ◌∙◌, slice_index, arith}
 use Rattle.std.proofs.lemmas.Grind.{common_steps}
-use Rattle.mesh_layout.proofs.Loops.{gives_more}
+use Rattle.mesh_page_heap.proofs.Loops.{gives_more}
 use Rattle.mesh_page_heap.proofs.GrowthLemmas.{given_step, taken_after}
 use Rattle.mesh_page_heap.proofs.growth.give_pages.Goals as goal
 

@@ -1,6 +1,6 @@
 use Rattle.std.proofs.Common.{◌≡◌, drop}
 use Rattle.mesh_page_heap.proofs.GrowthLemmas.{AreTakenFrom}
-use Rattle.mesh_layout.specs.Growth.{GivesFirst, given_back}
+use Rattle.mesh_page_heap.specs.Growth.{GivesFirst, given_back}
 use Rattle.mesh_page_heap.proofs.growth.give_pages.Given as goal
 
 abbrev pub invariant-loop-page : goal.invariant-loop-page

@@ -1,5 +1,5 @@
 use Rattle.std.proofs.Common.{◌≡◌, ◌+◌}
-use Rattle.mesh_layout.specs.Growth.{MapsFirst}
+use Rattle.mesh_page_heap.specs.Growth.{MapsFirst}
 use Rattle.mesh_page_heap.proofs.growth.map_pages.Given as goal
 
 abbrev pub invariant-loop-page : goal.invariant-loop-page

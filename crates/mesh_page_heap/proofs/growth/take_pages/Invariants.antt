@@ -1,5 +1,5 @@
 use Rattle.std.proofs.Common.{◌≡◌, length}
-use Rattle.mesh_layout.specs.Growth.{TakesAll, given_back}
+use Rattle.mesh_page_heap.specs.Growth.{TakesAll, given_back}
 use Rattle.mesh_page_heap.proofs.growth.take_pages.Given as goal
 
 abbrev pub invariant-pages : goal.invariant-pages

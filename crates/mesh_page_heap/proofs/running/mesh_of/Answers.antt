@@ -1,6 +1,6 @@
 use Rattle.std.proofs.Common.{Some, nat_eq, ap, sym, ◌∙◌}
 use Rattle.std.proofs.lemmas.Option.{get_or_from_slice_get}
-use Rattle.mesh_layout.proofs.MeshPlaces.{position_finds, position_none}
+use Rattle.mesh_page_heap.proofs.MeshPlaces.{position_finds, position_none}
 use Rattle.mesh_page_heap.proofs.running.mesh_of.Goals as goal
 
 pub returns-in_err-place : goal.returns-in_err-place

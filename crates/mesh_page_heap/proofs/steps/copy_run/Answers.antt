@@ -1,7 +1,7 @@
 use Rattle.std.proofs.Common.{◌/◌, ◌%◌, ℕ, subst}
 use Rattle.mesh_arena.specs.Pages.{Writes, byte_at, run_of}
-use Rattle.mesh_layout.proofs.PageCopies.{copies_run}
-use Rattle.mesh_layout.specs.Indexes.{layout_of}
+use Rattle.mesh_page_heap.proofs.PageCopies.{copies_run}
+use Rattle.mesh_page_heap.specs.Indexes.{layout_of}
 use Rattle.mesh_page_heap.proofs.steps.copy_run.Goals as goal
 
 pub returns-clause-copies : goal.returns-clause-copies

@@ -3,8 +3,8 @@ use Rattle.std.proofs.Math.Nat.{mod-lt}
 use Rattle.std.proofs.lemmas.Nat.{div_below}
 use Rattle.std.proofs.lemmas.Grind.{get_or_default_zero}
 use Rattle.mesh_class.specs.Classes.{pages_of}
-use Rattle.mesh_layout.specs.Indexes.{class_in, layout_of, members_in}
-use Rattle.mesh_layout.specs.Layout.{page_total, virtual_page}
+use Rattle.mesh_page_heap.specs.Indexes.{class_in, layout_of, members_in}
+use Rattle.mesh_page_heap.specs.Layout.{page_total, virtual_page}
 use Rattle.mesh_spans.specs.Index.{GroupEntry, Index, IsIndex, IsMember, group_at, span_at}
 use Rattle.mesh_page_heap.proofs.steps.virtual_page.Goals as goal
 

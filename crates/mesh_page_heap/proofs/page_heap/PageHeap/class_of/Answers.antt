@@ -1,5 +1,5 @@
 use Rattle.std.proofs.Common.{refl, sym}
-use Rattle.mesh_layout.proofs.Groups.{entry_in_table, none_in_table}
+use Rattle.mesh_page_heap.proofs.Groups.{entry_in_table, none_in_table}
 use Rattle.mesh_page_heap.proofs.page_heap.PageHeap.class_of.Goals as goal
 
 pub returns-in_default : goal.returns-in_default

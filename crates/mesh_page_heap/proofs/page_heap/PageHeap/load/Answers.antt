@@ -1,7 +1,7 @@
 use Rattle.std.proofs.Common.{length, sym, subst}
-use Rattle.mesh_layout.proofs.PageHeapBytes.{object_backed}
-use Rattle.mesh_layout.specs.Indexes.{layout_of}
-use Rattle.mesh_layout.specs.Layout.{AreInObject}
+use Rattle.mesh_page_heap.proofs.PageHeapBytes.{object_backed}
+use Rattle.mesh_page_heap.specs.Indexes.{layout_of}
+use Rattle.mesh_page_heap.specs.Layout.{AreInObject}
 use Rattle.mesh_page_heap.specs.PageHeap.{PageHeap}
 use Rattle.mesh_page_heap.proofs.page_heap.PageHeap.load.Goals as goal
 

@@ -1,5 +1,5 @@
 use Rattle.std.proofs.Common.{refl}
-use Rattle.mesh_layout.proofs.PageHeapBytes.{page_heap_open}
+use Rattle.mesh_page_heap.proofs.PageHeapBytes.{page_heap_open}
 use Rattle.mesh_spans.specs.Groups.{groups_of}
 use Rattle.mesh_page_heap.proofs.page_heap.PageHeap.open.Goals as goal
 

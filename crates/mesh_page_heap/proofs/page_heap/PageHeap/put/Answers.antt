@@ -1,5 +1,5 @@
 use Rattle.std.proofs.Common.{◌≡◌, ℕ, ◌≤◌, sym, subst}
-use Rattle.mesh_layout.proofs.PageHeapBytes.{slot_backed}
+use Rattle.mesh_page_heap.proofs.PageHeapBytes.{slot_backed}
 use Rattle.model_heap.specs.Sound.{IsSound}
 use Rattle.mesh_spans.specs.Index.{span_at}
 use Rattle.mesh_page_heap.specs.PageHeap.{IsFreeSlot, PageHeap, table_with_object}

@@ -1,5 +1,5 @@
 use Rattle.std.proofs.Common.{List, ap, sym}
-use Rattle.mesh_layout.specs.Meshes.{mesh_from}
+use Rattle.mesh_page_heap.specs.MeshLayouts.{mesh_from}
 use Rattle.model_heap.specs.Table.{Mesh}
 use Rattle.mesh_page_heap.proofs.Shown.{calm_released, cancelled_released, none_released, released_shown}
 use Rattle.mesh_page_heap.proofs.page_heap.PageHeap.released.Goals as goal

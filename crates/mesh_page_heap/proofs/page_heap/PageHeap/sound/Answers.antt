@@ -1,5 +1,5 @@
 use Rattle.std.proofs.Common.{subst}
-use Rattle.mesh_layout.specs.PageHeap.{IsPageHeap}
+use Rattle.mesh_page_heap.specs.PageHeapInvariant.{IsPageHeap}
 use Rattle.mesh_spans.specs.Index.{IsIndex}
 use Rattle.mesh_page_heap.specs.PageHeap.{PageHeap}
 use Rattle.mesh_page_heap.proofs.page_heap.PageHeap.sound.Goals as goal

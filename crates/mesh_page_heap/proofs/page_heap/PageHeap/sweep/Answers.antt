@@ -1,7 +1,7 @@
 use Rattle.std.proofs.Common.{◌≡◌, ℕ, List, length, Err, refl, subst, sym, ◌∙◌}
 use Rattle.mesh_class.specs.Classes.{pages_of}
-use Rattle.mesh_layout.specs.Growth.{GivesFirst}
-use Rattle.mesh_layout.specs.PageHeap.{IsPageHeap}
+use Rattle.mesh_page_heap.specs.Growth.{GivesFirst}
+use Rattle.mesh_page_heap.specs.PageHeapInvariant.{IsPageHeap}
 use Rattle.model_heap.specs.Table.{sweep}
 use Rattle.model_words.specs.declared.refusals.Refusal.TheVariants.{Busy, NoGroup, NotEmpty}
 use Rattle.mesh_page_heap.proofs.Insides.{seen_of}

@@ -1,5 +1,5 @@
 use Rattle.std.proofs.Common.{false}
-use Rattle.mesh_layout.proofs.Beginnings.{Flags}
+use Rattle.mesh_page_heap.proofs.Beginnings.{Flags}
 use Rattle.mesh_page_heap.proofs.MeshFlags.{flag_there, opened_twice}
 use Rattle.mesh_page_heap.proofs.page_heap.meshes.reopen_both.Goals as goal
 

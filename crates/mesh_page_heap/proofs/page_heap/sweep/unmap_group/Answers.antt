@@ -1,7 +1,7 @@
 use Rattle.std.proofs.Common.{ℕ, ◌<◌, ◌∙◌, subst, sym, arith}
-use Rattle.mesh_layout.proofs.Loops.{UnmapsFirst}
-use Rattle.mesh_layout.specs.Indexes.{layout_of}
-use Rattle.mesh_layout.specs.Layout.{IsPageOf, Layout}
+use Rattle.mesh_page_heap.proofs.Loops.{UnmapsFirst}
+use Rattle.mesh_page_heap.specs.Indexes.{layout_of}
+use Rattle.mesh_page_heap.specs.Layout.{IsPageOf, Layout}
 use Rattle.mesh_pagemap.specs.Entries.{Entries, IsMapped}
 use Rattle.mesh_page_heap.specs.Sweeps.{CanUnmap}
 use Rattle.mesh_page_heap.proofs.page_heap.sweep.unmap_group.Goals as goal

@@ -1,4 +1,4 @@
-use Rattle.mesh_layout.proofs.LiveObjects.{places_apart, read_only}
+use Rattle.mesh_page_heap.proofs.LiveObjects.{places_apart, read_only}
 use Rattle.mesh_steps.proofs.AlwaysHolds.{heap_held_taken, heap_objects_apart}
 use Rattle.mesh_steps.proofs.heap.Heap.always.Goals as goal
 

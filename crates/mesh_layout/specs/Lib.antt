@@ -1,9 +1,0 @@
-pub mod Layout
-pub mod Steps
-pub mod Growth
-pub mod Meshes
-pub mod Indexes
-pub mod PageHeap
-pub mod Effects
-pub mod EffectLaws
-pub mod Progress

@@ -1,0 +1,47 @@
+-- The layout of an index, and the table of a page heap with running meshes.
+use Rattle.std.specs.Prelude.{ℕ, List, [], Option, Some, None, length, slice_index, slice_index_or}
+use Rattle.mesh_arena.specs.Pages.{Pages, free_count}
+use Rattle.model_heap.specs.Table.{Mesh, Slot, Table}
+use Rattle.mesh_spans.specs.Groups.{groups_of}
+use Rattle.mesh_spans.specs.Index.{GroupEntry, Index, group_at, span_at}
+use Rattle.mesh_page_heap.specs.Layout.{Layout}
+
+-- the class of a group
+abbrev pub class_in : Option GroupEntry → ℕ
+class_in None = 0
+class_in (Some group) = group.class
+
+-- the spans that are its members
+abbrev pub members_in : Option GroupEntry → List ℕ
+members_in None = []
+members_in (Some group) = group.members
+
+-- its physical pages
+abbrev pub pages_in : Option GroupEntry → List ℕ
+pages_in None = []
+pages_in (Some group) = group.pages
+
+-- what stands in its slots
+abbrev pub slots_in : Option GroupEntry → List (Option Slot)
+slots_in None = []
+slots_in (Some group) = group.slots
+
+-- the layout of an index
+abbrev pub layout_of : Index → Layout
+layout_of index = record {
+  class = λ n. class_in (group_at index.groups n);
+  members = λ n. length (members_in (group_at index.groups n));
+  first = λ n place. (span_at index.spans (slice_index (members_in (group_at index.groups n)) place)).first;
+  page = λ n j. slice_index (pages_in (group_at index.groups n)) j;
+  slot = λ n k. slice_index_or (slots_in (group_at index.groups n)) k None;
+}
+
+-- what the table says of arena, index and meshes
+abbrev pub table_with : Pages → Index → ℕ → List Mesh → Table
+table_with arena index next_page meshes = record {
+  next_span = length index.spans;
+  next_page = next_page;
+  free_pages = free_count arena;
+  meshes = meshes;
+  groups = groups_of index;
+}
