@@ -6,9 +6,9 @@ use Rattle.model_history.specs.Recorded.{any_allocator, nothing_recorded}
 use Rattle.mesh_fields.specs.Lines.{text_lines}
 use Rattle.mesh_job.specs.declared.faults.ReadFault.{ReadFault}
 use Rattle.mesh_job.specs.declared.faults.ReadFault.TheVariants.{Text, Memory as OfMemory}
-use Rattle.mesh_text.specs.Faults.{replay_error_of}
-use Rattle.mesh_text.specs.declared.faults.ReplayError.{ReplayError}
-use Rattle.mesh_text.specs.declared.faults.ReplayError.TheVariants.{Read, Write, Text as OfText, Memory as WantsMemory}
+use Rattle.mesh_devices.specs.Faults.{replay_error_of}
+use Rattle.mesh_devices.specs.declared.faults.ReplayError.{ReplayError}
+use Rattle.mesh_devices.specs.declared.faults.ReplayError.TheVariants.{Read, Write, Text as OfText, Memory as WantsMemory}
 use Rattle.mesh_check.specs.Checks.{HasFound, HasFoundFault, HasJudged, HasNotJudged, HasReadAll}
 use Rattle.mesh_check.specs.Outcomes.{Faulty, IsJudged, Outcome}
 use Rattle.mesh_check.specs.Pieces.{Closes, ClosesIn, Ends, EndsIn, IsAt, Leads}

@@ -2,7 +2,9 @@ pub mod Addresses
 pub mod Commands
 pub mod InputReads
 pub mod Judged
+mod Kept
 pub mod Laws
 pub mod LineEnds
+mod Overwritten
 pub mod Ranges
 pub mod Trees

@@ -4,8 +4,8 @@ use Rattle.std.specs.Io.KnownBytes.{Consumes, IsAtEnd}
 use Rattle.mesh_check.specs.Outcomes.{Faulty, IsVerdict, Outcome}
 use Rattle.mesh_check.specs.Pieces.{Ends, Leads}
 use Rattle.mesh_check.specs.declared.pieces.Judging.{Judging}
-use Rattle.mesh_text.specs.declared.faults.ReplayError.{ReplayError}
-use Rattle.mesh_text.specs.declared.faults.ReplayError.TheVariants.{Read, Write, Text, Memory}
+use Rattle.mesh_devices.specs.declared.faults.ReplayError.{ReplayError}
+use Rattle.mesh_devices.specs.declared.faults.ReplayError.TheVariants.{Read, Write, Text, Memory}
 
 -- this is found of the text that was read, whatever follows it; or of the text to the input's end
 pub record HasJudged (left left' : Option (List ℕ)) (o : Outcome) : Type 0 where

@@ -1,4 +1,7 @@
+pub use Rattle.model_memory.specs.Memory
+pub use Rattle.model_words.specs.Commands
 pub mod Checks
+pub mod Chunks
 pub mod Judged
 pub mod Objects
 pub mod Outcomes
@@ -7,4 +10,3 @@ pub mod Reasons
 pub mod Stands
 pub mod VerdictLaws
 pub mod VerdictTexts
-pub use Rattle.model_words.specs.Commands

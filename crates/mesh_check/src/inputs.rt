@@ -4,11 +4,11 @@ ghost use Rattle.model_history.specs.Recorded.{any_allocator, nothing_recorded};
 ghost use Rattle.mesh_check.specs.Outcomes.{outcome_of};
 ghost use Rattle.mesh_check.specs.Pieces.{IsAt, IsSound};
 ghost use Rattle.mesh_check.specs.Checks.{HasFound, HasFoundFault, HasJudged, HasNotJudged, HasReadAll};
-ghost use Rattle.mesh_text.specs.declared.faults.ReplayError.{ReplayError};
+ghost use Rattle.mesh_devices.specs.declared.faults.ReplayError.{ReplayError};
 
 use crate::pieces::Judging;
 use crate::verdicts::Verdict;
-use mesh_text::{ReplayError, Source, read_some};
+use mesh_devices::{ReplayError, Source, read_some};
 use std::alloc::{AllocError, Global};
 
 /// The most bytes of one read.

@@ -12,9 +12,9 @@ ghost use Rattle.mesh_check.specs.Stands.{IsCopied, IsDone, IsOverlapped, IsPoss
 
 use crate::faults::Fault;
 use crate::maps::{give, nearest, set, set_start, store};
+use crate::sparse::SparseBytes;
 use crate::stored::Stored;
 use arrayvec::ArrayVec;
-use mesh_sparse::SparseBytes;
 use model_words::{MAX_BYTES, Refusal};
 use std::alloc::{AllocError, Global};
 use std::collections::{BTreeMap, BTreeSet};

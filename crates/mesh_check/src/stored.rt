@@ -3,7 +3,7 @@ ghost use Rattle.std.specs.Prelude.{◌≡◌, ◌+◌, ◌-◌, ◌<◌, ◌≤
 ghost use Rattle.model_memory.specs.Memory.{has_address};
 ghost use Rattle.model_memory.specs.Plain.{ends_outside};
 
-use mesh_sparse::SparseBytes;
+use crate::sparse::SparseBytes;
 use std::marker::Model;
 
 /// A live object: its address and its bytes.

@@ -5,7 +5,7 @@ ghost use Rattle.mesh_check.specs.VerdictTexts.{found_text, reason_text, recorde
 use crate::reasons::Reason;
 use crate::verdicts::Verdict;
 use mesh_history::RecordedReply;
-use mesh_text::{add_bytes, add_decimal, add_refusal, digit};
+use mesh_spelling::{add_bytes, add_decimal, add_refusal, digit};
 use std::alloc::{AllocError, Global};
 
 /// The line of a verdict, with its end: `legal N entries`, or `line L: REASON`. An error is an allocation failure.

@@ -7,9 +7,9 @@ use Rattle.model_jobs.specs.Jobs.{Job, Line, State}
 use Rattle.model_jobs.specs.Texts.{line_text}
 use Rattle.model_words.specs.declared.commands.Command.{Command}
 use Rattle.mesh_draw.specs.Captions.{IsCaption, attempt_text, caption_text, next_command}
-use Rattle.mesh_lines.specs.Plan.{line_of}
-use Rattle.mesh_lines.specs.declared.plan.PlanLine.{PlanLine}
-use Rattle.mesh_lines.specs.declared.plan.PlanLine.TheVariants.{Run, Pair, Begin, Step, Cancel, StepClass, CancelClass, Whole, Sweep, Report}
+use Rattle.mesh_job.specs.Plan.{line_of}
+use Rattle.mesh_job.specs.declared.plan.PlanLine.{PlanLine}
+use Rattle.mesh_job.specs.declared.plan.PlanLine.TheVariants.{Run, Pair, Begin, Step, Cancel, StepClass, CancelClass, Whole, Sweep, Report}
 use Rattle.mesh_text.specs.Turns.{state_up_to}
 
 -- what stands at a place is the first of what is left from there on

@@ -6,8 +6,8 @@ use Rattle.mesh_draw.specs.Points.{next_shown}
 use Rattle.mesh_draw.specs.declared.run.Shown.{Shown}
 use Rattle.mesh_picture.specs.Begins.{Begins}
 use Rattle.mesh_text.specs.Replay.{HasFound}
-use Rattle.mesh_text.specs.declared.faults.ReplayError.{ReplayError}
-use Rattle.mesh_text.specs.declared.faults.ReplayError.TheVariants.{Read, Write, Text, Memory}
+use Rattle.mesh_devices.specs.declared.faults.ReplayError.{ReplayError}
+use Rattle.mesh_devices.specs.declared.faults.ReplayError.TheVariants.{Read, Write, Text, Memory}
 
 -- what was read and written, by the error: nothing was written where the input failed, or where its text, which was read, has this fault
 abbrev pub HasNotDrawn : Option (List ℕ) → Option (List ℕ) → Option (List ℕ) → Option (List ℕ) → ReplayError → Type 0

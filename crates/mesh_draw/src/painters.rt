@@ -5,9 +5,9 @@ ghost use Rattle.mesh_picture.specs.Begins.{Begins};
 
 use crate::points::{Painter, Point};
 use crate::run::DrawOptions;
+use mesh_devices::{DeviceFault, Sink};
 use mesh_job::Job;
 use mesh_picture::{Drawn, Header, Measure, Picture, Text};
-use mesh_text::{DeviceFault, Sink};
 use model_words::Version;
 use std::alloc::{AllocError, Global};
 

@@ -1,16 +1,17 @@
 //! The points of a plan, shown one by one.
 ghost use Rattle.std.specs.Prelude.{◌≡◌, ◌+◌, ◌≤◌, ◌<◌, ◌++◌, ◌⊎◌, ℕ, [], Err, None, Some, false, true, length, min, IfErr, IfOk, IsSomeAnd, OnOk};
 ghost use Rattle.std.specs.Io.KnownBytes.{Appends};
-ghost use Rattle.mesh_text.specs.Transfer.{AppendsBeginning};
+ghost use Rattle.mesh_devices.specs.Transfer.{AppendsBeginning};
 ghost use Rattle.mesh_draw.specs.Captions.{IsCaption, attempt_text};
 ghost use Rattle.mesh_draw.specs.Draws.{HasWritten};
 ghost use Rattle.mesh_text.specs.Turns.{StandsBehind};
 ghost use Rattle.mesh_draw.specs.Points.{IsPoint, next_shown};
 
 use crate::shown::frame_of;
+use mesh_devices::{ReplayError, Sink, write_all};
 use mesh_job::{Command, Job, PlanLine};
 use mesh_picture::{Frame, Line, Text};
-use mesh_text::{ReplayError, Sink, Turns, add_command, add_decimal, add_plan_line, write_all};
+use mesh_text::{Turns, add_command, add_decimal, add_plan_line};
 use std::alloc::{AllocError, Global};
 
 /// No plan has more lines: a job file has 1 MiB at most.

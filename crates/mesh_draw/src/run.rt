@@ -7,8 +7,9 @@ ghost use Rattle.mesh_draw.specs.Points.{next_shown};
 
 use crate::painters::{Drawing, Measuring, Nowhere};
 use crate::points::{MAX_LINES, show_points, write_out};
+use mesh_devices::{ReplayError, Sink, Source};
 use mesh_picture::{Picture, Text};
-use mesh_text::{Job, ReplayError, Sink, Source, read_job};
+use mesh_text::{Job, read_job};
 use std::alloc::Global;
 
 /// What a picture is asked to show, and how.

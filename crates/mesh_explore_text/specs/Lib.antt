@@ -1,2 +1,5 @@
+pub mod Ends
 pub mod Errors
 pub mod Explorations
+pub mod Listings
+pub mod Phases

@@ -2,7 +2,10 @@ pub mod FileEnds
 pub mod LineTakes
 pub mod ManyFields
 pub mod PackedScripts
+pub mod Pairs
 pub mod PlanReadings
+pub mod QuickFields
+pub mod QuickLines
 pub mod ScriptLines
 pub mod Takes
 pub mod TextLines

@@ -3,8 +3,8 @@ use Rattle.std.proofs.Common.{◌≡◌, List, ℕ, Option, Result, Ok, Err, IsE
 use Rattle.mesh_job.specs.Draft.{draft_of}
 use Rattle.mesh_job.specs.Takes.{HasTakenLine}
 use Rattle.mesh_job.specs.declared.draft.Draft.{Draft}
-use Rattle.mesh_lines.specs.Reading.{IsFaultOfLine}
-use Rattle.mesh_lines.specs.declared.faults.LineFault.{LineFault}
+use Rattle.mesh_job.specs.Reading.{IsFaultOfLine}
+use Rattle.mesh_job.specs.declared.faults.LineFault.{LineFault}
 
 -- the line's fault is what is answered of it
 pub line_refused : (old new : Draft) (text : List ℕ) (result : Result (Option (Bor (List ℕ))) LineFault) (fault : LineFault)

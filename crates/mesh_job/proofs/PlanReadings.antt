@@ -8,8 +8,8 @@ use Rattle.model_jobs.specs.JobFiles.{IsValidLine, line_in}
 use Rattle.model_jobs.specs.Jobs.{Line}
 use Rattle.model_words.specs.declared.versions.Version.{Version}
 use Rattle.model_jobs.proofs.LineReadings.{line_in_range}
-use Rattle.mesh_lines.specs.Plan.{line_of}
-use Rattle.mesh_lines.specs.declared.plan.PlanLine.{PlanLine}
+use Rattle.mesh_job.specs.Plan.{line_of}
+use Rattle.mesh_job.specs.declared.plan.PlanLine.{PlanLine}
 
 -- a plan with one more line in its ranges
 pub plan_fits_one : (version : Version) (workers : ℕ) (lines lines' : List PlanLine) (line : PlanLine) → lines' ≡ lines ++ line ∷ []

@@ -9,7 +9,7 @@ use Rattle.model_words.specs.declared.faults.FaultKind.TheVariants.{Cut}
 use Rattle.model_words.specs.declared.faults.TextFault.{TextFault}
 use Rattle.mesh_fields.specs.Lines.{text_lines}
 use Rattle.mesh_job.specs.Draft.{draft_of}
-use Rattle.mesh_lines.specs.Reading.{IsReadOn}
+use Rattle.mesh_job.specs.Reading.{IsReadOn}
 use Rattle.mesh_job.specs.Taken.{HasTaken, IsLeft, IsReadTo, IsReading, read_behind, reads_on}
 use Rattle.mesh_job.specs.declared.reader.Reading.{Reading}
 use Rattle.mesh_job.proofs.FileEnds.{at_end, cut_off}

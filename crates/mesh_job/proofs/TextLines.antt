@@ -9,9 +9,9 @@ use Rattle.model_words.specs.declared.faults.FaultKind.TheVariants.{Byte, LongLi
 use Rattle.mesh_fields.specs.Lines.{IsSplit, line_fields, text_lines}
 use Rattle.mesh_fields.proofs.LineSteps.{after_line, line_step, line_step_more}
 use Rattle.mesh_fields.proofs.Splits.{first_line, printable_line}
-use Rattle.mesh_lines.specs.Reading.{IsFaultOfLine, IsFaultOfStep, IsReadOn}
-use Rattle.mesh_lines.specs.declared.faults.LineFault.{LineFault}
-use Rattle.mesh_lines.specs.declared.faults.LineFault.TheVariants.{Kind as LineKind, Memory as LineMemory}
+use Rattle.mesh_job.specs.Reading.{IsFaultOfLine, IsFaultOfStep, IsReadOn}
+use Rattle.mesh_job.specs.declared.faults.LineFault.{LineFault}
+use Rattle.mesh_job.specs.declared.faults.LineFault.TheVariants.{Kind as LineKind, Memory as LineMemory}
 
 -- a line without a fault of its bytes is taken as its fields
 fields_taken : (draft : Draft) (line : List ℕ) → length line ≤ 1024 → list_all is_printable line ≡ true

@@ -6,7 +6,7 @@ use Rattle.model_words.specs.Words.{◌>>=◌}
 use Rattle.model_words.specs.declared.commands.Command.{Command}
 use Rattle.model_words.specs.declared.faults.FaultKind.{FaultKind}
 use Rattle.model_words.specs.declared.versions.Version.{Version as FileVersion}
-use Rattle.mesh_lines.specs.Plan.{line_of}
+use Rattle.mesh_job.specs.Plan.{line_of}
 use Rattle.mesh_job.specs.declared.draft.Section.{Section}
 use Rattle.mesh_job.specs.declared.draft.Section.TheVariants.{Version, Pages, History, Workers, FirstWorker, Worker, Plan, Ended}
 use Rattle.mesh_job.specs.declared.draft.Draft.{Draft}

@@ -5,8 +5,8 @@ use Rattle.model_words.specs.declared.faults.FaultKind.{FaultKind}
 use Rattle.mesh_fields.specs.Lines.{IsPartOfLine}
 use Rattle.mesh_job.specs.Draft.{IsDraft, draft_of}
 use Rattle.mesh_job.specs.declared.draft.Draft.{Draft}
-use Rattle.mesh_lines.specs.Reading.{IsFaultOfLine, IsFaultOfStep, IsReadOn}
-use Rattle.mesh_lines.specs.declared.faults.LineFault.{LineFault}
+use Rattle.mesh_job.specs.Reading.{IsFaultOfLine, IsFaultOfStep, IsReadOn}
+use Rattle.mesh_job.specs.declared.faults.LineFault.{LineFault}
 use denote.Ref.{Bor}
 
 -- the rest behind a line, where one was taken

@@ -6,13 +6,14 @@ ghost use Rattle.mesh_fields.specs.Lines.{texts};
 ghost use Rattle.mesh_job.specs.Draft.{IsDraft, draft_of, is_behind_sizes, is_in_header, is_in_script, number_field_in, section_of};
 ghost use Rattle.mesh_job.specs.Takes.{HasTakenLine, HasTakenQuickLine, IsMadeBy, IsMadeInPlaceBy};
 
+use crate::plan_lines::plan_line;
+use crate::quick::{quick_command, quick_line};
 use crate::script::{close_script, push_line};
-use crate::{Job, Plan, PlanLine, Script, Scripts};
+use crate::{Job, LineFault, Plan, PlanLine, Script, Scripts};
 use mesh_fields::lines::{
     FewFields, few_fields, fields_of, header, is_word, next_line, no_field, one_field,
 };
 use mesh_fields::numbers::number32;
-use mesh_lines::{LineFault, plan_line, quick_command, quick_line};
 use model_jobs::text_laws::lines_read_back;
 use model_words::{FaultKind, Version};
 use std::alloc::{AllocError, Global};

@@ -6,8 +6,7 @@ ghost use Rattle.mesh_job.specs.Faults.{IsReadFault};
 ghost use Rattle.mesh_job.specs.Taken.{HasTaken, IsLeft, IsReadTo, IsReading, bytes_taken, is_over};
 
 use crate::draft::Draft;
-use crate::{Job, ReadFault};
-use mesh_lines::LineFault;
+use crate::{Job, LineFault, ReadFault};
 use model_words::{FaultKind, TextFault};
 use std::alloc::{AllocError, Global};
 

@@ -4,10 +4,9 @@ ghost use Rattle.model_words.specs.Commands.{IsInRange};
 ghost use Rattle.model_jobs.specs.JobFiles.{command_in};
 ghost use Rattle.mesh_fields.specs.Lines.{texts};
 ghost use Rattle.mesh_job.specs.Draft.{with_line};
-ghost use Rattle.mesh_lines.specs.Reading.{IsFaultOfStep};
+ghost use Rattle.mesh_job.specs.Reading.{IsFaultOfStep};
 
-use crate::Commands;
-use mesh_lines::{LineFault, command_of};
+use crate::{Commands, LineFault, command_of};
 use mesh_packed::{MAX_BYTES, PackedCommand, pack_command, unpack_command};
 use model_words::{Command, Version};
 use std::alloc::{AllocError, Global};

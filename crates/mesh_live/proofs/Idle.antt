@@ -3,7 +3,7 @@ use Rattle.std.proofs.Common.{◌≡◌, ℕ, zero, suc, List, [], ◌∷◌, �
 use Rattle.std.proofs.lemmas.List.{length-replicate}
 use Rattle.model_jobs.specs.Jobs.{Job, Line, Next, State, answer, run_next}
 use Rattle.model_words.specs.declared.commands.Command.{Command}
-use Rattle.mesh_lines.specs.LiveLines.{Attempt, Call}
+use Rattle.mesh_live.specs.LiveLines.{Attempt, Call}
 use Rattle.mesh_mutator.specs.Book.{Book}
 use Rattle.mesh_text.specs.Turns.{IsAt, IsTold, book_of as book_of_turns, places_of, worker_count}
 use Rattle.mesh_text.specs.declared.turns.Turns.{Turns}

@@ -1,3 +1,4 @@
 pub mod Idle
 pub mod Runs
 pub mod Stops
+mod LiveFields

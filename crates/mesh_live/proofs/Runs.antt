@@ -14,7 +14,7 @@ use Rattle.model_jobs.specs.Jobs.{State, opening}
 use Rattle.model_jobs.specs.Texts.{ended}
 use Rattle.model_words.specs.declared.faults.FaultKind.{FaultKind}
 use Rattle.model_words.specs.declared.faults.FaultKind.TheVariants.{LongLine}
-use Rattle.mesh_lines.specs.LiveLines.{live_line}
+use Rattle.mesh_live.specs.LiveLines.{live_line}
 use Rattle.mesh_fields.specs.KeptLines.{IsKept}
 use Rattle.mesh_fields.proofs.KeptLines.{Kept, Long, Whole, both_unended, kept_of, none_kept, rest_too_long}
 use Rattle.mesh_fields.proofs.Splits.{Parts, some_part}

@@ -8,7 +8,7 @@ use Rattle.std.specs.Io.KnownBytes.{Appends, Consumes}
 use Rattle.model_jobs.specs.Jobs.{opening}
 use Rattle.model_jobs.specs.Texts.{ended}
 use Rattle.mesh_job.specs.Lines.{text_lines}
-use Rattle.mesh_text.specs.Transfer.{AppendsBeginning}
+use Rattle.mesh_devices.specs.Transfer.{AppendsBeginning}
 use Rattle.mesh_live.specs.Answers.{told}
 use Rattle.mesh_live.specs.Runs.{HasFed, HasStopped, IsFedPart, IsStopped, Takes, is_end, live_output, told_lines, told_on, told_rest}
 use Rattle.mesh_live.specs.Sessions.{job_of, sizes_of, state_of}

@@ -4,7 +4,7 @@ use Rattle.model_jobs.specs.Jobs.{Job, Next, State, answer, run_next}
 use Rattle.model_jobs.specs.Texts.{answer_text, field}
 use Rattle.model_words.specs.Faults.{kind_name_of}
 use Rattle.model_words.specs.declared.faults.FaultKind.{FaultKind}
-use Rattle.mesh_lines.specs.LiveLines.{LiveLine, Attempt, Call, live_line}
+use Rattle.mesh_live.specs.LiveLines.{LiveLine, Attempt, Call, live_line}
 use Rattle.mesh_live.specs.Sessions.{job_of}
 use Rattle.mesh_live.specs.declared.sizes.Sizes.{Sizes}
 

@@ -4,7 +4,7 @@ use Rattle.model_jobs.specs.Jobs.{MakeReport, PairClass, StepClass}
 use Rattle.model_words.specs.declared.commands.Command.TheVariants.{Copy as CopyBytes, Get, Put}
 use Rattle.model_words.specs.declared.faults.FaultKind.{FaultKind}
 use Rattle.model_words.specs.declared.faults.FaultKind.TheVariants.{Byte, Hex, Number, Word}
-use Rattle.mesh_lines.specs.LiveLines.{Attempt, Call, live_line}
+use Rattle.mesh_live.specs.LiveLines.{Attempt, Call, live_line}
 
 -- `run W COMMAND` is an attempt at a command of version 2
 abbrev pub AttemptsAreRead : Type 0

@@ -6,7 +6,7 @@ use Rattle.model_jobs.specs.Jobs.{State, opening}
 use Rattle.model_jobs.specs.Texts.{ended}
 use Rattle.mesh_fields.specs.KeptLines.{IsKept, rest_fault}
 use Rattle.mesh_job.specs.Lines.{text_lines}
-use Rattle.mesh_text.specs.Transfer.{AppendsBeginning}
+use Rattle.mesh_devices.specs.Transfer.{AppendsBeginning}
 use Rattle.mesh_live.specs.Answers.{fault_text, told}
 use Rattle.mesh_live.specs.Sessions.{IsSession, job_of, sizes_of, state_of}
 use Rattle.mesh_live.specs.declared.session.Session.{Session}

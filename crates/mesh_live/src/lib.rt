@@ -6,11 +6,13 @@
 
 mod answers;
 pub mod line_rows;
+mod live_lines;
 mod opening;
 mod run;
 mod session;
 mod sizes;
 
+pub use live_lines::{LiveLine, read_live_line};
 pub use run::live;
 pub use session::Session;
 pub use sizes::Sizes;

@@ -3,15 +3,15 @@ ghost use Rattle.std.specs.Prelude.{◌≡◌, ◌≢◌, ◌≤◌, ◌⊎◌, 
 ghost use Rattle.std.specs.Io.KnownBytes.{Appends};
 ghost use Rattle.model_jobs.specs.Jobs.{opening};
 ghost use Rattle.model_jobs.specs.Texts.{ended};
-ghost use Rattle.mesh_text.specs.Transfer.{AppendsBeginning};
+ghost use Rattle.mesh_devices.specs.Transfer.{AppendsBeginning};
 ghost use Rattle.mesh_live.specs.Answers.{told};
 ghost use Rattle.mesh_live.specs.Runs.{HasFed, HasLived, HasStopped, IsFedPart, IsStopped, Keeps, Takes, is_end, told_rest};
 ghost use Rattle.mesh_live.specs.Sessions.{HasFairSizes, IsSession, job_of, sizes_of, state_of};
 
 use crate::answers::add_fault;
 use crate::{Session, Sizes};
+use mesh_devices::{ReplayError, Sink, Source, read_some, write_lines};
 use mesh_fields::lines::{MAX_LINE_BYTES, rest_fault};
-use mesh_text::{ReplayError, Sink, Source, read_some, write_lines};
 use std::alloc::{AllocError, Global};
 
 /// The most bytes of one read.

@@ -2,15 +2,16 @@
 ghost use Rattle.std.specs.Prelude.{◌≡◌, ◌≤◌, ◌++◌, Err, IfOk, OnOk};
 ghost use Rattle.model_jobs.specs.Jobs.{opening};
 ghost use Rattle.model_words.specs.declared.faults.FaultKind.{FaultKind};
-ghost use Rattle.mesh_lines.specs.LiveLines.{IsValidLive, live_line, live_of};
+ghost use Rattle.mesh_live.specs.LiveLines.{IsValidLive, live_line, live_of};
 ghost use Rattle.mesh_mutator.specs.Headline.{EndsInMeaning, IsHistory};
 ghost use Rattle.mesh_live.specs.Answers.{live_told, told};
 ghost use Rattle.mesh_live.specs.Sessions.{HasFairSizes, IsSession, book_of, job_of, sizes_of, state_of};
 
 use crate::Sizes;
 use crate::answers::add_fault;
+use crate::live_lines::{LiveLine, read_live_line};
 use crate::opening::idle_job;
-use mesh_job::{Job, LineFault, LiveLine, read_live_line};
+use mesh_job::{Job, LineFault};
 use mesh_mutator::Book;
 use mesh_text::Turns;
 use std::alloc::{AllocError, Global};

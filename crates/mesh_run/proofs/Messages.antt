@@ -5,7 +5,7 @@ use Rattle.std.proofs.lemmas.List.{take_all}
 use Rattle.std.specs.Io.KnownBytes.{Appends}
 use Rattle.std.specs.Result.{OnErr, OnOk}
 use Rattle.mesh_run.specs.Runs.{HasTold}
-use Rattle.mesh_text.specs.Transfer.{AppendsBeginning}
+use Rattle.mesh_devices.specs.Transfer.{AppendsBeginning}
 
 -- a text whose writing was tried is told
 pub told_by_write : {E : Type 0} (result : Result (Unit {0}) E) (before failed : Bool) (old new : Option (List ℕ)) (text : List ℕ)

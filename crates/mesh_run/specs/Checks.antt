@@ -9,9 +9,9 @@ use Rattle.mesh_check.specs.declared.verdicts.Verdict.TheVariants.{Legal, Wrong}
 use Rattle.mesh_run.specs.Runs.{HasFailed, IsDone, IsStoppedFor, error_text}
 use Rattle.mesh_run.specs.Seen.{Seen}
 use Rattle.mesh_run.specs.Status.{status_of_error}
-use Rattle.mesh_text.specs.Transfer.{AppendsBeginning}
-use Rattle.mesh_text.specs.declared.faults.ReplayError.{ReplayError}
-use Rattle.mesh_text.specs.declared.faults.ReplayError.TheVariants.{Read, Write, Memory, Text}
+use Rattle.mesh_devices.specs.Transfer.{AppendsBeginning}
+use Rattle.mesh_devices.specs.declared.faults.ReplayError.{ReplayError}
+use Rattle.mesh_devices.specs.declared.faults.ReplayError.TheVariants.{Read, Write, Memory, Text}
 
 -- the status of a verdict: 0 where the history is legal
 abbrev pub verdict_status : Verdict → ℕ

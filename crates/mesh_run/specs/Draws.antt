@@ -6,8 +6,8 @@ use Rattle.mesh_live.specs.declared.sizes.Sizes.{Sizes}
 use Rattle.mesh_run.specs.Runs.{EndsBy, HasFailed, error_text}
 use Rattle.mesh_run.specs.Seen.{Seen}
 use Rattle.mesh_run.specs.Status.{status_of_error}
-use Rattle.mesh_text.specs.declared.faults.ReplayError.{ReplayError}
-use Rattle.mesh_text.specs.declared.faults.ReplayError.TheVariants.{Read, Write, Memory, Text}
+use Rattle.mesh_devices.specs.declared.faults.ReplayError.{ReplayError}
+use Rattle.mesh_devices.specs.declared.faults.ReplayError.TheVariants.{Read, Write, Memory, Text}
 
 -- the device that an error tells of has failed, and where memory was refused the output hasn't
 abbrev pub HasFailedAlone : Bool → Bool → ReplayError → Type 0

@@ -6,9 +6,9 @@ use Rattle.model_jobs.specs.Texts.{ended, number_field}
 use Rattle.model_words.specs.declared.faults.TextFault.{TextFault}
 use Rattle.mesh_run.specs.Seen.{Seen}
 use Rattle.mesh_run.specs.Status.{status_of_error}
-use Rattle.mesh_text.specs.Transfer.{AppendsBeginning}
-use Rattle.mesh_text.specs.declared.faults.ReplayError.{ReplayError}
-use Rattle.mesh_text.specs.declared.faults.ReplayError.TheVariants.{Read, Write, Memory, Text}
+use Rattle.mesh_devices.specs.Transfer.{AppendsBeginning}
+use Rattle.mesh_devices.specs.declared.faults.ReplayError.{ReplayError}
+use Rattle.mesh_devices.specs.declared.faults.ReplayError.TheVariants.{Read, Write, Memory, Text}
 
 -- a fault's line, without its end
 abbrev pub fault_text : TextFault → List ℕ

@@ -1,7 +1,7 @@
 -- The exit statuses.
 use Rattle.std.specs.Prelude.{ℕ}
-use Rattle.mesh_text.specs.declared.faults.ReplayError.{ReplayError}
-use Rattle.mesh_text.specs.declared.faults.ReplayError.TheVariants.{Read, Write, Memory, Text}
+use Rattle.mesh_devices.specs.declared.faults.ReplayError.{ReplayError}
+use Rattle.mesh_devices.specs.declared.faults.ReplayError.TheVariants.{Read, Write, Memory, Text}
 
 -- the status of a replay that stopped: 2 where its text has a fault, else 1
 abbrev pub status_of_error : ReplayError → ℕ

@@ -10,8 +10,8 @@ use Rattle.mesh_run.specs.declared.threads_error.ThreadsError.TheVariants.{Repla
 use Rattle.mesh_lock.specs.declared.faults.FinishError.{FinishError}
 use Rattle.mesh_shared.specs.declared.stops.RunError.{RunError}
 use Rattle.mesh_shared.specs.declared.stops.RunError.TheVariants.{Memory as RunMemory, Thread as RunThread, History, Finish}
-use Rattle.mesh_text.specs.declared.faults.ReplayError.{ReplayError}
-use Rattle.mesh_text.specs.declared.faults.ReplayError.TheVariants.{Memory, Text}
+use Rattle.mesh_devices.specs.declared.faults.ReplayError.{ReplayError}
+use Rattle.mesh_devices.specs.declared.faults.ReplayError.TheVariants.{Memory, Text}
 
 -- a replay that stopped has another status than one that is done
 abbrev pub NoErrorIsDone : Type 0

@@ -21,11 +21,11 @@ use Rattle.mesh_shared.specs.Runs.{HasRun}
 use Rattle.mesh_shared.specs.declared.plan.MeshPlan.{MeshPlan}
 use Rattle.mesh_shared.specs.declared.stops.RunError.{RunError}
 use Rattle.mesh_shared.specs.declared.stops.RunError.TheVariants.{Memory as RunMemory, Thread as RunThread, History, Finish}
-use Rattle.mesh_answer_text.specs.Histories.{history_text}
-use Rattle.mesh_answer_text.specs.Recordings.{recorded_text}
+use Rattle.mesh_spelling.specs.Histories.{history_text}
+use Rattle.mesh_spelling.specs.Recordings.{recorded_text}
 use Rattle.mesh_text.specs.Replay.{HasFound, HasReadJob}
-use Rattle.mesh_text.specs.Transfer.{AppendsBeginning}
-use Rattle.mesh_text.specs.declared.faults.ReplayError.TheVariants.{Read, Write, Text, Memory as NoMemory}
+use Rattle.mesh_devices.specs.Transfer.{AppendsBeginning}
+use Rattle.mesh_devices.specs.declared.faults.ReplayError.TheVariants.{Read, Write, Text, Memory as NoMemory}
 
 -- how many commands scripts have together
 abbrev pub command_count : List (List Command) → ℕ

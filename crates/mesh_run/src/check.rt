@@ -7,7 +7,7 @@ use crate::Devices;
 use crate::runs::{status_of, tell_error};
 use mesh_check::{Verdict, check, verdict_line};
 use mesh_command_line::status::{DONE, FAILED};
-use mesh_text::{ReplayError, Sink, Source, write_lines};
+use mesh_devices::{ReplayError, Sink, Source, write_lines};
 use std::alloc::Global;
 
 /// Judges the recorded history that the input gives, writes the line of its verdict to the output or its fault to `errors`, and gives the exit

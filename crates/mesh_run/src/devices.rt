@@ -1,7 +1,7 @@
 //! The devices of a run.
 ghost use Rattle.std.specs.Prelude.{◌≡◌};
 
-use mesh_text::{Sink, Source};
+use mesh_devices::{Sink, Source};
 use std::marker::Model;
 
 /// What a run reads its file from, and what it writes to: standard output, and standard error for a person. Contracts see what each has left or

@@ -5,8 +5,8 @@ ghost use Rattle.mesh_run.specs.Runs.{IsSound};
 
 use crate::runs::finished;
 use crate::{Devices, DrawArgs};
+use mesh_devices::{Sink, Source};
 use mesh_draw::{DrawOptions, draw};
-use mesh_text::{Sink, Source};
 use std::alloc::Global;
 
 /// Draws the plan of the job that the input gives, writes the picture to the output and a fault to `errors`, and gives the exit status.

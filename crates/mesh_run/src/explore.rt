@@ -9,8 +9,8 @@ use crate::fault_line::{Line, line_of, line_with};
 use crate::runs::{status_of, tell};
 use crate::{Devices, ExploreArgs};
 use mesh_command_line::status::{DONE, FAILED, FAULTY};
+use mesh_devices::{Sink, Source};
 use mesh_explore_text::{ExploreError, ExploreOptions, explore};
-use mesh_text::{Sink, Source};
 use std::alloc::Global;
 
 /// Explores what the plan of the job that the input gives leaves of its scripts, writes what is told to the output or a fault to `errors`, and gives

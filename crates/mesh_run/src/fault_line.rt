@@ -7,7 +7,8 @@ ghost use Rattle.mesh_run.specs.Threads.{threads_text};
 use crate::ThreadsError;
 use arrayvec::ArrayVec;
 use itoa::Buffer;
-use mesh_text::{ReplayError, TextFault};
+use mesh_devices::ReplayError;
+use mesh_text::TextFault;
 
 /// The bytes of a line, with room for the longest: `line 4294967295: LONG_LINE` and its end.
 pub(crate) type Line = ArrayVec<u8, 32>;

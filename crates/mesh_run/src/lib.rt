@@ -27,7 +27,7 @@ pub use mesh_command_line::{
     Args, DrawArgs, ExploreArgs, LiveArgs, MeshPair, Meshes, Stop, ThreadsArgs, arguments,
     unread_words,
 };
-pub use mesh_text::{DeviceFault, Input, Output, Sink, Source};
+pub use mesh_devices::{DeviceFault, Input, Output, Sink, Source};
 pub use runs::{replay_history_run, replay_run, stop_run, unopened_run};
 pub use shuffle_words::words;
 pub use threads::{threads_history_run, threads_run, threads_stopped};

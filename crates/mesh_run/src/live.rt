@@ -5,8 +5,8 @@ ghost use Rattle.mesh_run.specs.Runs.{IsSound};
 
 use crate::runs::finished;
 use crate::{Devices, LiveArgs};
+use mesh_devices::{Sink, Source};
 use mesh_live::{Sizes, live};
-use mesh_text::{Sink, Source};
 use std::alloc::Global;
 
 /// Answers the lines that the input gives, one by one, on a fresh heap of these sizes, and gives the exit status. Each answer is a line of the

@@ -8,12 +8,13 @@ ghost use Rattle.mesh_run.specs.Seen.{seen};
 ghost use Rattle.mesh_run.specs.Status.{status_of_error};
 ghost use Rattle.mesh_text.specs.Recorded.{HasReplayedRecorded, HasStoppedRecorded};
 ghost use Rattle.mesh_text.specs.Replay.{HasReplayed, HasStopped};
-ghost use Rattle.mesh_text.specs.declared.faults.ReplayError.{ReplayError};
+ghost use Rattle.mesh_devices.specs.declared.faults.ReplayError.{ReplayError};
 
 use crate::Stop;
 use crate::fault_line::line_of;
 use mesh_command_line::status::{DONE, FAILED, FAULTY};
-use mesh_text::{ReplayError, Sink, Source, replay, replay_recorded, write_all};
+use mesh_devices::{ReplayError, Sink, Source, write_all};
+use mesh_text::{replay, replay_recorded};
 use std::alloc::Global;
 
 /// Replays the job that the input gives, writes its answers to the output and its fault to `errors`, and returns the exit status.

@@ -11,8 +11,8 @@ ghost use Rattle.mesh_run.specs.Threads.{EndsThreads, HasFailedRun, HasRoom, Has
 ghost use Rattle.mesh_run.specs.declared.printed.Printed.{Printed};
 ghost use Rattle.mesh_run.specs.declared.threads_error.ThreadsError.{ThreadsError};
 ghost use Rattle.mesh_shared.specs.Runs.{HasRun};
-ghost use Rattle.mesh_text.specs.Transfer.{AppendsBeginning};
-ghost use Rattle.mesh_text.specs.declared.faults.ReplayError.{ReplayError};
+ghost use Rattle.mesh_devices.specs.Transfer.{AppendsBeginning};
+ghost use Rattle.mesh_devices.specs.declared.faults.ReplayError.{ReplayError};
 
 use crate::fault_line::threads_line_of;
 use crate::printed::Printed;
@@ -20,12 +20,10 @@ use crate::runs::{status_of, tell};
 use crate::shuffle_words::words;
 use crate::{ThreadsArgs, ThreadsError};
 use mesh_command_line::status::{DONE, FAILED, FAULTY};
+use mesh_devices::{ReplayError, Sink, Source, write_all};
 use mesh_mutator::{Book, Entry};
 use mesh_shared::{Ended, MeshPlan, NoGate, run_threads};
-use mesh_text::{
-    Command, Commands, Job, ReplayError, Scripts, Sink, Source, history_lines, read_job,
-    recorded_history, write_all,
-};
+use mesh_text::{Command, Commands, Job, Scripts, history_lines, read_job, recorded_history};
 use std::alloc::{AllocError, Global};
 use std::sync::Wait;
 use std::thread::Threads;

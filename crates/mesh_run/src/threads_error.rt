@@ -2,10 +2,10 @@
 ghost use Rattle.std.specs.Prelude.{◌≡◌};
 ghost use Rattle.mesh_run.specs.Threads.{stop_of};
 ghost use Rattle.mesh_run.specs.declared.threads_error.ThreadsError.{ThreadsError};
-ghost use Rattle.mesh_text.specs.declared.faults.ReplayError.{ReplayError};
+ghost use Rattle.mesh_devices.specs.declared.faults.ReplayError.{ReplayError};
 
+use mesh_devices::ReplayError;
 use mesh_shared::RunError;
-use mesh_text::ReplayError;
 use std::alloc::AllocError;
 use thiserror::Error;
 

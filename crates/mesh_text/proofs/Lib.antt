@@ -2,7 +2,6 @@ pub mod AnswerLines
 pub mod LeftJournals
 pub mod LineTexts
 pub mod MesherCalls
-pub mod Parts
 pub mod Pieces
 pub mod PlanLines
 pub mod PlayEnds

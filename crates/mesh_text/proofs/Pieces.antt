@@ -13,9 +13,9 @@ use Rattle.mesh_job.specs.Taken.{HasTaken}
 use Rattle.mesh_job.specs.declared.faults.ReadFault.{ReadFault}
 use Rattle.mesh_job.specs.declared.faults.ReadFault.TheVariants.{Text as ReadText, Memory as ReadMemory}
 use Rattle.mesh_job.specs.declared.reader.Reading.{Reading}
-use Rattle.mesh_text.specs.Faults.{replay_error_of}
+use Rattle.mesh_devices.specs.Faults.{replay_error_of}
 use Rattle.mesh_text.specs.Replay.{HasReadInto, HasReadJob, HasReadNoJob, IsHeld}
-use Rattle.mesh_text.specs.declared.faults.ReplayError.{ReplayError}
+use Rattle.mesh_devices.specs.declared.faults.ReplayError.{ReplayError}
 
 -- what was held behind the bytes that were taken is moved to the front
 moved_front : (buffer : List ℕ) (taken held : ℕ) → taken ≤ held → held ≤ length buffer

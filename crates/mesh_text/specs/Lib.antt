@@ -1,8 +1,5 @@
-pub mod Devices
-pub mod Faults
 pub mod Recorded
 pub mod Replay
-pub mod Transfer
 pub mod Turns
 pub use Rattle.mesh_job.specs.Job
 pub use Rattle.mesh_job.specs.Lines

@@ -4,29 +4,26 @@
 //! A line of a worker is an attempt at its next command, any other line is a call of the mesher: searches, meshes in steps or whole,
 //! cancels, sweeps and reports. `replay_recorded` writes the journal that the plan leaves in place of the answers, as a recorded history, and
 //! `read_job` reads the job alone. `Turns` plays a plan line by line. The job and the reader of its file are those of `mesh_job`, and the text of an
-//! answer is that of `mesh_answer_text`. Contracts see of a device what it has left or what it took, as far as that is known, and whether one of its calls
+//! answer is that of `mesh_spelling`. Contracts see of a device what it has left or what it took, as far as that is known, and whether one of its calls
 //! has failed.
 #![tactic(auto)]
 
-mod devices;
-mod faults;
 mod mesher;
 mod reading;
 mod recorded;
 mod run;
-mod transfer;
 mod turns;
 
-pub use devices::{DeviceFault, Input, Output, Sink, Source};
-pub use faults::ReplayError;
-pub use mesh_answer_text::{
+pub use mesh_devices::{
+    DeviceFault, Input, Output, ReplayError, Sink, Source, read_some, write_all, write_lines,
+};
+pub use mesh_job::{Commands, Job, Plan, PlanLine, ReadFault, Script, Scripts, read_file};
+pub use mesh_spelling::{
     add_bytes, add_command, add_decimal, add_plan_line, add_refusal, add_reply, digit,
     history_lines, recorded_history,
 };
-pub use mesh_job::{Commands, Job, Plan, PlanLine, ReadFault, Script, Scripts, read_file};
 pub use model_words::{Command, FaultKind, MAX_BYTES, Reply, TextFault, Version};
 pub use reading::read_job;
 pub use recorded::replay_recorded;
-pub use run::{replay, write_lines};
-pub use transfer::{read_some, write_all};
+pub use run::replay;
 pub use turns::Turns;

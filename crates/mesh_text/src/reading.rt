@@ -3,8 +3,7 @@ ghost use Rattle.std.specs.Prelude.{◌≡◌, ◌+◌, ◌≤◌, ◌⊎◌, fa
 ghost use Rattle.mesh_job.specs.Taken.{HasTaken, IsReading, bytes_taken};
 ghost use Rattle.mesh_text.specs.Replay.{HasReadInto, HasReadJob, HasReadNoJob, IsHeld};
 
-use crate::transfer::read_some;
-use crate::{ReplayError, Source};
+use mesh_devices::{ReplayError, Source, read_some};
 use mesh_job::{Job, MAX_FILE_BYTES, Reading};
 use std::alloc::{AllocError, Global};
 

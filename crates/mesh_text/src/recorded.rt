@@ -1,18 +1,17 @@
 //! The replay that writes a recorded history in place of the answers.
 ghost use Rattle.std.specs.Prelude.{◌≡◌, ◌⊎◌, false, true, length, IfOk, IfErr, OnOk};
 ghost use Rattle.std.specs.Io.KnownBytes.{Appends, Keeps};
-ghost use Rattle.mesh_answer_text.specs.Recordings.{recorded_text};
+ghost use Rattle.mesh_spelling.specs.Recordings.{recorded_text};
 ghost use Rattle.mesh_text.specs.Recorded.{HasReplayedRecorded, HasStoppedRecorded, journal_of};
-ghost use Rattle.mesh_text.specs.Transfer.{AppendsBeginning};
+ghost use Rattle.mesh_devices.specs.Transfer.{AppendsBeginning};
 ghost use Rattle.mesh_text.specs.Turns.{StandsBehind};
-ghost use Rattle.mesh_text.specs.declared.faults.ReplayError.{ReplayError};
+ghost use Rattle.mesh_devices.specs.declared.faults.ReplayError.{ReplayError};
 
 use crate::reading::read_job;
-use crate::run::write_lines;
 use crate::turns::Turns;
-use crate::{ReplayError, Sink, Source};
-use mesh_answer_text::recorded_journal;
+use mesh_devices::{ReplayError, Sink, Source, write_lines};
 use mesh_job::Job;
+use mesh_spelling::recorded_journal;
 use std::alloc::{AllocError, Global};
 
 /// Replays the job file that the input gives, and writes the recorded history of its journal in place of the answers.

@@ -4,13 +4,12 @@ ghost use Rattle.std.specs.Io.KnownBytes.{Appends, Keeps};
 ghost use Rattle.model_jobs.specs.Jobs.{opening};
 ghost use Rattle.model_jobs.specs.Texts.{output as output_of};
 ghost use Rattle.mesh_text.specs.Replay.{HasReplayed, HasStopped};
-ghost use Rattle.mesh_text.specs.Transfer.{AppendsBeginning};
+ghost use Rattle.mesh_devices.specs.Transfer.{AppendsBeginning};
 ghost use Rattle.mesh_text.specs.Turns.{AppendsLines, IsAt};
 
 use crate::reading::read_job;
-use crate::transfer::write_all;
 use crate::turns::Turns;
-use crate::{ReplayError, Sink, Source};
+use mesh_devices::{ReplayError, Sink, Source, write_lines};
 use mesh_job::Job;
 use std::alloc::Global;
 
@@ -74,15 +73,4 @@ fn play<O: Sink>(
         }
     }
     write_lines(output, text.as_slice())
-}
-
-/// Writes lines of text. Write comes where the output failed, and then a beginning of them was written.
-pub fn write_lines<O: Sink>(output: &mut O, lines: &[u8]) -> Result<(), ReplayError>
-    requires { O.has_failed output.old ≡ false }
-    ensures ok { OnOk result (Appends (O.written output.old) (O.written output.new) lines.now) }
-    ensures err { OnErr result (AppendsBeginning (O.written output.old) (O.written output.new) lines.now) }
-    ensures fault { IfErr result (λ error. error ≡ ReplayError.Write) }
-    ensures fails { O.has_failed output.new ≡ is_err result }
-{
-    write_all(output, lines).map_err(|_| ReplayError::Write)
 }

@@ -1,4 +1,4 @@
-use Rattle.mesh_text.specs.Faults.{replay_error_of}
+use Rattle.mesh_devices.specs.Faults.{replay_error_of}
 use Rattle.mesh_check.specs.Checks.{HasNotJudged}
 use Rattle.mesh_check.specs.Outcomes.{outcome_of}
 use Rattle.mesh_check.proofs.InputReads.{closed_fault, closed_judged, fault_judged, found_judged}

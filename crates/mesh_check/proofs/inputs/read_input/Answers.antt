@@ -1,6 +1,6 @@
 use Rattle.std.proofs.Common.{rules, ◌≡◌, ◌≤◌, ℕ, List, length, take, arith}
 use Rattle.std.proofs.lemmas.List.{length-take-le}
-use Rattle.mesh_text.specs.Faults.{replay_error_of}
+use Rattle.mesh_devices.specs.Faults.{replay_error_of}
 use Rattle.mesh_check.specs.Checks.{HasFoundFault}
 use Rattle.mesh_check.specs.Outcomes.{outcome_of}
 use Rattle.mesh_check.proofs.InputReads.{fault_more, found_more, read_more}

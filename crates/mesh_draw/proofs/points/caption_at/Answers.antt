@@ -3,7 +3,7 @@ use Rattle.model_jobs.specs.Jobs.{Job, Line}
 use Rattle.model_jobs.specs.Texts.{line_text}
 use Rattle.mesh_draw.specs.Captions.{next_command}
 use Rattle.mesh_draw.proofs.Captions.{command_is_next, line_is_planned, other_caption}
-use Rattle.mesh_lines.specs.Plan.{line_of}
+use Rattle.mesh_job.specs.Plan.{line_of}
 use Rattle.mesh_text.specs.Turns.{places_of, state_up_to}
 use Rattle.mesh_draw.proofs.points.caption_at.Goals as goal
 

@@ -4,7 +4,7 @@ use Rattle.std.specs.Io.KnownBytes.{Appends}
 use Rattle.mesh_live.specs.Runs.{told_rest}
 use Rattle.mesh_live.specs.Sessions.{sizes_of}
 use Rattle.mesh_live.proofs.Runs.{lived, nothing_written}
-use Rattle.mesh_text.specs.Transfer.{AppendsBeginning}
+use Rattle.mesh_devices.specs.Transfer.{AppendsBeginning}
 use Rattle.mesh_live.proofs.Stops.{none_stopped, on_error, on_error_weaker, part_stopped, rest_stopped}
 use Rattle.mesh_live.proofs.run.live_on.Goals as goal
 

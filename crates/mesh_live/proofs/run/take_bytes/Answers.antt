@@ -2,7 +2,7 @@ use Rattle.std.proofs.Common.{◌≡◌, ◌+◌, [], ◌∷◌, false, true, sl
 use Rattle.std.specs.Io.KnownBytes.{Appends}
 use Rattle.std.proofs.lemmas.List.{take_all}
 use Rattle.model_jobs.specs.Texts.{ended}
-use Rattle.mesh_text.specs.Transfer.{AppendsBeginning}
+use Rattle.mesh_devices.specs.Transfer.{AppendsBeginning}
 use Rattle.mesh_live.specs.Answers.{told}
 use Rattle.mesh_live.specs.Runs.{Takes, is_end}
 use Rattle.mesh_live.specs.Sessions.{sizes_of, state_of}

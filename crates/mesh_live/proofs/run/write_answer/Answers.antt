@@ -1,7 +1,7 @@
 use Rattle.std.proofs.Common.{◌≡◌, ◌++◌, ap, subst, ◌∙◌}
 use Rattle.std.specs.Prelude.{OnErr}
 use Rattle.model_jobs.specs.Texts.{ended}
-use Rattle.mesh_text.specs.Transfer.{AppendsBeginning}
+use Rattle.mesh_devices.specs.Transfer.{AppendsBeginning}
 use Rattle.mesh_live.specs.Answers.{told}
 use Rattle.mesh_live.specs.Sessions.{sizes_of, state_of}
 use Rattle.mesh_live.proofs.run.write_answer.Goals as goal

@@ -5,8 +5,8 @@ use Rattle.mesh_run.specs.Status.{status_of_error}
 use Rattle.mesh_run.specs.Threads.{threads_status}
 use Rattle.mesh_run.specs.declared.threads_error.ThreadsError.{ThreadsError}
 use Rattle.mesh_run.specs.declared.threads_error.ThreadsError.TheVariants.{Replay, TooShort, Thread, Run}
-use Rattle.mesh_text.specs.declared.faults.ReplayError.{ReplayError}
-use Rattle.mesh_text.specs.declared.faults.ReplayError.TheVariants.{Read, Write, Memory, Text}
+use Rattle.mesh_devices.specs.declared.faults.ReplayError.{ReplayError}
+use Rattle.mesh_devices.specs.declared.faults.ReplayError.TheVariants.{Read, Write, Memory, Text}
 use Rattle.mesh_run.proofs.status_laws.statuses_tell_errors_apart.Goals as goal
 
 not_done : (error : ReplayError) → status_of_error error ≡ 0 → ⊥

@@ -4,7 +4,7 @@ use Rattle.mesh_run.specs.declared.threads_error.ThreadsError.TheVariants.{Repla
 use Rattle.mesh_lock.specs.declared.faults.FinishError.{FinishError}
 use Rattle.mesh_shared.specs.declared.stops.RunError.{RunError}
 use Rattle.mesh_shared.specs.declared.stops.RunError.TheVariants.{Memory as RunMemory, Thread as RunThread, History, Finish}
-use Rattle.mesh_text.specs.declared.faults.ReplayError.TheVariants.{Memory}
+use Rattle.mesh_devices.specs.declared.faults.ReplayError.TheVariants.{Memory}
 use Rattle.mesh_run.proofs.status_laws.stops_are_told_as_they_are.Goals as goal
 
 of_memory : (error : RunError) → stop_of error ≡ Replay Memory → error ≡ RunMemory

@@ -2,7 +2,7 @@ use Rattle.std.proofs.Common.{◌≡◌, ◌≤◌, arith}
 use Rattle.mesh_run.specs.Threads.{threads_status}
 use Rattle.mesh_run.specs.declared.threads_error.ThreadsError.{ThreadsError}
 use Rattle.mesh_run.specs.declared.threads_error.ThreadsError.TheVariants.{Replay, TooShort, Thread, Run}
-use Rattle.mesh_text.specs.declared.faults.ReplayError.TheVariants.{Read, Write, Memory, Text}
+use Rattle.mesh_devices.specs.declared.faults.ReplayError.TheVariants.{Read, Write, Memory, Text}
 use Rattle.mesh_run.proofs.threads.print_run.Goals as goal
 
 -- no error has the status 0, and 2 is the greatest

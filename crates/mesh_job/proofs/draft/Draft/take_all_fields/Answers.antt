@@ -3,8 +3,8 @@ use Rattle.model_jobs.specs.JobFiles.{take_fields}
 use Rattle.model_words.specs.declared.faults.FaultKind.TheVariants.{Word}
 use Rattle.mesh_fields.specs.Lines.{line_fields, texts}
 use Rattle.mesh_job.specs.Draft.{draft_of}
-use Rattle.mesh_lines.specs.Reading.{IsFaultOfStep}
-use Rattle.mesh_lines.specs.declared.faults.LineFault.TheVariants.{Kind as LineKind}
+use Rattle.mesh_job.specs.Reading.{IsFaultOfStep}
+use Rattle.mesh_job.specs.declared.faults.LineFault.TheVariants.{Kind as LineKind}
 use Rattle.mesh_job.proofs.LineTakes.{line_refused}
 use Rattle.mesh_job.proofs.ManyFields.{no_fields}
 use Rattle.mesh_job.proofs.TextLines.{IsLine, line_fault, line_taken}

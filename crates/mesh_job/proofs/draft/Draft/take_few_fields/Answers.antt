@@ -2,7 +2,7 @@ use Rattle.std.proofs.Common.{◌≡◌, Ok, ap, ◌∙◌, rules, subst}
 use Rattle.model_jobs.specs.JobFiles.{take_fields}
 use Rattle.mesh_fields.specs.Lines.{line_fields, texts}
 use Rattle.mesh_job.specs.Draft.{draft_of}
-use Rattle.mesh_lines.specs.Reading.{IsFaultOfStep}
+use Rattle.mesh_job.specs.Reading.{IsFaultOfStep}
 use Rattle.mesh_job.proofs.LineTakes.{line_refused}
 use Rattle.mesh_job.proofs.TextLines.{line_fault, line_taken, split_is_line}
 use Rattle.mesh_job.proofs.draft.Draft.take_few_fields.Goals as goal

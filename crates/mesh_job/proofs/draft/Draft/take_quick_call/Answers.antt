@@ -3,8 +3,8 @@ use Rattle.std.proofs.lemmas.List.{map-append}
 use Rattle.model_jobs.specs.JobFiles.{InPlan, has_ended}
 use Rattle.model_jobs.specs.Jobs.{Line}
 use Rattle.mesh_job.specs.Draft.{HasAllBefore, draft_of, section_of}
-use Rattle.mesh_lines.specs.Plan.{line_of}
-use Rattle.mesh_lines.specs.Reading.{IsReadOn}
+use Rattle.mesh_job.specs.Plan.{line_of}
+use Rattle.mesh_job.specs.Reading.{IsReadOn}
 use Rattle.mesh_job.proofs.PlanReadings.{plan_fits_one}
 use Rattle.mesh_job.proofs.TextLines.{behind_shorter, spelt_line_taken}
 use Rattle.mesh_job.proofs.draft.Draft.take_quick_call.Goals as goal

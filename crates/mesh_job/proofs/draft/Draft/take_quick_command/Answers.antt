@@ -5,7 +5,7 @@ use Rattle.model_jobs.specs.JobFiles.{InScript, has_ended}
 use Rattle.mesh_job.specs.Draft.{draft_of, is_in_script, section_of}
 use Rattle.mesh_job.specs.declared.draft.Section.{Section}
 use Rattle.mesh_job.specs.declared.draft.Section.TheVariants.{Version, Pages, History, Workers, FirstWorker, Worker, Plan, Ended}
-use Rattle.mesh_lines.specs.Reading.{IsReadOn}
+use Rattle.mesh_job.specs.Reading.{IsReadOn}
 use Rattle.mesh_job.proofs.ScriptLines.{valid_in_range}
 use Rattle.mesh_job.proofs.TextLines.{behind_shorter, spelt_line_taken}
 use Rattle.mesh_job.proofs.draft.Draft.take_quick_command.Goals as goal

@@ -3,7 +3,7 @@ use Rattle.std.proofs.lemmas.List.{length-append}
 use Rattle.model_jobs.specs.JobFiles.{fault_at}
 use Rattle.model_words.specs.declared.faults.TextFault.{TextFault}
 use Rattle.mesh_job.specs.Draft.{draft_of}
-use Rattle.mesh_lines.specs.Reading.{IsFaultOfLine}
+use Rattle.mesh_job.specs.Reading.{IsFaultOfLine}
 use Rattle.mesh_job.proofs.FileEnds.{behind_end}
 use Rattle.mesh_job.proofs.Takes.{all_read, fault_read, line_read}
 use Rattle.mesh_job.proofs.reader.Reading.take_lines.Goals as goal

@@ -1,5 +1,5 @@
 use Rattle.std.proofs.lemmas.Result.{on_ok_weaker}
-use Rattle.mesh_lines.specs.Plan.{line_of}
+use Rattle.mesh_job.specs.Plan.{line_of}
 use Rattle.mesh_live.proofs.Idle.{attempt_answered, call_answered}
 use Rattle.mesh_live.proofs.session.Session.answer_line.Goals as goal
 

@@ -1,0 +1,146 @@
+//! `SparseBytes`: the bytes of one object.
+ghost use Rattle.std.specs.Prelude.{◌≡◌, ◌+◌, ◌*◌, ◌^◌, ◌≤◌, ◌<◌, OnOk, OnErr, length, replicate, slice_range};
+ghost use Rattle.model_memory.specs.Memory.{overwritten};
+ghost use Rattle.mesh_check.specs.Chunks.{IsPartlyStored};
+
+use crate::chunks::{CHUNK_BYTES, chunk, store_in};
+use arrayvec::ArrayVec;
+use model_words::MAX_BYTES;
+use std::alloc::{AllocError, Global};
+use std::collections::BTreeMap;
+use std::marker::Model;
+
+#[cfg(test)]
+mod tests;
+
+/// The bytes of one object. Those that were never stored are 0 and take no memory, but for the rest of a chunk in which one was stored.
+#[derive(Drop)]
+pub struct SparseBytes {
+    // How many bytes there are.
+    len: u32,
+    // The chunks in which bytes were stored, by number.
+    chunks: BTreeMap<u32, [u8; CHUNK_BYTES]>,
+}
+
+impl Model for SparseBytes {
+    ghost use Rattle.std.specs.Prelude.{ℕ, List};
+    ghost use Rattle.std.specs.Ordering.{nat_cmp};
+    ghost use Rattle.std.specs.Coded.{coded_list, coded_ℕ};
+    ghost use Rattle.std.specs.BTreeMap.{get};
+    ghost use Rattle.mesh_check.specs.Chunks.{bytes_in};
+
+    ghost Value = { List ℕ };
+
+    ghost coded = { coded_list coded_ℕ };
+
+    ghost view = { λ s. bytes_in (get nat_cmp s.chunks) s.len };
+}
+
+impl SparseBytes {
+    /// So many zeros. It takes no memory.
+    pub fn new(alloc: Global, len: u32) -> Self
+        ensures { result ≡ replicate len 0 }
+    {
+        SparseBytes {
+            len,
+            chunks: BTreeMap::new(alloc),
+        }
+    }
+
+    /// How many bytes there are.
+    pub fn len(&self) -> u32
+        ensures { result ≡ length self.now }
+    {
+        self.len
+    }
+
+    /// The bytes from an offset on.
+    pub fn load(&self, start: u32, len: u32) -> ArrayVec<u8, MAX_BYTES>
+        requires fits { start + len ≤ length self.now }
+        requires few { len ≤ 32 }
+        ensures { result.items ≡ slice_range self.now start (start + len) }
+    {
+        let mut bytes = ArrayVec::from([0; MAX_BYTES]);
+        bytes.truncate(len as usize);
+        self.read(start, &mut bytes);
+        bytes
+    }
+
+    /// Copies the bytes from an offset on, as many as `out` has.
+    fn read(&self, start: u32, out: &mut [u8])
+        requires fits { start + length out.old ≤ length self.now }
+        requires few { length out.old ≤ 32 }
+        ensures { out.new ≡ slice_range self.now start (start + length out.old) }
+    {
+        let (number, place) = chunk_and_place(start);
+        let (first, rest) = out.split_at_mut(first_run(place, out.len()));
+        first.copy_from_slice(self.run(number, place, first.len()));
+        if !rest.is_empty() {
+            rest.copy_from_slice(self.run(number + 1, 0, rest.len()));
+        }
+    }
+
+    /// Stores bytes from an offset on.
+    ///
+    /// The only error is an allocation failure. Then some of the bytes, from the first on, are stored, and all others are as they were. It comes
+    /// only where a chunk of 64 bytes that the range lies in had no byte stored before; no clause says so, since the list of bytes doesn't tell
+    /// which chunks take memory.
+    pub fn store(&mut self, start: u32, bytes: &[u8]) -> Result<(), AllocError>
+        requires fits { start + length bytes.now ≤ length self.old }
+        requires few { length bytes.now ≤ 32 }
+        ensures stored { OnOk result (self.new ≡ overwritten self.old start bytes.now) }
+        ensures partly { OnErr result (IsPartlyStored self.old self.new start bytes.now) }
+        ensures len { length self.new ≡ length self.old }
+    {
+        if bytes.is_empty() {
+            return Ok(());
+        }
+        let (number, place) = chunk_and_place(start);
+        let (first, rest) = bytes.split_at(first_run(place, bytes.len()));
+        self.store_run(number, place, first)?;
+        if rest.is_empty() {
+            return Ok(());
+        }
+        self.store_run(number + 1, 0, rest)
+    }
+
+    /// A run of one chunk's bytes, from a place in it on.
+    fn run(&self, number: u32, place: usize, len: usize) -> &[u8]
+        requires one_chunk { place + len ≤ 64 }
+        requires fits { number * 64 + place + len ≤ length self.now }
+        ensures { result.now ≡ slice_range self.now (number * 64 + place) (number * 64 + place + len) }
+    {
+        &chunk(&self.chunks, number)[place..place + len]
+    }
+
+    /// Stores a run of bytes in one chunk, from a place in it on. The only error is an allocation failure, and comes only of a chunk that was not
+    /// kept (`store_in`).
+    fn store_run(&mut self, number: u32, place: usize, bytes: &[u8]) -> Result<(), AllocError>
+        requires one_chunk { place + length bytes.now ≤ 64 }
+        requires fits { number * 64 + place + length bytes.now ≤ length self.old }
+        ensures stored { OnOk result (self.new ≡ overwritten self.old (number * 64 + place) bytes.now) }
+        ensures unchanged { OnErr result (self.new ≡ self.old) }
+    {
+        store_in(&mut self.chunks, number, place, bytes)
+    }
+}
+
+/// The chunk in which an offset lies, and the place in that chunk.
+fn chunk_and_place(offset: u32) -> (u32, usize)
+    ensures offset { result.0 * 64 + result.1 ≡ offset }
+    ensures place { result.1 < 64 }
+    ensures few { result.0 < 2 ^ 26 }
+{
+    let offset = offset as usize;
+    ((offset / CHUNK_BYTES) as u32, offset % CHUNK_BYTES)
+}
+
+/// How many of so many bytes from a place on lie in that place's chunk.
+fn first_run(place: usize, len: usize) -> usize
+    requires { place ≤ 64 }
+    ensures within { result ≤ len }
+    ensures one_chunk { place + result ≤ 64 }
+    ensures rest { result < len → place + result ≡ 64 }
+{
+    len.min(CHUNK_BYTES - place)
+}

@@ -1,0 +1,62 @@
+//! Calls of a device, one by one, and whole texts by as many calls as they take.
+ghost use Rattle.std.specs.Prelude.{◌≡◌, ◌<◌, ◌≤◌, ◌||◌, false, length, take, is_err, IfOk, IfErr, OnOk, OnErr};
+ghost use Rattle.std.specs.Io.KnownBytes.{Appends, Consumes, IsAtEnd};
+ghost use Rattle.mesh_devices.specs.Transfer.{AppendsBeginning};
+
+use crate::{DeviceFault, ReplayError, Sink, Source};
+
+/// How many bytes one call read into the front of `buf`.
+pub fn read_some<I: Source>(input: &mut I, buf: &mut [u8]) -> Result<usize, ReplayError>
+    requires { I.has_failed input.old ≡ false }
+    ensures within { IfOk result (λ count. count ≤ length buf.new) }
+    ensures bytes { IfOk result (λ count. Consumes (I.remaining input.old) (I.remaining input.new) (take count buf.new)) }
+    ensures end { IfOk result (λ count. count ≡ 0 → 0 < length buf.new → IsAtEnd (I.remaining input.new)) }
+    ensures fault { IfErr result (λ error. error ≡ ReplayError.Read) }
+    ensures fails { I.has_failed input.new ≡ is_err result }
+{
+    let room = buf.len();
+    match input.read(buf) {
+        Ok(count) if count <= room => Ok(count),
+        _ => Err(ReplayError::Read),
+    }
+}
+
+/// Writes all the bytes, by as many calls as it takes. Where a call fails, a beginning of them was written.
+pub fn write_all<O: Sink>(output: &mut O, bytes: &[u8]) -> Result<(), DeviceFault>
+    ensures ok { OnOk result (Appends (O.written output.old) (O.written output.new) bytes.now) }
+    ensures err { OnErr result (AppendsBeginning (O.written output.old) (O.written output.new) bytes.now) }
+    ensures fails { O.has_failed output.new ≡ is_err result || O.has_failed output.old }
+{
+    let mut done = 0;
+    while done < bytes.len() {
+        done += write_some(output, &bytes[done..])?;
+    }
+    Ok(())
+}
+
+/// Writes lines of text. Write comes where the output failed, and then a beginning of them was written.
+pub fn write_lines<O: Sink>(output: &mut O, lines: &[u8]) -> Result<(), ReplayError>
+    requires { O.has_failed output.old ≡ false }
+    ensures ok { OnOk result (Appends (O.written output.old) (O.written output.new) lines.now) }
+    ensures err { OnErr result (AppendsBeginning (O.written output.old) (O.written output.new) lines.now) }
+    ensures fault { IfErr result (λ error. error ≡ ReplayError.Write) }
+    ensures fails { O.has_failed output.new ≡ is_err result }
+{
+    write_all(output, lines).map_err(|_| ReplayError::Write)
+}
+
+/// How many of some bytes one call took.
+fn write_some<O: Sink>(output: &mut O, bytes: &[u8]) -> Result<usize, DeviceFault>
+    requires { 0 < length bytes.now }
+    ensures some { IfOk result (λ count. 0 < count) }
+    ensures within { IfOk result (λ count. count ≤ length bytes.now) }
+    ensures ok { IfOk result (λ count. Appends (O.written output.old) (O.written output.new) (take count bytes.now)) }
+    ensures err { OnErr result (AppendsBeginning (O.written output.old) (O.written output.new) bytes.now) }
+    ensures fails { O.has_failed output.new ≡ is_err result || O.has_failed output.old }
+{
+    match output.write(bytes) {
+        Ok(0) => Err(DeviceFault),
+        Ok(count) if count <= bytes.len() => Ok(count),
+        _ => Err(DeviceFault),
+    }
+}

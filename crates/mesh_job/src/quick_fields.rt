@@ -1,0 +1,146 @@
+//! The fields of the lines that most texts have, each with the byte that ends it, in one pass over the text. None where a field isn't
+//! spelt so: then its line is read field by field.
+ghost use Rattle.std.specs.Prelude.{◌≡◌, ◌∷◌, ◌++◌, ◌<◌, ◌≤◌, ◌^◌, decimal, length, IfSome, IsTrue};
+ghost use Rattle.std.specs.List.{All};
+ghost use Rattle.model_jobs.specs.Texts.{address_text, byte_text, bytes_text};
+ghost use Rattle.mesh_fields.specs.Bases.{radix};
+ghost use Rattle.mesh_fields.specs.Fields.{LeadsNoZero};
+ghost use Rattle.mesh_job.specs.Quick.{most_digits, spelling};
+
+use arrayvec::ArrayVec;
+use mesh_fields::bases::Base;
+use mesh_fields::hex::{byte_of, has_leading_zero};
+use model_words::MAX_BYTES;
+
+/// The most decimal digits that are read: so many fit 64 bits, whatever they are.
+const MOST_DIGITS: usize = 19;
+
+/// The most digits of an address.
+const MOST_HEX_DIGITS: usize = 7;
+
+/// The bytes behind this one, where the text begins with it.
+#[inline]
+pub(crate) fn behind(text: &[u8], byte: u8) -> Option<&[u8]>
+    ensures { IfSome result (λ rest. text.now ≡ byte ∷ rest.now) }
+{
+    match text {
+        [first, rest @ ..] if *first == byte => Some(rest),
+        _ => None,
+    }
+}
+
+/// Whether some digits are the spelling of a number: there is one at least, and no zero before others.
+#[inline]
+fn spell_number(digits: &[u8]) -> bool
+    ensures some { IsTrue result → 1 ≤ length digits.now }
+    ensures first { IsTrue result → LeadsNoZero digits.now }
+{
+    !digits.is_empty() && !has_leading_zero(digits)
+}
+
+/// The number that the text's first digits of a base spell, `most` of them at most, and the bytes behind them.
+#[inline]
+fn digits(text: &[u8], base: Base, most: usize) -> Option<(u64, &[u8])>
+    requires { most ≤ most_digits base }
+    ensures spelt { IfSome result (λ read. text.now ≡ spelling base read.0 ++ read.1.now) }
+    ensures below { IfSome result (λ read. read.0 < radix base ^ most) }
+{
+    let most = text.len().min(most);
+    let mut value = 0u64;
+    let mut place = 0;
+    while place < most {
+        let Some(next) = base.digit(text[place]) else {
+            break;
+        };
+        value = value * base.radix() + u64::from(next);
+        place += 1;
+    }
+    if !spell_number(&text[..place]) {
+        return None;
+    }
+    Some((value, &text[place..]))
+}
+
+/// A word of 64 bits, and the bytes behind its end.
+#[inline]
+pub(crate) fn word(text: &[u8], end: u8) -> Option<(u64, &[u8])>
+    ensures { IfSome result (λ read. text.now ≡ decimal read.0 ++ end ∷ read.1.now) }
+{
+    let (value, rest) = digits(text, Base::Decimal, MOST_DIGITS)?;
+    let rest = behind(rest, end)?;
+    Some((value, rest))
+}
+
+/// A number from `least` to `most`, and the bytes behind its end.
+#[inline]
+pub(crate) fn number(text: &[u8], least: u32, most: u32, end: u8) -> Option<(u32, &[u8])>
+    ensures spelt { IfSome result (λ read. text.now ≡ decimal read.0 ++ end ∷ read.1.now) }
+    ensures least { IfSome result (λ read. least ≤ read.0) }
+    ensures most { IfSome result (λ read. read.0 ≤ most) }
+{
+    let (value, rest) = word(text, end)?;
+    if value < u64::from(least) {
+        return None;
+    }
+    if value > u64::from(most) {
+        return None;
+    }
+    Some((value as u32, rest))
+}
+
+/// The number of a root cell, and the bytes behind its end.
+#[inline]
+pub(crate) fn cell(text: &[u8], end: u8) -> Option<(u8, &[u8])>
+    ensures { IfSome result (λ read. text.now ≡ decimal read.0 ++ end ∷ read.1.now) }
+{
+    let (value, rest) = number(text, 0, u32::from(u8::MAX), end)?;
+    Some((value as u8, rest))
+}
+
+/// An address, and the bytes behind its end.
+#[inline]
+pub(crate) fn address(text: &[u8], end: u8) -> Option<(u32, &[u8])>
+    ensures spelt { IfSome result (λ read. text.now ≡ address_text read.0 ++ end ∷ read.1.now) }
+    ensures most { IfSome result (λ read. read.0 ≤ 268435455) }
+{
+    let (value, rest) = digits(text, Base::Hex, MOST_HEX_DIGITS)?;
+    let rest = behind(rest, end)?;
+    Some((value as u32, rest))
+}
+
+/// A byte, and the bytes behind its end.
+#[inline]
+pub(crate) fn byte(text: &[u8], end: u8) -> Option<(u8, &[u8])>
+    ensures { IfSome result (λ read. text.now ≡ byte_text read.0 ++ end ∷ read.1.now) }
+{
+    let [high, low, rest @ ..] = text else {
+        return None;
+    };
+    let value = byte_of(*high, *low).ok()?;
+    let rest = behind(rest, end)?;
+    Some((value, rest))
+}
+
+/// From 1 to 32 bytes, and the bytes behind their end.
+#[inline]
+pub(crate) fn bytes(text: &[u8], end: u8) -> Option<(ArrayVec<u8, MAX_BYTES>, &[u8])>
+    ensures spelt { IfSome result (λ read. text.now ≡ bytes_text read.0.items ++ end ∷ read.1.now) }
+    ensures some { IfSome result (λ read. 1 ≤ length read.0.items) }
+    ensures most { IfSome result (λ read. length read.0.items ≤ 32) }
+    ensures bytes { IfSome result (λ read. All (λ b. b ≤ 255) read.0.items) }
+{
+    let mut bytes = ArrayVec::new();
+    let mut rest = text;
+    while let [high, low, later @ ..] = rest {
+        let Ok(byte) = byte_of(*high, *low) else {
+            break;
+        };
+        bytes.try_push(byte).ok()?;
+        rest = later;
+    }
+    if bytes.is_empty() {
+        return None;
+    }
+    let rest = behind(rest, end)?;
+    Some((bytes, rest))
+}

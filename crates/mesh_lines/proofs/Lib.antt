@@ -1,4 +1,0 @@
-pub mod LiveFields
-pub mod Pairs
-pub mod QuickFields
-pub mod QuickLines

@@ -1,0 +1,117 @@
+//! The lines of a live session: the fields of each, from left to right.
+ghost use Rattle.std.specs.Prelude.{◌≡◌, ◌≤◌, false, true, codes, Err, Ok, IfErr, IfOk};
+ghost use Rattle.std.specs.List.{list_any};
+ghost use Rattle.model_words.specs.Commands.{IsInRange};
+ghost use Rattle.model_jobs.specs.JobFiles.{are_same, is_empty};
+ghost use Rattle.mesh_fields.specs.Lines.{line_fields, texts};
+ghost use Rattle.mesh_live.specs.LiveLines.{IsSearch, IsValidLive, attempt_in, attempt_of, call_in, is_no_command, live_line, live_of, live_of_fields, read_live};
+ghost use Rattle.mesh_job.specs.Reading.{IsFaultOfStep};
+ghost use Rattle.mesh_job.specs.declared.faults.LineFault.{LineFault};
+
+use mesh_fields::lines::{check_bytes, fields_of, is_word};
+use mesh_fields::numbers::number32;
+use mesh_job::{LineFault, PlanLine, command_of, plan_line};
+use model_words::{Command, FaultKind, Version};
+use std::alloc::Global;
+
+/// One line of a live session, which is answered at once: an attempt of a worker, or a call of the mesher.
+#[derive(Drop)]
+pub enum LiveLine {
+    /// `Attempt(w, command)`: worker `w` attempts this command now.
+    Attempt(u32, Command),
+    /// A call of the mesher, as a plan of version 2 has it.
+    Call(PlanLine),
+}
+
+/// The line of a live session of so many workers: `run W COMMAND`, or any line of a plan of version 2 but `run W`. The line has no end.
+///
+/// Each command is spelt as in a script of version 2. The first kind of fault that holds for the line is told: LONG_LINE where it has more than
+/// 1,024 bytes, BYTE, then WORD, and else that of the leftmost field which can't be read. Memory is an allocation failure, which only a `pair` line can meet.
+pub fn read_live_line(alloc: Global, workers: u32, line: &[u8]) -> Result<LiveLine, LineFault>
+    requires { 1 ≤ workers }
+    ensures ok { IfOk result (λ asked. live_line workers line.now ≡ Ok (live_of asked)) }
+    ensures in_range { IfOk result (λ asked. IsValidLive workers (live_of asked)) }
+    ensures err { IfErr result (IsFaultOfStep (live_line workers line.now)) }
+    ensures memory { result ≡ Err LineFault.Memory → IsSearch (line_fields line.now) }
+{
+    check_bytes(line)?;
+    let fields = fields_of(line)?;
+    line_of_fields(alloc, workers, fields.as_slice())
+}
+
+/// The line of a session with these fields, its word first.
+fn line_of_fields(alloc: Global, workers: u32, fields: &[&[u8]]) -> Result<LiveLine, LineFault>
+    requires some { 1 ≤ workers }
+    requires filled { list_any is_empty (texts fields.now) ≡ false }
+    ensures ok { IfOk result (λ asked. live_of_fields workers (texts fields.now) ≡ Ok (live_of asked)) }
+    ensures in_range { IfOk result (λ asked. IsValidLive workers (live_of asked)) }
+    ensures err { IfErr result (IsFaultOfStep (live_of_fields workers (texts fields.now))) }
+    ensures memory { result ≡ Err LineFault.Memory → IsSearch (texts fields.now) }
+{
+    let [word, fields @ ..] = fields else {
+        return Err(LineFault::Kind(FaultKind::Word));
+    };
+    if is_word(*word, b"run") {
+        let attempt = attempt_of(workers, fields)?;
+        return Ok(attempt);
+    }
+    call_of(alloc, workers, *word, fields)
+}
+
+/// Any line of a plan, as a call of the mesher.
+fn call_of(
+    alloc: Global,
+    workers: u32,
+    word: &[u8],
+    fields: &[&[u8]],
+) -> Result<LiveLine, LineFault>
+    requires { 1 ≤ workers }
+    ensures ok { IfOk result (λ asked. call_in workers word.now (texts fields.now) ≡ Ok (live_of asked)) }
+    ensures in_range { IfOk result (λ asked. IsValidLive workers (live_of asked)) }
+    ensures err { IfErr result (IsFaultOfStep (call_in workers word.now (texts fields.now))) }
+    ensures memory { result ≡ Err LineFault.Memory → are_same word.now (codes "pair") ≡ true }
+{
+    let line = plan_line(alloc, Version::Two, workers, word, fields)?;
+    Ok(LiveLine::Call(line))
+}
+
+/// `run W COMMAND`
+fn attempt_of(workers: u32, fields: &[&[u8]]) -> Result<LiveLine, FaultKind>
+    requires { 1 ≤ workers }
+    ensures value { read_live result ≡ attempt_in workers (texts fields.now) }
+    ensures in_range { IfOk result (λ asked. IsValidLive workers (live_of asked)) }
+{
+    let [worker, word, fields @ ..] = fields else {
+        return Err(FaultKind::Word);
+    };
+    attempt_at(workers, *worker, command_of(Version::Two, *word, fields))
+}
+
+/// The attempt of the worker that a field names at a command that was read.
+fn attempt_at(
+    workers: u32,
+    worker: &[u8],
+    read: Result<Command, FaultKind>,
+) -> Result<LiveLine, FaultKind>
+    requires some { 1 ≤ workers }
+    requires in_range { IfOk read IsInRange }
+    ensures value { read_live result ≡ attempt_of workers worker.now read }
+    ensures in_range { IfOk result (λ asked. IsValidLive workers (live_of asked)) }
+{
+    if is_no_command(&read) {
+        return Err(FaultKind::Word);
+    }
+    let worker = number32(worker, 0, workers - 1)?;
+    let command = read?;
+    Ok(LiveLine::Attempt(worker, command))
+}
+
+/// Whether a command was not read for its word, or for the number of its fields.
+fn is_no_command(read: &Result<Command, FaultKind>) -> bool
+    ensures { result ≡ is_no_command read.now }
+{
+    match read {
+        Err(FaultKind::Word) => true,
+        _ => false,
+    }
+}

@@ -1,3 +1,0 @@
-pub mod Phases
-pub mod Ends
-pub mod Listings

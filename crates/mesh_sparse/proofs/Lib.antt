@@ -1,2 +1,0 @@
-mod Overwritten
-mod Kept

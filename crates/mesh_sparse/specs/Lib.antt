@@ -1,2 +1,0 @@
-pub use Rattle.model_memory.specs.Memory
-pub mod Chunks

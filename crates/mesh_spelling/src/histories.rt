@@ -1,0 +1,86 @@
+//! The text of a history.
+ghost use Rattle.std.specs.Prelude.{◌≡◌, ◌<◌, ◌++◌, length, map, IfOk, OnOk};
+ghost use Rattle.std.specs.List.{All, flat_map, range_with_len};
+ghost use Rattle.std.specs.Vec.{vec_items};
+ghost use Rattle.model_jobs.specs.Texts.{ended};
+ghost use Rattle.mesh_spelling.specs.Histories.{count_line, history_text, told_text, worker_line, worker_text};
+
+use crate::answers::{add_decimal, add_reply};
+use mesh_mutator::Entry;
+use model_words::Reply;
+use std::alloc::{AllocError, Global};
+
+/// The lines of a history of so many workers, each with its end: for each worker, ascending, `worker W` and the answers to its
+/// commands in their order, and last `history N` with the number of all entries.
+///
+/// Of a new object `object` alone is told, and of an address `at` alone, since serials and addresses depend on how threads fall; any
+/// other answer is as in a replay. The history is walked once. An error is an allocation failure.
+pub fn history_lines(alloc: Global, workers: u32, history: &[Entry]) -> Result<Vec<u8>, AllocError>
+    requires { All (λ entry. entry.worker < workers) history.now }
+    ensures { IfOk result (λ text. text.items ≡ history_text workers history.now) }
+{
+    let parts = parts_of(alloc, workers, history)?;
+    let mut text = Vec::new(alloc);
+    for part in &parts {
+        text.extend_from_slice(part.as_slice())?;
+    }
+    add_count_line(&mut text, history.len())?;
+    Ok(text)
+}
+
+/// The part of each worker.
+fn parts_of(alloc: Global, workers: u32, history: &[Entry]) -> Result<Vec<Vec<u8>>, AllocError>
+    requires { All (λ entry. entry.worker < workers) history.now }
+    ensures { IfOk result (λ parts. map vec_items parts.items ≡ map (worker_text history.now) (range_with_len 0 workers)) }
+{
+    let mut parts = begun_parts(alloc, workers)?;
+    for entry in history {
+        add_told(&mut parts[entry.worker as usize], &entry.reply)?;
+    }
+    Ok(parts)
+}
+
+/// The part of each worker where there is no entry.
+fn begun_parts(alloc: Global, workers: u32) -> Result<Vec<Vec<u8>>, AllocError>
+    ensures { IfOk result (λ parts. map vec_items parts.items ≡ map worker_line (range_with_len 0 workers)) }
+{
+    let mut parts = Vec::new(alloc);
+    for worker in 0..workers {
+        parts.push(begun_part(alloc, worker)?)?;
+    }
+    Ok(parts)
+}
+
+/// The line that begins a worker's part.
+fn begun_part(alloc: Global, worker: u32) -> Result<Vec<u8>, AllocError>
+    ensures { IfOk result (λ part. part.items ≡ worker_line worker) }
+{
+    let mut part = Vec::new(alloc);
+    part.extend_from_slice(b"worker ")?;
+    add_decimal(&mut part, u64::from(worker))?;
+    part.push(b'\n')?;
+    Ok(part)
+}
+
+/// Adds the line of what is told of a reply.
+fn add_told(text: &mut Vec<u8>, reply: &Reply) -> Result<(), AllocError>
+    ensures { OnOk result (text.new.items ≡ text.old.items ++ ended (told_text reply.now)) }
+{
+    match reply {
+        Reply::Object(_, _) => text.extend_from_slice(b"object")?,
+        Reply::At(_) => text.extend_from_slice(b"at")?,
+        other => add_reply(text, other)?,
+    }
+    text.push(b'\n')?;
+    Ok(())
+}
+
+/// Adds the line that ends a history of so many entries.
+fn add_count_line(text: &mut Vec<u8>, entries: usize) -> Result<(), AllocError>
+    ensures { OnOk result (text.new.items ≡ text.old.items ++ count_line entries) }
+{
+    text.extend_from_slice(b"history ")?;
+    add_decimal(text, entries as u64)?;
+    text.push(b'\n')?;
+    Ok(())
+}
