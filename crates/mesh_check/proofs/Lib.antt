@@ -1,4 +1,3 @@
-pub mod Addresses
 pub mod Commands
 pub mod InputReads
 pub mod Judged
@@ -7,4 +6,5 @@ pub mod Laws
 pub mod LineEnds
 mod Overwritten
 pub mod Ranges
+pub mod ReasonTexts
 pub mod Trees

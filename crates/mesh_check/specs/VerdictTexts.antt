@@ -1,16 +1,13 @@
 -- The text of a verdict. This project's own choice.
 use Rattle.std.specs.Prelude.{ℕ, List, ◌++◌, codes}
-use Rattle.model_jobs.specs.Texts.{ended, hex_from, number_field, told_with}
+use Rattle.model_jobs.specs.Texts.{ended, number_field, told_with}
+use Rattle.mesh_spelling.specs.Addresses.{wide_text}
 use Rattle.mesh_history.specs.RecordedWords.{plain_reply}
 use Rattle.mesh_history.specs.declared.words.RecordedReply.{RecordedReply}
 use Rattle.mesh_check.specs.declared.reasons.Reason.{Reason}
 use Rattle.mesh_check.specs.declared.reasons.Reason.TheVariants.{Differs, NoObject, LiveRefused, SerialAgain, Overlaps}
 use Rattle.mesh_check.specs.declared.verdicts.Verdict.{Verdict}
 use Rattle.mesh_check.specs.declared.verdicts.Verdict.TheVariants.{Legal, Wrong}
-
--- an address of up to 64 bits, in hexadecimal digits without a leading zero
-unfoldable pub wide_text : ℕ → List ℕ
-wide_text address = hex_from 15 address
 
 -- an answer, as a recorded history has it
 abbrev pub recorded_text : RecordedReply → List ℕ

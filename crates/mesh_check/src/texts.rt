@@ -1,11 +1,11 @@
 //! The line of a verdict.
-ghost use Rattle.std.specs.Prelude.{◌≡◌, ◌<◌, ◌++◌, IfOk, OnOk};
-ghost use Rattle.mesh_check.specs.VerdictTexts.{found_text, reason_text, recorded_text, verdict_text, wide_text};
+ghost use Rattle.std.specs.Prelude.{◌≡◌, ◌++◌, IfOk, OnOk};
+ghost use Rattle.mesh_check.specs.VerdictTexts.{found_text, reason_text, recorded_text, verdict_text};
 
 use crate::reasons::Reason;
 use crate::verdicts::Verdict;
 use mesh_history::RecordedReply;
-use mesh_spelling::{add_bytes, add_decimal, add_refusal, digit};
+use mesh_spelling::{add_address, add_bytes, add_decimal, add_refusal};
 use std::alloc::{AllocError, Global};
 
 /// The line of a verdict, with its end: `legal N entries`, or `line L: REASON`. An error is an allocation failure.
@@ -83,18 +83,4 @@ fn add_recorded(text: &mut Vec<u8>, reply: &RecordedReply) -> Result<(), AllocEr
         }
         RecordedReply::Refused(refusal) => add_refusal(text, *refusal),
     }
-}
-
-/// Adds an address in hexadecimal digits without a leading zero.
-#[tactic(auto, using(crate::proofs::Addresses::one_digit))]
-fn add_address(text: &mut Vec<u8>, address: u64) -> Result<(), AllocError>
-    ensures { OnOk result (text.new.items ≡ text.old.items ++ wide_text address) }
-{
-    if address < 16 {
-        text.push(digit(address as u8))?;
-        return Ok(());
-    }
-    add_address(text, address / 16)?;
-    text.push(digit((address % 16) as u8))?;
-    Ok(())
 }

@@ -1,3 +1,4 @@
+pub mod Addresses
 pub mod Answers
 pub mod Histories
 pub mod HistoryRows

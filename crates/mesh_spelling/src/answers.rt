@@ -1,6 +1,7 @@
 //! The answer lines, without their ends, and the words that they are made of.
 ghost use Rattle.std.specs.Prelude.{◌≡◌, ◌+◌, ◌<◌, ◌≤◌, ◌++◌, decimal, length, vec_capacity, vec_len, OnOk};
 ghost use Rattle.model_jobs.specs.Texts.{address_text, byte_text, bytes_text, hex_digit, refusal_text, reply_text};
+ghost use Rattle.mesh_spelling.specs.Addresses.{wide_text};
 
 mod mesher;
 
@@ -23,7 +24,7 @@ pub fn add_reply(text: &mut Vec<u8>, reply: &Reply) -> Result<(), AllocError>
         }
         Reply::At(address) => {
             text.extend_from_slice(b"at ")?;
-            add_address(text, *address)
+            add_address(text, u64::from(*address))
         }
         Reply::Byte(byte) => {
             text.extend_from_slice(b"byte ")?;
@@ -40,7 +41,7 @@ fn add_object(text: &mut Vec<u8>, serial: u32, address: u32) -> Result<(), Alloc
     text.extend_from_slice(b"object ")?;
     add_decimal(text, u64::from(serial))?;
     text.extend_from_slice(b" at ")?;
-    add_address(text, address)
+    add_address(text, u64::from(address))
 }
 
 /// Adds `refused NUMBER NAME`. An error is an allocation failure.
@@ -62,11 +63,13 @@ pub fn add_decimal(text: &mut Vec<u8>, number: u64) -> Result<(), AllocError>
 }
 
 /// The most digits of an address.
-const MAX_DIGITS: usize = 8;
+const MAX_DIGITS: usize = 16;
 
-/// Adds an address in hexadecimal digits without a leading zero.
-pub(crate) fn add_address(text: &mut Vec<u8>, address: u32) -> Result<(), AllocError>
-    ensures { OnOk result (text.new.items ≡ text.old.items ++ address_text address) }
+/// Adds an address in hexadecimal digits without a leading zero. An error is an allocation failure.
+#[tactic(auto, using(crate::proofs::Addresses::few_digits, crate::proofs::Addresses::address_digits))]
+pub fn add_address(text: &mut Vec<u8>, address: u64) -> Result<(), AllocError>
+    ensures wide { OnOk result (text.new.items ≡ text.old.items ++ wide_text address) }
+    ensures of_job { address < 4294967296 → OnOk result (text.new.items ≡ text.old.items ++ address_text address) }
 {
     text.reserve(MAX_DIGITS)?;
     push_address(text, address);
@@ -74,15 +77,18 @@ pub(crate) fn add_address(text: &mut Vec<u8>, address: u32) -> Result<(), AllocE
 }
 
 /// Adds the digits of an address, for which there is room.
-fn push_address(text: &mut Vec<u8>, address: u32)
-    requires { vec_len text.old + length (address_text address) ≤ vec_capacity text.old }
-    ensures digits { text.new.items ≡ text.old.items ++ address_text address }
-    ensures len { vec_len text.new ≡ vec_len text.old + length (address_text address) }
+#[tactic(auto, using(crate::proofs::Addresses::one_length, crate::proofs::Addresses::more_length))]
+fn push_address(text: &mut Vec<u8>, address: u64)
+    requires { vec_len text.old + length (wide_text address) ≤ vec_capacity text.old }
+    ensures digits { text.new.items ≡ text.old.items ++ wide_text address }
+    ensures len { vec_len text.new ≡ vec_len text.old + length (wide_text address) }
     ensures room { vec_capacity text.new ≡ vec_capacity text.old }
 {
-    if address >= 16 {
-        push_address(text, address / 16);
+    if address < 16 {
+        text.push_reserved(digit(address as u8));
+        return;
     }
+    push_address(text, address / 16);
     text.push_reserved(digit((address % 16) as u8));
 }
 
@@ -98,7 +104,7 @@ pub fn add_bytes(text: &mut Vec<u8>, bytes: &[u8]) -> Result<(), AllocError>
 }
 
 /// The hexadecimal digit of a value below 16, in lower case.
-pub fn digit(value: u8) -> u8
+fn digit(value: u8) -> u8
     requires { value < 16 }
     ensures { result ≡ hex_digit value }
 {

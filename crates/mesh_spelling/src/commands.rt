@@ -71,7 +71,7 @@ fn add_placed(text: &mut Vec<u8>, name: &[u8], address: u32) -> Result<(), Alloc
     ensures { OnOk result (text.new.items ≡ text.old.items ++ name.now ++ address_text address) }
 {
     text.extend_from_slice(name)?;
-    add_address(text, address)
+    add_address(text, u64::from(address))
 }
 
 /// Adds a space and up to 32 bytes, two hexadecimal digits each.

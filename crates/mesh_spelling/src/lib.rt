@@ -15,8 +15,8 @@ pub mod recording_rows;
 mod recordings;
 
 pub use answers::{
-    add_bytes, add_counted, add_decimal, add_found, add_refusal, add_reply, add_report, add_step,
-    digit,
+    add_address, add_bytes, add_counted, add_decimal, add_found, add_refusal, add_reply,
+    add_report, add_step,
 };
 pub use commands::add_command;
 pub use histories::history_lines;

@@ -1,6 +1,6 @@
 use Rattle.std.proofs.Common.{◌++◌, ◌∙◌, ℕ, ap, decimal}
 use Rattle.std.proofs.lemmas.Result.{on_ok_weaker}
-use Rattle.mesh_check.proofs.Addresses.{overlaps_told}
+use Rattle.mesh_check.proofs.ReasonTexts.{overlaps_told}
 use Rattle.mesh_check.proofs.texts.add_reason.Goals as goal
 
 pub returns-in_ok-extend_from_slice-in-Overlaps : goal.returns-in_ok-extend_from_slice-in-Overlaps
