@@ -10,8 +10,8 @@ use Rattle.mesh_history.specs.declared.words.RecordedReply.{RecordedReply}
 use Rattle.mesh_history.specs.declared.words.RecordedReply.TheVariants.{Done, Refused}
 use Rattle.std.specs.declared.alloc.AllocError.{AllocError}
 use Rattle.mesh_check.specs.Stands.{Stands, with_memory}
-use Rattle.mesh_check.specs.declared.faults.Fault.{Fault}
-use Rattle.mesh_check.specs.declared.faults.Fault.TheVariants.{Refused as IsRefused, Memory as OfMemory}
+use Rattle.mesh_check.specs.declared.faults.CommandError.{CommandError}
+use Rattle.mesh_check.specs.declared.faults.CommandError.TheVariants.{Refused as IsRefused, Memory as OfMemory}
 use Rattle.mesh_check.specs.declared.memory.Tracked.{Tracked}
 
 -- the command makes an object
@@ -32,7 +32,7 @@ abbrev pub IsWrong : Tracked → Command → Reply → Type 0
 IsWrong old command reply = (r : Recorded) → Stands old r → (n : Recorded) → RecordedStep any_allocator r command reply n → ⊥
 
 -- what is told of a command that is done or refused; where memory was refused, an error
-abbrev pub IsTold : Result (Unit {0}) Fault → Result RecordedReply AllocError → Type 0
+abbrev pub IsTold : Result (Unit {0}) CommandError → Result RecordedReply AllocError → Type 0
 IsTold (Ok _) (Ok reply) = reply ≡ Done
 IsTold (Err (IsRefused refusal)) (Ok reply) = reply ≡ Refused refusal
 IsTold (Err OfMemory) (Err error) = Unit {0}

@@ -9,8 +9,8 @@ use Rattle.model_history.specs.Recorded.{Recorded, many_cells, was_given}
 use Rattle.model_words.specs.declared.commands.Command.{Command}
 use Rattle.model_words.specs.declared.commands.Reply.TheVariants.{Done}
 use Rattle.model_words.specs.declared.refusals.Refusal.{Refusal}
-use Rattle.mesh_check.specs.declared.faults.Fault.{Fault}
-use Rattle.mesh_check.specs.declared.faults.Fault.TheVariants.{Refused, Memory as OfMemory}
+use Rattle.mesh_check.specs.declared.faults.CommandError.{CommandError}
+use Rattle.mesh_check.specs.declared.faults.CommandError.TheVariants.{Refused, Memory as OfMemory}
 use Rattle.mesh_check.specs.declared.memory.Tracked.{Tracked}
 
 -- the serials that were given: which these are, and their order
@@ -61,7 +61,7 @@ abbrev pub IsRefusedAs : Tracked → Tracked → Command → Refusal → Type 0
 IsRefusedAs old new command refusal = (new ≡ old) × ((r : Recorded) → Stands old r → plain r.memory 0 command ≡ Err refusal)
 
 -- the command is refused, and nothing has changed; where memory was refused nothing is said of what is left
-abbrev pub IsRefused : Tracked → Tracked → Command → Fault → Type 0
+abbrev pub IsRefused : Tracked → Tracked → Command → CommandError → Type 0
 IsRefused old new command (Refused refusal) = IsRefusedAs old new command refusal
 IsRefused old new command OfMemory = Unit {0}
 

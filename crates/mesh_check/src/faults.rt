@@ -4,31 +4,31 @@ use std::alloc::AllocError;
 
 /// Why a command changed nothing in the memory.
 #[derive(Clone, Copy, PartialEq, Eq)]
-pub enum Fault {
+pub enum CommandError {
     /// The plain memory refuses it.
     Refused(Refusal),
     /// Memory was refused. Some bytes may have been stored.
     Memory,
 }
 
-impl From<Refusal> for Fault {
+impl From<Refusal> for CommandError {
     ghost use Rattle.std.specs.Prelude.{◌≡◌};
-    ghost use Rattle.mesh_check.specs.declared.faults.Fault.TheVariants.{Refused as IsRefused};
+    ghost use Rattle.mesh_check.specs.declared.faults.CommandError.TheVariants.{Refused as IsRefused};
 
     ghost from_gives = { λ refusal fault. fault ≡ IsRefused refusal };
 
-    fn from(refusal: Refusal) -> Fault {
-        Fault::Refused(refusal)
+    fn from(refusal: Refusal) -> CommandError {
+        CommandError::Refused(refusal)
     }
 }
 
-impl From<AllocError> for Fault {
+impl From<AllocError> for CommandError {
     ghost use Rattle.std.specs.Prelude.{◌≡◌};
-    ghost use Rattle.mesh_check.specs.declared.faults.Fault.TheVariants.{Memory as OfMemory};
+    ghost use Rattle.mesh_check.specs.declared.faults.CommandError.TheVariants.{Memory as OfMemory};
 
     ghost from_gives = { λ _ fault. fault ≡ OfMemory };
 
-    fn from(_: AllocError) -> Fault {
-        Fault::Memory
+    fn from(_: AllocError) -> CommandError {
+        CommandError::Memory
     }
 }

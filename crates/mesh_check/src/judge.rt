@@ -9,7 +9,7 @@ ghost use Rattle.mesh_history.specs.RecordedWords.{IsNarrow, plain_reply};
 ghost use Rattle.mesh_check.specs.Judged.{IsAnswered, IsTaken, IsTold, IsWrong, is_new};
 ghost use Rattle.mesh_check.specs.Reasons.{Tells, no_object};
 
-use crate::faults::Fault;
+use crate::faults::CommandError;
 use crate::memory::Tracked;
 use crate::reasons::{Reason, difference};
 use arrayvec::ArrayVec;
@@ -158,12 +158,12 @@ fn is_own_refusal(len: u32, refusal: Refusal) -> bool
 }
 
 /// The answer to a command that changes the memory, where it is done or refused.
-fn done(outcome: Result<(), Fault>) -> Result<RecordedReply, AllocError>
+fn done(outcome: Result<(), CommandError>) -> Result<RecordedReply, AllocError>
     ensures { IsTold outcome result }
 {
     match outcome {
         Ok(()) => Ok(RecordedReply::Done),
-        Err(Fault::Refused(refusal)) => Ok(RecordedReply::Refused(refusal)),
-        Err(Fault::Memory) => Err(AllocError),
+        Err(CommandError::Refused(refusal)) => Ok(RecordedReply::Refused(refusal)),
+        Err(CommandError::Memory) => Err(AllocError),
     }
 }

@@ -10,7 +10,7 @@ ghost use Rattle.model_memory.specs.Plain.{IsVacantRange, holding, made, named_b
 ghost use Rattle.model_history.specs.Recorded.{Recorded, any_allocator, nothing_recorded};
 ghost use Rattle.mesh_check.specs.Stands.{IsCopied, IsDone, IsOverlapped, IsPossible, IsRefused, IsRefusedAs, Stands};
 
-use crate::faults::Fault;
+use crate::faults::CommandError;
 use crate::maps::{give, nearest, set, set_start, store};
 use crate::sparse::SparseBytes;
 use crate::stored::Stored;
@@ -146,15 +146,20 @@ impl Tracked {
     }
 
     /// Stores bytes from offset `off` of the object that `cell` names. EMPTY, FREED and OUTSIDE, in this order, and then Memory.
-    pub fn put(&mut self, cell: u32, off: u32, bytes: &ArrayVec<u8, MAX_BYTES>) -> Result<(), Fault>
+    pub fn put(
+        &mut self,
+        cell: u32,
+        off: u32,
+        bytes: &ArrayVec<u8, MAX_BYTES>,
+    ) -> Result<(), CommandError>
         ensures done { OnOk result (IsDone self.old self.new (Command.Put cell off bytes.now)) }
         ensures refused { IfErr result (IsRefused self.old self.new (Command.Put cell off bytes.now)) }
-        ensures memory { result ≡ Err Fault.Memory → IsPossible self.old (Command.Put cell off bytes.now) }
+        ensures memory { result ≡ Err CommandError.Memory → IsPossible self.old (Command.Put cell off bytes.now) }
         ensures made { self.new.made ≡ self.old.made }
     {
         let (number, object) = self.named(cell)?;
         if object.ends_outside(off, bytes.len() as u32) {
-            return Err(Fault::Refused(Refusal::Outside));
+            return Err(CommandError::Refused(Refusal::Outside));
         }
         store(&mut self.objects, number, off, bytes.as_slice())?;
         Ok(())
@@ -174,10 +179,10 @@ impl Tracked {
     }
 
     /// Stores in `to` the number that `from` holds. EMPTY and FREED of `from`, in this order, and then Memory.
-    pub fn alias(&mut self, to: u32, from: u32) -> Result<(), Fault>
+    pub fn alias(&mut self, to: u32, from: u32) -> Result<(), CommandError>
         ensures done { OnOk result (IsDone self.old self.new (Command.Alias to from)) }
         ensures refused { IfErr result (IsRefused self.old self.new (Command.Alias to from)) }
-        ensures memory { result ≡ Err Fault.Memory → IsPossible self.old (Command.Alias to from) }
+        ensures memory { result ≡ Err CommandError.Memory → IsPossible self.old (Command.Alias to from) }
         ensures made { self.new.made ≡ self.old.made }
     {
         let (number, _) = self.named(from)?;
@@ -186,10 +191,10 @@ impl Tracked {
     }
 
     /// Stores a byte at an address. STRAY where no live object has it, and then Memory.
-    pub fn poke(&mut self, address: u64, byte: u8) -> Result<(), Fault>
+    pub fn poke(&mut self, address: u64, byte: u8) -> Result<(), CommandError>
         ensures done { OnOk result (IsDone self.old self.new (Command.Poke address byte)) }
         ensures refused { IfErr result (IsRefused self.old self.new (Command.Poke address byte)) }
-        ensures memory { result ≡ Err Fault.Memory → IsPossible self.old (Command.Poke address byte) }
+        ensures memory { result ≡ Err CommandError.Memory → IsPossible self.old (Command.Poke address byte) }
         ensures made { self.new.made ≡ self.old.made }
     {
         let (number, object) = self.holding(address)?;
@@ -209,11 +214,11 @@ impl Tracked {
         from: u32,
         from_off: u32,
         len: u32,
-    ) -> Result<(), Fault>
+    ) -> Result<(), CommandError>
         requires { len ≤ 32 }
         ensures done { OnOk result (IsDone self.old self.new (Command.Copy to to_off from from_off len)) }
         ensures refused { IfErr result (IsRefused self.old self.new (Command.Copy to to_off from from_off len)) }
-        ensures memory { result ≡ Err Fault.Memory → IsPossible self.old (Command.Copy to to_off from from_off len) }
+        ensures memory { result ≡ Err CommandError.Memory → IsPossible self.old (Command.Copy to to_off from from_off len) }
         ensures made { self.new.made ≡ self.old.made }
     {
         let (number, bytes) = self.copied((to, to_off), (from, from_off), len)?;

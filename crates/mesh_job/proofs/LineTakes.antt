@@ -4,10 +4,10 @@ use Rattle.mesh_job.specs.Draft.{draft_of}
 use Rattle.mesh_job.specs.Takes.{HasTakenLine}
 use Rattle.mesh_job.specs.declared.draft.Draft.{Draft}
 use Rattle.mesh_job.specs.Reading.{IsFaultOfLine}
-use Rattle.mesh_job.specs.declared.faults.LineFault.{LineFault}
+use Rattle.mesh_job.specs.declared.faults.LineError.{LineError}
 
 -- the line's fault is what is answered of it
-pub line_refused : (old new : Draft) (text : List ℕ) (result : Result (Option (Bor (List ℕ))) LineFault) (fault : LineFault)
+pub line_refused : (old new : Draft) (text : List ℕ) (result : Result (Option (Bor (List ℕ))) LineError) (fault : LineError)
     → IsErrAnd result (λ handed. handed ≡ fault) → IsFaultOfLine (draft_of old) text fault → HasTakenLine old new text result
 line_refused old new text (Ok next) fault handed found = absurd handed
 line_refused old new text (Err kept) fault handed found =

@@ -10,8 +10,8 @@ use Rattle.mesh_fields.specs.Lines.{IsSplit, line_fields, text_lines}
 use Rattle.mesh_fields.proofs.LineSteps.{after_line, line_step, line_step_more}
 use Rattle.mesh_fields.proofs.Splits.{first_line, printable_line}
 use Rattle.mesh_job.specs.Reading.{IsFaultOfLine, IsFaultOfStep, IsReadOn}
-use Rattle.mesh_job.specs.declared.faults.LineFault.{LineFault}
-use Rattle.mesh_job.specs.declared.faults.LineFault.TheVariants.{Kind as LineKind, Memory as LineMemory}
+use Rattle.mesh_job.specs.declared.faults.LineError.{LineError}
+use Rattle.mesh_job.specs.declared.faults.LineError.TheVariants.{Kind as LineKind, Memory as LineMemory}
 
 -- a line without a fault of its bytes is taken as its fields
 fields_taken : (draft : Draft) (line : List ℕ) → length line ≤ 1024 → list_all is_printable line ≡ true
@@ -43,7 +43,7 @@ line_taken text line rest draft draft' is going taken =
     }
 
 -- a fault of a line's fields is one of the line
-pub line_fault : (text line rest : List ℕ) (draft : Draft) (fault : LineFault) → IsLine text line rest → has_ended draft.section ≡ false
+pub line_fault : (text line rest : List ℕ) (draft : Draft) (fault : LineError) → IsLine text line rest → has_ended draft.section ≡ false
     → IsFaultOfStep (take_fields draft (line_fields line)) fault → IsFaultOfLine draft text fault
 line_fault text line rest draft (LineKind kind) is going refused = λ number more. line_step_more text _ rest _ _ more is.lines going
     ∙ ap (after_line number (text_lines (rest ++ more))) (fields_taken _ _ is.short is.printable ∙ refused)

@@ -3,8 +3,8 @@ use Rattle.std.specs.Prelude.{◌≡◌, ℕ, ◌+◌, List, ◌++◌, Result, E
 use Rattle.model_jobs.specs.JobFiles.{Draft, fault_at, lines_in}
 use Rattle.model_words.specs.declared.faults.FaultKind.{FaultKind}
 use Rattle.mesh_fields.specs.Lines.{text_lines}
-use Rattle.mesh_job.specs.declared.faults.LineFault.{LineFault}
-use Rattle.mesh_job.specs.declared.faults.LineFault.TheVariants.{Kind as LineKind, Memory as LineMemory}
+use Rattle.mesh_job.specs.declared.faults.LineError.{LineError}
+use Rattle.mesh_job.specs.declared.faults.LineError.TheVariants.{Kind as LineKind, Memory as LineMemory}
 
 -- a line of a text was taken with its end, and this is the rest: whatever follows the line, it is read on from there, one line later
 pub record IsReadOn (before : Draft) (text : List ℕ) (after : Draft) (rest : List ℕ) : Type 0 where
@@ -13,12 +13,12 @@ pub record IsReadOn (before : Draft) (text : List ℕ) (after : Draft) (rest : L
   pub reads : (number : ℕ) (more : List ℕ) → lines_in number before (text_lines (taken ++ more)) ≡ lines_in (number + 1) after (text_lines more)
 
 -- why a step of reading was not made: its refusal, or want of memory
-abbrev pub IsFaultOfStep : {A : Type 0} → Result A FaultKind → LineFault → Type 0
+abbrev pub IsFaultOfStep : {A : Type 0} → Result A FaultKind → LineError → Type 0
 IsFaultOfStep read (LineKind kind) = read ≡ Err kind
 IsFaultOfStep read LineMemory = Unit {0}
 
 -- why the next line of a text was not taken into a draft: its fault, which ends the reading whatever follows, or want of memory
-abbrev pub IsFaultOfLine : Draft → List ℕ → LineFault → Type 0
+abbrev pub IsFaultOfLine : Draft → List ℕ → LineError → Type 0
 IsFaultOfLine draft text (LineKind kind) =
     (number : ℕ) (more : List ℕ) → lines_in number draft (text_lines (text ++ more)) ≡ Err (fault_at number kind)
 IsFaultOfLine draft text LineMemory = Unit {0}

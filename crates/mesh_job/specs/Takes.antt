@@ -6,7 +6,7 @@ use Rattle.mesh_fields.specs.Lines.{IsPartOfLine}
 use Rattle.mesh_job.specs.Draft.{IsDraft, draft_of}
 use Rattle.mesh_job.specs.declared.draft.Draft.{Draft}
 use Rattle.mesh_job.specs.Reading.{IsFaultOfLine, IsFaultOfStep, IsReadOn}
-use Rattle.mesh_job.specs.declared.faults.LineFault.{LineFault}
+use Rattle.mesh_job.specs.declared.faults.LineError.{LineError}
 use denote.Ref.{Bor}
 
 -- the rest behind a line, where one was taken
@@ -14,7 +14,7 @@ abbrev pub IfTaken : {E : Type 0} → Result (Option (Bor (List ℕ))) E → (Li
 IfTaken result holds = IfOk result (λ next. IfSome next (λ rest. holds rest.now))
 
 -- the next line of a text was taken into a draft, and the result is the rest behind it; or the text is the beginning of a line, and there is no rest; or the line has a fault
-pub record HasTakenLine (old new : Draft) (text : List ℕ) (result : Result (Option (Bor (List ℕ))) LineFault) : Type 0 where
+pub record HasTakenLine (old new : Draft) (text : List ℕ) (result : Result (Option (Bor (List ℕ))) LineError) : Type 0 where
   pub draft : OnOk result (IsDraft new)
   pub shorter : IfTaken result (λ rest. length rest < length text)
   pub ok : IfTaken result (λ rest. IsReadOn (draft_of old) text (draft_of new) rest)
@@ -29,7 +29,7 @@ pub record HasTakenQuickLine {E : Type 0} (old new : Draft) (text : List ℕ) (r
   pub none : IfOk result (λ next. IsNone next → new ≡ old)
 
 -- the draft is the one that this step of the definitions makes, or the step is refused
-pub record IsMadeBy (step : Result PlainDraft FaultKind) (new : Draft) (result : Result (Unit {0}) LineFault) : Type 0 where
+pub record IsMadeBy (step : Result PlainDraft FaultKind) (new : Draft) (result : Result (Unit {0}) LineError) : Type 0 where
   pub draft : OnOk result (IsDraft new)
   pub ok : OnOk result (step ≡ Ok (draft_of new))
   pub err : IfErr result (IsFaultOfStep step)

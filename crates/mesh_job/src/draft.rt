@@ -9,7 +9,7 @@ ghost use Rattle.mesh_job.specs.Takes.{HasTakenLine, HasTakenQuickLine, IsMadeBy
 use crate::plan_lines::plan_line;
 use crate::quick::{quick_command, quick_line};
 use crate::script::{close_script, push_line};
-use crate::{Job, LineFault, Plan, PlanLine, Script, Scripts};
+use crate::{Job, LineError, Plan, PlanLine, Script, Scripts};
 use mesh_fields::lines::{
     FewFields, few_fields, fields_of, header, is_word, next_line, no_field, one_field,
 };
@@ -98,7 +98,7 @@ impl Draft {
 
     /// Takes the next line of the text, and gives the bytes behind it. None where the text is the beginning of a line, of which
     /// nothing is taken.
-    pub(crate) fn take_line<'a>(&mut self, text: &'a [u8]) -> Result<Option<&'a [u8]>, LineFault>
+    pub(crate) fn take_line<'a>(&mut self, text: &'a [u8]) -> Result<Option<&'a [u8]>, LineError>
         requires draft { IsDraft self.old }
         requires going { has_ended (draft_of self.old).section ≡ false }
         ensures { HasTakenLine self.old self.new text.now result }
@@ -110,7 +110,7 @@ impl Draft {
     }
 
     /// The same, field by field.
-    fn take_few_fields<'a>(&mut self, text: &'a [u8]) -> Result<Option<&'a [u8]>, LineFault>
+    fn take_few_fields<'a>(&mut self, text: &'a [u8]) -> Result<Option<&'a [u8]>, LineError>
         requires draft { IsDraft self.old }
         requires going { has_ended (draft_of self.old).section ≡ false }
         ensures { HasTakenLine self.old self.new text.now result }
@@ -124,7 +124,7 @@ impl Draft {
     }
 
     /// The same, for a line of any number of fields.
-    fn take_all_fields<'a>(&mut self, text: &'a [u8]) -> Result<Option<&'a [u8]>, LineFault>
+    fn take_all_fields<'a>(&mut self, text: &'a [u8]) -> Result<Option<&'a [u8]>, LineError>
         requires draft { IsDraft self.old }
         requires going { has_ended (draft_of self.old).section ≡ false }
         ensures { HasTakenLine self.old self.new text.now result }
@@ -182,13 +182,13 @@ impl Draft {
     }
 
     /// Takes the fields of the next line.
-    fn take(&mut self, fields: &[&[u8]]) -> Result<(), LineFault>
+    fn take(&mut self, fields: &[&[u8]]) -> Result<(), LineError>
         requires draft { IsDraft self.old }
         requires filled { list_any is_empty (texts fields.now) ≡ false }
         ensures { IsMadeBy (take_fields (draft_of self.old) (texts fields.now)) self.new result }
     {
         let [word, fields @ ..] = fields else {
-            return Err(LineFault::Kind(FaultKind::Word));
+            return Err(LineError::Kind(FaultKind::Word));
         };
         match self.section {
             Section::Worker(worker) => self.take_in_script(worker, *word, fields),
@@ -247,7 +247,7 @@ impl Draft {
         worker: u32,
         word: &[u8],
         fields: &[&[u8]],
-    ) -> Result<(), LineFault>
+    ) -> Result<(), LineError>
         requires section { self.old.section ≡ Section.Worker worker }
         requires draft { IsDraft self.old }
         ensures { IsMadeBy (script_line (draft_of self.old) worker word.now (texts fields.now)) self.new result }
@@ -268,7 +268,7 @@ impl Draft {
     }
 
     /// Takes a line in the section of the plan: a line of the plan, or the end.
-    fn take_in_plan(&mut self, word: &[u8], fields: &[&[u8]]) -> Result<(), LineFault>
+    fn take_in_plan(&mut self, word: &[u8], fields: &[&[u8]]) -> Result<(), LineError>
         requires section { self.old.section ≡ Section.Plan }
         requires draft { IsDraft self.old }
         ensures { IsMadeBy (plan_line (draft_of self.old) word.now (texts fields.now)) self.new result }

@@ -1,6 +1,6 @@
 //! Why a line, and why a file, can't be read.
 ghost use Rattle.std.specs.Prelude.{◌≡◌};
-ghost use Rattle.mesh_job.specs.declared.faults.LineFault.{LineFault};
+ghost use Rattle.mesh_job.specs.declared.faults.LineError.{LineError};
 ghost use Rattle.mesh_job.specs.declared.faults.ReadFault.{ReadFault};
 
 use model_words::{FaultKind, TextFault};
@@ -9,7 +9,7 @@ use thiserror::Error;
 
 /// Why a line could not be read.
 #[derive(Clone, Copy, Debug, PartialEq, Eq, Error)]
-pub enum LineFault {
+pub enum LineError {
     /// The line has a fault.
     #[error("{0}")]
     Kind(FaultKind),
@@ -18,27 +18,27 @@ pub enum LineFault {
     Memory,
 }
 
-impl From<FaultKind> for LineFault {
-    ghost from_gives = { λ kind fault. fault ≡ LineFault.Kind kind };
+impl From<FaultKind> for LineError {
+    ghost from_gives = { λ kind fault. fault ≡ LineError.Kind kind };
 
-    fn from(kind: FaultKind) -> LineFault {
-        LineFault::Kind(kind)
+    fn from(kind: FaultKind) -> LineError {
+        LineError::Kind(kind)
     }
 }
 
-impl From<AllocError> for LineFault {
-    ghost from_gives = { λ _ fault. fault ≡ LineFault.Memory };
+impl From<AllocError> for LineError {
+    ghost from_gives = { λ _ fault. fault ≡ LineError.Memory };
 
-    fn from(_refused: AllocError) -> LineFault {
-        LineFault::Memory
+    fn from(_refused: AllocError) -> LineError {
+        LineError::Memory
     }
 }
 
-impl<T: Drop> From<AllocFailed<T>> for LineFault {
-    ghost from_gives = { λ _ fault. fault ≡ LineFault.Memory };
+impl<T: Drop> From<AllocFailed<T>> for LineError {
+    ghost from_gives = { λ _ fault. fault ≡ LineError.Memory };
 
-    fn from(_refused: AllocFailed<T>) -> LineFault {
-        LineFault::Memory
+    fn from(_refused: AllocFailed<T>) -> LineError {
+        LineError::Memory
     }
 }
 

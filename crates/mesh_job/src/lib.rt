@@ -24,7 +24,7 @@ mod script;
 
 pub use command_list::Commands;
 pub use commands::command_of;
-pub use faults::{LineFault, ReadFault};
+pub use faults::{LineError, ReadFault};
 pub use job::{Job, Scripts};
 pub use model_words::{Command, FaultKind, TextFault, Version};
 pub use plan::{Plan, PlanLine, Search};

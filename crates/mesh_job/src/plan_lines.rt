@@ -6,9 +6,9 @@ ghost use Rattle.model_jobs.specs.Jobs.{Line, BeginMesh, CancelMesh, CancelClass
 ghost use Rattle.mesh_fields.specs.Lines.{texts};
 ghost use Rattle.mesh_job.specs.Plan.{line_of, line_of_mesh, read_line, search_in};
 ghost use Rattle.mesh_job.specs.Reading.{IsFaultOfStep};
-ghost use Rattle.mesh_job.specs.declared.faults.LineFault.{LineFault};
+ghost use Rattle.mesh_job.specs.declared.faults.LineError.{LineError};
 
-use crate::faults::LineFault;
+use crate::faults::LineError;
 use crate::{PlanLine, Search};
 use mesh_class::{Class, class_of};
 use mesh_fields::lines::{is_word, no_field, one_field, two_fields};
@@ -36,11 +36,11 @@ pub fn plan_line(
     workers: u32,
     word: &[u8],
     fields: &[&[u8]],
-) -> Result<PlanLine, LineFault>
+) -> Result<PlanLine, LineError>
     requires { 1 ≤ workers }
     ensures ok { IfOk result (λ line. line_in version workers word.now (texts fields.now) ≡ Ok (line_of line)) }
     ensures err { IfErr result (IsFaultOfStep (line_in version workers word.now (texts fields.now))) }
-    ensures memory { result ≡ Err LineFault.Memory → are_same word.now (codes "pair") ≡ true }
+    ensures memory { result ≡ Err LineError.Memory → are_same word.now (codes "pair") ≡ true }
 {
     if is_word(word, b"pair") {
         return pair_of(alloc, fields);
@@ -169,15 +169,15 @@ fn class_field(fields: &[&[u8]]) -> Result<Class, FaultKind>
 }
 
 /// `pair CLASS T WORD ..`
-fn pair_of(alloc: Global, fields: &[&[u8]]) -> Result<PlanLine, LineFault>
+fn pair_of(alloc: Global, fields: &[&[u8]]) -> Result<PlanLine, LineError>
     ensures ok { IfOk result (λ line. pair_in (texts fields.now) ≡ Ok (line_of line)) }
     ensures err { IfErr result (IsFaultOfStep (pair_in (texts fields.now))) }
 {
     let [size, rounds, words @ ..] = fields else {
-        return Err(LineFault::Kind(FaultKind::Word));
+        return Err(LineError::Kind(FaultKind::Word));
     };
     if words.len() > MAX_WORDS {
-        return Err(LineFault::Kind(FaultKind::Word));
+        return Err(LineError::Kind(FaultKind::Word));
     }
     search_of(alloc, *size, *rounds, words)
 }
@@ -188,7 +188,7 @@ fn search_of(
     size: &[u8],
     rounds: &[u8],
     words: &[&[u8]],
-) -> Result<PlanLine, LineFault>
+) -> Result<PlanLine, LineError>
     ensures ok { IfOk result (λ line. search_in size.now rounds.now (texts words.now) ≡ Ok (line_of line)) }
     ensures err { IfErr result (IsFaultOfStep (search_in size.now rounds.now (texts words.now))) }
 {
@@ -228,7 +228,7 @@ pub(crate) fn is_class(size: u64) -> bool
 }
 
 /// The words of a search.
-fn search_words(alloc: Global, fields: &[&[u8]]) -> Result<Vec<u64>, LineFault>
+fn search_words(alloc: Global, fields: &[&[u8]]) -> Result<Vec<u64>, LineError>
     ensures ok { IfOk result (λ words. words_in (texts fields.now) ≡ Ok words.items) }
     ensures err { IfErr result (IsFaultOfStep (words_in (texts fields.now))) }
 {

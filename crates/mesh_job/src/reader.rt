@@ -6,7 +6,7 @@ ghost use Rattle.mesh_job.specs.Faults.{IsReadFault};
 ghost use Rattle.mesh_job.specs.Taken.{HasTaken, IsLeft, IsReadTo, IsReading, bytes_taken, is_over};
 
 use crate::draft::Draft;
-use crate::{Job, LineFault, ReadFault};
+use crate::{Job, LineError, ReadFault};
 use model_words::{FaultKind, TextFault};
 use std::alloc::{AllocError, Global};
 
@@ -97,11 +97,11 @@ impl Reading {
             match self.draft.take_line(rest) {
                 Ok(Some(behind)) => rest = behind,
                 Ok(None) => return Ok(rest),
-                Err(LineFault::Kind(kind)) => {
+                Err(LineError::Kind(kind)) => {
                     self.fault = Some(self.fault_of_line(kind));
                     return Ok(&[]);
                 }
-                Err(LineFault::Memory) => return Err(AllocError),
+                Err(LineError::Memory) => return Err(AllocError),
             }
             self.number += 1;
         }

@@ -6,7 +6,7 @@ ghost use Rattle.mesh_fields.specs.Lines.{texts};
 ghost use Rattle.mesh_job.specs.Draft.{with_line};
 ghost use Rattle.mesh_job.specs.Reading.{IsFaultOfStep};
 
-use crate::{Commands, LineFault, command_of};
+use crate::{Commands, LineError, command_of};
 use mesh_packed::{MAX_BYTES, PackedCommand, pack_command, unpack_command};
 use model_words::{Command, Version};
 use std::alloc::{AllocError, Global};
@@ -114,7 +114,7 @@ pub(crate) fn push_line(
     version: Version,
     word: &[u8],
     fields: &[&[u8]],
-) -> Result<(), LineFault>
+) -> Result<(), LineError>
     ensures ok { OnOk result (with_line script.old version word.now (texts fields.now) ≡ Ok script.new) }
     ensures err { IfErr result (IsFaultOfStep (command_in version word.now (texts fields.now))) }
 {
@@ -128,10 +128,10 @@ pub(crate) fn close_script(
     alloc: Global,
     script: &mut Script,
     finished: &mut Vec<Script>,
-) -> Result<(), LineFault>
+) -> Result<(), LineError>
     ensures ok { OnOk result (finished.new.items ≡ finished.old.items ++ script.old ∷ []) }
     ensures begun { script.new ≡ [] }
-    ensures err { IfErr result (λ fault. fault ≡ LineFault.Memory) }
+    ensures err { IfErr result (λ fault. fault ≡ LineError.Memory) }
 {
     let script = mem::replace(script, Script::new(alloc));
     finished.push(script)?;

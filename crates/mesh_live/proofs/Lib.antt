@@ -1,4 +1,4 @@
-pub mod Idle
+pub mod IdleSessions
 pub mod Runs
 pub mod Stops
 mod LiveFields

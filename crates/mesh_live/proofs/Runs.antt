@@ -10,7 +10,7 @@ use Rattle.std.specs.List.{All}
 use Rattle.std.specs.Str.{bytes_eq}
 use Rattle.model_jobs.specs.JobFiles.{are_same}
 use Rattle.model_jobs.proofs.FieldReadings.{same_by_test}
-use Rattle.model_jobs.specs.Jobs.{State, opening}
+use Rattle.model_jobs.specs.Jobs.{State, initial_state}
 use Rattle.model_jobs.specs.Texts.{ended}
 use Rattle.model_words.specs.declared.faults.FaultKind.{FaultKind}
 use Rattle.model_words.specs.declared.faults.FaultKind.TheVariants.{LongLine}
@@ -253,22 +253,22 @@ ended_where true text begun left whole ends = inl (inr (subst (λ t. have_end (t
 ended_where false text begun left whole ends = elim (whole refl) [ inl at_end ↦ inl (inl at_end) | inr many ↦ inr many ]
 
 -- what a session that was opened tells of a text
-pub from_opening : (sizes : Sizes) (session : Session) (text : List ℕ) → sizes_of session ≡ sizes → state_of session ≡ opening (job_of sizes)
+pub from_opening : (sizes : Sizes) (session : Session) (text : List ℕ) → sizes_of session ≡ sizes → state_of session ≡ initial_state (job_of sizes)
     → told_on false session [] text ≡ live_output sizes text
 from_opening sizes session text sizes_are at_opening =
     ap (λ (s : State). told_lines (sizes_of session) s (text_lines text)) at_opening
-    ∙ ap (λ (z : Sizes). told_lines z (opening (job_of sizes)) (text_lines text)) sizes_are
+    ∙ ap (λ (z : Sizes). told_lines z (initial_state (job_of sizes)) (text_lines text)) sizes_are
 
 -- all that a session tells that was fed a text
 pub all_told : (over : Bool) (sizes : Sizes) (old new : Session) (kept : List ℕ) (left left' written written' : Option (List ℕ)) → sizes_of old ≡ sizes
-    → state_of old ≡ opening (job_of sizes) → (fed : HasFed over old new kept left left' written written') → live_output sizes fed.text ≡ fed.told.wrote ++ rest_on over kept
+    → state_of old ≡ initial_state (job_of sizes) → (fed : HasFed over old new kept left left' written written') → live_output sizes fed.text ≡ fed.told.wrote ++ rest_on over kept
 all_told over sizes old new kept left left' written written' sizes_are at_opening fed =
     sym (from_opening sizes old fed.text sizes_are at_opening) ∙ ap (told_on false old []) (sym (append-nil fed.text)) ∙ fed.told.tells []
     ∙ ap (λ t. fed.told.wrote ++ t) (rest_told over new fed.told.begun' kept fed.told.is_kept)
 
 -- a session that was opened, fed a text and told what is left of it
 pub lived : (over known : Bool) (sizes : Sizes) (old new : Session) (kept : List ℕ) (left left' written written' written'' : Option (List ℕ)) → sizes_of old ≡ sizes
-    → state_of old ≡ opening (job_of sizes) → over ≡ known → HasFed over old new kept left left' written written' → Appends written' written'' (rest_on known kept)
+    → state_of old ≡ initial_state (job_of sizes) → over ≡ known → HasFed over old new kept left left' written written' → Appends written' written'' (rest_on known kept)
     → HasLived sizes left left' written written''
 lived over known sizes old new kept left left' written written' written'' sizes_are at_opening is fed rest = record {
   text = fed.text;

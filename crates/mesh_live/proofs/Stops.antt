@@ -5,7 +5,7 @@ use Rattle.std.proofs.KnownBytes.{Appends-trans, Consumes-trans}
 use Rattle.std.proofs.lemmas.List.{take_more}
 use Rattle.std.proofs.Math.Seq.{take-append-add, take-append_seam}
 use Rattle.std.specs.Io.KnownBytes.{Appends, Consumes}
-use Rattle.model_jobs.specs.Jobs.{opening}
+use Rattle.model_jobs.specs.Jobs.{initial_state}
 use Rattle.model_jobs.specs.Texts.{ended}
 use Rattle.mesh_job.specs.Lines.{text_lines}
 use Rattle.mesh_devices.specs.Transfer.{AppendsBeginning}
@@ -108,7 +108,7 @@ fed_stopped times old mid kept bytes left left' left'' written written' written'
 pub none_stopped : (sizes : Sizes) (left written : Option (List ℕ)) → HasStopped sizes left written written
 none_stopped sizes left written = record { text = []; rest = left; taken = nothing_read left; wrote = none_begun written (live_output sizes []) }
 
-pub part_stopped : (session : Session) (left written written' : Option (List ℕ)) → state_of session ≡ opening (job_of (sizes_of session))
+pub part_stopped : (session : Session) (left written written' : Option (List ℕ)) → state_of session ≡ initial_state (job_of (sizes_of session))
     → IsFedPart session left written written' → HasStopped (sizes_of session) left written written'
 part_stopped session left written written' at_opening fed = record {
   text = fed.text;
@@ -117,7 +117,7 @@ part_stopped session left written written' at_opening fed = record {
   wrote = subst (λ all. AppendsBeginning written written' all) (from_opening (sizes_of session) session fed.text refl at_opening) fed.wrote;
 }
 
-pub rest_stopped : (over : Bool) (old new : Session) (kept : List ℕ) (left left' written written' written'' : Option (List ℕ)) → state_of old ≡ opening (job_of (sizes_of old))
+pub rest_stopped : (over : Bool) (old new : Session) (kept : List ℕ) (left left' written written' written'' : Option (List ℕ)) → state_of old ≡ initial_state (job_of (sizes_of old))
     → over ≡ false → HasFed over old new kept left left' written written' → AppendsBeginning written' written'' (told_rest kept) → HasStopped (sizes_of old) left written written''
 rest_stopped over old new kept left left' written written' written'' at_opening is fed part = record {
   text = fed.text;

@@ -2,7 +2,7 @@
 use Rattle.std.specs.Prelude.{◌≡◌, ◌⊎◌, ◌^◌, ◌≤◌, ◌+◌, ℕ, Bool, true, false, ◌||◌, if◌then◌else◌, List, [], ◌∷◌, ◌++◌, Option, codes, length}
 use Rattle.std.specs.Io.KnownBytes.{Appends, Consumes, IsAtEnd}
 use Rattle.model_jobs.specs.JobFiles.{are_same}
-use Rattle.model_jobs.specs.Jobs.{State, opening}
+use Rattle.model_jobs.specs.Jobs.{State, initial_state}
 use Rattle.model_jobs.specs.Texts.{ended}
 use Rattle.mesh_fields.specs.KeptLines.{IsKept, rest_fault}
 use Rattle.mesh_job.specs.Lines.{text_lines}
@@ -31,7 +31,7 @@ told_lines sizes state (line ∷ next ∷ lines) =
 
 -- what a session of these sizes tells that is fed this text
 abbrev pub live_output : Sizes → List ℕ → List ℕ
-live_output sizes text = told_lines sizes (opening (job_of sizes)) (text_lines text)
+live_output sizes text = told_lines sizes (initial_state (job_of sizes)) (text_lines text)
 
 -- the line `end` is among lines, of which the last is what follows the last line end
 abbrev pub have_end : List (List ℕ) → Bool

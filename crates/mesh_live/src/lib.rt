@@ -5,9 +5,9 @@
 #![tactic(auto)]
 
 mod answers;
+mod idle;
 pub mod line_rows;
 mod live_lines;
-mod opening;
 mod run;
 mod session;
 mod sizes;

@@ -6,11 +6,11 @@ ghost use Rattle.model_jobs.specs.JobFiles.{are_same, is_empty};
 ghost use Rattle.mesh_fields.specs.Lines.{line_fields, texts};
 ghost use Rattle.mesh_live.specs.LiveLines.{IsSearch, IsValidLive, attempt_in, attempt_of, call_in, is_no_command, live_line, live_of, live_of_fields, read_live};
 ghost use Rattle.mesh_job.specs.Reading.{IsFaultOfStep};
-ghost use Rattle.mesh_job.specs.declared.faults.LineFault.{LineFault};
+ghost use Rattle.mesh_job.specs.declared.faults.LineError.{LineError};
 
 use mesh_fields::lines::{check_bytes, fields_of, is_word};
 use mesh_fields::numbers::number32;
-use mesh_job::{LineFault, PlanLine, command_of, plan_line};
+use mesh_job::{LineError, PlanLine, command_of, plan_line};
 use model_words::{Command, FaultKind, Version};
 use std::alloc::Global;
 
@@ -27,12 +27,12 @@ pub enum LiveLine {
 ///
 /// Each command is spelt as in a script of version 2. The first kind of fault that holds for the line is told: LONG_LINE where it has more than
 /// 1,024 bytes, BYTE, then WORD, and else that of the leftmost field which can't be read. Memory is an allocation failure, which only a `pair` line can meet.
-pub fn read_live_line(alloc: Global, workers: u32, line: &[u8]) -> Result<LiveLine, LineFault>
+pub fn read_live_line(alloc: Global, workers: u32, line: &[u8]) -> Result<LiveLine, LineError>
     requires { 1 ≤ workers }
     ensures ok { IfOk result (λ asked. live_line workers line.now ≡ Ok (live_of asked)) }
     ensures in_range { IfOk result (λ asked. IsValidLive workers (live_of asked)) }
     ensures err { IfErr result (IsFaultOfStep (live_line workers line.now)) }
-    ensures memory { result ≡ Err LineFault.Memory → IsSearch (line_fields line.now) }
+    ensures memory { result ≡ Err LineError.Memory → IsSearch (line_fields line.now) }
 {
     check_bytes(line)?;
     let fields = fields_of(line)?;
@@ -40,16 +40,16 @@ pub fn read_live_line(alloc: Global, workers: u32, line: &[u8]) -> Result<LiveLi
 }
 
 /// The line of a session with these fields, its word first.
-fn line_of_fields(alloc: Global, workers: u32, fields: &[&[u8]]) -> Result<LiveLine, LineFault>
+fn line_of_fields(alloc: Global, workers: u32, fields: &[&[u8]]) -> Result<LiveLine, LineError>
     requires some { 1 ≤ workers }
     requires filled { list_any is_empty (texts fields.now) ≡ false }
     ensures ok { IfOk result (λ asked. live_of_fields workers (texts fields.now) ≡ Ok (live_of asked)) }
     ensures in_range { IfOk result (λ asked. IsValidLive workers (live_of asked)) }
     ensures err { IfErr result (IsFaultOfStep (live_of_fields workers (texts fields.now))) }
-    ensures memory { result ≡ Err LineFault.Memory → IsSearch (texts fields.now) }
+    ensures memory { result ≡ Err LineError.Memory → IsSearch (texts fields.now) }
 {
     let [word, fields @ ..] = fields else {
-        return Err(LineFault::Kind(FaultKind::Word));
+        return Err(LineError::Kind(FaultKind::Word));
     };
     if is_word(*word, b"run") {
         let attempt = attempt_of(workers, fields)?;
@@ -64,12 +64,12 @@ fn call_of(
     workers: u32,
     word: &[u8],
     fields: &[&[u8]],
-) -> Result<LiveLine, LineFault>
+) -> Result<LiveLine, LineError>
     requires { 1 ≤ workers }
     ensures ok { IfOk result (λ asked. call_in workers word.now (texts fields.now) ≡ Ok (live_of asked)) }
     ensures in_range { IfOk result (λ asked. IsValidLive workers (live_of asked)) }
     ensures err { IfErr result (IsFaultOfStep (call_in workers word.now (texts fields.now))) }
-    ensures memory { result ≡ Err LineFault.Memory → are_same word.now (codes "pair") ≡ true }
+    ensures memory { result ≡ Err LineError.Memory → are_same word.now (codes "pair") ≡ true }
 {
     let line = plan_line(alloc, Version::Two, workers, word, fields)?;
     Ok(LiveLine::Call(line))

@@ -1,7 +1,7 @@
 //! A whole session: its lines come from a device, and its answers go to one.
 ghost use Rattle.std.specs.Prelude.{◌≡◌, ◌≢◌, ◌≤◌, ◌⊎◌, [], Err, false, true, is_err, length, vec_len, IfErr, IfOk, OnErr, OnOk};
 ghost use Rattle.std.specs.Io.KnownBytes.{Appends};
-ghost use Rattle.model_jobs.specs.Jobs.{opening};
+ghost use Rattle.model_jobs.specs.Jobs.{initial_state};
 ghost use Rattle.model_jobs.specs.Texts.{ended};
 ghost use Rattle.mesh_devices.specs.Transfer.{AppendsBeginning};
 ghost use Rattle.mesh_live.specs.Answers.{told};
@@ -51,7 +51,7 @@ fn live_on<I: Source, O: Sink>(
     output: &mut O,
 ) -> Result<(), ReplayError>
     requires sound { IsSession session.old }
-    requires opening { state_of session.old ≡ opening (job_of (sizes_of session.old)) }
+    requires initial_state { state_of session.old ≡ initial_state (job_of (sizes_of session.old)) }
     requires input { I.has_failed input.old ≡ false }
     requires output { O.has_failed output.old ≡ false }
     ensures ok { OnOk result ((I.has_failed input.new ≡ false) × (O.has_failed output.new ≡ false)) }

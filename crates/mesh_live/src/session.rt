@@ -1,6 +1,6 @@
 //! A session, and its answer to a line.
 ghost use Rattle.std.specs.Prelude.{◌≡◌, ◌≤◌, ◌++◌, Err, IfOk, OnOk};
-ghost use Rattle.model_jobs.specs.Jobs.{opening};
+ghost use Rattle.model_jobs.specs.Jobs.{initial_state};
 ghost use Rattle.model_words.specs.declared.faults.FaultKind.{FaultKind};
 ghost use Rattle.mesh_live.specs.LiveLines.{IsValidLive, live_line, live_of};
 ghost use Rattle.mesh_mutator.specs.Headline.{EndsInMeaning, IsHistory};
@@ -9,9 +9,9 @@ ghost use Rattle.mesh_live.specs.Sessions.{HasFairSizes, IsSession, book_of, job
 
 use crate::Sizes;
 use crate::answers::add_fault;
+use crate::idle::idle_job;
 use crate::live_lines::{LiveLine, read_live_line};
-use crate::opening::idle_job;
-use mesh_job::{Job, LineFault};
+use mesh_job::{Job, LineError};
 use mesh_mutator::Book;
 use mesh_text::Turns;
 use std::alloc::{AllocError, Global};
@@ -34,7 +34,7 @@ impl Session {
     pub fn open(alloc: Global, sizes: &Sizes) -> Result<Session, AllocError>
         requires { HasFairSizes sizes.now }
         ensures sizes { IfOk result (λ session. sizes_of session ≡ sizes.now) }
-        ensures opening { IfOk result (λ session. state_of session ≡ opening (job_of sizes.now)) }
+        ensures initial_state { IfOk result (λ session. state_of session ≡ initial_state (job_of sizes.now)) }
         ensures sound { IfOk result IsSession }
     {
         let job = idle_job(alloc, sizes)?;
@@ -76,8 +76,8 @@ impl Session {
     {
         match read_live_line(alloc, self.workers(), line) {
             Ok(line) => self.answer_line(alloc, &line, text),
-            Err(LineFault::Kind(kind)) => add_fault(text, kind),
-            Err(LineFault::Memory) => Err(AllocError),
+            Err(LineError::Kind(kind)) => add_fault(text, kind),
+            Err(LineError::Memory) => Err(AllocError),
         }
     }
 

@@ -2,7 +2,7 @@
 ghost use Rattle.std.specs.Prelude.{◌≡◌, ◌≤◌};
 ghost use Rattle.model_words.specs.Commands.{IsInRange};
 
-use crate::ends::{End, Fault, expect};
+use crate::ends::{CaseError, End, expect};
 use crate::orders::{ORDERS, PAGES};
 use mesh_mutator::{Attempt, Book, Command, Reply};
 use mesh_steps::Report;
@@ -15,7 +15,7 @@ const CELLS: u32 = 8;
 pub(crate) fn fill(alloc: Global) -> End {
     match Book::open(alloc, PAGES, 200) {
         Ok(mut book) => make_all(&mut book),
-        Err(_) => Err(Fault::Memory),
+        Err(_) => Err(CaseError::Memory),
     }
 }
 
@@ -54,13 +54,13 @@ impl Before {
     }
 
     /// Right where a book is still so.
-    fn check(&self, book: &Book, cell: u8) -> Result<(), Fault> {
+    fn check(&self, book: &Book, cell: u8) -> Result<(), CaseError> {
         let seen = book.look(&Command::Get(cell, 0, 16));
         if seen != self.seen {
-            return Err(Fault::Wrong("a refused New wrote its cell"));
+            return Err(CaseError::Wrong("a refused New wrote its cell"));
         }
         if book.report() != self.report {
-            return Err(Fault::Wrong("a refused New changed the report"));
+            return Err(CaseError::Wrong("a refused New changed the report"));
         }
         expect(
             book.journal().len() == self.entries,
@@ -84,17 +84,19 @@ fn make_again(book: &mut Book, cell: u8, len: u32, wanted: &Reply) -> End {
     if has_room(book, cell, len, wanted)? {
         return Ok(1);
     }
-    Err(Fault::Wrong("one allocation was refused twice"))
+    Err(CaseError::Wrong("one allocation was refused twice"))
 }
 
 /// Whether there was memory for an object, which must be answered so.
-fn has_room(book: &mut Book, cell: u8, len: u32, wanted: &Reply) -> Result<bool, Fault> {
+fn has_room(book: &mut Book, cell: u8, len: u32, wanted: &Reply) -> Result<bool, CaseError> {
     match book.act(0, &Command::New(cell, len, 0)) {
         Attempt::Done(reply) => {
             expect(reply == *wanted, "another serial or address")?;
             Ok(true)
         }
         Attempt::OutOfMemory => Ok(false),
-        Attempt::Blocked | Attempt::HistoryFull => Err(Fault::Wrong("a New that isn't answered")),
+        Attempt::Blocked | Attempt::HistoryFull => Err(CaseError::Wrong(
+            "a New that isn't answered",
+        )),
     }
 }

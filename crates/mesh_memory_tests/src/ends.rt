@@ -5,11 +5,11 @@ use std::alloc::AllocError;
 use thiserror::Error;
 
 /// How many calls were refused memory and made again, or what ended the case.
-pub(crate) type End = Result<u32, Fault>;
+pub(crate) type End = Result<u32, CaseError>;
 
 /// What ends a case.
 #[derive(Clone, Copy, Debug, Error)]
-pub(crate) enum Fault {
+pub(crate) enum CaseError {
     /// Memory was refused where a call that is refused isn't made again.
     #[error("out of memory")]
     Memory,
@@ -21,41 +21,41 @@ pub(crate) enum Fault {
     Wrong(&'static str),
 }
 
-impl From<AllocError> for Fault {
-    fn from(_refused: AllocError) -> Fault {
-        Fault::Memory
+impl From<AllocError> for CaseError {
+    fn from(_refused: AllocError) -> CaseError {
+        CaseError::Memory
     }
 }
 
-impl From<OpenError> for Fault {
-    fn from(_refused: OpenError) -> Fault {
-        Fault::Memory
+impl From<OpenError> for CaseError {
+    fn from(_refused: OpenError) -> CaseError {
+        CaseError::Memory
     }
 }
 
-impl From<FinishError> for Fault {
-    fn from(error: FinishError) -> Fault {
+impl From<FinishError> for CaseError {
+    fn from(error: FinishError) -> CaseError {
         match error {
-            FinishError::Memory => Fault::Memory,
-            _ => Fault::Wrong("seats and journal make no history"),
+            FinishError::Memory => CaseError::Memory,
+            _ => CaseError::Wrong("seats and journal make no history"),
         }
     }
 }
 
-impl From<SearchError> for Fault {
-    fn from(error: SearchError) -> Fault {
+impl From<SearchError> for CaseError {
+    fn from(error: SearchError) -> CaseError {
         match error {
-            SearchError::Memory => Fault::Memory,
-            SearchError::Thread => Fault::Thread,
+            SearchError::Memory => CaseError::Memory,
+            SearchError::Thread => CaseError::Thread,
         }
     }
 }
 
 /// Right where a thing holds, and else the fault that says what.
-pub(crate) fn expect(holds: bool, what: &'static str) -> Result<(), Fault> {
+pub(crate) fn expect(holds: bool, what: &'static str) -> Result<(), CaseError> {
     if holds {
         Ok(())
     } else {
-        Err(Fault::Wrong(what))
+        Err(CaseError::Wrong(what))
     }
 }

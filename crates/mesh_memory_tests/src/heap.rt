@@ -1,5 +1,5 @@
 //! Objects of a heap, each made again where memory was refused.
-use crate::ends::{End, Fault, expect};
+use crate::ends::{CaseError, End, expect};
 use crate::orders::{ORDERS, PAGES};
 use mesh_steps::{Heap, NewFault, Ref};
 use std::alloc::Global;
@@ -8,7 +8,7 @@ use std::alloc::Global;
 pub(crate) fn fill(alloc: Global) -> End {
     match Heap::open(alloc, PAGES) {
         Ok(mut heap) => make_all(&mut heap),
-        Err(_) => Err(Fault::Memory),
+        Err(_) => Err(CaseError::Memory),
     }
 }
 
@@ -36,7 +36,7 @@ fn make(heap: &mut Heap, len: u32, wanted: Ref) -> End {
         return Ok(0);
     }
     if heap.report() != before {
-        return Err(Fault::Wrong("a refused new changed the report"));
+        return Err(CaseError::Wrong("a refused new changed the report"));
     }
     make_again(heap, len, wanted)
 }
@@ -46,13 +46,13 @@ fn make_again(heap: &mut Heap, len: u32, wanted: Ref) -> End {
     if has_room(heap, len, wanted)? {
         return Ok(1);
     }
-    Err(Fault::Wrong("one allocation was refused twice"))
+    Err(CaseError::Wrong("one allocation was refused twice"))
 }
 
 /// Whether there was memory for an object, which must be this one.
-fn has_room(heap: &mut Heap, len: u32, wanted: Ref) -> Result<bool, Fault> {
+fn has_room(heap: &mut Heap, len: u32, wanted: Ref) -> Result<bool, CaseError> {
     if heap.is_full() {
-        return Err(Fault::Wrong("too many objects"));
+        return Err(CaseError::Wrong("too many objects"));
     }
     match heap.new(len, 0) {
         Ok(object) => {
@@ -60,6 +60,6 @@ fn has_room(heap: &mut Heap, len: u32, wanted: Ref) -> Result<bool, Fault> {
             Ok(true)
         }
         Err(NewFault::Memory) => Ok(false),
-        Err(NewFault::Refused(_)) => Err(Fault::Wrong("a refusal")),
+        Err(NewFault::Refused(_)) => Err(CaseError::Wrong("a refusal")),
     }
 }

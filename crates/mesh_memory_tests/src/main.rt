@@ -14,7 +14,7 @@ mod searches;
 mod seats;
 mod threads;
 
-use crate::ends::{End, Fault};
+use crate::ends::{CaseError, End};
 use std::process::ExitCode;
 use std::sync::Wait;
 use std::thread::Threads;
@@ -76,7 +76,7 @@ fn run_case<R: AllocGlobal + Print + Threads + Wait + Sync>(
     match end_of(rt, case) {
         Ok(0) => println!(rt; "{case}: done")?,
         Ok(refused) => println!(rt; "{case}: done, {refused} refused")?,
-        Err(Fault::Wrong(what)) => {
+        Err(CaseError::Wrong(what)) => {
             println!(rt; "WRONG {case}: {what}")?;
             return Ok(false);
         }
@@ -96,6 +96,6 @@ fn end_of<R: AllocGlobal + Print + Threads + Wait + Sync>(rt: &R, case: &str) ->
         "seats" => seats::share(rt, alloc),
         "search" => searches::search_by_two(rt, alloc),
         "threads" => threads::run_scripts(rt, alloc),
-        _ => Err(Fault::Wrong("no such case")),
+        _ => Err(CaseError::Wrong("no such case")),
     }
 }

@@ -2,7 +2,7 @@
 ghost use Rattle.std.specs.Prelude.{◌≡◌, ◌∷◌, []};
 ghost use Rattle.model_words.specs.Commands.{IsInRange};
 
-use crate::ends::{End, Fault, expect};
+use crate::ends::{CaseError, End, expect};
 use arrayvec::ArrayVec;
 use mesh_class::{Class, class_of};
 use mesh_mutator::{Attempt, Book, Command, Reply};
@@ -14,7 +14,7 @@ use std::alloc::Global;
 pub(crate) fn mesh<R: Print>(rt: &R, alloc: Global) -> End {
     match Book::open(alloc, 16, 400) {
         Ok(mut book) => mesh_in(rt, &mut book),
-        Err(_) => Err(Fault::Memory),
+        Err(_) => Err(CaseError::Memory),
     }
 }
 
@@ -22,7 +22,7 @@ pub(crate) fn mesh<R: Print>(rt: &R, alloc: Global) -> End {
 fn mesh_in<R: Print>(rt: &R, book: &mut Book) -> End {
     set_up(book)?;
     let (Ok(large), Ok(small)) = (class_of(2048), class_of(1024)) else {
-        return Err(Fault::Wrong("no class"));
+        return Err(CaseError::Wrong("no class"));
     };
     go_between(rt, book, large, small)
 }
@@ -37,10 +37,10 @@ fn go_between<R: Print>(rt: &R, book: &mut Book, large: Class, small: Class) -> 
 }
 
 /// Prints a line.
-fn tell<R: Print>(rt: &R, line: &str) -> Result<(), Fault> {
+fn tell<R: Print>(rt: &R, line: &str) -> Result<(), CaseError> {
     match print!(rt; "{line}") {
         Ok(()) => Ok(()),
-        Err(_) => Err(Fault::Wrong("a line can't be written")),
+        Err(_) => Err(CaseError::Wrong("a line can't be written")),
     }
 }
 
@@ -66,7 +66,7 @@ static OBJECTS: [(u8, u32); 14] = [
 static FREED: [u8; 7] = [0, 3, 10, 11, 16, 17, 20];
 
 /// Two groups that can be meshed of each of two classes, groups 0 to 3, an empty group 4, and group 5 of one object.
-fn set_up(book: &mut Book) -> Result<(), Fault> {
+fn set_up(book: &mut Book) -> Result<(), CaseError> {
     for (cell, len) in OBJECTS.iter() {
         make(book, *cell, *len)?;
     }
@@ -77,11 +77,11 @@ fn set_up(book: &mut Book) -> Result<(), Fault> {
 }
 
 /// Makes an object that a cell names.
-fn make(book: &mut Book, cell: u8, len: u32) -> Result<(), Fault> {
+fn make(book: &mut Book, cell: u8, len: u32) -> Result<(), CaseError> {
     match book.act(0, &Command::New(cell, len, 0)) {
         Attempt::Done(Reply::Object(_, _)) => Ok(()),
-        Attempt::OutOfMemory => Err(Fault::Memory),
-        _ => Err(Fault::Wrong("a New that makes nothing")),
+        Attempt::OutOfMemory => Err(CaseError::Memory),
+        _ => Err(CaseError::Wrong("a New that makes nothing")),
     }
 }
 
@@ -91,14 +91,14 @@ fn answered(
     command: Command,
     reply: Reply,
     what: &'static str,
-) -> Result<(), Fault>
+) -> Result<(), CaseError>
     requires { IsInRange command }
 {
     expect(book.act(0, &command) == Attempt::Done(reply), what)
 }
 
 /// Makes a command, which must be done.
-fn done(book: &mut Book, command: Command) -> Result<(), Fault>
+fn done(book: &mut Book, command: Command) -> Result<(), CaseError>
     requires { IsInRange command }
 {
     answered(book, command, Reply::Done, "a command that isn't done")
@@ -106,29 +106,29 @@ fn done(book: &mut Book, command: Command) -> Result<(), Fault>
 
 /// The stretch: one mesh is made and the other one cancelled, both step by step, an object of its source is freed meanwhile; then that one is
 /// made whole, and the empty group is swept.
-fn go_through(book: &mut Book, large: Class, small: Class) -> Result<(), Fault> {
+fn go_through(book: &mut Book, large: Class, small: Class) -> Result<(), CaseError> {
     begin_both(book, small)?;
     step_through(book, large, small)?;
     finish(book)
 }
 
 /// Begins both meshes, makes a step of the one of the smaller class, and frees an object of its source.
-fn begin_both(book: &mut Book, small: Class) -> Result<(), Fault> {
+fn begin_both(book: &mut Book, small: Class) -> Result<(), CaseError> {
     done(book, put(2, b'm'))?;
     if book.begin(1, 0) != Ok(6) {
-        return Err(Fault::Wrong("another mesh of the class 2048"));
+        return Err(CaseError::Wrong("another mesh of the class 2048"));
     }
     if book.begin(3, 2).is_err() {
-        return Err(Fault::Wrong("no mesh of the class 1024"));
+        return Err(CaseError::Wrong("no mesh of the class 1024"));
     }
     if book.step(small).is_err() {
-        return Err(Fault::Wrong("no step of the class 1024"));
+        return Err(CaseError::Wrong("no step of the class 1024"));
     }
     done(book, Command::Free(15))
 }
 
 /// Makes the steps of the mesh of the larger class, with every other call after each, and cancels the one of the smaller class amid them.
-fn step_through(book: &mut Book, large: Class, small: Class) -> Result<(), Fault> {
+fn step_through(book: &mut Book, large: Class, small: Class) -> Result<(), CaseError> {
     let mut left = 6u32;
     for _ in 0..6u32 {
         left = step(book, large, left)?;
@@ -150,20 +150,20 @@ const REPORT: Report = Report {
 };
 
 /// Makes the mesh whole that was cancelled, and sweeps the empty group.
-fn finish(book: &mut Book) -> Result<(), Fault> {
+fn finish(book: &mut Book) -> Result<(), CaseError> {
     if book.mesh_whole(3, 2) != Ok(1) {
-        return Err(Fault::Wrong("another mesh made whole"));
+        return Err(CaseError::Wrong("another mesh made whole"));
     }
     if book.sweep(4) != Ok(1) {
-        return Err(Fault::Wrong("another sweep"));
+        return Err(CaseError::Wrong("another sweep"));
     }
     expect(book.report() == REPORT, "another report")
 }
 
 /// Makes a step of a mesh, and gives how many are left: one less than there were.
-fn step(book: &mut Book, class: Class, left: u32) -> Result<u32, Fault> {
+fn step(book: &mut Book, class: Class, left: u32) -> Result<u32, CaseError> {
     let Ok(step) = book.step(class) else {
-        return Err(Fault::Wrong("a step that is refused"));
+        return Err(CaseError::Wrong("a step that is refused"));
     };
     expect(
         step.left.checked_add(1) == Some(left),
@@ -173,9 +173,9 @@ fn step(book: &mut Book, class: Class, left: u32) -> Result<u32, Fault> {
 }
 
 /// Cancels the mesh of a class after its first step, and makes the one step that takes the protection back.
-fn unwind(book: &mut Book, class: Class) -> Result<(), Fault> {
+fn unwind(book: &mut Book, class: Class) -> Result<(), CaseError> {
     let Ok(left) = book.cancel(class) else {
-        return Err(Fault::Wrong("a cancel that is refused"));
+        return Err(CaseError::Wrong("a cancel that is refused"));
     };
     expect(
         step(book, class, left)? == 0,
@@ -200,18 +200,18 @@ fn one(byte: u8) -> ArrayVec<u8, MAX_BYTES>
 }
 
 /// Each command, a New in an open group, and a report. A store may be blocked.
-fn attempt_all(book: &mut Book) -> Result<(), Fault> {
+fn attempt_all(book: &mut Book) -> Result<(), CaseError> {
     read_all(book)?;
     store_all(book)?;
     make_and_free(book)?;
     if book.sweep(2).is_ok() {
-        return Err(Fault::Wrong("a sweep of a group with objects"));
+        return Err(CaseError::Wrong("a sweep of a group with objects"));
     }
     expect(book.report().objects == 6, "another count of objects")
 }
 
 /// Each command that reads.
-fn read_all(book: &mut Book) -> Result<(), Fault> {
+fn read_all(book: &mut Book) -> Result<(), CaseError> {
     answered(
         book,
         Command::Get(2, 0, 1),
@@ -228,7 +228,7 @@ fn read_all(book: &mut Book) -> Result<(), Fault> {
 }
 
 /// Each command that stores.
-fn store_all(book: &mut Book) -> Result<(), Fault> {
+fn store_all(book: &mut Book) -> Result<(), CaseError> {
     done(book, Command::Alias(30, 2))?;
     done(book, put(1, b'x'))?;
     done_or_blocked(book, Command::Poke(0x2000, b'm'))?;
@@ -237,7 +237,7 @@ fn store_all(book: &mut Book) -> Result<(), Fault> {
 }
 
 /// A New, and a Free of its object and of one that is freed.
-fn make_and_free(book: &mut Book) -> Result<(), Fault> {
+fn make_and_free(book: &mut Book) -> Result<(), CaseError> {
     expect(
         book.act(0, &Command::Free(0)) != Attempt::Done(Reply::Done),
         "an object freed twice",
@@ -247,7 +247,7 @@ fn make_and_free(book: &mut Book) -> Result<(), Fault> {
 }
 
 /// Makes a store, which must be done or held back.
-fn done_or_blocked(book: &mut Book, command: Command) -> Result<(), Fault>
+fn done_or_blocked(book: &mut Book, command: Command) -> Result<(), CaseError>
     requires { IsInRange command }
 {
     let attempt = book.act(0, &command);

@@ -1,5 +1,5 @@
 //! Views and searches of the worked groups.
-use crate::ends::{End, Fault, expect};
+use crate::ends::{CaseError, End, expect};
 use mesh_mutator::{Attempt, Book, Command};
 use mesh_search::{ClassView, Found, NoGate, Pair, search, search_one, shuffle};
 use std::alloc::Global;
@@ -16,18 +16,18 @@ static FREED_IN_SECOND_SLOTS: [u8; 4] = [1, 3, 5, 7];
 static WORDS: [u64; 3] = [2, 0, 5];
 
 /// The views of four groups, of whose eight objects these are freed.
-fn views_after(alloc: Global, freed: &[u8]) -> Result<Vec<ClassView>, Fault> {
+fn views_after(alloc: Global, freed: &[u8]) -> Result<Vec<ClassView>, CaseError> {
     match Book::open(alloc, 16, 64) {
         Ok(mut book) => views_of(alloc, &mut book, freed),
-        Err(_) => Err(Fault::Memory),
+        Err(_) => Err(CaseError::Memory),
     }
 }
 
 /// The views of a fresh book, once the four groups stand in it.
-fn views_of(alloc: Global, book: &mut Book, freed: &[u8]) -> Result<Vec<ClassView>, Fault> {
+fn views_of(alloc: Global, book: &mut Book, freed: &[u8]) -> Result<Vec<ClassView>, CaseError> {
     for cell in 0..8u8 {
         if book.act(0, &Command::New(cell, 2048, 0)) == Attempt::OutOfMemory {
-            return Err(Fault::Memory);
+            return Err(CaseError::Memory);
         }
     }
     for cell in freed.iter() {
@@ -62,9 +62,9 @@ fn are_worked(found: &[Pair]) -> bool {
 }
 
 /// Right where a search of the view of a place found the worked pairs in the last one, and none in another.
-fn check(found: &Found, place: usize) -> Result<(), Fault> {
+fn check(found: &Found, place: usize) -> Result<(), CaseError> {
     if place == 9 && !is_worked(found) {
-        return Err(Fault::Wrong("other pairs"));
+        return Err(CaseError::Wrong("other pairs"));
     }
     expect(
         place == 9 || found.pairs.is_empty(),
@@ -81,7 +81,7 @@ pub(crate) fn search_alone(alloc: Global) -> End {
 /// The order and the pairs of ten views.
 fn search_views(alloc: Global, views: &[ClassView]) -> End {
     if views.len() != 10 {
-        return Err(Fault::Wrong("another count of views"));
+        return Err(CaseError::Wrong("another count of views"));
     }
     check_order(alloc)?;
     for k in 0..views.len() {
@@ -91,13 +91,13 @@ fn search_views(alloc: Global, views: &[ClassView]) -> End {
 }
 
 /// The order of four groups.
-fn check_order(alloc: Global) -> Result<(), Fault> {
+fn check_order(alloc: Global) -> Result<(), CaseError> {
     let order = shuffle(alloc, &[0, 1, 2, 3], &WORDS)?;
     expect(order.as_slice() == [2, 0, 3, 1].as_slice(), "another order")
 }
 
 /// The pairs of the view of a place.
-fn search_view(alloc: Global, view: &ClassView, place: usize) -> Result<(), Fault> {
+fn search_view(alloc: Global, view: &ClassView, place: usize) -> Result<(), CaseError> {
     let found = search_one(alloc, view, &WORDS, 2)?;
     check(&found, place)
 }
@@ -120,7 +120,7 @@ fn search_in_vain<R: Threads + Wait + Sync>(rt: &R, alloc: Global) -> End {
 /// Right where ten searches found no pair, the last one by two tries in each of three rounds.
 fn check_in_vain(found: &[Found]) -> End {
     if found.len() != 10 {
-        return Err(Fault::Wrong("another count of searches"));
+        return Err(CaseError::Wrong("another count of searches"));
     }
     for k in 0..found.len() {
         let probes = if k == 9 { 6 } else { 0 };
@@ -137,7 +137,7 @@ fn is_in_vain(found: &Found, probes: u64) -> bool {
 /// Right where these are the ten searches of the worked groups.
 fn check_all(found: &[Found]) -> End {
     if found.len() != 10 {
-        return Err(Fault::Wrong("another count of searches"));
+        return Err(CaseError::Wrong("another count of searches"));
     }
     for k in 0..found.len() {
         check(&found[k], k)?;

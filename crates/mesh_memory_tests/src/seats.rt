@@ -1,7 +1,7 @@
 //! A book that two seats share.
 ghost use Rattle.model_words.specs.Commands.{IsInRange};
 
-use crate::ends::{End, Fault, expect};
+use crate::ends::{CaseError, End, expect};
 use arrayvec::ArrayVec;
 use mesh_mutator::{Attempt, Book, Command};
 use mesh_shared::{Seat, Shared};
@@ -32,7 +32,7 @@ fn serve_all<R: Wait>(rt: &R, shared: &Shared, seats: &mut [Seat]) -> End {
 }
 
 /// Settles the book: its history has an entry for each call.
-fn settle(alloc: Global, shared: Shared, seats: Vec<Seat>) -> Result<(), Fault> {
+fn settle(alloc: Global, shared: Shared, seats: Vec<Seat>) -> Result<(), CaseError> {
     let calls = calls_of(seats.as_slice());
     let ended = shared.finish(alloc, seats)?;
     expect(ended.history.len() == calls, "another count of entries")
@@ -65,7 +65,7 @@ fn call_each<R: Wait>(
     seat: &mut Seat,
     first: u8,
     next: u8,
-) -> Result<(), Fault> {
+) -> Result<(), CaseError> {
     let mut bytes = ArrayVec::new();
     bytes.push(b'w');
     call(rt, shared, seat, Command::Put(first, 0, bytes))?;
@@ -79,13 +79,18 @@ fn call_each<R: Wait>(
 }
 
 /// Makes a call that takes no memory.
-fn call<R: Wait>(rt: &R, shared: &Shared, seat: &mut Seat, command: Command) -> Result<(), Fault>
+fn call<R: Wait>(
+    rt: &R,
+    shared: &Shared,
+    seat: &mut Seat,
+    command: Command,
+) -> Result<(), CaseError>
     requires { IsInRange command }
 {
     if is_kept(rt, shared, seat, &command)? {
         return Ok(());
     }
-    Err(Fault::Wrong("a call whose allocation failed"))
+    Err(CaseError::Wrong("a call whose allocation failed"))
 }
 
 /// Makes a call, and makes it again where memory was refused.
@@ -105,7 +110,7 @@ fn make_again<R: Wait>(rt: &R, shared: &Shared, seat: &mut Seat, command: &Comma
     if is_kept(rt, shared, seat, command)? {
         return Ok(1);
     }
-    Err(Fault::Wrong("one allocation was refused twice"))
+    Err(CaseError::Wrong("one allocation was refused twice"))
 }
 
 /// Whether there was memory for a call. The seat keeps it exactly then.
@@ -114,7 +119,7 @@ fn is_kept<R: Wait>(
     shared: &Shared,
     seat: &mut Seat,
     command: &Command,
-) -> Result<bool, Fault>
+) -> Result<bool, CaseError>
     requires { IsInRange command.now }
 {
     let before = seat.calls().len();
@@ -132,6 +137,8 @@ fn is_kept<R: Wait>(
             expect(kept == before, "the seat keeps a call that found no memory")?;
             Ok(false)
         }
-        Attempt::Blocked | Attempt::HistoryFull => Err(Fault::Wrong("a call that isn't answered")),
+        Attempt::Blocked | Attempt::HistoryFull => Err(CaseError::Wrong(
+            "a call that isn't answered",
+        )),
     }
 }

@@ -3,7 +3,7 @@ ghost use Rattle.std.specs.Prelude.{◌≡◌, ◌≤◌};
 ghost use Rattle.std.specs.List.{All};
 ghost use Rattle.model_words.specs.Commands.{IsInRange};
 
-use crate::ends::{End, Fault, expect};
+use crate::ends::{CaseError, End, expect};
 use arrayvec::ArrayVec;
 use mesh_mutator::{Book, Command};
 use mesh_shared::{MeshPlan, NoGate, RunError, run_threads};
@@ -53,12 +53,12 @@ fn end_of(entries: usize) -> End {
 }
 
 /// What ends a run that stopped.
-fn fault_of(error: RunError) -> Fault {
+fn fault_of(error: RunError) -> CaseError {
     match error {
-        RunError::Memory => Fault::Memory,
-        RunError::Thread => Fault::Thread,
+        RunError::Memory => CaseError::Memory,
+        RunError::Thread => CaseError::Thread,
         RunError::Finish(error) => error.into(),
-        RunError::History => Fault::Wrong("a history that is full"),
+        RunError::History => CaseError::Wrong("a history that is full"),
     }
 }
 

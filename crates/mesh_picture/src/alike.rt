@@ -7,7 +7,7 @@ use mesh_running::{MAX_MEMBERS, Progress, StepOrder};
 use std::alloc::{AllocError, Global};
 
 /// A copy of a frame.
-pub fn copy_of(frame: &Frame) -> Result<Frame, AllocError> {
+pub fn copied(frame: &Frame) -> Result<Frame, AllocError> {
     Ok(Frame {
         members: frame.members.clone()?,
         leads: frame.leads.clone()?,

@@ -1,5 +1,5 @@
 //! The lines above a frame, and when a frame is due.
-use crate::alike::{are_alike, copy_of, empty_frame, shows_nothing};
+use crate::alike::{are_alike, copied, empty_frame, shows_nothing};
 use crate::frame::Frame;
 use crate::numbers::narrow;
 use crate::pills::{Tone, is_step, tone_of};
@@ -122,7 +122,7 @@ impl Gathering {
 
     /// A frame was shown with all lines until now.
     pub fn shown(&mut self, frame: &Frame) -> Result<(), AllocError> {
-        self.last = copy_of(frame)?;
+        self.last = copied(frame)?;
         self.begun = true;
         self.captions.clear();
         self.hidden = 0;

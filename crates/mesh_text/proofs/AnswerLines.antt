@@ -4,7 +4,7 @@ use Rattle.std.proofs.KnownBytes.{Appends-trans}
 use Rattle.std.proofs.Math.Seq.{take-append_seam}
 use Rattle.std.proofs.lemmas.Grind.{flat_map-append}
 use Rattle.std.specs.Io.KnownBytes.{Appends}
-use Rattle.model_jobs.specs.Jobs.{Answer, Job, Line, State, answer, answers_from, opening, state_after}
+use Rattle.model_jobs.specs.Jobs.{Answer, Job, Line, State, answer, answers_from, initial_state, state_after}
 use Rattle.model_jobs.specs.Texts.{answer_text, ended, output}
 use Rattle.mesh_job.specs.Plan.{line_of}
 use Rattle.mesh_job.specs.declared.plan.PlanLine.{PlanLine}
@@ -31,22 +31,22 @@ lines_after told bs = flat_map-append (λ a. ended (answer_text a)) told bs
 -- where a job stands after one more line
 state_more : (job : Job) (n : ℕ) (line : Line) → take (n + 1) job.plan ≡ take n job.plan ++ line ∷ []
     → state_up_to job (n + 1) ≡ (answer job (state_up_to job n) line).state
-state_more job n line more = ap (λ lines. state_after job (opening job) lines) more ∙ states_after job (opening job) (take n job.plan) (line ∷ [])
+state_more job n line more = ap (λ lines. state_after job (initial_state job) lines) more ∙ states_after job (initial_state job) (take n job.plan) (line ∷ [])
 
 -- the lines of the answers to one more line
 lines_more : (job : Job) (n : ℕ) (line : Line) → take (n + 1) job.plan ≡ take n job.plan ++ line ∷ []
     → lines_up_to job (n + 1) ≡ lines_up_to job n ++ ended (answer_text (answer job (state_up_to job n) line).answer)
 lines_more job n line more =
-    ap (λ lines. lines_of (answers_from job (opening job) lines)) more
-    ∙ ap (λ told. lines_of told) (answers_after job (opening job) (take n job.plan) (line ∷ []))
-    ∙ lines_after (answers_from job (opening job) (take n job.plan)) ((answer job (state_up_to job n) line).answer ∷ [])
+    ap (λ lines. lines_of (answers_from job (initial_state job) lines)) more
+    ∙ ap (λ told. lines_of told) (answers_after job (initial_state job) (take n job.plan) (line ∷ []))
+    ∙ lines_after (answers_from job (initial_state job) (take n job.plan)) ((answer job (state_up_to job n) line).answer ∷ [])
     ∙ ap (λ last. lines_up_to job n ++ last) (append-nil (ended (answer_text (answer job (state_up_to job n) line).answer)))
 
 -- the output goes on behind the lines up to here
 output_after : (job : Job) (n : ℕ) → output job ≡ lines_up_to job n ++ lines_of (answers_from job (state_up_to job n) (drop n job.plan))
 output_after job n =
-    ap (λ lines. lines_of (answers_from job (opening job) lines)) (sym (take-append-drop n job.plan))
-    ∙ ap (λ told. lines_of told) (answers_after job (opening job) (take n job.plan) (drop n job.plan)) ∙ lines_after _ _
+    ap (λ lines. lines_of (answers_from job (initial_state job) lines)) (sym (take-append-drop n job.plan))
+    ∙ ap (λ told. lines_of told) (answers_after job (initial_state job) (take n job.plan) (drop n job.plan)) ∙ lines_after _ _
 
 -- a job stands where its line was answered
 next_at : (job : Job) (n : ℕ) (line : Line) (book : Book) (places text text' : List ℕ) → take (n + 1) job.plan ≡ take n job.plan ++ line ∷ []
@@ -102,7 +102,7 @@ part_written job n old mid new text so_far part =
 pub output_written : (job : Job) (n : ℕ) (old mid new : Option (List ℕ)) (text : List ℕ) → take n job.plan ≡ job.plan → HasGathered job n old mid text
     → Appends mid new text → Appends old new (output job)
 output_written job n old mid new text all so_far wrote =
-    subst (λ lines. Appends old new (lines_of (answers_from job (opening job) lines))) all
+    subst (λ lines. Appends old new (lines_of (answers_from job (initial_state job) lines))) all
     (subst (λ bytes. Appends old new bytes) so_far.all (Appends-trans old mid new (lines_up_to job so_far.lines) text so_far.wrote wrote))
 
 -- what one more line leaves where its answer is told alone

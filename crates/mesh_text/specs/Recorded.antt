@@ -2,7 +2,7 @@
 use Rattle.std.specs.Prelude.{ℕ, List, Option}
 use Rattle.std.specs.Io.KnownBytes.{Appends, Keeps}
 use Rattle.model_memory.specs.Plain.{Entry}
-use Rattle.model_jobs.specs.Jobs.{Job, opening, state_after}
+use Rattle.model_jobs.specs.Jobs.{Job, initial_state, state_after}
 use Rattle.mesh_spelling.specs.Recordings.{recorded_text}
 use Rattle.mesh_text.specs.Replay.{HasFound, HasPlayed}
 use Rattle.mesh_devices.specs.Transfer.{AppendsBeginning}
@@ -11,7 +11,7 @@ use Rattle.mesh_devices.specs.declared.faults.ReplayError.TheVariants.{Read, Wri
 
 -- the answered commands that the plan of a job leaves in its journal
 abbrev pub journal_of : Job → List Entry
-journal_of job = (state_after job (opening job) job.plan).entries
+journal_of job = (state_after job (initial_state job) job.plan).entries
 
 -- the input was read to its end, and the recorded history of its job's journal was written
 abbrev pub HasReplayedRecorded : Option (List ℕ) → Option (List ℕ) → Option (List ℕ) → Option (List ℕ) → Type 0

@@ -2,7 +2,7 @@
 use Rattle.std.specs.Prelude.{◌≡◌, ℕ, List, [], ◌++◌, Option, drop, length, slice_index, slice_index_or, take, vec_len}
 use Rattle.std.specs.Io.KnownBytes.{Appends}
 use Rattle.std.specs.List.{flat_map}
-use Rattle.model_jobs.specs.Jobs.{Answer, Job, Next, State, answers_from, opening, state_after, Reported, told}
+use Rattle.model_jobs.specs.Jobs.{Answer, Job, Next, State, answers_from, initial_state, state_after, Reported, told}
 use Rattle.model_jobs.specs.Texts.{answer_text, ended}
 use Rattle.model_heap.specs.Table.{report_of}
 use Rattle.mesh_mutator.specs.Book.{Book, memory_of_book, table_of_book}
@@ -50,11 +50,11 @@ lines_of answers = flat_map (λ a. ended (answer_text a)) answers
 
 -- the lines of the answers to the first lines of a job's plan
 abbrev pub lines_up_to : Job → ℕ → List ℕ
-lines_up_to job n = lines_of (answers_from job (opening job) (take n job.plan))
+lines_up_to job n = lines_of (answers_from job (initial_state job) (take n job.plan))
 
 -- where a job stands after the first lines of its plan
 abbrev pub state_up_to : Job → ℕ → State
-state_up_to job n = state_after job (opening job) (take n job.plan)
+state_up_to job n = state_after job (initial_state job) (take n job.plan)
 
 -- turns were taken on the first lines of a job's plan, and on none behind them
 pub record StandsBehind (job : Job) (n : ℕ) (turns : Turns) : Type 0 where

@@ -1,7 +1,7 @@
 //! The replay of a job.
 ghost use Rattle.std.specs.Prelude.{◌≡◌, ◌⊎◌, [], false, true, length, vec_len, is_err, IfErr, OnOk, OnErr};
 ghost use Rattle.std.specs.Io.KnownBytes.{Appends, Keeps};
-ghost use Rattle.model_jobs.specs.Jobs.{opening};
+ghost use Rattle.model_jobs.specs.Jobs.{initial_state};
 ghost use Rattle.model_jobs.specs.Texts.{output as output_of};
 ghost use Rattle.mesh_text.specs.Replay.{HasReplayed, HasStopped};
 ghost use Rattle.mesh_devices.specs.Transfer.{AppendsBeginning};
@@ -55,7 +55,7 @@ fn play<O: Sink>(
 ) -> Result<(), ReplayError>
     requires fresh { O.has_failed output.old ≡ false }
     requires workers { vec_len turns.old.next ≡ length job.now.scripts }
-    requires opening { IsAt job.now (opening job.now) turns.old.book turns.old.next.items }
+    requires initial_state { IsAt job.now (initial_state job.now) turns.old.book turns.old.next.items }
     requires empty { text.old.items ≡ [] }
     ensures ok { OnOk result (O.has_failed output.new ≡ false) }
     ensures whole { OnOk result (Appends (O.written output.old) (O.written output.new) (output_of job.now)) }

@@ -1,7 +1,7 @@
 //! The workers of a job and its mesher in turn, as the plan has them.
 ghost use Rattle.std.specs.Prelude.{◌≡◌, ◌+◌, ◌<◌, ◌++◌, [], ◌∷◌, length, slice_get, slice_index, slice_index_or, vec_len, IfOk, OnOk};
 ghost use Rattle.model_jobs.specs.JobFiles.{IsValidLine};
-ghost use Rattle.model_jobs.specs.Jobs.{Job as PlainJob, RunWorker, State, answer, opening, run_next};
+ghost use Rattle.model_jobs.specs.Jobs.{Job as PlainJob, RunWorker, State, answer, initial_state, run_next};
 ghost use Rattle.model_words.specs.Commands.{IsInRange};
 ghost use Rattle.mesh_job.specs.Plan.{line_of};
 ghost use Rattle.model_jobs.specs.Texts.{ended};
@@ -31,7 +31,7 @@ impl Turns {
     /// A fresh heap, with each worker at the beginning of its script. An error is an allocation failure.
     pub fn open(alloc: Global, job: &Job) -> Result<Turns, AllocError>
         ensures workers { IfOk result (λ turns. worker_count turns ≡ length job.now.scripts) }
-        ensures opening { IfOk result (λ turns. IsAt job.now (opening job.now) (book_of turns) (places_of turns)) }
+        ensures initial_state { IfOk result (λ turns. IsAt job.now (initial_state job.now) (book_of turns) (places_of turns)) }
         ensures stands { IfOk result (StandsBehind job.now 0) }
     {
         let next = vec![in alloc; 0; job.scripts.count()]?;

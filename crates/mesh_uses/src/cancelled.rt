@@ -1,10 +1,10 @@
 //! A mesh that is cancelled.
-use crate::faults::Fault;
+use crate::faults::UseError;
 use crate::objects::{is_done, two_groups};
 use mesh::{Heap, class_of};
 
 /// Begins a mesh, cancels it after its first step, and unwinds it: then its source can be written again. Gives how many steps that took.
-pub(crate) fn cancel_a_mesh(heap: &mut Heap) -> Result<usize, Fault> {
+pub(crate) fn cancel_a_mesh(heap: &mut Heap) -> Result<usize, UseError> {
     let class = class_of(2048)?;
     let objects = two_groups(heap)?;
     let _ = heap.begin(1, 0)?;
@@ -14,7 +14,7 @@ pub(crate) fn cancel_a_mesh(heap: &mut Heap) -> Result<usize, Fault> {
         let _ = heap.step(class)?;
     }
     if heap.running(class) || !is_done(heap.write(objects.low, 0, b"x".as_slice()))? {
-        return Err(Fault::Answer("a mesh that isn't unwound"));
+        return Err(UseError::Answer("a mesh that isn't unwound"));
     }
     Ok(steps as usize)
 }

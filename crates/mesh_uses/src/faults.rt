@@ -5,7 +5,7 @@ use thiserror::Error;
 
 /// What ends a use.
 #[derive(Clone, Copy, Debug, Error)]
-pub(crate) enum Fault {
+pub(crate) enum UseError {
     /// A call of the heap was refused.
     #[error("{0}")]
     Refused(Refusal),
@@ -17,44 +17,44 @@ pub(crate) enum Fault {
     Answer(&'static str),
 }
 
-impl From<AllocError> for Fault {
-    fn from(_refused: AllocError) -> Fault {
-        Fault::Memory
+impl From<AllocError> for UseError {
+    fn from(_refused: AllocError) -> UseError {
+        UseError::Memory
     }
 }
 
-impl<T: Drop> From<AllocFailed<T>> for Fault {
-    fn from(_refused: AllocFailed<T>) -> Fault {
-        Fault::Memory
+impl<T: Drop> From<AllocFailed<T>> for UseError {
+    fn from(_refused: AllocFailed<T>) -> UseError {
+        UseError::Memory
     }
 }
 
-impl From<Refusal> for Fault {
-    fn from(refusal: Refusal) -> Fault {
-        Fault::Refused(refusal)
+impl From<Refusal> for UseError {
+    fn from(refusal: Refusal) -> UseError {
+        UseError::Refused(refusal)
     }
 }
 
-impl From<NewFault> for Fault {
-    fn from(fault: NewFault) -> Fault {
+impl From<NewFault> for UseError {
+    fn from(fault: NewFault) -> UseError {
         match fault {
-            NewFault::Refused(refusal) => Fault::Refused(refusal),
-            NewFault::Memory => Fault::Memory,
+            NewFault::Refused(refusal) => UseError::Refused(refusal),
+            NewFault::Memory => UseError::Memory,
         }
     }
 }
 
-impl From<OpenError> for Fault {
-    fn from(_refused: OpenError) -> Fault {
-        Fault::Memory
+impl From<OpenError> for UseError {
+    fn from(_refused: OpenError) -> UseError {
+        UseError::Memory
     }
 }
 
-impl From<FinishError> for Fault {
-    fn from(error: FinishError) -> Fault {
+impl From<FinishError> for UseError {
+    fn from(error: FinishError) -> UseError {
         match error {
-            FinishError::Memory => Fault::Memory,
-            _ => Fault::Answer("seats and journal make no history"),
+            FinishError::Memory => UseError::Memory,
+            _ => UseError::Answer("seats and journal make no history"),
         }
     }
 }

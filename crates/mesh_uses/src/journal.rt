@@ -1,12 +1,12 @@
 //! A book, whose journal is a legal history of a plain memory of separate objects.
 ghost use Rattle.model_words.specs.Commands.{IsInRange};
 
-use crate::faults::Fault;
+use crate::faults::UseError;
 use arrayvec::ArrayVec;
 use mesh::{Attempt, Book, Command};
 
 /// Does commands of two workers with a mesh between them, and gives how many entries the journal has.
-pub(crate) fn keep_a_journal(book: &mut Book) -> Result<usize, Fault> {
+pub(crate) fn keep_a_journal(book: &mut Book) -> Result<usize, UseError> {
     let mut bytes = ArrayVec::new();
     bytes.push(b'h');
     bytes.push(b'i');
@@ -23,12 +23,12 @@ pub(crate) fn keep_a_journal(book: &mut Book) -> Result<usize, Fault> {
 }
 
 /// Lets a worker do a command.
-fn act(book: &mut Book, worker: u32, command: &Command) -> Result<(), Fault>
+fn act(book: &mut Book, worker: u32, command: &Command) -> Result<(), UseError>
     requires { IsInRange command.now }
 {
     match book.act(worker, command) {
         Attempt::Done(_) => Ok(()),
-        Attempt::OutOfMemory => Err(Fault::Memory),
-        _ => Err(Fault::Answer("a command that isn't done")),
+        Attempt::OutOfMemory => Err(UseError::Memory),
+        _ => Err(UseError::Answer("a command that isn't done")),
     }
 }

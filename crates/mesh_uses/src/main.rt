@@ -9,7 +9,7 @@ mod spans;
 mod stepwise;
 mod threads;
 
-use crate::faults::Fault;
+use crate::faults::UseError;
 use mesh::{Book, Heap};
 use std::io;
 use std::sync::Wait;
@@ -32,7 +32,7 @@ fn main(rt: HostRuntime) -> io::Result<()> {
 }
 
 /// Prints a line of what a use came to.
-fn tell<R: Print>(rt: &R, what: &str, came: Result<usize, Fault>) -> io::Result<()> {
+fn tell<R: Print>(rt: &R, what: &str, came: Result<usize, UseError>) -> io::Result<()> {
     match came {
         Ok(count) => println!(rt; "{what}: {count}"),
         Err(fault) => println!(rt; "{what}: {fault}"),
@@ -41,7 +41,7 @@ fn tell<R: Print>(rt: &R, what: &str, came: Result<usize, Fault>) -> io::Result<
 
 impl HeapUse {
     /// Uses a heap.
-    fn of(self, heap: &mut Heap) -> Result<usize, Fault> {
+    fn of(self, heap: &mut Heap) -> Result<usize, UseError> {
         match self {
             HeapUse::Spans => spans::mesh_two_spans(heap),
             HeapUse::Stepwise => stepwise::store_between_steps(heap),
@@ -51,13 +51,13 @@ impl HeapUse {
 }
 
 /// Opens a heap of 16 pages, and uses it.
-fn use_heap<R: AllocGlobal>(rt: &R, usage: HeapUse) -> Result<usize, Fault> {
+fn use_heap<R: AllocGlobal>(rt: &R, usage: HeapUse) -> Result<usize, UseError> {
     let mut heap = Heap::open(rt.alloc(), 16)?;
     usage.of(&mut heap)
 }
 
 /// Opens a book over 16 pages, and uses it.
-fn use_book<R: AllocGlobal>(rt: &R) -> Result<usize, Fault> {
+fn use_book<R: AllocGlobal>(rt: &R) -> Result<usize, UseError> {
     let mut book = Book::open(rt.alloc(), 16, 64)?;
     journal::keep_a_journal(&mut book)
 }

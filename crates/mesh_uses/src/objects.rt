@@ -1,5 +1,5 @@
 //! Two groups that can be meshed, with an object in each.
-use crate::faults::Fault;
+use crate::faults::UseError;
 use mesh::{Heap, Ref, Stored};
 
 /// The objects of two groups with no common occupied slot.
@@ -12,7 +12,7 @@ pub(crate) struct Objects {
 }
 
 /// Makes three objects of the class 2,048, of which two fill group 0, and frees the first.
-pub(crate) fn two_groups(heap: &mut Heap) -> Result<Objects, Fault> {
+pub(crate) fn two_groups(heap: &mut Heap) -> Result<Objects, UseError> {
     let freed = make(heap)?;
     let high = make(heap)?;
     let low = make(heap)?;
@@ -21,19 +21,19 @@ pub(crate) fn two_groups(heap: &mut Heap) -> Result<Objects, Fault> {
 }
 
 /// Makes an object of 2,048 bytes, in the first free slot.
-fn make(heap: &mut Heap) -> Result<Ref, Fault> {
+fn make(heap: &mut Heap) -> Result<Ref, UseError> {
     if heap.is_full() {
-        return Err(Fault::Answer("no serial is left"));
+        return Err(UseError::Answer("no serial is left"));
     }
     let object = heap.new(2048, 0)?;
     Ok(object)
 }
 
 /// Whether a store was done and not held back.
-pub(crate) fn is_done(stored: Stored) -> Result<bool, Fault> {
+pub(crate) fn is_done(stored: Stored) -> Result<bool, UseError> {
     match stored {
         Stored::Done => Ok(true),
         Stored::Blocked => Ok(false),
-        Stored::Refused(refusal) => Err(Fault::Refused(refusal)),
+        Stored::Refused(refusal) => Err(UseError::Refused(refusal)),
     }
 }

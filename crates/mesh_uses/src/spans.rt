@@ -1,10 +1,10 @@
 //! Two groups are meshed at once, and their objects are read back where they were.
-use crate::faults::Fault;
+use crate::faults::UseError;
 use crate::objects::{Objects, two_groups};
 use mesh::{Heap, Ref};
 
 /// Makes and frees objects, meshes their two groups and reads them back. Gives how many pages came free.
-pub(crate) fn mesh_two_spans(heap: &mut Heap) -> Result<usize, Fault> {
+pub(crate) fn mesh_two_spans(heap: &mut Heap) -> Result<usize, UseError> {
     let Objects { high, low } = two_groups(heap)?;
     let _ = heap.write(high, 0, b"high".as_slice());
     let _ = heap.write(low, 0, b"low!".as_slice());
@@ -12,12 +12,12 @@ pub(crate) fn mesh_two_spans(heap: &mut Heap) -> Result<usize, Fault> {
     if reads(heap, high, b"high".as_slice())? && reads(heap, low, b"low!".as_slice())? {
         Ok(pages as usize)
     } else {
-        Err(Fault::Answer("other bytes than were stored"))
+        Err(UseError::Answer("other bytes than were stored"))
     }
 }
 
 /// Whether an object begins with these four bytes.
-fn reads(heap: &Heap, object: Ref, bytes: &[u8]) -> Result<bool, Fault> {
+fn reads(heap: &Heap, object: Ref, bytes: &[u8]) -> Result<bool, UseError> {
     let read = heap.read(object, 0, 4)?;
     Ok(read.as_slice() == bytes)
 }

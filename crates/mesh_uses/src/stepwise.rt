@@ -1,11 +1,11 @@
 //! A mesh step by step, with a store between the steps.
-use crate::faults::Fault;
+use crate::faults::UseError;
 use crate::objects::{is_done, two_groups};
 use mesh::{Heap, class_of};
 
 /// Meshes two groups, and before each step tries to store into the object that is moved. Gives how many stores were held back: those
 /// from the step that makes its page read-only to the one that makes it writable again.
-pub(crate) fn store_between_steps(heap: &mut Heap) -> Result<usize, Fault> {
+pub(crate) fn store_between_steps(heap: &mut Heap) -> Result<usize, UseError> {
     let class = class_of(2048)?;
     let objects = two_groups(heap)?;
     let steps = heap.begin(1, 0)?;

@@ -1,12 +1,12 @@
 //! Two mutators that share one book, each on a thread of its own.
-use crate::faults::Fault;
+use crate::faults::UseError;
 use arrayvec::ArrayVec;
 use mesh::{Book, Command, Seat, Shared};
 use std::sync::Wait;
 use std::thread::{Threads, join};
 
 /// Lets two threads use one heap of 16 pages, and gives the length of their one history.
-pub(crate) fn share<R: AllocGlobal + Threads + Wait + Sync>(rt: &R) -> Result<usize, Fault> {
+pub(crate) fn share<R: AllocGlobal + Threads + Wait + Sync>(rt: &R) -> Result<usize, UseError> {
     let alloc = rt.alloc();
     let book = Book::open(alloc, 16, 64)?;
     let (shared, seats) = Shared::open(alloc, book, &[3, 3])?;
@@ -20,11 +20,11 @@ fn served<R: AllocGlobal + Threads + Wait + Sync>(
     rt: &R,
     shared: &Shared,
     mut seats: Vec<Seat>,
-) -> Result<Vec<Seat>, Fault> {
+) -> Result<Vec<Seat>, UseError> {
     let second = seats.pop();
     let first = seats.pop();
     let (Some(mut first), Some(mut second)) = (first, second) else {
-        return Err(Fault::Answer("another count of seats"));
+        return Err(UseError::Answer("another count of seats"));
     };
     join(
         rt,

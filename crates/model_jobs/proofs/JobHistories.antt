@@ -10,7 +10,7 @@ use Rattle.model_heap.proofs.TableChanges.{begin_sound, cancel_sound, empty_soun
 use Rattle.model_heap.proofs.TiedTables.{begin_tied, cancel_tied, step_tied, sweep_tied, whole_tied}
 use Rattle.model_jobs.specs.JobLaws.{IsRunning}
 use Rattle.model_memory.specs.Seats.{commands_of}
-use Rattle.model_jobs.specs.Jobs.{Answer, Job, Line, Outcome, PagesMeshed, PagesSwept, State, StepsLeft, answer, answered, counted, later_commands, busy_in, opening, run_next, state_after, step_answered, with_reply, RunWorker, PairClass, BeginMesh, StepMesh, CancelMesh, StepClass, CancelClass, WholeMesh, SweepGroup, MakeReport}
+use Rattle.model_jobs.specs.Jobs.{Answer, Job, Line, Outcome, PagesMeshed, PagesSwept, State, StepsLeft, answer, answered, counted, later_commands, busy_in, initial_state, run_next, state_after, step_answered, with_reply, RunWorker, PairClass, BeginMesh, StepMesh, CancelMesh, StepClass, CancelClass, WholeMesh, SweepGroup, MakeReport}
 use Rattle.model_memory.specs.Memory.{Object, empty_memory, object_of}
 use Rattle.model_heap.specs.Mesh.{Stepped, begin, cancel, first_mesh, mesh_in, mesh_whole, step}
 use Rattle.model_memory.specs.Plain.{Entry, IsLegal}
@@ -34,7 +34,7 @@ empty_tied pages = record {
         let clash : Some object ≡ None = sym live ∙ none in cc clash
 
 -- table and memory of a job's beginning are sound and tied, and its history is legal
-pub opening_running : (job : Job) → IsRunning (opening job)
+pub opening_running : (job : Job) → IsRunning (initial_state job)
 opening_running job = record { sound = empty_sound job.pages; tied = empty_tied job.pages; legal = refl }
 
 -- a command answered keeps it so
@@ -113,12 +113,12 @@ lines_keep P job state [] keeps before = before
 lines_keep P job state (line ∷ lines) keeps before = lines_keep P job (answer job state line).state lines keeps (keeps state line before)
 
 -- lines from a job's beginning on keep it so
-pub lines_running : (job : Job) (lines : List Line) → IsRunning (state_after job (opening job) lines)
+pub lines_running : (job : Job) (lines : List Line) → IsRunning (state_after job (initial_state job) lines)
 lines_running job lines =
-    lines_keep (λ s. IsRunning s) job (opening job) lines (λ s line before. answer_running job s line before) (opening_running job)
+    lines_keep (λ s. IsRunning s) job (initial_state job) lines (λ s line before. answer_running job s line before) (opening_running job)
 
 -- the history of a job is legal after any lines
-pub history_legal : (job : Job) (lines : List Line) → IsLegal (state_after job (opening job) lines).entries (state_after job (opening job) lines).memory
+pub history_legal : (job : Job) (lines : List Line) → IsLegal (state_after job (initial_state job) lines).entries (state_after job (initial_state job) lines).memory
 history_legal job lines = (lines_running job lines).legal
 
 -- one entry more of the worker, or of another one
@@ -209,7 +209,7 @@ line_begun job worker script state MakeReport begun = begun
 
 -- what a worker was answered is the beginning of its script, and the rest is left of it
 pub entries_begin : (job : Job) (lines : List Line) (worker : ℕ)
-    → commands_of worker (state_after job (opening job) lines).entries ++ slice_index_or (state_after job (opening job) lines).scripts worker []
+    → commands_of worker (state_after job (initial_state job) lines).entries ++ slice_index_or (state_after job (initial_state job) lines).scripts worker []
     ≡ slice_index_or job.scripts worker []
-entries_begin job lines worker = lines_keep (λ s. AreBegun worker (slice_index_or job.scripts worker []) s) job (opening job) lines
+entries_begin job lines worker = lines_keep (λ s. AreBegun worker (slice_index_or job.scripts worker []) s) job (initial_state job) lines
     (λ s line before. line_begun job worker (slice_index_or job.scripts worker []) s line before) refl

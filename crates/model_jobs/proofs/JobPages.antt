@@ -4,7 +4,7 @@ use Rattle.std.proofs.Common.{◌≡◌, ℕ, ◌+◌, true, nat_eq, List, [], �
 use Rattle.model_heap.proofs.CountedPages.{begin_counted, cancel_counted, free_counted, new_counted, step_counted, sweep_counted, taken_mapped, whole_counted}
 use Rattle.model_jobs.proofs.JobHistories.{answer_running, busy, lines_keep, opening_running, run_keeps}
 use Rattle.model_jobs.specs.JobLaws.{IsRunning}
-use Rattle.model_jobs.specs.Jobs.{Answer, Job, Line, PagesMeshed, PagesSwept, State, StepsLeft, answer, answered, counted, new_answered, new_at, opening, others_answered, run_next, busy_in, state_after, step_answered, table_freed, RunWorker, PairClass, BeginMesh, StepMesh, CancelMesh, StepClass, CancelClass, WholeMesh, SweepGroup, MakeReport}
+use Rattle.model_jobs.specs.Jobs.{Answer, Job, Line, PagesMeshed, PagesSwept, State, StepsLeft, answer, answered, counted, new_answered, new_at, initial_state, others_answered, run_next, busy_in, state_after, step_answered, table_freed, RunWorker, PairClass, BeginMesh, StepMesh, CancelMesh, StepClass, CancelClass, WholeMesh, SweepGroup, MakeReport}
 use Rattle.model_memory.specs.Memory.{Memory, next_serial}
 use Rattle.model_heap.specs.Mesh.{Stepped, begin, cancel, first_mesh, mesh_in, mesh_whole, step}
 use Rattle.model_heap.specs.PageCounts.{AreCounted}
@@ -105,12 +105,12 @@ abbrev RunsWithPages : Job → State → Type 0
 RunsWithPages job state = IsRunning state × HasPages job.pages state
 
 -- a job's table has the job's pages after any lines, and is sound
-jobs_run : (job : Job) (lines : List Line) → RunsWithPages job (state_after job (opening job) lines)
-jobs_run job lines = lines_keep (RunsWithPages job) job (opening job) lines
+jobs_run : (job : Job) (lines : List Line) → RunsWithPages job (state_after job (initial_state job) lines)
+jobs_run job lines = lines_keep (RunsWithPages job) job (initial_state job) lines
     (λ s line before. (answer_running job s line before.0, answer_counted job s line before.0.sound before.1)) (opening_running job, omega arith)
 
 -- the table of a job keeps the count after any lines
-pub jobs_counted : (job : Job) (lines : List Line) → AreCounted job.pages (state_after job (opening job) lines).table
+pub jobs_counted : (job : Job) (lines : List Line) → AreCounted job.pages (state_after job (initial_state job) lines).table
 jobs_counted job lines = (jobs_run job lines).1
 
 -- a report of a sound table adds up
@@ -118,6 +118,6 @@ adds_up : (pages : ℕ) (t : Table) → IsSound t → AreCounted pages t → (re
 adds_up pages t sound counted = let fewer = taken_mapped pages t sound counted in omega (arith, fewer)
 
 -- the reports of a job add up
-pub reports_add_up : (job : Job) (lines : List Line) → (report_of job.pages (state_after job (opening job) lines).table).saved
-    + (report_of job.pages (state_after job (opening job) lines).table).taken ≡ (report_of job.pages (state_after job (opening job) lines).table).mapped
-reports_add_up job lines = let run = jobs_run job lines in adds_up job.pages (state_after job (opening job) lines).table run.0.sound run.1
+pub reports_add_up : (job : Job) (lines : List Line) → (report_of job.pages (state_after job (initial_state job) lines).table).saved
+    + (report_of job.pages (state_after job (initial_state job) lines).table).taken ≡ (report_of job.pages (state_after job (initial_state job) lines).table).mapped
+reports_add_up job lines = let run = jobs_run job lines in adds_up job.pages (state_after job (initial_state job) lines).table run.0.sound run.1

@@ -3,7 +3,7 @@ use Rattle.std.proofs.Common.{◌≡◌, ℕ, Bool, true, false, nat_le, List, [
 use Rattle.std.proofs.lemmas.List.{map-append}
 use Rattle.model_words.proofs.Tests.{tells}
 use Rattle.model_jobs.specs.JobLaws.{Given, given_by, replies_given, replies_recorded}
-use Rattle.model_jobs.specs.Jobs.{Answer, Job, Line, Next, Outcome, PagesMeshed, PagesSwept, State, StepsLeft, answer, answered, answers_from, attempted, busy_in, counted, is_held_back, opening, run_next, state_after, step_answered, RunWorker, PairClass, BeginMesh, StepMesh, CancelMesh, StepClass, CancelClass, WholeMesh, SweepGroup, MakeReport}
+use Rattle.model_jobs.specs.Jobs.{Answer, Job, Line, Next, Outcome, PagesMeshed, PagesSwept, State, StepsLeft, answer, answered, answers_from, attempted, busy_in, counted, is_held_back, initial_state, run_next, state_after, step_answered, RunWorker, PairClass, BeginMesh, StepMesh, CancelMesh, StepClass, CancelClass, WholeMesh, SweepGroup, MakeReport}
 use Rattle.model_heap.specs.Mesh.{Stepped, begin, cancel, first_mesh, mesh_in, mesh_whole, step}
 use Rattle.model_memory.specs.Plain.{Entry}
 use Rattle.model_heap.specs.Table.{Counted, sweep}
@@ -69,5 +69,5 @@ lines_add job state (line ∷ lines) =
 
 -- the replies among the answers to lines of a plan are those of the entries
 pub replies_are_recorded : (job : Job) (lines : List Line)
-    → replies_given lines (answers_from job (opening job) lines) ≡ replies_recorded (state_after job (opening job) lines).entries
-replies_are_recorded job lines = sym (lines_add job (opening job) lines)
+    → replies_given lines (answers_from job (initial_state job) lines) ≡ replies_recorded (state_after job (initial_state job) lines).entries
+replies_are_recorded job lines = sym (lines_add job (initial_state job) lines)

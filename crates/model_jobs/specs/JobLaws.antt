@@ -1,6 +1,6 @@
 -- Every history of a job is legal, and its pages are counted.
 use Rattle.std.specs.Prelude.{◌≡◌, ℕ, ◌+◌, List, [], ◌∷◌, ◌++◌, slice_index_or, map}
-use Rattle.model_jobs.specs.Jobs.{Answer, Job, Line, RunWorker, Replied, State, answer, answered, answers_from, opening, state_after}
+use Rattle.model_jobs.specs.Jobs.{Answer, Job, Line, RunWorker, Replied, State, answer, answered, answers_from, initial_state, state_after}
 use Rattle.model_memory.specs.Memory.{Memory}
 use Rattle.model_memory.specs.Plain.{Entry, IsLegal, PlainStep}
 use Rattle.model_heap.specs.Sound.{IsSound, IsTied}
@@ -22,8 +22,8 @@ pub record IsRunning (state : State) : Type 0 where
   pub legal : IsLegal state.entries state.memory
 
 -- a job begins so
-abbrev pub OpeningIsRunning : Type 0
-OpeningIsRunning = (job : Job) → IsRunning (opening job)
+abbrev pub InitialIsRunning : Type 0
+InitialIsRunning = (job : Job) → IsRunning (initial_state job)
 
 -- each line of a plan keeps it so
 abbrev pub AnswerKeepsRunning : Type 0
@@ -31,17 +31,17 @@ AnswerKeepsRunning = (job : Job) (state : State) (line : Line) → IsRunning sta
 
 -- lines from a job's beginning on keep it so
 abbrev pub LinesKeepRunning : Type 0
-LinesKeepRunning = (job : Job) (lines : List Line) → IsRunning (state_after job (opening job) lines)
+LinesKeepRunning = (job : Job) (lines : List Line) → IsRunning (state_after job (initial_state job) lines)
 
 -- the history of a job is legal after any lines
 abbrev pub HistoryIsLegal : Type 0
 HistoryIsLegal = (job : Job) (lines : List Line)
-    → IsLegal (state_after job (opening job) lines).entries (state_after job (opening job) lines).memory
+    → IsLegal (state_after job (initial_state job) lines).entries (state_after job (initial_state job) lines).memory
 
 -- what a worker was answered is the beginning of its script, and the rest is left of it
 abbrev pub EntriesBeginScripts : Type 0
 EntriesBeginScripts = (job : Job) (lines : List Line) (worker : ℕ)
-    → commands_of worker (state_after job (opening job) lines).entries ++ slice_index_or (state_after job (opening job) lines).scripts worker []
+    → commands_of worker (state_after job (initial_state job) lines).entries ++ slice_index_or (state_after job (initial_state job) lines).scripts worker []
     ≡ slice_index_or job.scripts worker []
 
 -- a reply that a worker was given
@@ -66,13 +66,13 @@ replies_recorded entries = map (λ entry. record { worker = entry.worker; reply 
 -- the replies among the answers to lines of a plan are those of the entries, each worker's and in the plan's order
 abbrev pub RepliesAreRecorded : Type 0
 RepliesAreRecorded = (job : Job) (lines : List Line)
-    → replies_given lines (answers_from job (opening job) lines) ≡ replies_recorded (state_after job (opening job) lines).entries
+    → replies_given lines (answers_from job (initial_state job) lines) ≡ replies_recorded (state_after job (initial_state job) lines).entries
 
 -- the table of a job keeps it after any lines
 abbrev pub JobsKeepCount : Type 0
-JobsKeepCount = (job : Job) (lines : List Line) → AreCounted job.pages (state_after job (opening job) lines).table
+JobsKeepCount = (job : Job) (lines : List Line) → AreCounted job.pages (state_after job (initial_state job) lines).table
 
 -- what a job's report tells as saved and taken are the mapped pages
 abbrev pub ReportsAddUp : Type 0
-ReportsAddUp = (job : Job) (lines : List Line) → (report_of job.pages (state_after job (opening job) lines).table).saved
-    + (report_of job.pages (state_after job (opening job) lines).table).taken ≡ (report_of job.pages (state_after job (opening job) lines).table).mapped
+ReportsAddUp = (job : Job) (lines : List Line) → (report_of job.pages (state_after job (initial_state job) lines).table).saved
+    + (report_of job.pages (state_after job (initial_state job) lines).table).taken ≡ (report_of job.pages (state_after job (initial_state job) lines).table).mapped

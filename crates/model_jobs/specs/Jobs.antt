@@ -63,8 +63,8 @@ pub record Next : Type 0 where
   pub state : State
 
 -- the beginning of a job
-abbrev pub opening : Job → State
-opening job = record { memory = empty_memory; table = empty_table job.pages; scripts = job.scripts; entries = [] }
+abbrev pub initial_state : Job → State
+initial_state job = record { memory = empty_memory; table = empty_table job.pages; scripts = job.scripts; entries = [] }
 
 -- a command answered, and memory and table after it
 pub record Outcome : Type 0 where
@@ -185,7 +185,7 @@ answers_from job state (line ∷ lines) = let next = answer job state line in ne
 
 -- the answers of a whole job
 abbrev pub answers : Job → List Answer
-answers job = answers_from job (opening job) job.plan
+answers job = answers_from job (initial_state job) job.plan
 
 -- where the job stands after lines of the plan
 abbrev pub state_after : Job → State → List Line → State

@@ -1,5 +1,5 @@
 //! Laws of a job's walk: its history is legal, and its pages are counted. Each is the contract of a function that does nothing.
-ghost use Rattle.model_jobs.specs.JobLaws.{AnsweredIsStep, OpeningIsRunning, AnswerKeepsRunning, LinesKeepRunning, HistoryIsLegal, RepliesAreRecorded, EntriesBeginScripts, JobsKeepCount, ReportsAddUp};
+ghost use Rattle.model_jobs.specs.JobLaws.{AnsweredIsStep, InitialIsRunning, AnswerKeepsRunning, LinesKeepRunning, HistoryIsLegal, RepliesAreRecorded, EntriesBeginScripts, JobsKeepCount, ReportsAddUp};
 
 /// Where table and memory are sound and tied, a command is answered as the plain memory may answer it.
 pub fn answered_is_step()
@@ -8,7 +8,7 @@ pub fn answered_is_step()
 
 /// A job's table and memory stay sound and tied, and its history legal.
 pub fn jobs_keep_running()
-    ensures opening { OpeningIsRunning }
+    ensures initial_state { InitialIsRunning }
     ensures answer { AnswerKeepsRunning }
     ensures lines { LinesKeepRunning }
 {}

@@ -1,8 +1,8 @@
 //! Files that are no job.
-use crate::tests::check;
-use crate::tests::replays::replayed;
 use crate::memory::files::FIRST_FILE;
 use crate::memory::{LENGTHS, ROW_END, faulty_files, fields, letters};
+use crate::tests::check;
+use crate::tests::replays::replayed;
 use std::process::Abort;
 use std::test::Fail;
 

@@ -1,7 +1,7 @@
 //! The text of a history: its answers, and as it is recorded.
+use crate::memory::{ROW_END, faulty_files, fields};
 use crate::tests::replays::history_of;
 use crate::tests::{check, check_text};
-use crate::memory::{ROW_END, faulty_files, fields};
 use mesh_mutator::{Command, Entry, Refusal, Reply};
 use mesh_text::{history_lines, recorded_history};
 use std::alloc::AllocError;

@@ -1,9 +1,9 @@
 //! The worked rows.
-use crate::tests::replays::replayed;
 use crate::memory::files::{
     ABANDONED, CANCELS, MUTATORS, SEARCHES, SMALL_STEPS, VERSION_2, WHOLE_MESHES,
 };
 use crate::memory::{ROW_END, fields};
+use crate::tests::replays::replayed;
 use std::alloc::Global;
 use std::process::Abort;
 

@@ -1,8 +1,8 @@
 //! Explorations, over memory.
 ghost use Rattle.std.specs.Prelude.{◌≡◌, false};
 
-use crate::tests::check;
 use crate::memory::{Ran, SlowSource, in_memory};
+use crate::tests::check;
 use mesh_run::{Args, ExploreArgs, Input, Source, arguments, explore_run};
 use std::process::Abort;
 

@@ -1,6 +1,6 @@
 //! A live session: lines that are answered one by one.
-use crate::tests::check_text;
 use crate::memory::{LENGTHS, fields, letters};
+use crate::tests::check_text;
 use mesh_live::{Sizes, live};
 use mesh_run::{Input, Output};
 use std::process::Abort;

@@ -1,6 +1,6 @@
 //! Command lines that ask for no run, and what is told of each.
-use crate::tests::check_text;
 use crate::memory::{ROW_END, fields};
+use crate::tests::check_text;
 use mesh_run::{Output, Stop, arguments, stop_run, unopened_run};
 use std::alloc::Global;
 use std::process::Abort;

@@ -1,8 +1,8 @@
 //! Runs of scripts in threads: a worked example, and what stops a run before a thread is started.
 ghost use Rattle.std.specs.Prelude.{◌≡◌, ◌≤◌, false};
 
-use crate::tests::check;
 use crate::memory::{ROW_END, Ran, SlowSource, faulty_files, fields};
+use crate::tests::check;
 use mesh_run::{
     Input, Output, Source, ThreadsArgs, ThreadsError, threads_history_run, threads_run,
     threads_stopped,

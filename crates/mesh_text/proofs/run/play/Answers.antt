@@ -107,6 +107,6 @@ pub loop-line-init : goal.loop-line-init
 loop-line-init g c = record {
   workers = c.requires.workers;
   fresh = c.requires.fresh;
-  at = c.requires.opening;
+  at = c.requires.initial_state;
   gathered = gathered_none c.args.job.now (g.O.Sink.written c.args.output.now) c.args.text.now.items c.requires.empty;
 }

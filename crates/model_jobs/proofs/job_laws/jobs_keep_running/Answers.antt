@@ -1,8 +1,8 @@
 use Rattle.model_jobs.proofs.JobHistories.{answer_running, lines_running, opening_running}
 use Rattle.model_jobs.proofs.job_laws.jobs_keep_running.Goals as goal
 
-pub returns-clause-opening : goal.returns-clause-opening
-returns-clause-opening c = opening_running
+pub returns-clause-initial_state : goal.returns-clause-initial_state
+returns-clause-initial_state c = opening_running
 
 pub returns-clause-answer : goal.returns-clause-answer
 returns-clause-answer c = answer_running

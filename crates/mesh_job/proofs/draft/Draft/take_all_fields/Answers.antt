@@ -4,7 +4,7 @@ use Rattle.model_words.specs.declared.faults.FaultKind.TheVariants.{Word}
 use Rattle.mesh_fields.specs.Lines.{line_fields, texts}
 use Rattle.mesh_job.specs.Draft.{draft_of}
 use Rattle.mesh_job.specs.Reading.{IsFaultOfStep}
-use Rattle.mesh_job.specs.declared.faults.LineFault.TheVariants.{Kind as LineKind}
+use Rattle.mesh_job.specs.declared.faults.LineError.TheVariants.{Kind as LineKind}
 use Rattle.mesh_job.proofs.LineTakes.{line_refused}
 use Rattle.mesh_job.proofs.ManyFields.{no_fields}
 use Rattle.mesh_job.proofs.TextLines.{IsLine, line_fault, line_taken}

@@ -1,6 +1,6 @@
 use Rattle.std.proofs.lemmas.Result.{on_ok_weaker}
 use Rattle.mesh_job.specs.Plan.{line_of}
-use Rattle.mesh_live.proofs.Idle.{attempt_answered, call_answered}
+use Rattle.mesh_live.proofs.IdleSessions.{attempt_answered, call_answered}
 use Rattle.mesh_live.proofs.session.Session.answer_line.Goals as goal
 
 pub returns-in-Attempt-clause-sound : goal.returns-in-Attempt-clause-sound

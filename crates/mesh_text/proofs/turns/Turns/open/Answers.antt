@@ -11,8 +11,8 @@ at_beginning (suc n) (suc worker) = at_beginning n worker
 pub returns-in_err-next-clause-workers : goal.returns-in_err-next-clause-workers
 returns-in_err-next-clause-workers c = rw (err_from_is_err_and c.from_residual.result c.from_residual.ensures.1).1 tt
 
-pub returns-in_err-next-clause-opening : goal.returns-in_err-next-clause-opening
-returns-in_err-next-clause-opening c = rw (err_from_is_err_and c.from_residual.result c.from_residual.ensures.1).1 tt
+pub returns-in_err-next-clause-initial_state : goal.returns-in_err-next-clause-initial_state
+returns-in_err-next-clause-initial_state c = rw (err_from_is_err_and c.from_residual.result c.from_residual.ensures.1).1 tt
 
 pub returns-in_err-next-clause-stands : goal.returns-in_err-next-clause-stands
 returns-in_err-next-clause-stands c = rw (err_from_is_err_and c.from_residual.result c.from_residual.ensures.1).1 tt
@@ -20,8 +20,8 @@ returns-in_err-next-clause-stands c = rw (err_from_is_err_and c.from_residual.re
 pub returns-in_err-book-clause-workers : goal.returns-in_err-book-clause-workers
 returns-in_err-book-clause-workers c = rw (err_from_is_err_and c.from_residual-in_err-book.result c.from_residual-in_err-book.ensures.1).1 tt
 
-pub returns-in_err-book-clause-opening : goal.returns-in_err-book-clause-opening
-returns-in_err-book-clause-opening c = rw (err_from_is_err_and c.from_residual-in_err-book.result c.from_residual-in_err-book.ensures.1).1 tt
+pub returns-in_err-book-clause-initial_state : goal.returns-in_err-book-clause-initial_state
+returns-in_err-book-clause-initial_state c = rw (err_from_is_err_and c.from_residual-in_err-book.result c.from_residual-in_err-book.ensures.1).1 tt
 
 pub returns-in_err-book-clause-stands : goal.returns-in_err-book-clause-stands
 returns-in_err-book-clause-stands c = rw (err_from_is_err_and c.from_residual-in_err-book.result c.from_residual-in_err-book.ensures.1).1 tt
@@ -29,8 +29,8 @@ returns-in_err-book-clause-stands c = rw (err_from_is_err_and c.from_residual-in
 pub returns-clause-workers : goal.returns-clause-workers
 returns-clause-workers c = search rules
 
-pub returns-clause-opening : goal.returns-clause-opening
-returns-clause-opening c =
+pub returns-clause-initial_state : goal.returns-clause-initial_state
+returns-clause-initial_state c =
     let fresh = c.in_ok-next.ensures.items_if_clones_equal (λ y is. is) in
     record {
       memory = c.in_ok-book.ensures.memory;
@@ -43,4 +43,4 @@ returns-clause-opening c =
     }
 
 pub returns-clause-stands : goal.returns-clause-stands
-returns-clause-stands c = record { workers = returns-clause-workers c; at = returns-clause-opening c }
+returns-clause-stands c = record { workers = returns-clause-workers c; at = returns-clause-initial_state c }
