@@ -37,10 +37,7 @@ fn check_entry(rt: &impl Abort, book: &mut Book, command: &Command, reply: &Repl
     requires { IsInRange command.now }
 {
     let attempt = book.act(7, command);
-    assert!(rt;
-        attempt == Attempt::Done(reply.copied()),
-        "of {command:?}"
-    );
+    assert!(rt; attempt == Attempt::Done(reply.copied()), "of {command:?}");
     check_last(rt, book.journal(), command, reply);
 }
 

@@ -143,6 +143,16 @@ const TWO_SEARCHERS: Scale = Scale {
     meshers: 1,
 };
 
+/// One worker without a command, and a mesher that nobody holds.
+const ALONE: Course = Course {
+    first: &[],
+    second: None,
+    events: &[],
+    holds: &[],
+    orders: &[],
+    scale: USUAL,
+};
+
 /// How often a worker tries where meshers are abandoned.
 const TRIES: u32 = 10;
 
@@ -365,7 +375,7 @@ static READ_IN_A_COPY: Course = Course {
         ),
     ],
     orders: &[(Event::Called(1, 1), Event::Stepped(0, StepKind::Remap))],
-    scale: USUAL,
+    ..ALONE
 };
 
 #[test]
@@ -381,14 +391,13 @@ const FOUR_CALLS: &[Part] = &[Part::Read(9, 2), Part::Made(0, 1, 16), Part::Read
 /// Two searchers are at work between the first call and the third.
 static SEARCH_BESIDE: Course = Course {
     first: FOUR_CALLS,
-    second: None,
     events: &[Event::Searching, Event::Called(0, 2)],
     holds: &[
         Hold(Event::Called(0, 0), &[Event::Searching], 0),
         Hold(Event::Searching, &[Event::Called(0, 2)], 0),
     ],
-    orders: &[],
     scale: TWO_SEARCHERS,
+    ..ALONE
 };
 
 #[test]
@@ -403,14 +412,13 @@ const THREE_READS: &[Part] = &[Part::Read(9, 3)];
 /// The first call waits for a searcher at a class, and that searcher waits for the second call.
 static SEARCH_BETWEEN_READS: Course = Course {
     first: THREE_READS,
-    second: None,
     events: &[Event::Searching, Event::Called(0, 1)],
     holds: &[
         Hold(Event::Called(0, 0), &[Event::Searching], 0),
         Hold(Event::FirstSearching, &[Event::Called(0, 1)], 0),
     ],
-    orders: &[],
     scale: TWO_SEARCHERS,
+    ..ALONE
 };
 
 #[test]
@@ -422,10 +430,6 @@ fn a_search_runs_between_reads(rt: HostRuntime) {
 /// Three objects of half a page on an arena of one page.
 static ONE_PAGE: Course = Course {
     first: &[Part::Made(0, 3, 2048)],
-    second: None,
-    events: &[],
-    holds: &[],
-    orders: &[],
     scale: Scale {
         pages: 1,
         room: 3,
@@ -433,6 +437,7 @@ static ONE_PAGE: Course = Course {
         searchers: 1,
         meshers: 1,
     },
+    ..ALONE
 };
 
 #[test]
@@ -454,7 +459,6 @@ static TWO_READS: Course = Course {
         Hold(Event::Reading(0, 0), &[Event::Reading(1, 0)], 0),
         Hold(Event::Reading(1, 0), &[Event::Reading(0, 0)], 0),
     ],
-    orders: &[],
     scale: Scale {
         pages: 16,
         room: 8,
@@ -462,6 +466,7 @@ static TWO_READS: Course = Course {
         searchers: 1,
         meshers: 1,
     },
+    ..ALONE
 };
 
 #[test]
@@ -481,7 +486,6 @@ static TWO_COPIES: Course = Course {
         Part::Made(4, 20, 512),
         Part::Freed(OF_SMALL_GROUPS),
     ],
-    second: None,
     events: &[
         Event::Called(0, 35),
         Event::Stepped(0, StepKind::Copy),
@@ -500,7 +504,6 @@ static TWO_COPIES: Course = Course {
             0,
         ),
     ],
-    orders: &[],
     scale: Scale {
         pages: 16,
         room: 64,
@@ -508,6 +511,7 @@ static TWO_COPIES: Course = Course {
         searchers: 1,
         meshers: 2,
     },
+    ..ALONE
 };
 
 #[test]
@@ -524,11 +528,9 @@ const SIX_GROUPS: &[Part] = &[Part::Made(0, 12, 2048), Part::Freed(&[1, 3, 5, 6,
 /// The search waits for the last command.
 static SEARCH_BEHIND: Course = Course {
     first: SIX_GROUPS,
-    second: None,
     events: &[Event::Called(0, 17)],
     holds: &[Hold(Event::Searching, &[Event::Called(0, 17)], 0)],
-    orders: &[],
-    scale: USUAL,
+    ..ALONE
 };
 
 #[test]
@@ -556,24 +558,20 @@ const STORER: &[Part] = &[
 /// The search waits for the stores, and the reads wait for the mesh.
 static MESH_AMID: Course = Course {
     first: STORER,
-    second: None,
     events: &[Event::Called(0, 7), Event::Begun(0)],
     holds: &[
         Hold(Event::Searching, &[Event::Called(0, 7)], 0),
         Hold(Event::Called(0, 7), &[Event::Begun(0)], 0),
     ],
-    orders: &[],
-    scale: USUAL,
+    ..ALONE
 };
 
 /// The same of a mesher that makes no call, and so begins no mesh that one could wait for.
 static NO_MESH: Course = Course {
     first: STORER,
-    second: None,
     events: &[Event::Called(0, 7)],
     holds: &[Hold(Event::Searching, &[Event::Called(0, 7)], 0)],
-    orders: &[],
-    scale: USUAL,
+    ..ALONE
 };
 
 /// Asserts that all commands were answered, that both objects keep their bytes, also to the end, and that so many steps were left.
@@ -615,8 +613,7 @@ static STORE_HELD_BACK: Course = Course {
             0,
         ),
     ],
-    orders: &[],
-    scale: USUAL,
+    ..ALONE
 };
 
 #[test]
