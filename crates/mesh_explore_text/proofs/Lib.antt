@@ -3,5 +3,7 @@ pub mod Combinations
 pub mod Endings
 pub mod Kept
 pub mod NotedAnswers
+pub mod Paths
 pub mod Phases
 pub mod WholeListings
+pub mod Witnesses

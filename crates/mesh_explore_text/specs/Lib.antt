@@ -2,4 +2,5 @@ pub mod Ends
 pub mod Errors
 pub mod Explorations
 pub mod Listings
+pub mod Paths
 pub mod Phases

@@ -19,8 +19,8 @@ pub use mesh_devices::{
 };
 pub use mesh_job::{Commands, Job, Plan, PlanLine, ReadFault, Script, Scripts, read_file};
 pub use mesh_spelling::{
-    add_bytes, add_command, add_decimal, add_plan_line, add_refusal, add_reply, history_lines,
-    recorded_history,
+    add_bytes, add_command, add_decimal, add_longer_job, add_plan_line, add_refusal, add_reply,
+    history_lines, recorded_history,
 };
 pub use model_words::{Command, FaultKind, MAX_BYTES, Reply, TextFault, Version};
 pub use reading::read_job;
