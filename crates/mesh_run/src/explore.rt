@@ -13,6 +13,21 @@ use mesh_devices::{Sink, Source};
 use mesh_explore_text::{ExploreError, ExploreOptions, explore};
 use std::alloc::Global;
 
+/// What is explored, and what is told of it.
+fn options_of(args: &ExploreArgs) -> ExploreOptions<'_>
+    ensures meshes { result.meshes.now ≡ take args.now.meshes.count args.now.meshes.pairs }
+    ensures cancel { result.cancel ≡ args.now.cancel }
+    ensures states { result.states ≡ args.now.states }
+    ensures witness { result.witness ≡ args.now.witness }
+{
+    ExploreOptions {
+        meshes: args.meshes.as_slice(),
+        cancel: args.cancel,
+        states: args.states,
+        witness: args.witness,
+    }
+}
+
 /// Explores what the plan of the job that the input gives leaves of its scripts, writes what is told to the output or a fault to `errors`, and gives
 /// the exit status.
 ///
@@ -34,21 +49,6 @@ pub fn explore_run<I: Source, O: Sink, E: Sink>(
             tell(&mut devices.errors, explore_line_of(error).as_slice());
             explore_status_of(error)
         }
-    }
-}
-
-/// What is explored, and what is told of it.
-fn options_of(args: &ExploreArgs) -> ExploreOptions<'_>
-    ensures meshes { result.meshes.now ≡ take args.now.meshes.count args.now.meshes.pairs }
-    ensures cancel { result.cancel ≡ args.now.cancel }
-    ensures states { result.states ≡ args.now.states }
-    ensures witness { result.witness ≡ args.now.witness }
-{
-    ExploreOptions {
-        meshes: args.meshes.as_slice(),
-        cancel: args.cancel,
-        states: args.states,
-        witness: args.witness,
     }
 }
 

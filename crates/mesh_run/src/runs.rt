@@ -3,15 +3,15 @@ ghost use Rattle.std.specs.Prelude.{◌≡◌, ◌<◌, ◌≤◌, ◌||◌, fal
 ghost use Rattle.std.specs.Cow.{cow_str_bytes};
 ghost use Rattle.std.specs.Io.KnownBytes.{Keeps};
 ghost use Rattle.model_jobs.specs.Texts.{ended};
-ghost use Rattle.mesh_run.specs.Runs.{Ends, HasTold, error_text};
+ghost use Rattle.mesh_run.specs.Runs.{Ends, HasTold, IsSound, error_text};
 ghost use Rattle.mesh_run.specs.Seen.{seen};
 ghost use Rattle.mesh_run.specs.Status.{status_of_error};
 ghost use Rattle.mesh_text.specs.Recorded.{HasReplayedRecorded, HasStoppedRecorded};
 ghost use Rattle.mesh_text.specs.Replay.{HasReplayed, HasStopped};
 ghost use Rattle.mesh_devices.specs.declared.faults.ReplayError.{ReplayError};
 
-use crate::Stop;
 use crate::fault_line::line_of;
+use crate::{Devices, Stop};
 use mesh_command_line::status::{DONE, FAILED, FAULTY};
 use mesh_devices::{ReplayError, Sink, Source, write_all};
 use mesh_text::{replay, replay_recorded};
@@ -42,17 +42,13 @@ pub fn replay_run<I: Source, O: Sink, E: Sink>(
 /// Status and line are those of `replay_run`. Nothing is written to the output before the plan is over.
 pub fn replay_history_run<I: Source, O: Sink, E: Sink>(
     alloc: Global,
-    input: &mut I,
-    output: &mut O,
-    errors: &mut E,
+    devices: &mut Devices<I, O, E>,
 ) -> u8
-    requires input { I.has_failed input.old ≡ false }
-    requires output { O.has_failed output.old ≡ false }
-    ensures { Ends HasReplayedRecorded HasStoppedRecorded (seen (I.remaining input.old) (O.written output.old) (E.written errors.old) (I.has_failed input.old) (O.has_failed output.old) (E.has_failed errors.old))
-        (seen (I.remaining input.new) (O.written output.new) (E.written errors.new) (I.has_failed input.new) (O.has_failed output.new) (E.has_failed errors.new)) result }
+    requires { IsSound devices.old }
+    ensures { Ends HasReplayedRecorded HasStoppedRecorded devices.old devices.new result }
 {
-    let outcome = replay_recorded(alloc, input, output);
-    finished(errors, outcome)
+    let outcome = replay_recorded(alloc, &mut devices.input, &mut devices.output);
+    finished(&mut devices.errors, outcome)
 }
 
 /// Writes help to the output, or what else a stop says to `errors`, and gives its exit status.

@@ -2,7 +2,7 @@
 
 ghost use Rattle.std.specs.Prelude.{◌≡◌, false};
 
-use crate::memory::Ran;
+use crate::memory::{Ran, in_memory};
 use mesh_run::{Input, Output, Source, replay_history_run, replay_run};
 use std::alloc::Global;
 
@@ -24,11 +24,9 @@ fn replayed_from<I: Source + Drop>(alloc: Global, input: I) -> Ran
 
 /// Replays a file from memory to memory, and prints the recorded history of its journal.
 fn history_of(alloc: Global, file: &[u8]) -> Ran {
-    let mut input = Input::new(file);
-    let mut output = Output::new(Vec::new(alloc));
-    let mut errors = Output::new(Vec::new(alloc));
-    let status = replay_history_run(alloc, &mut input, &mut output, &mut errors);
-    Ran::of_outputs(status, output, errors)
+    let mut devices = in_memory(alloc, Input::new(file));
+    let status = replay_history_run(alloc, &mut devices);
+    Ran::of(status, devices)
 }
 
 /// Replays a file from memory to memory, and prints its answers.

@@ -2,16 +2,19 @@
 use crate::memory::files::FIRST_FILE;
 use crate::memory::{LENGTHS, ROW_END, faulty_files, fields, letters};
 use crate::tests::check;
-use crate::tests::replays::replayed;
+use crate::tests::replays::{history_of, replayed};
 use std::process::Abort;
 use std::test::Fail;
 
+/// Neither answers nor a journal are printed.
 #[test]
 fn tells_each_fault(rt: HostRuntime) {
     for row in faulty_files().split(ROW_END) {
         let (name, file, fault) = fields(row);
-        let run = replayed(rt.alloc(), file.as_bytes());
-        check(&rt, run.wrote(b"", fault, 2), &run, name);
+        let answers = replayed(rt.alloc(), file.as_bytes());
+        let journal = history_of(rt.alloc(), file.as_bytes());
+        check(&rt, answers.wrote(b"", fault, 2), &answers, name);
+        check(&rt, journal.wrote(b"", fault, 2), &journal, name);
     }
 }
 

@@ -1,5 +1,4 @@
 //! The text of a history: its answers, and as it is recorded.
-use crate::memory::{ROW_END, faulty_files, fields};
 use crate::tests::replays::history_of;
 use crate::tests::{check, check_text};
 use mesh_mutator::{Command, Entry, Refusal, Reply};
@@ -70,13 +69,4 @@ fn a_replay_prints_its_journal(rt: HostRuntime) {
     let run = history_of(rt.alloc(), JOURNAL_FILE.as_bytes());
     let goes = run.wrote(JOURNAL.as_bytes(), "", 0);
     check(&rt, goes, &run, "two workers");
-}
-
-#[test]
-fn a_faulty_file_has_no_journal(rt: HostRuntime) {
-    for row in faulty_files().split(ROW_END) {
-        let (name, file, fault) = fields(row);
-        let run = history_of(rt.alloc(), file.as_bytes());
-        check(&rt, run.wrote(b"", fault, 2), &run, name);
-    }
 }
