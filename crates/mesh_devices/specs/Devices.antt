@@ -1,7 +1,6 @@
 -- What contracts see of devices, and when a call of one is a failure.
 use Rattle.std.specs.Prelude.{◌&&◌, ◌||◌, ◌==◌, ℕ, Bool, true, Result, Ok, Err, nat_lt}
-use Rattle.mesh_devices.specs.declared.devices.Input.{Input}
-use Rattle.mesh_devices.specs.declared.devices.Output.{Output}
+use Rattle.mesh_devices.specs.declared.devices.Device.{Device}
 
 -- a read into so much room failed, or told of more bytes than there was room for
 abbrev pub is_read_fault : {E : Type 0} → Result ℕ E → ℕ → Bool
@@ -13,16 +12,9 @@ abbrev pub is_write_fault : {E : Type 0} → Result ℕ E → ℕ → Bool
 is_write_fault (Ok count) len = nat_lt len count || (count == 0 && nat_lt 0 len)
 is_write_fault (Err e) len = true
 
--- the reader of an input, and whether a call of the input has failed
-abbrev pub input_reader : {R : Type 0} → Input R → R
-input_reader input = input.reader
+-- the reader or the writer of a device, and whether a call of the device has failed
+abbrev pub inner_of : {D : Type 0} → Device D → D
+inner_of device = device.inner
 
-abbrev pub input_has_failed : {R : Type 0} → Input R → Bool
-input_has_failed input = input.failed
-
--- the writer of an output, and whether a call of the output has failed
-abbrev pub output_writer : {W : Type 0} → Output W → W
-output_writer output = output.writer
-
-abbrev pub output_has_failed : {W : Type 0} → Output W → Bool
-output_has_failed output = output.failed
+abbrev pub has_failed_once : {D : Type 0} → Device D → Bool
+has_failed_once device = device.failed

@@ -1,7 +1,7 @@
 //! What a job is read from, and what its answers are written to.
 ghost use Rattle.std.specs.Prelude.{◌≡◌, ◌||◌, ℕ, List, Option, Bool, length, false, true, is_err};
 ghost use Rattle.std.specs.Io.KnownBytes.{ReadConsumes, WriteAppends};
-ghost use Rattle.mesh_devices.specs.Devices.{input_has_failed, input_reader, is_read_fault, is_write_fault, output_has_failed, output_writer};
+ghost use Rattle.mesh_devices.specs.Devices.{has_failed_once, inner_of, is_read_fault, is_write_fault};
 
 use std::io;
 
@@ -41,40 +41,53 @@ pub trait Sink {
         ensures fails { has_failed self.new ≡ is_write_fault result (length bytes.now) || has_failed self.old };
 }
 
-/// A reader as a source: a file, or bytes in memory. Once a call has failed, so does each call behind it, and the reader isn't read again.
+/// A reader or a writer that stays failed: once a call has failed, so does each call behind it, and the reader or writer isn't asked again.
 #[derive(Drop)]
-pub struct Input<R> {
-    reader: R,
+pub struct Device<D> {
+    inner: D,
     failed: bool,
 }
 
-impl<R: io::Read> Input<R> {
-    /// The source of what this reader gives.
-    pub fn new(reader: R) -> Self
-        ensures reader { input_reader result ≡ reader }
-        ensures fresh { input_has_failed result ≡ false }
+/// A reader as a source: a file, or bytes in memory.
+pub type Input<R> = Device<R>;
+
+/// A writer as a sink: standard output, a file, or bytes in memory.
+pub type Output<W> = Device<W>;
+
+impl<D> Device<D> {
+    /// The device of this reader or writer, which hasn't failed yet.
+    pub fn new(inner: D) -> Self
+        ensures inner { inner_of result ≡ inner }
+        ensures fresh { has_failed_once result ≡ false }
     {
-        Input {
-            reader,
+        Device {
+            inner,
             failed: false,
         }
     }
+
+    /// The reader or the writer; a writer with what it took.
+    pub fn into_inner(self) -> D
+        ensures { result ≡ inner_of self }
+    {
+        self.inner
+    }
 }
 
-impl<R: io::Read> Source for Input<R> {
-    ghost remaining = { λ input. R.remaining (input_reader input) };
+impl<R: io::Read> Source for Device<R> {
+    ghost remaining = { λ device. R.remaining (inner_of device) };
 
-    ghost has_failed = { input_has_failed };
+    ghost has_failed = { has_failed_once };
 
     fn read(&mut self, buf: &mut [u8]) -> Result<usize, DeviceFault>
-        ensures bytes { ReadConsumes (R.remaining (input_reader self.old)) (R.remaining (input_reader self.new)) result buf.new }
-        ensures fails { input_has_failed self.new ≡ is_read_fault result (length buf.new) || input_has_failed self.old }
-        ensures again { input_has_failed self.old ≡ true → (is_err result ≡ true) × (self.new ≡ self.old) }
+        ensures bytes { ReadConsumes (R.remaining (inner_of self.old)) (R.remaining (inner_of self.new)) result buf.new }
+        ensures fails { has_failed_once self.new ≡ is_read_fault result (length buf.new) || has_failed_once self.old }
+        ensures again { has_failed_once self.old ≡ true → (is_err result ≡ true) × (self.new ≡ self.old) }
     {
         if self.failed {
             return Err(DeviceFault);
         }
-        match self.reader.read(buf) {
+        match self.inner.read(buf) {
             Ok(count) => Ok(count),
             Err(_) => {
                 self.failed = true;
@@ -84,48 +97,20 @@ impl<R: io::Read> Source for Input<R> {
     }
 }
 
-/// A writer as a sink: standard output, a file, or bytes in memory. Once a call has failed, so does each call behind it, and nothing more is
-/// handed to the writer.
-#[derive(Drop)]
-pub struct Output<W> {
-    writer: W,
-    failed: bool,
-}
+impl<W: io::Write> Sink for Device<W> {
+    ghost written = { λ device. W.contents (inner_of device) };
 
-impl<W: io::Write> Output<W> {
-    /// The sink that hands to this writer.
-    pub fn new(writer: W) -> Self
-        ensures writer { output_writer result ≡ writer }
-        ensures fresh { output_has_failed result ≡ false }
-    {
-        Output {
-            writer,
-            failed: false,
-        }
-    }
-
-    /// The writer, with what it took.
-    pub fn into_inner(self) -> W
-        ensures { result ≡ output_writer self }
-    {
-        self.writer
-    }
-}
-
-impl<W: io::Write> Sink for Output<W> {
-    ghost written = { λ output. W.contents (output_writer output) };
-
-    ghost has_failed = { output_has_failed };
+    ghost has_failed = { has_failed_once };
 
     fn write(&mut self, bytes: &[u8]) -> Result<usize, DeviceFault>
-        ensures bytes { WriteAppends (W.contents (output_writer self.old)) (W.contents (output_writer self.new)) result bytes.now }
-        ensures fails { output_has_failed self.new ≡ is_write_fault result (length bytes.now) || output_has_failed self.old }
-        ensures again { output_has_failed self.old ≡ true → (is_err result ≡ true) × (self.new ≡ self.old) }
+        ensures bytes { WriteAppends (W.contents (inner_of self.old)) (W.contents (inner_of self.new)) result bytes.now }
+        ensures fails { has_failed_once self.new ≡ is_write_fault result (length bytes.now) || has_failed_once self.old }
+        ensures again { has_failed_once self.old ≡ true → (is_err result ≡ true) × (self.new ≡ self.old) }
     {
         if self.failed {
             return Err(DeviceFault);
         }
-        match self.writer.write(bytes) {
+        match self.inner.write(bytes) {
             Ok(0) => {
                 self.failed = !bytes.is_empty();
                 Ok(0)
