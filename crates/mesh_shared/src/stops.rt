@@ -7,7 +7,6 @@ ghost use Rattle.mesh_shared.specs.declared.stops.EarlyExit.{EarlyExit};
 use mesh_lock::{FinishError, OpenError};
 use mesh_search::SearchError;
 use std::alloc::AllocError;
-use std::thread::SpawnError;
 use thiserror::Error;
 
 /// Why a run in threads hands out nothing: the first of these that some thread met, in the order in which they stand here.
@@ -81,14 +80,6 @@ impl From<AllocError> for EarlyExit {
 
     fn from(_refused: AllocError) -> EarlyExit {
         EarlyExit::Memory
-    }
-}
-
-impl<T: Drop> From<SpawnError<T>> for EarlyExit {
-    ghost from_gives = { λ _ stop. stop ≡ EarlyExit.Thread };
-
-    fn from(_refused: SpawnError<T>) -> EarlyExit {
-        EarlyExit::Thread
     }
 }
 

@@ -6,6 +6,7 @@ ghost use Rattle.mesh_mutator.specs.Book.{memory_in};
 ghost use Rattle.mesh_shared.specs.Joined.{AreAtWork, AreMeshing};
 ghost use Rattle.mesh_shared.specs.MesherRuns.{AreMeshed, HasMeshed};
 ghost use Rattle.mesh_shared.specs.Runs.{AreServed, AreWorked, HasBegun, HasRun, HasWorked, IsFairPlan, IsReady};
+ghost use Rattle.mesh_shared.specs.declared.stops.EarlyExit.{EarlyExit};
 
 use crate::joining::{Service, answer_of, join_all};
 use crate::mesher::{Meshed, Mesher, MesherEnd, Meshes};
@@ -227,7 +228,8 @@ fn start_workers<'s, E, R: Threads + Wait + Sync, G: Gate + Sync>(
     requires tries { IfSome tries (λ tries. 1 ≤ tries) }
     requires room { length scripts.now ≤ vec_capacity workers.old }
     requires none { workers.old.items ≡ [] }
-    ensures { result ≡ None → AreAtWork tries (map (λ script. script.now) scripts.now) workers.new.items }
+    ensures working { result ≡ None → AreAtWork tries (map (λ script. script.now) scripts.now) workers.new.items }
+    ensures kind { IfSome result (λ stop. stop ≡ EarlyExit.Thread) }
 {
     let rt = context.rt;
     let gate = context.gate;
@@ -240,7 +242,7 @@ fn start_workers<'s, E, R: Threads + Wait + Sync, G: Gate + Sync>(
         { serve(rt, gate, shared, seat, script, tries) };
         match scope.spawn_with(Works { script, tries }, job) {
             Ok(handle) => workers.push_reserved(handle),
-            Err(unstarted) => return Some(unstarted.into()),
+            Err(_unstarted) => return Some(EarlyExit::Thread),
         }
     }
     None
@@ -257,7 +259,8 @@ fn start_meshers<'s, E, R: Threads + Wait + Sync, G: Gate + Sync>(
     requires plan { IsFairPlan plan.now }
     requires room { plan.now.meshers ≤ vec_capacity meshers.old }
     requires none { meshers.old.items ≡ [] }
-    ensures { result ≡ None → AreMeshing plan.now most meshers.new.items }
+    ensures meshing { result ≡ None → AreMeshing plan.now most meshers.new.items }
+    ensures kind { IfSome result (λ stop. stop ≡ EarlyExit.Thread) }
 {
     let rt = context.rt;
     let alloc = context.alloc;
@@ -287,7 +290,7 @@ fn start_meshers<'s, E, R: Threads + Wait + Sync, G: Gate + Sync>(
         };
         match scope.spawn_with(meshes, job) {
             Ok(handle) => meshers.push_reserved(handle),
-            Err(unstarted) => refused = Some(unstarted.into()),
+            Err(_unstarted) => refused = Some(EarlyExit::Thread),
         }
     }
     refused

@@ -20,4 +20,5 @@ loop-number-preserved g c =
             w.in-Ok.ensures.ok (was.3 before) _ _ below)
         | in-Err w ↦ absurd (cc (sym w.refused-is ∙ started))
       ],
+      search rules,
     )

@@ -45,8 +45,8 @@ push_reserved-requires g c =
     let rest = c.in-Some.ensures.steps.1 in
     omega (arith, many, room, rest)
 
-pub returns : goal.returns
-returns g c started =
+pub returns-clause-working : goal.returns-clause-working
+returns-clause-working g c started =
     let was = c.loop-seat.invariant in
     let many = was.0 in
     let none_left = c.in-None.ensures.steps.0 in

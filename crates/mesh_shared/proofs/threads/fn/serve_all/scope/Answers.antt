@@ -10,7 +10,7 @@ returns g c =
     let both = none_of_both c.start_meshers-unmeshed.result c.start_workers-unserved.result in
     let answer = c.answer_of.ensures in record {
       served = answer_served _ scripts _ c.or-refused.result c.join_all-joined.result c.answer_of.result answer.unjoined answer.joined c.join_all-joined.ensures.served
-          (λ none. c.start_workers-unserved.ensures (both (sym c.or-refused.ensures ∙ none)).1);
+          (λ none. c.start_workers-unserved.ensures.working (both (sym c.or-refused.ensures ∙ none)).1);
       meshed = answer_meshed _ _ _ c.or-refused.result c.join_all-joined.result c.answer_of.result answer.unjoined answer.joined c.join_all-joined.ensures.meshed
-          (λ none. c.start_meshers-unmeshed.ensures (both (sym c.or-refused.ensures ∙ none)).0);
+          (λ none. c.start_meshers-unmeshed.ensures.meshing (both (sym c.or-refused.ensures ∙ none)).0);
     }
