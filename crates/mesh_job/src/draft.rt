@@ -278,7 +278,7 @@ impl Draft {
             self.section = Section::Ended;
         } else {
             let line = plan_line(self.alloc, self.version, self.workers, word, fields)?;
-            self.plan.push(line)?;
+            self.plan.push(line).map_err(|_| LineError::Memory)?;
         }
         Ok(())
     }

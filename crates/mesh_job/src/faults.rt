@@ -4,7 +4,7 @@ ghost use Rattle.mesh_job.specs.declared.faults.LineError.{LineError};
 ghost use Rattle.mesh_job.specs.declared.faults.ReadFault.{ReadFault};
 
 use model_words::{FaultKind, TextFault};
-use std::alloc::{AllocError, AllocFailed};
+use std::alloc::AllocError;
 use thiserror::Error;
 
 /// Why a line could not be read.
@@ -14,6 +14,17 @@ pub enum LineError {
     #[error("{0}")]
     Kind(FaultKind),
     /// A growth of what was read was refused, since an allocation failed.
+    #[error("out of memory")]
+    Memory,
+}
+
+/// Why a job file gave no job.
+#[derive(Clone, Copy, Debug, PartialEq, Eq, Error)]
+pub enum ReadFault {
+    /// The text has a fault; this is its first.
+    #[error("{0}")]
+    Text(TextFault),
+    /// A growth of the job was refused, since an allocation failed.
     #[error("out of memory")]
     Memory,
 }
@@ -32,25 +43,6 @@ impl From<AllocError> for LineError {
     fn from(_refused: AllocError) -> LineError {
         LineError::Memory
     }
-}
-
-impl<T: Drop> From<AllocFailed<T>> for LineError {
-    ghost from_gives = { λ _ fault. fault ≡ LineError.Memory };
-
-    fn from(_refused: AllocFailed<T>) -> LineError {
-        LineError::Memory
-    }
-}
-
-/// Why a job file gave no job.
-#[derive(Clone, Copy, Debug, PartialEq, Eq, Error)]
-pub enum ReadFault {
-    /// The text has a fault; this is its first.
-    #[error("{0}")]
-    Text(TextFault),
-    /// A growth of the job was refused, since an allocation failed.
-    #[error("out of memory")]
-    Memory,
 }
 
 impl From<AllocError> for ReadFault {

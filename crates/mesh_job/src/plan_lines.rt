@@ -63,13 +63,21 @@ fn short_line(
     if is_word(word, b"run") {
         run_of(workers, fields)
     } else if is_word(word, b"begin") {
-        begin_of(fields)
+        let (source, destination) = groups_of(fields)?;
+        Ok(PlanLine::Begin {
+            source,
+            destination,
+        })
     } else if is_word(word, b"step") {
         step_of(version, fields)
     } else if is_word(word, b"cancel") {
         cancel_of(version, fields)
     } else if is_word(word, b"whole") {
-        whole_of(fields)
+        let (source, destination) = groups_of(fields)?;
+        Ok(PlanLine::Whole {
+            source,
+            destination,
+        })
     } else if is_word(word, b"sweep") {
         sweep_of(fields)
     } else if is_word(word, b"report") {
@@ -98,28 +106,6 @@ fn groups_of(fields: &[&[u8]]) -> Result<(u32, u32), FaultKind>
     let source = number32(source, 0, MAX_GROUP)?;
     let destination = number32(destination, 0, MAX_GROUP)?;
     Ok((source, destination))
-}
-
-/// `begin SRC DST`
-fn begin_of(fields: &[&[u8]]) -> Result<PlanLine, FaultKind>
-    ensures { read_line result ≡ of_groups_in BeginMesh (texts fields.now) }
-{
-    let (source, destination) = groups_of(fields)?;
-    Ok(PlanLine::Begin {
-        source,
-        destination,
-    })
-}
-
-/// `whole SRC DST`
-fn whole_of(fields: &[&[u8]]) -> Result<PlanLine, FaultKind>
-    ensures { read_line result ≡ of_groups_in WholeMesh (texts fields.now) }
-{
-    let (source, destination) = groups_of(fields)?;
-    Ok(PlanLine::Whole {
-        source,
-        destination,
-    })
 }
 
 /// `sweep GROUP`
@@ -195,14 +181,12 @@ fn search_of(
     let class = class(size)?;
     let rounds = number32(rounds, 0, MAX_ROUNDS)?;
     let words = search_words(alloc, words)?;
-    let asked = Box::new(
-        alloc,
-        Search {
-            class,
-            rounds,
-            words,
-        },
-    )?;
+    let search = Search {
+        class,
+        rounds,
+        words,
+    };
+    let asked = Box::new(alloc, search).map_err(|_| LineError::Memory)?;
     Ok(PlanLine::Pair(asked))
 }
 
@@ -236,7 +220,7 @@ fn search_words(alloc: Global, fields: &[&[u8]]) -> Result<Vec<u64>, LineError>
     let mut rest = fields;
     while let [field, behind @ ..] = rest {
         let word = number(*field, 0, u64::MAX)?;
-        words.push(word)?;
+        words.push(word).map_err(|_| LineError::Memory)?;
         rest = behind;
     }
     Ok(words)

@@ -134,6 +134,6 @@ pub(crate) fn close_script(
     ensures err { IfErr result (λ fault. fault ≡ LineError.Memory) }
 {
     let script = mem::replace(script, Script::new(alloc));
-    finished.push(script)?;
+    finished.push(script).map_err(|_| LineError::Memory)?;
     Ok(())
 }

@@ -3,7 +3,7 @@ ghost use Rattle.std.specs.Prelude.{◌≡◌};
 ghost use Rattle.mesh_lock.specs.declared.faults.FinishError.{FinishError};
 ghost use Rattle.mesh_lock.specs.declared.faults.OpenError.{OpenError};
 
-use std::alloc::{AllocError, AllocFailed};
+use std::alloc::AllocError;
 use thiserror::Error;
 
 /// Why no seats could be made.
@@ -12,14 +12,6 @@ pub enum OpenError {
     /// Memory was refused.
     #[error("out of memory")]
     Memory,
-}
-
-impl From<AllocError> for OpenError {
-    ghost from_gives = { λ _ error. error ≡ OpenError.Memory };
-
-    fn from(_refused: AllocError) -> OpenError {
-        OpenError::Memory
-    }
 }
 
 /// Why seats and journal make no history. The first of these that holds is told, in the order in which they stand here; which seats and
@@ -60,10 +52,10 @@ impl From<AllocError> for FinishError {
     }
 }
 
-impl<T: Drop> From<AllocFailed<T>> for FinishError {
-    ghost from_gives = { λ _ error. error ≡ FinishError.Memory };
+impl From<AllocError> for OpenError {
+    ghost from_gives = { λ _ error. error ≡ OpenError.Memory };
 
-    fn from(_refused: AllocFailed<T>) -> FinishError {
-        FinishError::Memory
+    fn from(_refused: AllocError) -> OpenError {
+        OpenError::Memory
     }
 }

@@ -1,5 +1,5 @@
 //! The walk of the journal that builds the history.
-ghost use Rattle.std.specs.Prelude.{◌≡◌, ℕ, ◌^◌, ◌<◌, ◌≤◌, [], IfErr, IfOk, IfSome, OnOk, length};
+ghost use Rattle.std.specs.Prelude.{◌≡◌, ℕ, ◌^◌, ◌<◌, ◌≤◌, [], ◌∷◌, ◌++◌, IfErr, IfOk, IfSome, OnOk, length};
 ghost use Rattle.std.specs.List.{All};
 ghost use Rattle.model_memory.specs.Memory.{empty_memory};
 ghost use Rattle.model_memory.specs.Reads.{AreRight, kept_by, recorded};
@@ -40,7 +40,7 @@ pub fn weave(alloc: Global, seats: &[Seat], journal: &Journal) -> Result<Vec<Ent
         let early = step(rests.as_mut_slice(), next.worker);
         tell(seats, &mut rests, early, &mut told);
         plain.apply(&next.command, &next.reply)?;
-        history.push(next)?;
+        add(&mut history, next)?;
     }
     let wrong = take_all(
         &plain,
@@ -52,6 +52,14 @@ pub fn weave(alloc: Global, seats: &[Seat], journal: &Journal) -> Result<Vec<Ent
     let late = first_left(rests.as_slice());
     tell(seats, &mut rests, late, &mut told);
     unless_told(history, told)
+}
+
+/// Adds an entry behind the others. An error is an allocation failure.
+fn add(history: &mut Vec<Entry>, entry: Entry) -> Result<(), AllocError>
+    ensures { OnOk result (history.new.items ≡ history.old.items ++ entry ∷ []) }
+{
+    history.push(entry)?;
+    Ok(())
 }
 
 /// The history, where no read was told.

@@ -39,10 +39,10 @@ loop-n-preserved c =
     let back' = written_back c.tell.new.rests.items c.step-early.new.rests c.tell.new.rests.len c.tell.new.rests.ok.0 many' in
     let told : Tells seats c.step-early.result c.step-early.new.rests c.tell-in-loop-n.new.rests.items c.tell.new.told c.tell-in-loop-n.new.told =
     subst (λ (l : List (List Kept)). Tells seats c.step-early.result l c.tell-in-loop-n.new.rests.items c.tell.new.told c.tell-in-loop-n.new.told) back' c.tell-in-loop-n.ensures in
-    let pushed : c.push.new.self.items ≡ c.take_all.new.history.items ++ entry ∷ [] =
-    c.in_ok-push.ensures.items ∙ ap (λ (e : Entry). c.take_all.new.history.items ++ e ∷ []) (sym c.next.view_is) in
+    let pushed : c.add.new.history.items ≡ c.take_all.new.history.items ++ entry ∷ [] =
+    c.in_ok-add.ensures ∙ ap (λ (e : Entry). c.take_all.new.history.items ++ e ∷ []) (sym c.next.view_is) in
     goes_on seats c.args.journal.now.entries entry c.loop-n.n plain c.apply.new.self rests c.take_all.new.rests c.tell.new.rests.items c.step-early.new.rests c.tell-in-loop-n.new.rests.items
-    c.loop-n.history.items c.take_all.new.history.items c.push.new.self.items c.in_ok-wrong.wrong c.step-early.result c.loop-n.told c.tell.new.told c.tell-in-loop-n.new.told
+    c.loop-n.history.items c.take_all.new.history.items c.add.new.history.items c.in_ok-wrong.wrong c.step-early.result c.loop-n.told c.tell.new.told c.tell-in-loop-n.new.told
     below at known c.loop-n.invariant takes stepped many' told c.in_ok-apply.ensures.done pushed
 
 pub returns : goal.returns
