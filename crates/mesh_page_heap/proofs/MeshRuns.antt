@@ -23,7 +23,7 @@ use Rattle.mesh_running.specs.StepOrders.{order_steps, steps_before, steps_of}
 use Rattle.mesh_running.specs.declared.step_order.StepOrder.{StepOrder}
 use Rattle.mesh_spans.specs.Changes.{IsMergeable}
 use Rattle.mesh_spans.specs.Index.{GroupEntry, IsIndex, group_at}
-use Rattle.mesh_page_heap.specs.Meshes.{IsRunning}
+use Rattle.mesh_page_heap.specs.Meshes.{CanWindBack, IsRunning}
 use Rattle.mesh_page_heap.specs.PageHeap.{PageHeap, table_in}
 use Rattle.mesh_page_heap.specs.StepOrders.{IsStepOrderOf}
 use Rattle.mesh_page_heap.specs.Steps.{HasPage, IsReady}
@@ -220,9 +220,10 @@ module _ (g : PageHeap) (place : ℕ) (this : Mesh) (runs : Runs g place this) w
   pub cancel_again : (q u : ℕ) → this.progress ≡ Unwinding q u → cancel (table_in g) (mesh_in (table_in g) this.class) ≡ Ok (record { count = q - u; table = table_in g })
   cancel_again q u at = unwinding_cancelled g.meshes _ (λ mesh. nat_eq mesh.class this.class) _ _ _ _ runs.found sides.source_group at
 
--- both groups of a mesh that runs are there
-pub groups_there : (inside seen : PageHeap) (place : ℕ) (this : Mesh) → inside ≡ seen → IsIndex inside.index.spans inside.index.groups
+-- one that is known to run in the page heap that is seen can be wound back inside
+pub can_wind_back : (inside seen : PageHeap) (place : ℕ) (this : Mesh) → inside ≡ seen → IsIndex inside.index.spans inside.index.groups
     → IsPageHeap inside.arena inside.map inside.index inside.next_page inside.meshes → IsRunning seen place this
-    → IsSome (group_at inside.index.groups this.source) × IsSome (group_at inside.index.groups this.destination)
-groups_there inside seen place this same index paged is =
-    let runs = runs_inside inside seen place this same index paged is in (source_there inside place this runs, destination_there inside place this runs)
+    → CanWindBack inside.index inside.meshes place this
+can_wind_back inside seen place this same index paged is =
+    let runs = runs_inside inside seen place this same index paged is in
+    record { listed = place_below inside place this runs; source = source_there inside place this runs; destination = destination_there inside place this runs }

@@ -1,5 +1,5 @@
 -- How meshes begin, go on, are cancelled and end.
-use Rattle.std.specs.Prelude.{◌≡◌, ◌≢◌, ℕ, Bool, false, List, Ok, Some, slice_get, slice_set}
+use Rattle.std.specs.Prelude.{◌≡◌, ◌≢◌, ◌<◌, ℕ, Bool, false, List, IsSome, Ok, Some, length, slice_get, slice_set}
 use Rattle.std.specs.List.{remove}
 use Rattle.mesh_page_heap.specs.Effects.{HasEffect}
 use Rattle.mesh_page_heap.specs.Indexes.{class_in, layout_of, members_in, pages_in, slots_in}
@@ -60,6 +60,12 @@ pub record OpensBoth (old new : Index) (source destination : ℕ) : Type 0 where
   pub closed : (n : ℕ) → n ≢ source → n ≢ destination → is_closed new n ≡ is_closed old n
   pub closed_source : is_closed new source ≡ false
   pub closed_destination : is_closed new destination ≡ false
+
+-- a mesh stands in the list, and its two groups are there
+pub record CanWindBack (index : Index) (list : List Mesh) (place : ℕ) (mesh : Mesh) : Type 0 where
+  pub listed : place < length list
+  pub source : IsSome (group_at index.groups mesh.source)
+  pub destination : IsSome (group_at index.groups mesh.destination)
 
 -- a cancelled mesh with so many of its protected pages writable again: with all of them it is out of the list, and its two groups are open
 pub record IsWoundBack (old new : Index) (list left : List Mesh) (place : ℕ) (mesh : Mesh) (protected unprotected : ℕ) : Type 0 where

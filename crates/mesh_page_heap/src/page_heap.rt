@@ -2,14 +2,14 @@
 ghost use Rattle.std.specs.Prelude.{◌≡◌, ℕ, ◌+◌, ◌<◌, ◌≤◌, ◌↔◌, Some, replicate, length, IsTrue, slice_get, slice_index, IfOk, IfErr, IfSome, IsSome, IsSomeAnd};
 ghost use Rattle.std.specs.Bool.{OnFalse};
 ghost use Rattle.std.specs.Option.{option_map};
-ghost use Rattle.mesh_arena.specs.Pages.{run_of};
 ghost use Rattle.mesh_class.specs.Classes.{IsClass, slots_of};
+ghost use Rattle.mesh_arena.specs.Pages.{run_of};
 ghost use Rattle.mesh_page_heap.specs.Indexes.{layout_of};
 ghost use Rattle.mesh_page_heap.specs.Layout.{AreInObject};
+ghost use Rattle.model_heap.specs.Table.{empty_table, group_of, report_of, slot_address};
 ghost use Rattle.mesh_page_heap.specs.PageHeapInvariant.{IsPageHeap};
 ghost use Rattle.model_search.specs.Search.{view_of};
 ghost use Rattle.model_heap.specs.Sound.{IsSound};
-ghost use Rattle.model_heap.specs.Table.{empty_table, group_of, report_of, slot_address};
 ghost use Rattle.mesh_spans.specs.Index.{GroupEntry, IsIndex, address_in, group_at, record_at, span_at};
 ghost use Rattle.mesh_store.specs.Places.{AreBacked, IsBlocked, IsOpen, Saves, byte_of};
 ghost use Rattle.mesh_page_heap.specs.PageHeap.{IsFreeSlot, IsFreshSpan, IsInSlotOf, IsPlace, IsPlaceFault, IsSpanFault, KeepsOutside, counts_told, table_emptied, table_in, table_with_object};
@@ -48,6 +48,7 @@ pub struct PageHeap {
 }
 
 impl Model for PageHeap {
+    ghost use Rattle.model_heap.specs.Table.{empty_table, group_of, report_of, slot_address};
     ghost use Rattle.mesh_page_heap.specs.PageHeapInvariant.{IsPageHeap};
     ghost use Rattle.mesh_page_heap.specs.PageHeap.{PageHeap as Parts, page_heap_code};
 

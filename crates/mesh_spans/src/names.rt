@@ -18,18 +18,18 @@ impl Model for Span {
 }
 
 impl Span {
-    /// The span of this number.
-    pub fn numbered(number: u32) -> Span
-        ensures { result ≡ number }
-    {
-        Span(number)
-    }
-
     /// The span's place in a list of all spans.
     pub(crate) fn index(self) -> usize
         ensures { result ≡ self }
     {
         self.0 as usize
+    }
+
+    /// The span of this number.
+    pub fn numbered(number: u32) -> Span
+        ensures { result ≡ number }
+    {
+        Span(number)
     }
 }
 
