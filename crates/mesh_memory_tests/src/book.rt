@@ -3,7 +3,7 @@ ghost use Rattle.std.specs.Prelude.{◌≡◌, ◌≤◌};
 ghost use Rattle.model_words.specs.Commands.{IsInRange};
 
 use crate::ends::{CaseError, End, expect};
-use crate::orders::{ORDERS, PAGES};
+use crate::orders::{Maker, Order, PAGES, make_all};
 use mesh_mutator::{Attempt, Book, Command, Reply};
 use mesh_steps::Report;
 use std::alloc::Global;
@@ -13,25 +13,15 @@ const CELLS: u32 = 8;
 
 /// Opens a book, and fills it.
 pub(crate) fn fill(alloc: Global) -> End {
-    match Book::open(alloc, PAGES, 200) {
-        Ok(mut book) => make_all(&mut book),
-        Err(_) => Err(CaseError::Memory),
-    }
+    let mut book = Book::open(alloc, PAGES, 200).map_err(|_| CaseError::Memory)?;
+    make_all(&mut book)
 }
 
-/// Makes the objects of all orders.
-fn make_all(book: &mut Book) -> End {
-    let mut refused = 0u32;
-    let mut serial = 0u32;
-    for order in ORDERS.iter() {
-        for k in 0..order.count {
-            let wanted = Reply::Object(serial, order.address(k));
-            let made_again = make(book, (k % CELLS) as u8, order.len, &wanted)?;
-            refused = refused.saturating_add(made_again);
-            serial = serial.saturating_add(1);
-        }
+impl Maker for Book {
+    fn make(&mut self, order: &Order, k: u32, serial: u32) -> End {
+        let wanted = Reply::Object(serial, order.address(k));
+        make(self, (k % CELLS) as u8, order.len, &wanted)
     }
-    Ok(refused)
 }
 
 /// What a refused New must leave.

@@ -10,15 +10,15 @@ pub(crate) type End = Result<u32, CaseError>;
 /// What ends a case.
 #[derive(Clone, Copy, Debug, Error)]
 pub(crate) enum CaseError {
+    /// Something isn't as the contracts say.
+    #[error("WRONG: {0}")]
+    Wrong(&'static str),
     /// Memory was refused where a call that is refused isn't made again.
     #[error("out of memory")]
     Memory,
     /// A thread couldn't be started.
     #[error("thread fault")]
     Thread,
-    /// Something isn't as the contracts say.
-    #[error("WRONG: {0}")]
-    Wrong(&'static str),
 }
 
 impl From<AllocError> for CaseError {

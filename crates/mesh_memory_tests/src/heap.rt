@@ -1,32 +1,20 @@
 //! Objects of a heap, each made again where memory was refused.
 use crate::ends::{CaseError, End, expect};
-use crate::orders::{ORDERS, PAGES};
+use crate::orders::{Maker, Order, PAGES, make_all};
 use mesh_steps::{Heap, NewFault, Ref};
 use std::alloc::Global;
 
 /// Opens a heap, and fills it.
 pub(crate) fn fill(alloc: Global) -> End {
-    match Heap::open(alloc, PAGES) {
-        Ok(mut heap) => make_all(&mut heap),
-        Err(_) => Err(CaseError::Memory),
-    }
+    let mut heap = Heap::open(alloc, PAGES).map_err(|_| CaseError::Memory)?;
+    make_all(&mut heap)
 }
 
-/// Makes the objects of all orders.
-fn make_all(heap: &mut Heap) -> End {
-    let mut refused = 0u32;
-    let mut serial = 0u32;
-    for order in ORDERS.iter() {
-        for k in 0..order.count {
-            let wanted = Ref {
-                serial,
-                addr: order.address(k),
-            };
-            refused = refused.saturating_add(make(heap, order.len, wanted)?);
-            serial = serial.saturating_add(1);
-        }
+impl Maker for Heap {
+    fn make(&mut self, order: &Order, k: u32, serial: u32) -> End {
+        let addr = order.address(k);
+        make(self, order.len, Ref { serial, addr })
     }
-    Ok(refused)
 }
 
 /// Makes an object, and makes it again where memory was refused.

@@ -1,4 +1,5 @@
 //! The objects that are made, with the addresses that the definitions give them.
+use crate::ends::End;
 
 /// How many pages there are: more than the objects need.
 pub(crate) const PAGES: u32 = 64;
@@ -44,3 +45,22 @@ pub(crate) static ORDERS: [Order; 4] = [
         first: 0x18000,
     },
 ];
+
+/// A heap, or what has one, as a case makes objects in it.
+pub(crate) trait Maker {
+    /// Makes the k-th object of an order, which must get this serial, and makes it again where memory was refused. Gives how often it was.
+    fn make(&mut self, order: &Order, k: u32, serial: u32) -> End;
+}
+
+/// Makes the objects of all orders, and gives how often memory was refused.
+pub(crate) fn make_all<M: Maker>(maker: &mut M) -> End {
+    let mut refused = 0u32;
+    let mut serial = 0u32;
+    for order in ORDERS.iter() {
+        for k in 0..order.count {
+            refused = refused.saturating_add(maker.make(order, k, serial)?);
+            serial = serial.saturating_add(1);
+        }
+    }
+    Ok(refused)
+}

@@ -271,11 +271,11 @@ static FREED: [(PlainCall, PlainAnswer); 8] = [
         PlainCall::Alias(1, 9),
         PlainAnswer::Fault(PlainFault::Freed),
     ),
+    (PlainCall::Get(1, 0, 4), PlainAnswer::Bytes(4, 0x090a_0b0c)),
     (
         PlainCall::Peek(0x1000),
         PlainAnswer::Fault(PlainFault::Stray),
     ),
-    (PlainCall::Get(1, 0, 4), PlainAnswer::Bytes(4, 0x090a_0b0c)),
 ];
 
 #[test]
