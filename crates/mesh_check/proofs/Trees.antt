@@ -120,12 +120,12 @@ module _ (s g : ℕ → Option ℕ) (given : Given) (count : ℕ) (r : Recorded)
   pointed_stands f g' cell n st small set = record {
     count = st.count;
     object = st.object;
-    cells = length-set r.memory.roots cell (Some n) ∙ st.cells;
-    root = set_root r.memory.roots g g' cell (Some n) (one_of_many r.memory.roots cell st.cells small) st.root set;
     serials = st.serials;
     in_order = st.in_order;
+    cells = length-set r.memory.roots cell (Some n) ∙ st.cells;
     each = st.each;
     started = st.started;
+    root = set_root r.memory.roots g g' cell (Some n) (one_of_many r.memory.roots cell st.cells small) st.root set;
     starts_of = st.starts_of;
     filled = st.filled;
     apart = st.apart;

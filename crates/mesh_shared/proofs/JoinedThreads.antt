@@ -31,6 +31,14 @@ none_of_all refused ends served none =
     let both = nothing_first refused (of_ends ++ of_served) none in
     (both.0, nothing_ahead of_ends of_served both.1, nothing_behind of_ends of_served both.1)
 
+-- what each handle's thread gave back keeps the promise of the handle that stands in its place
+all_kept : {T P : Type 0} (Keeps : P → T → Type 0) (handles : List (PromisedHandle T P)) (given : List T)
+    → ((w : ℕ) (d : T) → w < length handles → (h : PromisedHandle T P) × (h ≡ slice_index_or handles w h) × Keeps h.promise (slice_index_or given w d))
+    → (w : ℕ) (h : PromisedHandle T P) (d : T) → w < length handles → Keeps (slice_index_or handles w h).promise (slice_index_or given w d)
+all_kept {T} {P} Keeps handles given promised w h d below =
+    let one = promised w d below in
+    subst (λ (k : PromisedHandle T P). Keeps k.promise (slice_index_or given w d)) (one.1 ∙ index_any handles w one.0 h below) one.2
+
 -- where each worker kept the promise of its handle
 pub have_served : (handles : List (PromisedHandle Served Works)) (served : List Served) → length served ≡ length handles
     → ((w : ℕ) (d : Served) → w < length handles → (h : PromisedHandle Served Works) × (h ≡ slice_index_or handles w h)
@@ -38,11 +46,7 @@ pub have_served : (handles : List (PromisedHandle Served Works)) (served : List 
     → HaveServed handles served
 have_served handles served many worked = record {
   many = many;
-  kept = λ w h d below.
-      let did = worked w d below in
-      let same : did.0 ≡ slice_index_or handles w h = did.1 ∙ index_any handles w did.0 h below in
-      let one : Served = slice_index_or served w d in
-      subst (λ (k : PromisedHandle Served Works). HasWorked k.promise.tries k.promise.script.now one.seat.calls one.worked.tried one.stop) same did.2;
+  kept = all_kept (λ p one. HasWorked p.tries p.script.now one.seat.calls one.worked.tried one.stop) handles served worked;
 }
 
 -- where each mesher kept the promise of its handle
@@ -52,11 +56,7 @@ pub have_meshed : (handles : List (PromisedHandle MesherEnd Meshes)) (ends : Lis
     → HaveMeshed handles ends
 have_meshed handles ends many meshed = record {
   many = many;
-  kept = λ q h d below.
-      let did = meshed q d below in
-      let same : did.0 ≡ slice_index_or handles q h = did.1 ∙ index_any handles q did.0 h below in
-      let one : MesherEnd = slice_index_or ends q d in
-      subst (λ (k : PromisedHandle MesherEnd Meshes). HasMeshed k.promise.rounds k.promise.number k.promise.most one.meshed one.stop) same did.2;
+  kept = all_kept (λ p one. HasMeshed p.rounds p.number p.most one.meshed one.stop) handles ends meshed;
 }
 
 -- an element of a list at a place that there is

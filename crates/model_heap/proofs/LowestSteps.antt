@@ -101,10 +101,10 @@ cancel_at t test mesh source (Made d) found is at =
       mesh = mesh;
       source = source;
       made = d;
+      late = less (page_count source + slots_of source.class) d late;
       running = found;
       source_is = is;
       made_is = at;
-      late = less (page_count source + slots_of source.class) d late;
     })
     in_time (λ early _. told_ok Counted (cancel_holds t test) (cancelled_at t mesh source (min d (page_count source))) (none_holds (cancel_holds t test)
     (cancel_from t test 18 (λ h. absurd (found_some t test mesh found h)) (λ h. absurd (in_time early h)))))

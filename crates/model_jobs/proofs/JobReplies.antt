@@ -48,14 +48,14 @@ step_adds state (Err refusal) = nothing_added state
 line_adds : (job : Job) (state : State) (line : Line) → AddsItsReply state line (answer job state line)
 line_adds job state (RunWorker worker) = run_adds job state worker (slice_index_or state.scripts worker [])
 line_adds job state (PairClass class t words) = nothing_added state
-line_adds job state (BeginMesh source destination) = counted_adds state StepsLeft (begin (busy_in job.version) state.table source destination)
+line_adds job state MakeReport = nothing_added state
 line_adds job state StepMesh = step_adds state (step state.table (first_mesh state.table))
-line_adds job state CancelMesh = counted_adds state StepsLeft (cancel state.table (first_mesh state.table))
 line_adds job state (StepClass class) = step_adds state (step state.table (mesh_in state.table class))
+line_adds job state CancelMesh = counted_adds state StepsLeft (cancel state.table (first_mesh state.table))
 line_adds job state (CancelClass class) = counted_adds state StepsLeft (cancel state.table (mesh_in state.table class))
+line_adds job state (BeginMesh source destination) = counted_adds state StepsLeft (begin (busy_in job.version) state.table source destination)
 line_adds job state (WholeMesh source destination) = counted_adds state PagesMeshed (mesh_whole (busy_in job.version) state.table source destination)
 line_adds job state (SweepGroup group) = counted_adds state PagesSwept (sweep state.table group)
-line_adds job state MakeReport = nothing_added state
 
 -- lines add the replies that they gave, in their order
 lines_add : (job : Job) (state : State) (lines : List Line)
