@@ -466,6 +466,52 @@ done
 # shellcheck disable=SC2086
 check "history: threads of a file with a fault" 2 "$room/nothing" "$(line 'line 7: HEX')" threads jobs/rows/faults/half_byte.job $small --history
 
+# programs of this machine, recorded as they are: they do what they do without that, and their histories are legal
+gcc -std=c99 -O2 -Wall -Wextra -Werror -fPIC -shared -o "$room/record_malloc.so" examples/record_malloc.c \
+    -ldl -lpthread >"$room/output" 2>"$room/errors"
+ended "a recorder of any program" $? 0 "$room/nothing" "$room/nothing"
+programs=0
+
+# is_here PROGRAM: whether it is on this machine, which is counted; else a line says that it is left out.
+is_here() {
+    if command -v "$1" >"$room/path"; then
+        programs=$((programs + 1))
+    else
+        echo "skipped: there is no $1 on this machine"
+        return 1
+    fi
+}
+# record NAME STATUS PROGRAM WORD..: a command ends with this status, and prints what it prints when it isn't recorded.
+# The history of the process that runs PROGRAM is legal, and has a hundred entries at least.
+record() {
+    row=$1 wanted=$2 only=$3
+    shift 3
+    "$@" >"$room/wanted" 2>"$room/errors" </dev/null
+    LD_PRELOAD=$room/record_malloc.so RECORD=$room/$row.history RECORD_ONLY=$only \
+        "$@" >"$room/output" 2>"$room/errors" </dev/null
+    ended "record: $row" $? "$wanted" "$room/wanted" all
+    touch "$room/$row.history"
+    fault=
+    [ "$(wc -l <"$room/$row.history")" -gt 100 ] || fault=" fewer than a hundred;"
+    tell "record: the entries of $row" "$fault"
+    check "check: the history of $row" 0 "$(count "$room/$row.history")" "$room/nothing" check "$room/$row.history"
+}
+if is_here python3; then
+    record python3 0 python3 python3 -c 'print(sorted(map(str, range(1000)))[7])'
+    record python3_killed 137 python3 \
+        python3 -c 'import os; kept = [bytes(1000) for i in range(1000)]; os.kill(os.getpid(), 9)'
+fi
+if is_here perl; then
+    # shellcheck disable=SC2016
+    record perl 0 perl perl -e '$n{$_} = "x" x $_ for 1 .. 1000; print join(" ", sort keys %n), "\n"'
+fi
+if is_here "$(gcc -print-prog-name=cc1)"; then
+    record cc1 0 cc1 gcc -std=c99 -O1 -c -o "$room/slots.o" examples/recorded_slots.c
+fi
+fault=
+[ "$programs" -ge 2 ] || fault=" $programs;"
+tell "record: two programs or more" "$fault"
+
 # the worked rows
 for job in jobs/rows/*/*.job; do
     row=${job%.job}
