@@ -5,8 +5,8 @@ use Rattle.mesh_job.specs.Draft.{HasAllBefore}
 use Rattle.mesh_job.proofs.PlanReadings.{plan_fits_more}
 use Rattle.mesh_job.proofs.draft.Draft.take_in_plan.Goals as goal
 
-pub returns-in_ok-push : goal.returns-in_ok-push
-returns-in_ok-push c =
+pub returns-in_ok-map_err : goal.returns-in_ok-map_err
+returns-in_ok-map_err c =
     let before = subst (λ section. HasAllBefore section c.args.self.now) c.requires.section c.requires.draft in
     record {
       draft = subst (λ section. HasAllBefore section (record c.args.self.now { plan = c.push.new.self })) (sym c.requires.section) (
