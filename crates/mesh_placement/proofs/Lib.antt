@@ -1,0 +1,4 @@
+pub mod AddedSpans
+pub mod Kept
+pub mod MergedRecords
+pub mod SlotRecords

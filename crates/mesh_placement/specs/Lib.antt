@@ -1,0 +1,5 @@
+pub use Rattle.mesh_spans.specs.Index
+pub mod Growth
+pub mod Placement
+pub mod Records
+pub mod Sweeps

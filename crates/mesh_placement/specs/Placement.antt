@@ -1,0 +1,111 @@
+-- A placement: where the objects of a heap are, the table that it is, and what its calls do to it.
+use Rattle.std.specs.Prelude.{◌≡◌, ℕ, ◌+◌, ◌-◌, ◌<◌, ◌≤◌, false, List, [], Option, Some, None, Ok, Err, find, length, refl}
+use Rattle.std.specs.Coded.{Coded, code_by, coded×, coded_ℕ}
+use Rattle.std.specs.Option.{option_map}
+use Rattle.model_memory.specs.Memory.{Memory, next_serial}
+use Rattle.model_heap.specs.Mesh.{mesh_of_class, mesh_whole}
+use Rattle.model_heap.specs.PageCounts.{AreCounted}
+use Rattle.model_heap.specs.Sound.{IsSound, IsTied}
+use Rattle.model_heap.specs.Table.{Group, Table, group_of, is_open, place_new, room_for_span, without_object}
+use Rattle.model_words.specs.Classes.{class_for}
+use Rattle.model_words.specs.declared.answers.NewFault.{NewFault}
+use Rattle.model_words.specs.declared.answers.NewFault.TheVariants.{Memory as NoMemory, Refused}
+use Rattle.mesh_spans.specs.Counts.{byte_count}
+use Rattle.mesh_spans.specs.Groups.{groups_of, is_closed}
+use Rattle.mesh_spans.specs.Index.{AreUnused, Index, SpanEntry, address_in, index_code, record_at, span_at}
+use Rattle.mesh_placement.specs.Records.{KeepsAddresses, KeepsOthers, KeepsRecords}
+use Rattle.mesh_placement.specs.Sweeps.{swept}
+
+-- a placement: its index, the lowest virtual page that was never used, the physical pages of all groups, and the serial of the next object
+pub record Placement : Type 0 where
+  pub index : Index
+  pub next_page : ℕ
+  pub taken_pages : ℕ
+  pub next_serial : ℕ
+
+-- a placement is stored as its parts
+abbrev pub placement_code : Coded Placement
+placement_code =
+    code_by (Index × (ℕ × (ℕ × ℕ))) (coded× index_code (coded× coded_ℕ (coded× coded_ℕ coded_ℕ)))
+    (λ p. (p.index, (p.next_page, (p.taken_pages, p.next_serial))))
+    (λ q. record { index = q.0; next_page = q.1.0; taken_pages = q.1.1.0; next_serial = q.1.1.1 })
+    (λ _. refl)
+
+-- its table, over 65,535 physical pages and with no running mesh
+abbrev pub table_of : Placement → Table
+table_of p = record {
+  next_span = length p.index.spans;
+  next_page = p.next_page;
+  free_pages = 65535 - p.taken_pages;
+  meshes = [];
+  groups = groups_of p.index;
+}
+
+-- the first virtual pages of spans ascend
+abbrev pub FirstsAscend : List SpanEntry → Type 0
+FirstsAscend spans = (i j : ℕ) → i < j → j < length spans → (span_at spans i).first < (span_at spans j).first
+
+-- the table has the live objects of a plain memory with so many serials
+pub record HasMemory (serials : ℕ) (t : Table) : Type 0 where
+  pub memory : Memory
+  pub next_is : next_serial memory ≡ serials
+  pub tied : IsTied memory t
+
+-- what always holds: the table is sound and has a memory's objects, its pages are counted, its spans ascend, and no group is in a mesh
+pub record IsPlacement (p : Placement) : Type 0 where
+  pub sound : IsSound (table_of p)
+  pub named : HasMemory p.next_serial (table_of p)
+  pub counted : AreCounted 65535 (table_of p)
+  pub few : p.taken_pages < p.next_page
+  pub unused : AreUnused p.index p.next_page
+  pub ascending : FirstsAscend p.index.spans
+  pub calm : (n : ℕ) → is_closed p.index n ≡ false
+
+-- an object was made in a slot that had none: it is where the table places it
+pub record IsMade (old new : Placement) (len word span k : ℕ) : Type 0 where
+  pub placed : place_new (table_of old) len word old.next_serial ≡ Ok (record { address = address_in (span_at new.index.spans span) k; table = table_of new })
+  pub serial : new.next_serial ≡ old.next_serial + 1
+  pub vacant : record_at old.index span k ≡ None
+  pub recorded : record_at new.index span k ≡ Some (old.next_serial, len)
+  pub others : KeepsOthers old.index new.index span k
+  pub addresses : KeepsAddresses old.index new.index
+
+-- a new object of `len` bytes goes to a new span of the class
+pub record GoesToSpan (t : Table) (len class : ℕ) : Type 0 where
+  pub class_is : class_for len ≡ Some class
+  pub some : 1 ≤ len
+  pub none_open : find (is_open t class) t.groups ≡ None
+
+-- it does, and there is room for the span
+pub record NeedsSpan (t : Table) (len : ℕ) : Type 0 where
+  pub class : ℕ
+  pub goes : GoesToSpan t len class
+  pub room : room_for_span t class ≡ Ok tt
+
+-- why no object was made, and nothing changed: the table refuses it, or memory for a new span was refused
+abbrev pub IsNotMade : Placement → Placement → ℕ → ℕ → NewFault → Type 0
+IsNotMade old new len word (Refused refusal) = (place_new (table_of old) len word old.next_serial ≡ Err refusal) × (new ≡ old)
+IsNotMade old new len word NoMemory = NeedsSpan (table_of old) len × (new ≡ old)
+
+-- an object was taken out of its slot
+pub record IsFreed (old new : Placement) (span k : ℕ) : Type 0 where
+  pub table : (serial len : ℕ) → record_at old.index span k ≡ Some (serial, len) → table_of new ≡ without_object (table_of old) serial
+  pub serial : new.next_serial ≡ old.next_serial
+  pub gone : record_at new.index span k ≡ None
+  pub others : KeepsOthers old.index new.index span k
+  pub addresses : KeepsAddresses old.index new.index
+
+-- each empty group was taken out
+pub record IsSwept (old new : Placement) : Type 0 where
+  pub table : table_of new ≡ swept (table_of old)
+  pub serial : new.next_serial ≡ old.next_serial
+  pub records : KeepsRecords old.index new.index
+  pub addresses : KeepsAddresses old.index new.index
+
+-- two groups were meshed: so many physical pages came free, and the source's objects have so many bytes
+pub record IsMeshed (old new : Placement) (source destination pages bytes : ℕ) : Type 0 where
+  pub table : mesh_whole mesh_of_class (table_of old) source destination ≡ Ok (record { count = pages; table = table_of new })
+  pub moved : option_map byte_count (group_of (table_of old) source) ≡ Some bytes
+  pub serial : new.next_serial ≡ old.next_serial
+  pub records : KeepsRecords old.index new.index
+  pub addresses : KeepsAddresses old.index new.index

@@ -1,0 +1,14 @@
+//! Where the objects of a heap are: the span index without pages and bytes, as fast as the index is.
+//!
+//! A `Placement` makes, frees, sweeps and meshes as a heap does, but it holds no byte and names no physical page: it only counts the pages that
+//! its groups take. A contract sees its table, which is that of the definitions, and the record of each slot.
+#![tactic(auto)]
+
+mod growth;
+mod meshed;
+mod placement;
+
+pub use mesh_spans::{Slot, Span, Totals};
+pub use meshed::Meshed;
+pub use model_words::{NewFault, Refusal};
+pub use placement::Placement;

@@ -1,0 +1,129 @@
+//! `Placement`: where the objects of a heap are. Its sweeps and meshes are in `meshes`.
+ghost use Rattle.std.specs.Prelude.{◌≡◌, ℕ, ◌+◌, ◌-◌, ◌^◌, ◌<◌, ◌≤◌, true, false, Some, Err, IfErr, IfOk, IfSome, IsSome, sum_by};
+ghost use Rattle.model_heap.specs.PageCounts.{span_pages};
+ghost use Rattle.model_heap.specs.Table.{empty_table, object_count};
+ghost use Rattle.model_heap.specs.Mesh.{page_count};
+ghost use Rattle.model_search.specs.Search.{view_of};
+ghost use Rattle.model_words.specs.Classes.{class_for, pages_of};
+ghost use Rattle.model_words.specs.declared.answers.NewFault.TheVariants.{Refused};
+ghost use Rattle.model_words.specs.declared.refusals.Refusal.TheVariants.{NoPages};
+ghost use Rattle.mesh_placement.specs.Placement.{GoesToSpan, IsFreed, IsMade, IsNotMade, IsPlacement, table_of};
+ghost use Rattle.mesh_spans.specs.Counts.{byte_count};
+ghost use Rattle.mesh_spans.specs.Index.{IsIndex, IsRecorded, record_at};
+
+mod meshes;
+
+use crate::growth::add_span;
+use mesh_class::{Class, class_of};
+use mesh_search::{ClassView, class_view};
+use mesh_spans::{Slot, Span, Spans, Totals};
+use model_words::{NewFault, Refusal};
+use std::alloc::{AllocError, Global};
+use std::marker::Model;
+
+/// The virtual page after the last one.
+const END_OF_VIRTUAL_PAGES: u32 = 65_536;
+
+/// How many physical pages there are: as many as virtual ones.
+const PHYSICAL_PAGES: u32 = 65_535;
+
+/// Where the objects of a heap are.
+///
+/// Objects have serials, counted from 0. An object is in a slot of a span, and stays in it until it is freed, whatever is meshed.
+pub struct Placement {
+    spans: Spans,
+    // The lowest virtual page that was never used.
+    next_page: u32,
+    // The physical pages of all groups together.
+    taken_pages: u32,
+    // The serial of the next object.
+    next_serial: u32,
+}
+
+impl Model for Placement {
+    ghost use Rattle.mesh_placement.specs.Placement.{IsPlacement, Placement as Parts, placement_code};
+
+    ghost Value = { Parts };
+
+    ghost coded = { placement_code };
+
+    ghost view = { λ p. record { index = p.spans; next_page = p.next_page; taken_pages = p.taken_pages; next_serial = p.next_serial } };
+
+    ghost invariant = { λ p. IsPlacement (record { index = p.spans; next_page = p.next_page; taken_pages = p.taken_pages; next_serial = p.next_serial }) };
+}
+
+#[rattlefmt::skip]
+impl Drop for Placement {
+    fn drop(self) { let Placement { spans: _, next_page: _, taken_pages: _, next_serial: _ } = self; }
+}
+
+impl Placement {
+    /// A placement with no object. The table of virtual pages is allocated here. An error is an allocation failure.
+    pub fn open(alloc: Global) -> Result<Placement, AllocError>
+        ensures table { IfOk result (λ p. table_of p ≡ empty_table 65535) }
+        ensures serial { IfOk result (λ p. p.next_serial ≡ 0) }
+    {
+        let spans = Spans::new(alloc)?;
+        Ok(Placement {
+            spans,
+            next_page: 1,
+            taken_pages: 0,
+            next_serial: 0,
+        })
+    }
+
+    /// What always holds: the table is sound, and spans and groups fit together.
+    pub fn sound(&self)
+        ensures placement { IsPlacement self.now }
+        ensures index { IsIndex self.now.index.spans self.now.index.groups }
+    {
+        self.spans.sound();
+    }
+
+    /// Whether all serial numbers are used up. `new` must not be called then.
+    pub fn is_full(&self) -> bool
+        ensures full { result ≡ true → 2 ^ 32 - 1 ≤ self.now.next_serial }
+        ensures left { result ≡ false → self.now.next_serial < 2 ^ 32 - 1 }
+    {
+        self.next_serial == u32::MAX
+    }
+
+    /// The physical pages of all groups together.
+    pub fn taken_pages(&self) -> u32
+        ensures free { result ≡ 65535 - (table_of self.now).free_pages }
+        ensures groups { result ≡ span_pages (table_of self.now) }
+    {
+        self.taken_pages
+    }
+
+    /// How many virtual pages were ever used. None of them is used again.
+    pub fn used_pages(&self) -> u32
+        ensures { result ≡ (table_of self.now).next_page - 1 }
+    {
+        self.next_page - 1
+    }
+
+    /// What the groups count together: objects, their bytes, and the virtual pages of members. No group is looked at.
+    pub fn totals(&self) -> Totals
+        ensures objects { result.objects ≡ sum_by object_count (table_of self.now).groups }
+        ensures bytes { result.bytes ≡ sum_by byte_count (table_of self.now).groups }
+        ensures mapped { result.mapped ≡ sum_by page_count (table_of self.now).groups }
+    {
+        self.spans.totals()
+    }
+
+    /// Serial and length of the object in a slot of a span. None only where it has none.
+    pub fn record(&self, span: Span, slot: Slot) -> Option<(u32, u32)>
+        ensures value { result ≡ record_at self.now.index span slot }
+        ensures object { IfSome result (λ r. IsRecorded self.now.index span slot r.0 r.1) }
+    {
+        self.spans.record(span, slot)
+    }
+
+    /// The groups of a class that may be paired. An error is an allocation failure.
+    pub fn view(&self, alloc: Global, class: Class) -> Result<ClassView, AllocError>
+        ensures { IfOk result (λ view. view ≡ view_of (table_of self.now) class) }
+    {
+        class_view(alloc, &self.spans, class)
+    }
+}

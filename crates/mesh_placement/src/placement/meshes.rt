@@ -1,0 +1,1 @@
+//! The sweeps and meshes of a placement.
