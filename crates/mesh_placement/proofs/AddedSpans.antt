@@ -1,14 +1,14 @@
 -- What a span that is added leaves of an index.
-use Rattle.std.proofs.Common.{◌≡◌, ◌≢◌, ℕ, zero, suc, ◌+◌, ◌<◌, ◌≤◌, List, [], ◌∷◌, ◌++◌, Option, Some, None, length, map, slice_index_or, ap, subst, refl, sym, ◌∙◌, arith, inl, inr}
+use Rattle.std.proofs.Common.{◌≡◌, ℕ, zero, suc, ◌+◌, ◌<◌, ◌≤◌, List, [], ◌∷◌, ◌++◌, Option, Some, None, length, ap, subst, refl, sym, ◌∙◌, arith, inl, inr}
 use Rattle.std.proofs.lemmas.Bool.Decides.{eqb_tells, leb_tells}
 use Rattle.std.proofs.Math.ListN.{get_or-append, length-append}
 use Rattle.std.proofs.Math.Seq.{get_or-append_seam}
-use Rattle.mesh_class.specs.Classes.{IsClass, pages_of, slots_of}
+use Rattle.mesh_class.specs.Classes.{pages_of, slots_of}
 use Rattle.mesh_spans.proofs.IndexLemmas.{span_new, span_old}
 use Rattle.mesh_spans.proofs.SlotLemmas.{none_in}
 use Rattle.mesh_spans.specs.Groups.{is_closed, is_in_mesh}
 use Rattle.mesh_spans.specs.Index.{AreUnused, GroupEntry, Index, IsIndex, SpanEntry, group_at, named_in, new_group, new_span, record_at, slot_in, span_at}
-use Rattle.mesh_placement.proofs.SlotRecords.{no_record, record_is, slot_of}
+use Rattle.mesh_placement.proofs.SlotRecords.{no_record, record_is}
 use Rattle.mesh_placement.specs.Growth.{IsAdded}
 use Rattle.mesh_placement.specs.Placement.{FirstsAscend}
 use Rattle.mesh_placement.specs.Records.{KeepsRecords}

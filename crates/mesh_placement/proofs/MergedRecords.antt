@@ -1,5 +1,5 @@
 -- The records of slots stay where two groups are merged, and where an empty group is taken out.
-use Rattle.std.proofs.Common.{◌≡◌, ◌≢◌, ℕ, zero, suc, ◌+◌, ◌<◌, ◌≤◌, false, List, [], ◌∷◌, ◌++◌, Option, Some, None, count_by, find, is_some, length, map, slice_get, slice_index, slice_index_or, slice_set, ap, subst, refl, sym, ◌∙◌, arith, inl, inr}
+use Rattle.std.proofs.Common.{◌≡◌, ◌≢◌, ℕ, zero, suc, ◌+◌, ◌<◌, ◌≤◌, false, List, [], ◌∷◌, Option, Some, None, count_by, find, is_some, length, map, slice_get, slice_index, slice_index_or, slice_set, ap, refl, sym, ◌∙◌, arith, inl, inr}
 use Rattle.std.proofs.lemmas.Bool.Decides.{eqb_tells, leb_tells}
 use Rattle.std.proofs.lemmas.List.{get_or-set_other, get_or-set_same, get_or_past}
 use Rattle.std.proofs.lemmas.Option.{slice_get-get_or}
@@ -7,12 +7,12 @@ use Rattle.std.proofs.Math.ListN.{length-set}
 use Rattle.model_heap.proofs.GroupPages.{found_sound}
 use Rattle.model_heap.proofs.TiedTables.{filled_counted}
 use Rattle.model_heap.proofs.UnitedSlots.{united_slot}
-use Rattle.model_heap.specs.Mesh.{both_occupied, do_overlap, either_slot, united}
+use Rattle.model_heap.specs.Mesh.{do_overlap, either_slot}
 use Rattle.model_heap.specs.Sound.{IsSound, times_in}
 use Rattle.model_heap.specs.Table.{Slot, Table, has_number}
 use Rattle.mesh_spans.proofs.IndexLemmas.{filled_below}
 use Rattle.mesh_spans.proofs.MergedTable.{group_found}
-use Rattle.mesh_spans.specs.Changes.{IsMoved, Merges, merged_entry, merged_groups}
+use Rattle.mesh_spans.specs.Changes.{Merges, merged_entry}
 use Rattle.mesh_spans.specs.Groups.{first_of, groups_of, table_group}
 use Rattle.mesh_spans.specs.Index.{GroupEntry, Index, IsIndex, SpanEntry, group_at, named_in, slot_in, span_at}
 use Rattle.mesh_placement.proofs.SlotRecords.{firsts_apart, not_named, records_same, slot_of}

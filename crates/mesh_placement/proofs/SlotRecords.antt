@@ -1,12 +1,12 @@
 -- The records of slots as the index changes at one slot or one group.
-use Rattle.std.proofs.Common.{◌≡◌, ◌≢◌, ℕ, ◌+◌, ◌<◌, ◌≤◌, ◌⊎◌, ◌++◌, List, [], ◌∷◌, Option, Some, None, IfSome, length, slice_get, slice_index_or, slice_set, ap, subst, refl, sym, ◌∙◌, arith, inl, inr}
+use Rattle.std.proofs.Common.{◌≡◌, ◌≢◌, ℕ, ◌+◌, ◌<◌, ◌≤◌, ◌⊎◌, List, Option, Some, None, IfSome, length, ap, subst, refl, sym, ◌∙◌, arith, inl, inr}
 use Rattle.std.specs.Option.{option_map}
 use Rattle.std.proofs.lemmas.Bool.{ne_eqb}
 use Rattle.std.proofs.lemmas.Bool.Decides.{eqb_tells, leb_tells}
 use Rattle.std.proofs.lemmas.List.{get_or-set_other, get_or-set_same, set_past}
 use Rattle.std.proofs.lemmas.Option.{slice_get-get_or, slice_get_past}
 use Rattle.mesh_spans.proofs.IndexLemmas.{filled_below}
-use Rattle.mesh_spans.specs.Index.{GroupEntry, Index, IsIndex, SpanEntry, group_at, named_in, no_span, record_at, slot_in, span_at, span_record, with_entry, with_slot}
+use Rattle.mesh_spans.specs.Index.{GroupEntry, Index, SpanEntry, group_at, named_in, no_span, record_at, slot_in, span_at, span_record, with_entry, with_slot}
 use Rattle.model_heap.specs.Table.{Slot}
 use Rattle.mesh_placement.specs.Placement.{FirstsAscend}
 use Rattle.mesh_placement.specs.Records.{KeepsOthers}

@@ -1,5 +1,6 @@
 pub use Rattle.mesh_spans.specs.Index
 pub mod Growth
+pub mod Meshes
 pub mod Placement
 pub mod Records
 pub mod Sweeps

@@ -1,12 +1,12 @@
 -- A placement: where the objects of a heap are, the table that it is, and what its calls do to it.
-use Rattle.std.specs.Prelude.{◌≡◌, ℕ, ◌+◌, ◌-◌, ◌<◌, ◌≤◌, false, List, [], Option, Some, None, Ok, Err, find, length, refl}
+use Rattle.std.specs.Prelude.{◌≡◌, ℕ, ◌+◌, ◌-◌, ◌<◌, ◌≤◌, false, List, [], Some, None, Ok, Err, find, length, refl}
 use Rattle.std.specs.Coded.{Coded, code_by, coded×, coded_ℕ}
 use Rattle.std.specs.Option.{option_map}
 use Rattle.model_memory.specs.Memory.{Memory, next_serial}
 use Rattle.model_heap.specs.Mesh.{mesh_of_class, mesh_whole}
 use Rattle.model_heap.specs.PageCounts.{AreCounted}
 use Rattle.model_heap.specs.Sound.{IsSound, IsTied}
-use Rattle.model_heap.specs.Table.{Group, Table, group_of, is_open, place_new, room_for_span, without_object}
+use Rattle.model_heap.specs.Table.{Table, group_of, is_open, place_new, room_for_span, sweep, without_object}
 use Rattle.model_words.specs.Classes.{class_for}
 use Rattle.model_words.specs.declared.answers.NewFault.{NewFault}
 use Rattle.model_words.specs.declared.answers.NewFault.TheVariants.{Memory as NoMemory, Refused}
@@ -14,7 +14,7 @@ use Rattle.mesh_spans.specs.Counts.{byte_count}
 use Rattle.mesh_spans.specs.Groups.{groups_of, is_closed}
 use Rattle.mesh_spans.specs.Index.{AreUnused, Index, SpanEntry, address_in, index_code, record_at, span_at}
 use Rattle.mesh_placement.specs.Records.{KeepsAddresses, KeepsOthers, KeepsRecords}
-use Rattle.mesh_placement.specs.Sweeps.{swept}
+use Rattle.mesh_placement.specs.Sweeps.{swept, table_after}
 
 -- a placement: its index, the lowest virtual page that was never used, the physical pages of all groups, and the serial of the next object
 pub record Placement : Type 0 where
@@ -31,12 +31,16 @@ placement_code =
     (λ q. record { index = q.0; next_page = q.1.0; taken_pages = q.1.1.0; next_serial = q.1.1.1 })
     (λ _. refl)
 
--- its table, over 65,535 physical pages and with no running mesh
+-- how many physical pages there are: as many as virtual ones
+abbrev pub supply : ℕ
+supply = 65535
+
+-- its table, over this supply and with no running mesh
 abbrev pub table_of : Placement → Table
 table_of p = record {
   next_span = length p.index.spans;
   next_page = p.next_page;
-  free_pages = 65535 - p.taken_pages;
+  free_pages = supply - p.taken_pages;
   meshes = [];
   groups = groups_of p.index;
 }
@@ -55,7 +59,7 @@ pub record HasMemory (serials : ℕ) (t : Table) : Type 0 where
 pub record IsPlacement (p : Placement) : Type 0 where
   pub sound : IsSound (table_of p)
   pub named : HasMemory p.next_serial (table_of p)
-  pub counted : AreCounted 65535 (table_of p)
+  pub counted : AreCounted supply (table_of p)
   pub few : p.taken_pages < p.next_page
   pub unused : AreUnused p.index p.next_page
   pub ascending : FirstsAscend p.index.spans
@@ -94,6 +98,14 @@ pub record IsFreed (old new : Placement) (span k : ℕ) : Type 0 where
   pub gone : record_at new.index span k ≡ None
   pub others : KeepsOthers old.index new.index span k
   pub addresses : KeepsAddresses old.index new.index
+
+-- a group was swept, or stayed where it may not be
+pub record IsSweptAt (old new : Placement) (n : ℕ) : Type 0 where
+  pub table : table_of new ≡ table_after (table_of old) (sweep (table_of old) n)
+  pub serial : new.next_serial ≡ old.next_serial
+  pub page : new.next_page ≡ old.next_page
+  pub spans : new.index.spans ≡ old.index.spans
+  pub records : KeepsRecords old.index new.index
 
 -- each empty group was taken out
 pub record IsSwept (old new : Placement) : Type 0 where

@@ -7,7 +7,7 @@ ghost use Rattle.model_search.specs.Search.{view_of};
 ghost use Rattle.model_words.specs.Classes.{class_for, pages_of};
 ghost use Rattle.model_words.specs.declared.answers.NewFault.TheVariants.{Refused};
 ghost use Rattle.model_words.specs.declared.refusals.Refusal.TheVariants.{NoPages};
-ghost use Rattle.mesh_placement.specs.Placement.{GoesToSpan, IsFreed, IsMade, IsNotMade, IsPlacement, table_of};
+ghost use Rattle.mesh_placement.specs.Placement.{GoesToSpan, IsFreed, IsMade, IsNotMade, IsPlacement, supply, table_of};
 ghost use Rattle.mesh_spans.specs.Counts.{byte_count};
 ghost use Rattle.mesh_spans.specs.Index.{IsIndex, IsRecorded, record_at};
 
@@ -60,7 +60,7 @@ impl Drop for Placement {
 impl Placement {
     /// A placement with no object. The table of virtual pages is allocated here. An error is an allocation failure.
     pub fn open(alloc: Global) -> Result<Placement, AllocError>
-        ensures table { IfOk result (λ p. table_of p ≡ empty_table 65535) }
+        ensures table { IfOk result (λ p. table_of p ≡ empty_table supply) }
         ensures serial { IfOk result (λ p. p.next_serial ≡ 0) }
     {
         let spans = Spans::new(alloc)?;
@@ -88,9 +88,69 @@ impl Placement {
         self.next_serial == u32::MAX
     }
 
+    /// Makes an object of `len` bytes under the next serial, where a heap would make it: in the lowest group of its class that has a free slot, or in
+    /// a new span, in the slot that the word picks among the free ones. `is_full` tells whether there is a serial for it.
+    ///
+    /// Refused with ZERO, TOO_LARGE, NO_PAGES or NO_ADDRESSES, the first that holds; Memory where allocation for a new span fails. NO_PAGES comes
+    /// only where NO_ADDRESSES would: there are as many physical pages as virtual ones.
+    pub fn new(&mut self, len: u32, word: u64) -> Result<(Span, Slot), NewFault>
+        requires { self.old.next_serial < 2 ^ 32 - 1 }
+        ensures made { IfOk result (λ r. IsMade self.old self.new len word r.0 r.1) }
+        ensures fault { IfErr result (IsNotMade self.old self.new len word) }
+        ensures pages { (class : ℕ) → class_for len ≡ Some class → result ≡ Err (Refused NoPages)
+            → 65536 < self.old.next_page + pages_of class }
+    {
+        let class = class_of(len)?;
+        self.spans.sound();
+        let Some(place) = self.spans.open_slot(class, word) else {
+            return self.new_in_span(class, len, word);
+        };
+        let (span, slot) = place;
+        self.spans.occupy(span, slot, self.next_serial, len);
+        self.next_serial += 1;
+        Ok(place)
+    }
+
+    /// Makes an object in a new span of its class.
+    fn new_in_span(&mut self, class: Class, len: u32, word: u64) -> Result<(Span, Slot), NewFault>
+        requires goes { GoesToSpan (table_of self.old) len class }
+        requires fits { len ≤ class }
+        requires serial { self.old.next_serial < 2 ^ 32 - 1 }
+        ensures made { IfOk result (λ r. IsMade self.old self.new len word r.0 r.1) }
+        ensures fault { IfErr result (IsNotMade self.old self.new len word) }
+        ensures pages { result ≡ Err (Refused NoPages) → 65536 < self.old.next_page + pages_of class }
+    {
+        self.spans.sound();
+        let count = class.pages();
+        if PHYSICAL_PAGES - self.taken_pages < count {
+            return Err(NewFault::Refused(Refusal::NoPages));
+        }
+        if END_OF_VIRTUAL_PAGES - self.next_page < count {
+            return Err(NewFault::Refused(Refusal::NoAddresses));
+        }
+        let Ok(span) = add_span(&mut self.spans, class, self.next_page) else {
+            return Err(NewFault::Memory);
+        };
+        let slot = Slot::numbered((word % u64::from(class.slots())) as u32);
+        self.spans.occupy(span, slot, self.next_serial, len);
+        self.next_page += count;
+        self.taken_pages += count;
+        self.next_serial += 1;
+        Ok((span, slot))
+    }
+
+    /// Frees the object in a slot of a span. `record` tells whether there is one.
+    pub fn free(&mut self, span: Span, slot: Slot)
+        requires { IsSome (record_at self.old.index span slot) }
+        ensures { IsFreed self.old self.new span slot }
+    {
+        self.spans.sound();
+        self.spans.vacate(span, slot);
+    }
+
     /// The physical pages of all groups together.
     pub fn taken_pages(&self) -> u32
-        ensures free { result ≡ 65535 - (table_of self.now).free_pages }
+        ensures free { result ≡ supply - (table_of self.now).free_pages }
         ensures groups { result ≡ span_pages (table_of self.now) }
     {
         self.taken_pages

@@ -1,1 +1,102 @@
 //! The sweeps and meshes of a placement.
+ghost use Rattle.std.specs.Prelude.{◌≡◌, Err, IfErr, IfOk, sum_by};
+ghost use Rattle.model_heap.specs.Mesh.{may_begin, mesh_of_class, mesh_whole};
+ghost use Rattle.model_heap.specs.Table.{len_in};
+ghost use Rattle.mesh_placement.specs.Meshes.{MayMesh};
+ghost use Rattle.mesh_spans.specs.Index.{IsGroup};
+ghost use Rattle.mesh_placement.specs.Placement.{IsMeshed, IsSwept, IsSweptAt, table_of};
+
+use super::Placement;
+use crate::Meshed;
+use mesh_spans::{Group, MAX_MEMBERS, Slot};
+use model_words::Refusal;
+
+impl Placement {
+    /// Takes each group without an object out, and its pages with it. Its virtual pages are never used again.
+    ///
+    /// It looks at each number that a group can have.
+    pub fn sweep_empty(&mut self)
+        ensures { IsSwept self.old self.new }
+    {
+        for n in 0..self.next_page {
+            self.sound();
+            self.sweep(n);
+        }
+        self.sound();
+    }
+
+    /// Takes a group out where it has no object.
+    fn sweep(&mut self, n: u32)
+        ensures { IsSweptAt self.old self.new n }
+    {
+        self.spans.sound();
+        let Some(group) = self.spans.group(n) else {
+            return;
+        };
+        if !group.is_empty() {
+            return;
+        }
+        let pages = group.class().pages();
+        self.spans.retire(n);
+        self.taken_pages -= pages;
+    }
+
+    /// Meshes the group `source` into the group `destination`: its members and objects are the destination's then, and its pages come free. No
+    /// object changes its slot or its address.
+    ///
+    /// Refused with NO_GROUP, SAME, CLASS, OVERLAP or MEMBERS, the first that holds. Then nothing changes.
+    pub fn mesh(&mut self, source: u32, destination: u32) -> Result<Meshed, Refusal>
+        ensures meshed { IfOk result (λ done. IsMeshed self.old self.new source destination done.pages done.bytes) }
+        ensures refused { IfErr result (λ refusal.
+            (mesh_whole mesh_of_class (table_of self.old) source destination ≡ Err refusal) × (self.new ≡ self.old)) }
+    {
+        self.spans.sound();
+        let meshed = self.may_mesh(source, destination)?;
+        self.spans.merge(destination, source);
+        self.taken_pages -= meshed.pages;
+        Ok(meshed)
+    }
+
+    /// What a mesh of two groups would come to, where they may be meshed.
+    fn may_mesh(&self, source: u32, destination: u32) -> Result<Meshed, Refusal>
+        ensures may { IfOk result (λ done. MayMesh self.now.index source destination done.pages done.bytes) }
+        ensures refused { IfErr result (λ refusal. may_begin mesh_of_class (table_of self.now) source destination ≡ Err refusal) }
+    {
+        self.spans.sound();
+        let Some(from) = self.spans.group(source) else {
+            return Err(Refusal::NoGroup);
+        };
+        let Some(into) = self.spans.group(destination) else {
+            return Err(Refusal::NoGroup);
+        };
+        if source == destination {
+            return Err(Refusal::Same);
+        }
+        let class = from.class();
+        if class.size() != into.class().size() {
+            return Err(Refusal::Class);
+        }
+        if !from.occupied().disjoint(into.occupied()) {
+            return Err(Refusal::Overlap);
+        }
+        if from.members().len() + into.members().len() > MAX_MEMBERS {
+            return Err(Refusal::Members);
+        }
+        Ok(Meshed {
+            pages: class.pages(),
+            bytes: bytes_of(from),
+        })
+    }
+}
+
+/// The lengths of the objects of a group together.
+fn bytes_of(group: &Group) -> u32
+    requires { IsGroup group.now }
+    ensures { result ≡ sum_by len_in group.now.slots }
+{
+    let mut bytes = 0;
+    for k in 0..group.class().slots() {
+        bytes += group.object_len(Slot::numbered(k)).unwrap_or(0);
+    }
+    bytes
+}

@@ -1,4 +1,4 @@
-use Rattle.std.proofs.Common.{[], refl}
+use Rattle.std.proofs.Common.{refl}
 use Rattle.mesh_spans.specs.Groups.{groups_of}
 use Rattle.mesh_placement.proofs.Kept.{kept_empty}
 use Rattle.mesh_placement.proofs.placement.Placement.open.Goals as goal

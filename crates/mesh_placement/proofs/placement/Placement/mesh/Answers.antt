@@ -1,0 +1,39 @@
+use Rattle.std.proofs.Common.{subst, sym}
+use Rattle.mesh_placement.proofs.Kept.{seen_of}
+use Rattle.mesh_placement.proofs.MergedRecords.{entry_found}
+use Rattle.mesh_placement.proofs.WholeMeshes.{IsMerged, meshed_kept, meshed_now, pages_taken}
+use Rattle.mesh_placement.specs.Meshes.{MayMesh}
+use Rattle.mesh_placement.specs.Placement.{Placement}
+use Rattle.mesh_placement.proofs.placement.Placement.mesh.Goals as goal
+use Rattle.mesh_placement.proofs.placement.Placement.mesh.Goals.{After-merge}
+
+-- the two groups may be meshed
+may_inside : (c : After-merge) → MayMesh c.self.inside.spans c.args.source c.args.destination c.in_ok-meshed.meshed.pages c.in_ok-meshed.meshed.bytes
+may_inside c = subst (λ (p : Placement). MayMesh p.index c.args.source c.args.destination c.in_ok-meshed.meshed.pages c.in_ok-meshed.meshed.bytes)
+    (sym c.self.view_is) c.in_ok-meshed.ensures.may
+
+-- and were merged in the index
+merged : (c : After-merge) → IsMerged c.self.inside.spans c.merge.new.self c.args.source c.args.destination (may_inside c).a (may_inside c).b
+merged c = record {
+  merges = c.merge.ensures.merges (may_inside c).a (may_inside c).b (may_inside c).source_is (may_inside c).destination_is;
+  table = c.merge.ensures.table _ (entry_found c.self.inside.spans c.args.source (may_inside c).a (may_inside c).source_is);
+  closed = c.merge.ensures.closed;
+}
+
+pub overflow_sub-self : goal.overflow_sub-self
+overflow_sub-self c =
+    let at = (goal.at.overflow_sub-self c).After-merge in
+    pages_taken (seen_of c.self.inside) c.merge.new.self c.args.source c.args.destination c.in_ok-meshed.meshed.pages c.in_ok-meshed.meshed.bytes
+    c.self.invariant c.sound.ensures (may_inside at) (merged at)
+
+pub invariant_of-self : goal.invariant_of-self
+invariant_of-self c =
+    let at = (goal.at.invariant_of-self c).After-merge in
+    meshed_kept (seen_of c.self.inside) c.merge.new.self c.args.source c.args.destination c.in_ok-meshed.meshed.pages c.in_ok-meshed.meshed.bytes
+    c.self.invariant c.sound.ensures (may_inside at) (merged at)
+
+pub returns-clause-meshed : goal.returns-clause-meshed
+returns-clause-meshed c =
+    let at = (goal.at.returns-clause-meshed c).After-merge in
+    rw (← c.self.view_is) (meshed_now (seen_of c.self.inside) c.merge.new.self c.args.source c.args.destination c.in_ok-meshed.meshed.pages
+    c.in_ok-meshed.meshed.bytes c.self.invariant c.sound.ensures (may_inside at) (merged at))

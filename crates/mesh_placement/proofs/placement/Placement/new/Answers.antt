@@ -1,0 +1,20 @@
+use Rattle.std.proofs.Common.{◌+◌}
+use Rattle.mesh_placement.proofs.Kept.{seen_of}
+use Rattle.mesh_placement.proofs.Placed.{placed_open}
+use Rattle.mesh_placement.specs.Placement.{IsMade, IsPlacement}
+use Rattle.mesh_placement.proofs.placement.Placement.new.Goals as goal
+use Rattle.mesh_placement.proofs.placement.Placement.new.Goals.{After-occupy}
+
+-- what the object put into the open group leaves
+left : (c : After-occupy) → IsPlacement (record (seen_of c.self.inside) { index = c.occupy.new.self; next_serial = c.self.inside.next_serial + 1 })
+    × IsMade (seen_of c.self.inside) (record (seen_of c.self.inside) { index = c.occupy.new.self; next_serial = c.self.inside.next_serial + 1 })
+    c.args.len c.args.word c.in-Some.place.0 c.in-Some.place.1
+left c = placed_open (seen_of c.self.inside) c.occupy.new.self c.in_ok-class.class c.args.len c.args.word c.in-Some.place.0 c.in-Some.place.1 c.self.invariant
+    c.in_ok-class.ensures.least c.in_ok-class.ensures.some c.in-Some.ensures.picked c.in-Some.ensures.vacant
+    (record { spans = c.occupy.ensures.spans; groups = c.occupy.ensures.groups; table = c.occupy.ensures.table; closed = c.occupy.ensures.closed })
+
+pub invariant_of-self : goal.invariant_of-self
+invariant_of-self c = (left (goal.at.invariant_of-self c).After-occupy).0
+
+pub returns-clause-made : goal.returns-clause-made
+returns-clause-made c = rw (← c.self.view_is) (left (goal.at.returns-clause-made c).After-occupy).1
