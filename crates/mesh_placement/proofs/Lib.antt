@@ -1,4 +1,5 @@
 pub mod AddedSpans
+pub mod FilledGroups
 pub mod Freed
 pub mod Kept
 pub mod MergedRecords

@@ -141,12 +141,12 @@ later_numbers n [] = refl
 later_numbers n (x ∷ xs) = grind (arith, nat_tests, later_numbers n xs)
 
 -- from 0 on they are all
-all_numbers : (groups : List Group) → numbers_from 0 groups ≡ map (λ g. g.number) groups
+pub all_numbers : (groups : List Group) → numbers_from 0 groups ≡ map (λ g. g.number) groups
 all_numbers [] = refl
 all_numbers (x ∷ xs) = grind (arith, nat_tests, all_numbers xs)
 
 -- and from above the last one on there is none
-no_numbers : (n low high : ℕ) (groups : List Group) → AscendBetween low groups high → high ≤ n → numbers_from n groups ≡ []
+pub no_numbers : (n low high : ℕ) (groups : List Group) → AscendBetween low groups high → high ≤ n → numbers_from n groups ≡ []
 no_numbers n low high [] ascend above = refl
 no_numbers n low high (x ∷ xs) ascend above =
     let most = bounds (x.number + 1) high xs ascend.1 in
@@ -164,7 +164,7 @@ after_numbers t n (Ok x) is =
     ap (λ (y : Counted). numbers_from (n + 1) y.table.groups) (sym (sweep_went t n x is).is) ∙ later_numbers n t.groups
 
 -- the sweeps from a number on are one of it, and those from the next one on
-sweep_step : (t : Table) (n : ℕ) → IsSound t
+pub sweep_step : (t : Table) (n : ℕ) → IsSound t
     → sweep_each (numbers_from (n + 1) (table_after t (sweep t n)).groups) (table_after t (sweep t n)) ≡ sweep_each (numbers_from n t.groups) t
 sweep_step t n sound = go (group_of t n) refl
   where

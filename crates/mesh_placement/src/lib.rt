@@ -7,6 +7,7 @@
 mod growth;
 mod meshed;
 mod placement;
+pub mod sweep_laws;
 
 pub use mesh_spans::{Slot, Span, Totals};
 pub use meshed::Meshed;
