@@ -64,7 +64,7 @@ module _ (index : Index) (t : Table) (sound : IsIndex index.spans index.groups) 
         | inl past ↦ absurd (let two : ◌≡◌ {A = Option Slot} None (Some x) = sym (get_or_past g.slots k None past.1) ∙ filled in cc two)
       ]
 
-  -- what stands in a slot of a group has no name of a span that is not one of its members
+  -- an object in a slot of a group is not one of a span that is no member
   foreign : (n k i : ℕ) (g : GroupEntry) → group_at index.groups n ≡ Some g → i < length index.spans
       → ((place : ℕ) → place < length g.members → i ≢ slice_index g.members place) → named_in (span_at index.spans i).first (slice_index_or g.slots k None) ≡ None
   foreign n k i g at below none = go (slice_index_or g.slots k None) refl

@@ -11,7 +11,7 @@ use Rattle.model_heap.specs.Table.{Slot}
 use Rattle.mesh_placement.specs.Placement.{FirstsAscend}
 use Rattle.mesh_placement.specs.Records.{KeepsOthers}
 
--- what stands in a slot of a span's group
+-- the object in a slot of a span's group, if there is one
 abbrev pub slot_of : Index → ℕ → ℕ → Option Slot
 slot_of index span k = slot_in (group_at index.groups (span_at index.spans span).group) k
 

@@ -1,7 +1,6 @@
 -- Which two groups may be meshed, and what a mesh of them leaves of a placement.
-use Rattle.std.proofs.Common.{◌≡◌, ◌≢◌, ℕ, ◌+◌, ◌-◌, ◌<◌, ◌≤◌, Bool, true, false, not, ◌&&◌, nat_eq, find, is_some, List, Option, Some, None, Result, Ok, Err, IfErr, length, map, ap, subst, refl, sym, ◌∙◌, arith}
+use Rattle.std.proofs.Common.{◌≡◌, ◌≢◌, ℕ, ◌+◌, ◌-◌, ◌<◌, ◌≤◌, Bool, true, false, not, ◌&&◌, nat_eq, find, is_some, List, Option, Some, None, Result, Ok, Err, length, map, ap, subst, refl, sym, ◌∙◌, arith}
 use Rattle.std.specs.Option.{option_map}
-use Rattle.std.specs.Result.{IsErrAnd}
 use Rattle.std.proofs.lemmas.Bool.{ne_eqb}
 use Rattle.std.proofs.lemmas.List.{length-map}
 use Rattle.mesh_bits.specs.Bits.{are_meshable}
@@ -45,9 +44,9 @@ pub same_slots : (index : Index) (s d : ℕ) (a b : GroupEntry) → IsIndex inde
 same_slots index s d a b sound is is' same =
     length-map a.slots is_some ∙ (sound.each s a (sym is)).slots ∙ ap slots_of same ∙ sym ((sound.each d b (sym is')).slots) ∙ sym (length-map b.slots is_some)
 
--- sets of occupied slots that can't be meshed tell an overlap
-pub overlap_told : (a b : GroupEntry) (apart : Bool) → apart ≡ are_meshable (map is_some a.slots) (map is_some b.slots) → do_overlap a.slots b.slots ≡ not apart
-overlap_told a b apart is = overlap_by_sets a.slots b.slots ∙ ap not (sym is)
+-- two groups overlap where their sets of occupied slots can't be meshed
+pub overlap_is : (a b : GroupEntry) (apart : Bool) → apart ≡ are_meshable (map is_some a.slots) (map is_some b.slots) → do_overlap a.slots b.slots ≡ not apart
+overlap_is a b apart is = overlap_by_sets a.slots b.slots ∙ ap not (sym is)
 
 -- there is no source, or no destination
 pub refuses_source : (p : Placement) (s d : ℕ) → group_at p.index.groups s ≡ None → may_begin mesh_of_class (table_of p) s d ≡ Err NoGroup
@@ -88,10 +87,6 @@ module _ (p : Placement) (s d : ℕ) (a b : GroupEntry) (is : group_at p.index.g
   allows two one apart few =
       may_go mesh_of_class (table_of p) s d (table_group p.index.spans s a) (table_group p.index.spans d b) from into two one refl apart
       (let m = members in omega (arith, m, few))
-
--- two groups that may not begin a mesh are not meshed
-pub whole_refused : (t : Table) (s d : ℕ) (refusal : Refusal) → may_begin mesh_of_class t s d ≡ Err refusal → mesh_whole mesh_of_class t s d ≡ Err refusal
-whole_refused t s d refusal is = ap (λ (r : Result Pair Refusal). r >>= λ pair. Ok (whole_of t s d pair)) is
 
 -- the groups of the index were merged
 pub record IsMerged (old new : Index) (s d : ℕ) (a b : GroupEntry) : Type 0 where
@@ -164,8 +159,3 @@ module _ (old : Placement) (new : Index) (s d pages bytes : ℕ) (kept : IsPlace
     records = merged_records old.index (table_of old) sound kept.ascending kept.sound refl new s d may.a may.b may.two may.apart is.merges;
     addresses = λ span k below. rw (is.merges.spans.firsts span, is.merges.spans.classes span) refl;
   }
-
--- what holds of a refusal holds where it is handed on
-pub handed_on : {T : Type 0} (r : Result T Refusal) (refusal : Refusal) (P : Refusal → Type 0) → IsErrAnd r (λ e. e ≡ refusal) → P refusal → IfErr r P
-handed_on (Ok x) refusal P same holds = absurd same
-handed_on (Err e) refusal P same holds = subst P (sym same) holds

@@ -1,4 +1,4 @@
-//! Where the objects of a heap are: the span index without pages and bytes, as fast as the index is.
+//! Where the objects of a heap are: the span index without pages and bytes, with counts of used and taken pages.
 //!
 //! A `Placement` makes, frees, sweeps and meshes as a heap does, but it holds no byte and names no physical page: it only counts the pages that
 //! its groups take. A contract sees its table, which is that of the definitions, and the record of each slot.

@@ -89,7 +89,7 @@ impl Placement {
     }
 
     /// Makes an object of `len` bytes under the next serial, where a heap would make it: in the lowest group of its class that has a free slot, or in
-    /// a new span, in the slot that the word picks among the free ones. `is_full` tells whether there is a serial for it.
+    /// a new span, in the slot that the word picks among the free ones. `is_full` reports whether there is no serial left.
     ///
     /// Refused with ZERO, TOO_LARGE, NO_PAGES or NO_ADDRESSES, the first that holds; Memory where allocation for a new span fails. NO_PAGES comes
     /// only where NO_ADDRESSES would: there are as many physical pages as virtual ones.
@@ -139,7 +139,7 @@ impl Placement {
         Ok((span, slot))
     }
 
-    /// Frees the object in a slot of a span. `record` tells whether there is one.
+    /// Frees the object in a slot of a span. `record` returns it, if there is one.
     pub fn free(&mut self, span: Span, slot: Slot)
         requires { IsSome (record_at self.old.index span slot) }
         ensures { IsFreed self.old self.new span slot }

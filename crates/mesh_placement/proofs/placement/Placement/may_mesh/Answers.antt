@@ -1,6 +1,6 @@
 use Rattle.std.proofs.Common.{◌≡◌, not, ap, sym, ◌∙◌}
 use Rattle.model_heap.specs.Mesh.{do_overlap}
-use Rattle.mesh_placement.proofs.WholeMeshes.{group_seen, overlap_told, refuses_class, refuses_destination, refuses_members, refuses_overlap, refuses_same, refuses_source, same_slots}
+use Rattle.mesh_placement.proofs.WholeMeshes.{group_seen, overlap_is, refuses_class, refuses_destination, refuses_members, refuses_overlap, refuses_same, refuses_source, same_slots}
 use Rattle.mesh_placement.proofs.placement.Placement.may_mesh.Goals as goal
 use Rattle.mesh_placement.proofs.placement.Placement.may_mesh.Goals.{After-disjoint}
 
@@ -30,9 +30,9 @@ disjoint-requires c =
     rw (c.occupied.ensures, c.occupied-2.ensures) (same_slots _ _ _ _ _ c.sound.ensures c.in-Some.ensures c.in-Some-group.ensures
     (sym (c.size.ensures.value ∙ c.class-class.ensures) ∙ c.if-size.false ∙ c.size-2.ensures.value ∙ c.class.ensures))
 
--- whether their slots overlap was told
+-- whether their slots overlap
 overlap : (c : After-disjoint) → do_overlap c.in-Some.from.now.slots c.in-Some-group.into.now.slots ≡ not c.disjoint.result
-overlap c = overlap_told c.in-Some.from.now c.in-Some-group.into.now c.disjoint.result (rw (← c.occupied.ensures, ← c.occupied-2.ensures) c.disjoint.ensures.meshable)
+overlap c = overlap_is c.in-Some.from.now c.in-Some-group.into.now c.disjoint.result (rw (← c.occupied.ensures, ← c.occupied-2.ensures) c.disjoint.ensures.meshable)
 
 -- the two groups are of one class
 one_class : (c : After-disjoint) → c.in-Some.from.now.class ≡ c.in-Some-group.into.now.class
