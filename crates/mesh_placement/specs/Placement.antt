@@ -31,9 +31,9 @@ placement_code =
     (λ q. record { index = q.0; next_page = q.1.0; taken_pages = q.1.1.0; next_serial = q.1.1.1 })
     (λ _. refl)
 
--- how many physical pages there are: as many as virtual ones
+-- how many physical pages there are: so many more than virtual ones that a new span never wants for one
 abbrev pub supply : ℕ
-supply = 65535
+supply = 65538
 
 -- its table, over this supply and with no running mesh
 abbrev pub table_of : Placement → Table

@@ -4,7 +4,7 @@ ghost use Rattle.model_heap.specs.PageCounts.{span_pages};
 ghost use Rattle.model_heap.specs.Table.{empty_table, object_count};
 ghost use Rattle.model_heap.specs.Mesh.{page_count};
 ghost use Rattle.model_search.specs.Search.{view_of};
-ghost use Rattle.model_words.specs.Classes.{class_for, pages_of};
+ghost use Rattle.model_words.specs.Classes.{pages_of};
 ghost use Rattle.model_words.specs.declared.answers.NewFault.TheVariants.{Refused};
 ghost use Rattle.model_words.specs.declared.refusals.Refusal.TheVariants.{NoPages};
 ghost use Rattle.mesh_placement.specs.Placement.{GoesToSpan, IsFreed, IsMade, IsNotMade, IsPlacement, supply, table_of};
@@ -24,8 +24,8 @@ use std::marker::Model;
 /// The virtual page after the last one.
 const END_OF_VIRTUAL_PAGES: u32 = 65_536;
 
-/// How many physical pages there are: as many as virtual ones.
-const PHYSICAL_PAGES: u32 = 65_535;
+/// How many physical pages there are: so many more than virtual ones that a new span never wants for one.
+const PHYSICAL_PAGES: u32 = 65_538;
 
 /// Where the objects of a heap are.
 ///
@@ -91,14 +91,13 @@ impl Placement {
     /// Makes an object of `len` bytes under the next serial, where a heap would make it: in the lowest group of its class that has a free slot, or in
     /// a new span, in the slot that the word picks among the free ones. `is_full` reports whether there is no serial left.
     ///
-    /// Refused with ZERO, TOO_LARGE, NO_PAGES or NO_ADDRESSES, the first that holds; Memory where allocation for a new span fails. NO_PAGES comes
-    /// only where NO_ADDRESSES would: there are as many physical pages as virtual ones.
+    /// Refused with ZERO, TOO_LARGE or NO_ADDRESSES, the first that holds; Memory where allocation for a new span fails. NO_PAGES never comes:
+    /// there are always enough physical pages.
     pub fn new(&mut self, len: u32, word: u64) -> Result<(Span, Slot), NewFault>
         requires { self.old.next_serial < 2 ^ 32 - 1 }
         ensures made { IfOk result (λ r. IsMade self.old self.new len word r.0 r.1) }
         ensures fault { IfErr result (IsNotMade self.old self.new len word) }
-        ensures pages { (class : ℕ) → class_for len ≡ Some class → result ≡ Err (Refused NoPages)
-            → 65536 < self.old.next_page + pages_of class }
+        ensures pages { result ≡ Err (Refused NoPages) → ⊥ }
     {
         let class = class_of(len)?;
         self.spans.sound();
@@ -118,7 +117,7 @@ impl Placement {
         requires serial { self.old.next_serial < 2 ^ 32 - 1 }
         ensures made { IfOk result (λ r. IsMade self.old self.new len word r.0 r.1) }
         ensures fault { IfErr result (IsNotMade self.old self.new len word) }
-        ensures pages { result ≡ Err (Refused NoPages) → 65536 < self.old.next_page + pages_of class }
+        ensures pages { result ≡ Err (Refused NoPages) → ⊥ }
     {
         self.spans.sound();
         let count = class.pages();
