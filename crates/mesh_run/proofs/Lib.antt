@@ -1,4 +1,3 @@
 pub mod FirstWords
 pub mod Messages
-pub mod ThreadEnds
 pub mod WordCounts
