@@ -12,23 +12,10 @@ use Rattle.model_heap.specs.Sound.{times_in}
 use Rattle.model_heap.specs.Table.{Group, Slot, first_member, has_number}
 use Rattle.mesh_spans.specs.Groups.{first_of, groups_from, groups_of, table_group}
 use Rattle.mesh_spans.specs.Index.{GroupEntry, Index, IsIndex, SpanEntry, group_at, span_at}
-use Rattle.mesh_spans.proofs.FindLemmas.{find_none}
-use Rattle.mesh_spans.proofs.MergedTable.{group_found}
+pub use Rattle.mesh_spans.proofs.PairLemmas.{entry_in_table, none_in_table}
 use Rattle.mesh_page_heap.specs.Indexes.{layout_of, members_in}
 use Rattle.mesh_page_heap.specs.Layout.{page_total, virtual_page}
 use Rattle.mesh_page_heap.proofs.Pages.{member_of}
-
--- a group of the index is one of the table
-pub entry_in_table : (index : Index) (n : ℕ) (entry : GroupEntry) → group_at index.groups n ≡ Some entry
-    → find (has_number n) (groups_of index) ≡ Some (table_group index.spans n entry)
-unfolding groups_of
-entry_in_table index n entry at = group_found index.spans 0 n n index.groups entry at (omega arith)
-
--- a number that is no group of the index is none of the table
-pub none_in_table : (index : Index) (n : ℕ) → group_at index.groups n ≡ None → find (has_number n) (groups_of index) ≡ None
-unfolding groups_of
-none_in_table index n at = find_none (has_number n) index.spans 0 index.groups (λ j k y e there. ne_eqb k n (λ same.
-    let two : None ≡ Some y = sym at ∙ ap (group_at index.groups) (omega (arith, same, e)) ∙ there in absurd (cc two)))
 
 -- a group of the table is the one of the index
 pub record IsEntry (index : Index) (n : ℕ) (group : Group) : Type 0 where

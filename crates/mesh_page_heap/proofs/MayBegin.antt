@@ -20,8 +20,9 @@ use Rattle.model_words.specs.Classes.{row_of}
 use Rattle.model_heap.specs.Sound.{meshes_of}
 use Rattle.model_heap.specs.TableLaws.{IsBusyTest}
 use Rattle.model_words.specs.declared.refusals.Refusal.TheVariants.{Busy as BusyClass, Class, Members, NoGroup, Overlap, Same}
-use Rattle.mesh_spans.specs.Groups.{first_of, table_group}
-use Rattle.mesh_spans.specs.Index.{GroupEntry, Index, IsIndex, group_at}
+use Rattle.mesh_spans.specs.Groups.{table_group}
+use Rattle.mesh_spans.specs.Index.{GroupEntry, Index}
+use Rattle.mesh_spans.specs.Pairs.{IsTableOf, MayMerge}
 use Rattle.mesh_page_heap.specs.Meshes.{IsPair, busy_by}
 use Rattle.mesh_page_heap.specs.PageHeap.{PageHeap, table_in}
 use Rattle.mesh_page_heap.specs.StepOrders.{IsStepOrderOf}
@@ -30,76 +31,14 @@ use Rattle.mesh_page_heap.specs.declared.busy.Busy.TheVariants.{Any, OfClass}
 use Rattle.mesh_running.specs.StepOrders.{order_steps}
 use Rattle.mesh_running.specs.declared.step_order.StepOrder.{StepOrder}
 
--- a group of the index inside is one of the page heap that is seen
-pub group_seen : (inside seen : PageHeap) (n : ℕ) (o : Option GroupEntry) → inside ≡ seen → o ≡ group_at inside.index.groups n → group_at seen.index.groups n ≡ o
-group_seen inside seen n o same at = subst (λ (g : PageHeap). group_at g.index.groups n ≡ o) same (sym at)
-
--- groups of one class have as many slots
-pub same_slots : (index : Index) (s d : ℕ) (a b : GroupEntry) → IsIndex index.spans index.groups → Some a ≡ group_at index.groups s → Some b ≡ group_at index.groups d
-    → a.class ≡ b.class → length (map is_some a.slots) ≡ length (map is_some b.slots)
-same_slots index s d a b sound is is' same =
-    length-map a.slots is_some ∙ (sound.each s a (sym is)).slots ∙ ap slots_of same ∙ sym ((sound.each d b (sym is')).slots) ∙ sym (length-map b.slots is_some)
-
--- sets of occupied slots that can't be meshed tell an overlap
-pub overlap_told : (a b : GroupEntry) (apart : Bool) → apart ≡ are_meshable (map is_some a.slots) (map is_some b.slots) → do_overlap a.slots b.slots ≡ not apart
-overlap_told a b apart is = overlap_by_sets a.slots b.slots ∙ ap not (sym is)
-
--- two groups of one class that nothing keeps busy
-pub record IsIdlePair (busy : Busy) (g : PageHeap) (s d : ℕ) (a b : GroupEntry) : Type 0 where
-  pub source : group_at g.index.groups s ≡ Some a
-  pub destination : group_at g.index.groups d ≡ Some b
-  pub two : s ≢ d
-  pub one : a.class ≡ b.class
-  pub idle : busy_by busy (table_in g) a.class ≡ false
-
--- there is no source
-pub refuses_source : (busy : Busy) (g : PageHeap) (s d : ℕ) → group_at g.index.groups s ≡ None → may_begin (busy_by busy) (table_in g) s d ≡ Err NoGroup
-refuses_source busy g s d none = no_source (busy_by busy) (table_in g) s d (none_in_table g.index s none)
-
--- there is no destination
-pub refuses_destination : (busy : Busy) (g : PageHeap) (s d : ℕ) (a : GroupEntry) → group_at g.index.groups s ≡ Some a → group_at g.index.groups d ≡ None
-    → may_begin (busy_by busy) (table_in g) s d ≡ Err NoGroup
-refuses_destination busy g s d a is none = no_destination (busy_by busy) (table_in g) s d _ (entry_in_table g.index s _ is) (none_in_table g.index d none)
-
-module _ (busy : Busy) (g : PageHeap) (s d : ℕ) (a b : GroupEntry) (is : group_at g.index.groups s ≡ Some a) (is' : group_at g.index.groups d ≡ Some b) where
-  from : group_of (table_in g) s ≡ Some (table_group g.index.spans s a)
-  from = entry_in_table g.index s a is
-
-  into : group_of (table_in g) d ≡ Some (table_group g.index.spans d b)
-  into = entry_in_table g.index d b is'
-
-  pub refuses_same : s ≡ d → may_begin (busy_by busy) (table_in g) s d ≡ Err Same
-  refuses_same = same_group (busy_by busy) (table_in g) s d (table_group g.index.spans s a) (table_group g.index.spans d b) from into
-
-  pub refuses_class : s ≢ d → a.class ≢ b.class → may_begin (busy_by busy) (table_in g) s d ≡ Err Class
-  refuses_class = other_class (busy_by busy) (table_in g) s d (table_group g.index.spans s a) (table_group g.index.spans d b) from into
-
-  pub refuses_busy : s ≢ d → a.class ≡ b.class → busy_by busy (table_in g) a.class ≡ true → may_begin (busy_by busy) (table_in g) s d ≡ Err BusyClass
-  refuses_busy = busy_class (busy_by busy) (table_in g) s d (table_group g.index.spans s a) (table_group g.index.spans d b) from into
-
-module _ (busy : Busy) (g : PageHeap) (s d : ℕ) (a b : GroupEntry) (p : IsIdlePair busy g s d a b) where
-  from_idle : group_of (table_in g) s ≡ Some (table_group g.index.spans s a)
-  from_idle = entry_in_table g.index s a p.source
-
-  into_idle : group_of (table_in g) d ≡ Some (table_group g.index.spans d b)
-  into_idle = entry_in_table g.index d b p.destination
-
-  members : length (map (first_of g.index.spans) a.members) + length (map (first_of g.index.spans) b.members) ≡ length a.members + length b.members
-  members = let x = length-map a.members (first_of g.index.spans) in let y = length-map b.members (first_of g.index.spans) in omega (arith, x, y)
-
-  pub refuses_overlap : do_overlap a.slots b.slots ≡ true → may_begin (busy_by busy) (table_in g) s d ≡ Err Overlap
-  refuses_overlap = overlapping (busy_by busy) (table_in g) s d (table_group g.index.spans s a) (table_group g.index.spans d b) from_idle into_idle p.two p.one p.idle
-
-  pub refuses_members : do_overlap a.slots b.slots ≡ false → 8 < length a.members + length b.members → may_begin (busy_by busy) (table_in g) s d ≡ Err Members
-  refuses_members no_ many = many_members (busy_by busy) (table_in g) s d (table_group g.index.spans s a) (table_group g.index.spans d b) from_idle into_idle
-      p.two p.one p.idle no_ (let m = members in omega (arith, m, many))
-
-  pub allows : do_overlap a.slots b.slots ≡ false → length a.members + length b.members ≤ 8 → IsPair busy g s d a.class
-  allows no_ few = record {
-    pair = record { source = table_group g.index.spans s a; destination = table_group g.index.spans d b };
-    may = may_go (busy_by busy) (table_in g) _ _ _ _ from_idle into_idle p.two p.one p.idle no_ (let m = members in omega (arith, m, few));
-    class_is = refl;
-  }
+-- a mesh of two groups that may be merged may begin
+pub pair_allowed : (busy : Busy) (g : PageHeap) (s d : ℕ) (is_busy : Bool) (a : GroupEntry) → MayMerge g.index s d is_busy a
+    → IsTableOf g.index s is_busy (busy_by busy) (table_in g) → IsPair busy g s d a.class
+pair_allowed busy g s d is_busy a may of = record {
+  pair = record { source = table_group g.index.spans s may.pair.a; destination = table_group g.index.spans d may.pair.b };
+  may = may.begins (busy_by busy) (table_in g) of;
+  class_is = ap (λ (x : GroupEntry). x.class) may.source_is;
+}
 
 -- where nothing keeps a class busy no mesh of it runs
 pub busy_tells : (busy : Busy) (t : Table) → IsBusyTest (busy_by busy) t

@@ -7,5 +7,6 @@ pub mod KeptLemmas
 pub mod MergeLemmas
 pub mod MergedIndex
 pub mod MergedTable
+pub mod PairLemmas
 pub mod SlotLemmas
 pub mod TableLemmas

@@ -7,3 +7,4 @@ pub mod GroupBins
 pub mod Groups
 pub mod Index
 pub mod Kept
+pub mod Pairs

@@ -54,6 +54,13 @@ impl Extent {
         self.first
     }
 
+    /// The size class.
+    pub fn class(&self) -> Class
+        ensures { result ≡ self.now.class }
+    {
+        self.class
+    }
+
     /// The number of the group.
     pub fn group(&self) -> u32
         ensures { result ≡ self.now.group }

@@ -260,6 +260,14 @@ impl Spans {
         self.extent(span).first()
     }
 
+    /// The size class of a span.
+    pub fn class_of(&self, span: Span) -> Class
+        requires { span < length self.now.spans }
+        ensures { result ≡ (span_at self.now.spans span).class }
+    {
+        self.extent(span).class()
+    }
+
     /// The address of a slot of a span.
     pub fn address(&self, span: Span, slot: Slot) -> u32
         requires span { span < length self.now.spans }

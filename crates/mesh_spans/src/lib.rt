@@ -13,6 +13,7 @@ mod groups;
 mod index;
 mod names;
 mod owners;
+mod pairs;
 mod totals;
 
 pub use group::{Group, MAX_MEMBERS, MAX_SPAN_PAGES};

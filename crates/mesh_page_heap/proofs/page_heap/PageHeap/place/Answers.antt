@@ -3,13 +3,9 @@ use Rattle.std.specs.Result.{IsErrAnd}
 use Rattle.mesh_class.specs.Classes.{slots_of}
 use Rattle.mesh_page_heap.specs.PageHeap.{IsPlaceFault, PageHeap, open_group, table_in}
 use Rattle.model_words.specs.declared.answers.NewFault.{NewFault}
+use Rattle.mesh_page_heap.proofs.HandedOn.{handed_on}
 use Rattle.mesh_page_heap.proofs.NewPlaces.{open_is, place_fresh, place_open}
 use Rattle.mesh_page_heap.proofs.page_heap.PageHeap.place.Goals as goal
-
--- what holds of a fault holds where it is handed on
-handed_on : {T : Type 0} (r : Result T NewFault) (fault : NewFault) (P : NewFault → Type 0) → IsErrAnd r (λ e. e ≡ fault) → P fault → IfErr r P
-handed_on (Ok x) fault P same holds = absurd same
-handed_on (Err e) fault P same holds = subst P (sym same) holds
 
 pub returns-in-Some-clause-ok : goal.returns-in-Some-clause-ok
 returns-in-Some-clause-ok c =

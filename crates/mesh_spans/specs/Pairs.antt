@@ -1,0 +1,25 @@
+-- Which two groups may be merged, as the definition of a mesh has it.
+use Rattle.std.specs.Prelude.{◌≡◌, ℕ, Bool, false, Some, Ok, Err}
+use Rattle.model_heap.specs.Mesh.{may_begin}
+use Rattle.model_heap.specs.Table.{Table}
+use Rattle.model_words.specs.declared.refusals.Refusal.{Refusal}
+use Rattle.mesh_spans.specs.Changes.{IsMergeable}
+use Rattle.mesh_spans.specs.Groups.{groups_of, table_group}
+use Rattle.mesh_spans.specs.Index.{GroupEntry, Index, group_at}
+
+-- a table has the index's groups, and a rule of which classes are busy in it says this of the source's
+pub record IsTableOf (index : Index) (s : ℕ) (is_busy : Bool) (busy : Table → ℕ → Bool) (t : Table) : Type 0 where
+  pub groups : t.groups ≡ groups_of index
+  pub says : (a : GroupEntry) → group_at index.groups s ≡ Some a → busy t a.class ≡ is_busy
+
+-- no mesh of the two groups may begin in such a table
+abbrev pub IsRefusedPair : Index → ℕ → ℕ → Bool → Refusal → Type 0
+IsRefusedPair index s d is_busy refusal = (busy : Table → ℕ → Bool) (t : Table) → IsTableOf index s is_busy busy t → may_begin busy t s d ≡ Err refusal
+
+-- the group `s` is `a`, and may be merged into `d`: a mesh of the two may begin in each such table
+pub record MayMerge (index : Index) (s d : ℕ) (is_busy : Bool) (a : GroupEntry) : Type 0 where
+  pub pair : IsMergeable index d s
+  pub source_is : pair.a ≡ a
+  pub idle : is_busy ≡ false
+  pub begins : (busy : Table → ℕ → Bool) (t : Table) → IsTableOf index s is_busy busy t
+      → may_begin busy t s d ≡ Ok (record { source = table_group index.spans s pair.a; destination = table_group index.spans d pair.b })
