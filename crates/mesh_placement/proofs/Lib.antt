@@ -4,6 +4,7 @@ pub mod Freed
 pub mod Kept
 pub mod MergedRecords
 pub mod Placed
+pub mod Room
 pub mod SlotRecords
 pub mod Swept
 pub mod WholeMeshes

@@ -58,7 +58,7 @@ module _ (old new : Index) (class span k serial len : ℕ) (vacant : IsVacant ol
       (subst (IsOf (first_page old span)) (sym slot_was) tt) (subst (IsOf (first_page old span)) (sym slot_now) refl)
 
 -- a new object placed in a group of its class
-placed_new : (t : Table) (len word serial class : ℕ) (r : Result Placed Refusal) → class_for len ≡ Some class → 1 ≤ len
+pub placed_new : (t : Table) (len word serial class : ℕ) (r : Result Placed Refusal) → class_for len ≡ Some class → 1 ≤ len
     → place_in (find (is_open t class) t.groups) t class word serial len ≡ r → place_new t len word serial ≡ r
 placed_new t len word serial class r class_is some is = grind arith
 

@@ -1,7 +1,7 @@
 //! `Placement`: where the objects of a heap are. Its sweeps and meshes are in `meshes`.
-ghost use Rattle.std.specs.Prelude.{◌≡◌, ℕ, ◌+◌, ◌-◌, ◌^◌, ◌<◌, ◌≤◌, true, false, Some, Err, IfErr, IfOk, IfSome, IsSome, sum_by};
+ghost use Rattle.std.specs.Prelude.{◌≡◌, ℕ, ◌+◌, ◌-◌, ◌^◌, ◌<◌, ◌≤◌, true, false, Some, Err, IfErr, IfOk, IfSome, IsSome, is_ok, sum_by};
 ghost use Rattle.model_heap.specs.PageCounts.{span_pages};
-ghost use Rattle.model_heap.specs.Table.{empty_table, object_count};
+ghost use Rattle.model_heap.specs.Table.{empty_table, object_count, place_new, room_for_span};
 ghost use Rattle.model_heap.specs.Mesh.{page_count};
 ghost use Rattle.model_search.specs.Search.{view_of};
 ghost use Rattle.model_words.specs.Classes.{pages_of};
@@ -136,6 +136,27 @@ impl Placement {
         self.taken_pages += count;
         self.next_serial += 1;
         Ok((span, slot))
+    }
+
+    /// Whether a `new` of `len` bytes finds room: an open group of its class, or virtual pages left for a new span.
+    ///
+    /// The answer is the same for every word and every serial. `new` may still fail where memory for a new span can't be allocated.
+    pub fn has_room(&self, len: u32) -> bool
+        requires some { 1 ≤ len }
+        requires small { len ≤ 2048 }
+        ensures { (word serial : ℕ) → is_ok (place_new (table_of self.now) len word serial) ≡ result }
+    {
+        let Ok(class) = class_of(len) else {
+            return false;
+        };
+        self.spans.open_slot(class, 0).is_some() || self.has_span_room(class)
+    }
+
+    /// Whether virtual pages are left for a new span of the class.
+    fn has_span_room(&self, class: Class) -> bool
+        ensures { is_ok (room_for_span (table_of self.now) class) ≡ result }
+    {
+        class.pages() <= END_OF_VIRTUAL_PAGES - self.next_page
     }
 
     /// Frees the object in a slot of a span. `record` returns it, if there is one.
