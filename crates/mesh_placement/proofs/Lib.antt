@@ -1,4 +1,7 @@
 pub mod AddedSpans
+pub mod ClassBounds
+pub mod ClassChanges
+pub mod ClassCounts
 pub mod FilledGroups
 pub mod Freed
 pub mod Kept
@@ -6,5 +9,6 @@ pub mod MergedRecords
 pub mod Placed
 pub mod Room
 pub mod SlotRecords
+pub mod SpanClasses
 pub mod Swept
 pub mod WholeMeshes

@@ -205,7 +205,7 @@ swept_more old now new n kept so at = record {
 }
 
 -- there are no more spans than pages were used
-spans_within : (p : Placement) → IsPlacement p → IsIndex p.index.spans p.index.groups → length p.index.spans ≤ p.next_page
+pub spans_within : (p : Placement) → IsPlacement p → IsIndex p.index.spans p.index.groups → length p.index.spans ≤ p.next_page
 spans_within p kept sound = go (length p.index.spans) refl
   where
     go : (m : ℕ) → length p.index.spans ≡ m → length p.index.spans ≤ p.next_page

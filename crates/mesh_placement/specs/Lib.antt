@@ -1,4 +1,5 @@
 pub use Rattle.mesh_spans.specs.Index
+pub mod ClassCounts
 pub mod Growth
 pub mod Meshes
 pub mod Placement

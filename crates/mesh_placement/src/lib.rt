@@ -4,9 +4,11 @@
 //! its groups take. A contract sees its table, which is that of the definitions, and the record of each slot.
 #![tactic(auto)]
 
+mod class_counts;
 mod growth;
 mod meshed;
 mod placement;
+mod span_class;
 pub mod sweep_laws;
 
 pub use mesh_spans::{Slot, Span, Totals};

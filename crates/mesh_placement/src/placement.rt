@@ -1,19 +1,22 @@
 //! `Placement`: where the objects of a heap are. Its sweeps and meshes are in `meshes`.
-ghost use Rattle.std.specs.Prelude.{◌≡◌, ℕ, ◌+◌, ◌-◌, ◌^◌, ◌<◌, ◌≤◌, true, false, Some, Err, IfErr, IfOk, IfSome, IsSome, is_ok, sum_by};
+ghost use Rattle.std.specs.Prelude.{◌≡◌, ℕ, ◌+◌, ◌-◌, ◌^◌, ◌<◌, ◌≤◌, true, false, Some, Err, IfErr, IfOk, IfSome, IsSome, All, is_ok, map, sum_by};
 ghost use Rattle.model_heap.specs.PageCounts.{span_pages};
 ghost use Rattle.model_heap.specs.Table.{empty_table, object_count, place_new, room_for_span};
 ghost use Rattle.model_heap.specs.Mesh.{page_count};
 ghost use Rattle.model_search.specs.Search.{view_of};
-ghost use Rattle.model_words.specs.Classes.{pages_of};
+ghost use Rattle.model_words.specs.Classes.{pages_of, table};
 ghost use Rattle.model_words.specs.declared.answers.NewFault.TheVariants.{Refused};
 ghost use Rattle.model_words.specs.declared.refusals.Refusal.TheVariants.{NoPages};
+ghost use Rattle.mesh_placement.specs.ClassCounts.{class_objects, class_pages};
 ghost use Rattle.mesh_placement.specs.Placement.{GoesToSpan, IsFreed, IsMade, IsNotMade, IsPlacement, supply, table_of};
 ghost use Rattle.mesh_spans.specs.Counts.{byte_count};
 ghost use Rattle.mesh_spans.specs.Index.{IsIndex, IsRecorded, record_at};
 
 mod meshes;
 
+use crate::class_counts::ClassCounts;
 use crate::growth::add_span;
+use crate::span_class::class_of_span;
 use mesh_class::{Class, class_of};
 use mesh_search::{ClassView, class_view};
 use mesh_spans::{Slot, Span, Spans, Totals};
@@ -38,9 +41,14 @@ pub struct Placement {
     taken_pages: u32,
     // The serial of the next object.
     next_serial: u32,
+    // The physical pages of the groups of each class.
+    class_pages: ClassCounts,
+    // The objects of the groups of each class.
+    class_objects: ClassCounts,
 }
 
 impl Model for Placement {
+    ghost use Rattle.mesh_placement.specs.ClassCounts.{AreClassCounts};
     ghost use Rattle.mesh_placement.specs.Placement.{IsPlacement, Placement as Parts, placement_code};
 
     ghost Value = { Parts };
@@ -49,12 +57,14 @@ impl Model for Placement {
 
     ghost view = { λ p. record { index = p.spans; next_page = p.next_page; taken_pages = p.taken_pages; next_serial = p.next_serial } };
 
-    ghost invariant = { λ p. IsPlacement (record { index = p.spans; next_page = p.next_page; taken_pages = p.taken_pages; next_serial = p.next_serial }) };
+    ghost invariant = { λ p.
+        IsPlacement (record { index = p.spans; next_page = p.next_page; taken_pages = p.taken_pages; next_serial = p.next_serial })
+        × AreClassCounts p.spans.groups p.class_pages.counts p.class_objects.counts };
 }
 
 #[rattlefmt::skip]
 impl Drop for Placement {
-    fn drop(self) { let Placement { spans: _, next_page: _, taken_pages: _, next_serial: _ } = self; }
+    fn drop(self) { let Placement { spans: _, next_page: _, taken_pages: _, next_serial: _, class_pages: _, class_objects: _ } = self; }
 }
 
 impl Placement {
@@ -69,6 +79,8 @@ impl Placement {
             next_page: 1,
             taken_pages: 0,
             next_serial: 0,
+            class_pages: ClassCounts::none(),
+            class_objects: ClassCounts::none(),
         })
     }
 
@@ -106,6 +118,7 @@ impl Placement {
         };
         let (span, slot) = place;
         self.spans.occupy(span, slot, self.next_serial, len);
+        self.class_objects.raise(class, 1);
         self.next_serial += 1;
         Ok(place)
     }
@@ -132,6 +145,8 @@ impl Placement {
         };
         let slot = Slot::numbered((word % u64::from(class.slots())) as u32);
         self.spans.occupy(span, slot, self.next_serial, len);
+        self.class_pages.raise(class, count);
+        self.class_objects.raise(class, 1);
         self.next_page += count;
         self.taken_pages += count;
         self.next_serial += 1;
@@ -165,7 +180,9 @@ impl Placement {
         ensures { IsFreed self.old self.new span slot }
     {
         self.spans.sound();
+        let class = class_of_span(&self.spans, span);
         self.spans.vacate(span, slot);
+        self.class_objects.lower(class, 1);
     }
 
     /// The physical pages of all groups together.
@@ -190,6 +207,23 @@ impl Placement {
         ensures mapped { result.mapped ≡ sum_by page_count (table_of self.now).groups }
     {
         self.spans.totals()
+    }
+
+    /// The physical pages of the groups of each class, in the order of the class table. No group is looked at.
+    pub fn pages_by_class(&self) -> &[u32; 10]
+        ensures value { result.now ≡ map (λ row. class_pages (table_of self.now) row.size) table }
+        ensures few { All (λ n. n ≤ 65538) result.now }
+    {
+        self.class_pages.by_class()
+    }
+
+    /// The objects of each class, in the order of the class table. No group is looked at.
+    pub fn objects_by_class(&self) -> &[u32; 10]
+        ensures value { result.now ≡ map (λ row. class_objects (table_of self.now) row.size) table }
+        ensures few { All (λ n. n ≤ 2 ^ 24) result.now }
+    {
+        self.spans.sound();
+        self.class_objects.by_class()
     }
 
     /// Serial and length of the object in a slot of a span. None only where it has none.

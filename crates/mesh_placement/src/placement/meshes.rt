@@ -1,13 +1,14 @@
 //! The sweeps and meshes of a placement.
-ghost use Rattle.std.specs.Prelude.{◌≡◌, Err, IfErr, IfOk, sum_by};
+ghost use Rattle.std.specs.Prelude.{◌≡◌, Err, IfErr, IfOk, IsSomeAnd, sum_by};
 ghost use Rattle.model_heap.specs.Mesh.{may_begin, mesh_of_class, mesh_whole};
 ghost use Rattle.model_heap.specs.Table.{len_in};
 ghost use Rattle.mesh_placement.specs.Meshes.{MayMesh};
-ghost use Rattle.mesh_spans.specs.Index.{IsGroup};
+ghost use Rattle.mesh_spans.specs.Index.{IsGroup, group_at};
 ghost use Rattle.mesh_placement.specs.Placement.{IsMeshed, IsSwept, IsSweptAt, table_of};
 
 use super::Placement;
 use crate::Meshed;
+use mesh_class::Class;
 use mesh_spans::{Group, MAX_MEMBERS, Slot};
 use model_words::Refusal;
 
@@ -36,8 +37,10 @@ impl Placement {
         if !group.is_empty() {
             return;
         }
-        let pages = group.class().pages();
+        let class = group.class();
+        let pages = class.pages();
         self.spans.retire(n);
+        self.class_pages.lower(class, pages);
         self.taken_pages -= pages;
     }
 
@@ -51,15 +54,17 @@ impl Placement {
             (mesh_whole mesh_of_class (table_of self.old) source destination ≡ Err refusal) × (self.new ≡ self.old)) }
     {
         self.spans.sound();
-        let meshed = self.may_mesh(source, destination)?;
+        let (class, meshed) = self.may_mesh(source, destination)?;
         self.spans.merge(destination, source);
+        self.class_pages.lower(class, meshed.pages);
         self.taken_pages -= meshed.pages;
         Ok(meshed)
     }
 
-    /// What a mesh of two groups would come to, where they may be meshed.
-    fn may_mesh(&self, source: u32, destination: u32) -> Result<Meshed, Refusal>
-        ensures may { IfOk result (λ done. MayMesh self.now.index source destination done.pages done.bytes) }
+    /// The class of two groups and what a mesh of them would come to, where they may be meshed.
+    fn may_mesh(&self, source: u32, destination: u32) -> Result<(Class, Meshed), Refusal>
+        ensures may { IfOk result (λ done. MayMesh self.now.index source destination done.1.pages done.1.bytes) }
+        ensures class { IfOk result (λ done. IsSomeAnd (group_at self.now.index.groups source) (λ group. group.class ≡ done.0)) }
         ensures refused { IfErr result (λ refusal. may_begin mesh_of_class (table_of self.now) source destination ≡ Err refusal) }
     {
         self.spans.sound();
@@ -82,10 +87,11 @@ impl Placement {
         if from.members().len() + into.members().len() > MAX_MEMBERS {
             return Err(Refusal::Members);
         }
-        Ok(Meshed {
+        let meshed = Meshed {
             pages: class.pages(),
             bytes: bytes_of(from),
-        })
+        };
+        Ok((class, meshed))
     }
 }
 

@@ -1,0 +1,43 @@
+//! A count for each class.
+ghost use Rattle.std.specs.Prelude.{◌≡◌, ◌+◌, ◌-◌, ◌^◌, ◌<◌, ◌≤◌, replicate, slice_index, slice_set};
+ghost use Rattle.mesh_class.specs.Class.{class_index};
+
+use mesh_class::Class;
+
+/// A count for each class, in the order of the class table.
+#[derive(Clone, Copy)]
+pub(crate) struct ClassCounts {
+    counts: [u32; 10],
+}
+
+impl ClassCounts {
+    /// Nothing is counted.
+    pub(crate) fn none() -> ClassCounts
+        ensures { result.counts ≡ replicate 10 0 }
+    {
+        ClassCounts { counts: [0; 10] }
+    }
+
+    /// The counts.
+    pub(crate) fn by_class(&self) -> &[u32; 10]
+        ensures { result.now ≡ self.now.counts }
+    {
+        &self.counts
+    }
+
+    /// Raises the count of a class.
+    pub(crate) fn raise(&mut self, class: Class, by: u32)
+        requires { slice_index self.old.counts (class_index class) + by < 2 ^ 32 }
+        ensures { self.new.counts ≡ slice_set self.old.counts (class_index class) (slice_index self.old.counts (class_index class) + by) }
+    {
+        self.counts[class.index() as usize] += by;
+    }
+
+    /// Lowers the count of a class.
+    pub(crate) fn lower(&mut self, class: Class, by: u32)
+        requires { by ≤ slice_index self.old.counts (class_index class) }
+        ensures { self.new.counts ≡ slice_set self.old.counts (class_index class) (slice_index self.old.counts (class_index class) - by) }
+    {
+        self.counts[class.index() as usize] -= by;
+    }
+}
