@@ -2,6 +2,7 @@ pub mod AddedSpans
 pub mod ClassBounds
 pub mod ClassChanges
 pub mod ClassCounts
+pub mod ClassLaws
 pub mod FilledGroups
 pub mod Freed
 pub mod Kept

@@ -1,5 +1,6 @@
 pub use Rattle.mesh_spans.specs.Index
 pub mod ClassCounts
+pub mod ClassLaws
 pub mod Growth
 pub mod Meshes
 pub mod Placement

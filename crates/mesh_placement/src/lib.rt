@@ -5,6 +5,7 @@
 #![tactic(auto)]
 
 mod class_counts;
+pub mod class_laws;
 mod growth;
 mod meshed;
 mod placement;
