@@ -31,7 +31,8 @@ of_table count F class spans b (Some group ∷ groups) same =
     elim (eqb_tells group.class class) [
       | inl own ↦
           let here : counted_for count class (Some group) ≡ count group = rw own.0 refl in
-          let kept : filter (λ g. nat_eq g.class class) (table_group spans b group ∷ later) ≡ table_group spans b group ∷ filter (λ g. nat_eq g.class class) later = rw own.0 refl in
+          let kept : filter (λ g. nat_eq g.class class) (table_group spans b group ∷ later)
+          ≡ table_group spans b group ∷ filter (λ g. nat_eq g.class class) later = rw own.0 refl in
           let more = sum_by-cons F (table_group spans b group) (filter (λ g. nat_eq g.class class) later) in
           let is = same b group in
           let all : class_count count (Some group ∷ groups) class ≡ sum_by F (table_group spans b group ∷ filter (λ g. nat_eq g.class class) later)
@@ -68,7 +69,8 @@ rows_few F most (r ∷ rows) few (suc k) d below = rows_few F most rows few k d 
 -- a class has no more pages than there are
 pub class_pages_few : (p : Placement) (class : ℕ) → IsPlacement p → class_pages (table_of p) class ≤ 65538
 class_pages_few p class kept =
-    let parts = sum_by-filter_both (λ (g : Group). nat_eq g.class class) (λ g. not (nat_eq g.class class)) (λ g. refl) (λ g. pages_of g.class) (table_of p).groups in
+    let parts = sum_by-filter_both (λ (g : Group). nat_eq g.class class) (λ g. not (nat_eq g.class class)) (λ g. refl) (λ g. pages_of g.class)
+    (table_of p).groups in
     let all : (table_of p).free_pages + span_pages (table_of p) ≡ 65538 = (let counted = kept.counted in omega (arith, counted)) in
     omega (arith, parts, all)
 
@@ -79,9 +81,11 @@ for_class class (Some group) = grind arith
 
 pub class_objects_few : (p : Placement) (class : ℕ) → IsPlacement p → IsIndex p.index.spans p.index.groups → class_objects (table_of p) class ≤ 2 ^ 24
 class_objects_few p class kept sound =
-    let few : length p.index.groups ≤ 65536 = (let spans = spans_within p kept sound in let most = kept.sound.few_pages in let paired = sound.paired in omega (arith, spans, most, paired)) in
+    let spans = spans_within p kept sound in
+    let few : length p.index.groups ≤ 65536 = (let most = kept.sound.few_pages in let paired = sound.paired in omega (arith, spans, most, paired)) in
     let groups : List (Option GroupEntry) = p.index.groups in
-    let all = (totals_few groups (record { objects = sum_by objects_in groups; bytes = sum_by bytes_in groups; mapped = sum_by mapped_in groups }) few sound.each
+    let all = (totals_few groups (record { objects = sum_by objects_in groups; bytes = sum_by bytes_in groups; mapped = sum_by mapped_in groups })
+    few sound.each
     (record { objects = refl; bytes = refl; mapped = refl })).objects in
     let part = sum_by-le-sum_by (counted_for entry_objects class) objects_in groups (for_class class) in
     let is = objects_of_class p class in

@@ -60,11 +60,13 @@ module _ (groups : List (Option GroupEntry)) (n k class : ℕ) (a : GroupEntry) 
   -- the pages stay
   pub entry_pages_stay : counts ≡ count_by_class entry_pages groups → counts ≡ count_by_class entry_pages (with_entry groups n k entry)
   entry_pages_stay were = were
-      ∙ sym (count_stays entry_pages groups now class (pages_of a.class) (shift_set entry_pages groups n class (Some a) (Some (with_slot k entry a)) (group_within groups n a there) there of of))
+      ∙ sym (count_stays entry_pages groups now class (pages_of a.class)
+      (shift_set entry_pages groups n class (Some a) (Some (with_slot k entry a)) (group_within groups n a there) there of of))
       ∙ ap (λ (gs : List (Option GroupEntry)). count_by_class entry_pages gs) (sym entry_there)
 
   -- the objects are one more, or one fewer
-  entry_shifts : (up down : ℕ) → count_by is_some (slice_set a.slots k entry) + down ≡ up + count_by is_some a.slots → Shifts entry_objects groups now class up down
+  entry_shifts : (up down : ℕ) → count_by is_some (slice_set a.slots k entry) + down ≡ up + count_by is_some a.slots
+      → Shifts entry_objects groups now class up down
   entry_shifts up down same = shift_as entry_objects groups now class (count_by is_some (slice_set a.slots k entry)) (count_by is_some a.slots) up down
       (shift_set entry_objects groups n class (Some a) (Some (with_slot k entry a)) (group_within groups n a there) there of of) same
 
@@ -107,7 +109,8 @@ module _ (old new : Index) (class span k serial len : ℕ) (pages objects : List
   })
 
   pub vacated_within : 1 ≤ slice_index objects (class_index class)
-  vacated_within = entry_objects_within old.groups (group_number old span) k class stands.group (Some (object_in old span serial len)) None objects is stands.there
+  vacated_within = entry_objects_within old.groups (group_number old span) k class stands.group
+      (Some (object_in old span serial len)) None objects is stands.there
       (stands.same_class ∙ of) stands.filled refl refl counted.objects
 
 -- a span with no object comes to a class
@@ -118,19 +121,23 @@ added_counts old new class first span pages objects is added counted =
     let grown : List (Option GroupEntry) = old.groups ++ Some group ∷ [] in
     let none : count_by is_some group.slots ≡ 0 = sym (count_none (slots_of class)) in
     rw added.groups (record {
-      pages = count_rises entry_pages old.groups grown class pages is counted.pages (pages_of class) (shift_push entry_pages old.groups class (Some group) refl);
+      pages = count_rises entry_pages old.groups grown class pages is counted.pages (pages_of class)
+          (shift_push entry_pages old.groups class (Some group) refl);
       objects = counted.objects ∙ sym (count_stays entry_objects old.groups grown class 0
-          (shift_as entry_objects old.groups grown class (count_by is_some group.slots) 0 0 0 (shift_push entry_objects old.groups class (Some group) refl) (omega (arith, none))));
+          (shift_as entry_objects old.groups grown class (count_by is_some group.slots) 0 0 0 (shift_push entry_objects old.groups class (Some group) refl)
+          (omega (arith, none))));
     })
 
 -- an empty group leaves its class
-module _ (old new : Index) (class n : ℕ) (a : GroupEntry) (pages objects : List ℕ) (is : IsClass class) (there : group_at old.groups n ≡ Some a) (of : a.class ≡ class)
+module _ (old new : Index) (class n : ℕ) (a : GroupEntry) (pages objects : List ℕ) (is : IsClass class) (there : group_at old.groups n ≡ Some a)
+    (of : a.class ≡ class)
     (counted : AreClassCounts old.groups pages objects) where
   abbrev rest : List (Option GroupEntry)
   rest = slice_set old.groups n None
 
   gone : (count : GroupEntry → ℕ) (m : ℕ) → m ≡ count a → Shifts count old.groups rest class 0 m
-  gone count m same = shift_as count old.groups rest class 0 (count a) 0 m (shift_set count old.groups n class (Some a) None (group_within old.groups n a there) there of tt)
+  gone count m same = shift_as count old.groups rest class 0 (count a) 0 m
+      (shift_set count old.groups n class (Some a) None (group_within old.groups n a there) there of tt)
       (omega (arith, same))
 
   pub retired_counts : count_by is_some a.slots ≡ 0 → IsRetired old new n → AreClassCounts new.groups (lowered pages class (pages_of class)) objects
@@ -140,7 +147,8 @@ module _ (old new : Index) (class n : ℕ) (a : GroupEntry) (pages objects : Lis
   })
 
   pub retired_within : pages_of class ≤ slice_index pages (class_index class)
-  retired_within = count_falls_within entry_pages old.groups rest class pages is counted.pages (pages_of class) (gone entry_pages (pages_of class) (ap pages_of (sym of)))
+  retired_within = count_falls_within entry_pages old.groups rest class pages is counted.pages (pages_of class)
+      (gone entry_pages (pages_of class) (ap pages_of (sym of)))
 
 -- a group of a class is merged into another: their objects stay, and the pages of one go
 module _ (old new : Index) (s d class : ℕ) (a b : GroupEntry) (pages objects : List ℕ) (is : IsClass class) (two : s ≢ d) (of : a.class ≡ class)
@@ -222,10 +230,12 @@ module _ (old new : Index) (s d class freed bytes : ℕ) (pages objects : List �
   freed_is = may.pages_are ∙ ap pages_of of
 
   pub meshed_counts : AreClassCounts new.groups (lowered pages class freed) objects
-  meshed_counts = rw freed_is (merged_counts old new s d class may.a may.b pages objects meshed_class may.two of (sym may.same_class ∙ of) may.apart meshed_long merges counted)
+  meshed_counts = rw freed_is (merged_counts old new s d class may.a may.b pages objects meshed_class may.two of
+      (sym may.same_class ∙ of) may.apart meshed_long merges counted)
 
   pub meshed_within : freed ≤ slice_index pages (class_index class)
-  meshed_within = rw freed_is (merged_within old new s d class may.a may.b pages objects meshed_class may.two of (sym may.same_class ∙ of) may.apart meshed_long merges counted)
+  meshed_within = rw freed_is (merged_within old new s d class may.a may.b pages objects meshed_class may.two of
+      (sym may.same_class ∙ of) may.apart meshed_long merges counted)
 
 -- with no group
 pub none_counted : AreClassCounts [] (replicate 10 0) (replicate 10 0)

@@ -97,11 +97,15 @@ module _ (count : GroupEntry → ℕ) (old new : List (Option GroupEntry)) (clas
       ∙ sym (count_set count old new class others)
 
   -- the entry of the class rises, or falls
-  pub count_rises : (n : ℕ) → Shifts count old new class n 0 → slice_set counts (class_index class) (slice_index counts (class_index class) + n) ≡ count_by_class count new
-  count_rises n shift = entry_set (slice_index counts (class_index class) + n) (let here = shift.here in let entry = entry_is in omega (arith, here, entry)) shift.others
+  pub count_rises : (n : ℕ) → Shifts count old new class n 0
+      → slice_set counts (class_index class) (slice_index counts (class_index class) + n) ≡ count_by_class count new
+  count_rises n shift = entry_set (slice_index counts (class_index class) + n)
+      (let here = shift.here in let entry = entry_is in omega (arith, here, entry)) shift.others
 
-  pub count_falls : (n : ℕ) → Shifts count old new class 0 n → slice_set counts (class_index class) (slice_index counts (class_index class) - n) ≡ count_by_class count new
-  count_falls n shift = entry_set (slice_index counts (class_index class) - n) (let here = shift.here in let entry = entry_is in omega (arith, here, entry)) shift.others
+  pub count_falls : (n : ℕ) → Shifts count old new class 0 n
+      → slice_set counts (class_index class) (slice_index counts (class_index class) - n) ≡ count_by_class count new
+  count_falls n shift = entry_set (slice_index counts (class_index class) - n)
+      (let here = shift.here in let entry = entry_is in omega (arith, here, entry)) shift.others
 
   -- there is as much as is taken
   pub count_falls_within : (n : ℕ) → Shifts count old new class 0 n → n ≤ slice_index counts (class_index class)

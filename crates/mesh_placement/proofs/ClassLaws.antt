@@ -24,7 +24,8 @@ pages_counted class (g ∷ groups) = elim (eqb_tells g.class class) [
 ]
 
 -- and at most an object in each slot of it
-objects_counted : (class : ℕ) (groups : List Group) → AreSoundGroups groups → sum_by object_count (of_class class groups) ≤ length (of_class class groups) * slots_of class
+objects_counted : (class : ℕ) (groups : List Group) → AreSoundGroups groups
+    → sum_by object_count (of_class class groups) ≤ length (of_class class groups) * slots_of class
 objects_counted class [] sound = omega arith
 objects_counted class (g ∷ groups) sound = elim (eqb_tells g.class class) [
   | inl same ↦ rw same.0 (let rest = objects_counted class groups sound.1 in let one = sum_by-cons object_count g (of_class class groups) in
@@ -50,13 +51,15 @@ unfolding slots_of
 some_slot class r is =
     let slots : slots_of class ≡ r.slots = ap (λ (o : Option Row). option_map_or (λ r. r.slots) o 0) is in
     let some = row_slots class table r
-    (omega arith, (omega arith, (omega arith, (omega arith, (omega arith, (omega arith, (omega arith, (omega arith, (omega arith, (omega arith, tt)))))))))) is in
+    (omega arith, (omega arith, (omega arith, (omega arith, (omega arith, (omega arith, (omega arith, (omega arith, (omega arith, (omega arith, tt))))))))))
+    is in
     omega (arith, slots, some)
 
 -- no more spans are needed than there are
 spans_fit : (objects slots pages spans : ℕ) → 1 ≤ slots → objects ≤ spans * slots → ((objects + slots - 1) / slots) * pages ≤ spans * pages
 spans_fit objects slots pages spans some few =
-    let less : (objects + slots - 1) / slots < spans + 1 = (div-lt_iff_lt-mul {k = slots} {x = objects + slots - 1} {y = spans + 1} some).1 (omega (arith, some, few)) in
+    let less : (objects + slots - 1) / slots < spans + 1 = (div-lt_iff_lt-mul {k = slots} {x = objects + slots - 1} {y = spans + 1} some).1
+    (omega (arith, some, few)) in
     mul-le-mul_right pages (omega (arith, less))
 
 pub objects_fit : (t : Table) (class : ℕ) → IsSound t → pages_needed class (class_objects t class) ≤ class_pages t class

@@ -14,8 +14,10 @@ chained (Ok a) x = refl
 chained (Err e) x = refl
 
 -- an open group is room, and where there is none a new span is
-placed_room : (t : Table) (o : Option Group) (class word serial len : ℕ) → is_ok (place_in o t class word serial len) ≡ (is_some o || is_ok (room_for_span t class))
-placed_room t None class word serial len = chained (room_for_span t class) (placed_in (with_span t class) (fresh_group t.next_span class t.next_page) word serial len)
+placed_room : (t : Table) (o : Option Group) (class word serial len : ℕ)
+    → is_ok (place_in o t class word serial len) ≡ (is_some o || is_ok (room_for_span t class))
+placed_room t None class word serial len = chained (room_for_span t class)
+    (placed_in (with_span t class) (fresh_group t.next_span class t.next_page) word serial len)
 placed_room t (Some group) class word serial len = refl
 
 pub new_room : (t : Table) (class len word serial : ℕ) → class_for len ≡ Some class → 1 ≤ len
@@ -41,7 +43,8 @@ open_found p class word (Some r) calm picked none =
 -- so an open slot of the index is room, and where there is none a new span is
 module _ (inside seen : Placement) (class len : ℕ) (slot : Option (ℕ × ℕ)) (is_there : Bool) (same : inside ≡ seen) (kept : IsPlacement inside)
     (class_is : class_for len ≡ Some class) (some : 1 ≤ len) (there_is : is_there ≡ is_some slot)
-    (picked : IfSome slot (λ r. IsSomeAnd (find (takes_objects (is_closed inside.index) class) (groups_of inside.index)) (λ group. IsPicked inside.index group 0 r.0 r.1)))
+    (picked : IfSome slot (λ r. IsSomeAnd (find (takes_objects (is_closed inside.index) class) (groups_of inside.index))
+    (λ group. IsPicked inside.index group 0 r.0 r.1)))
     (none : IfNone slot (find (takes_objects (is_closed inside.index) class) (groups_of inside.index) ≡ None)) where
   told : (word serial : ℕ) → is_ok (place_new (table_of seen) len word serial) ≡ (is_there || is_ok (room_for_span (table_of seen) class))
   told word serial = subst (λ (p : Placement). is_ok (place_new (table_of p) len word serial) ≡ (is_there || is_ok (room_for_span (table_of p) class))) same

@@ -43,7 +43,8 @@ class_for_size class is = first_enough class 0 table
 
 -- what a request of the size of a class is answered
 pub class_answered : (r : Result ℕ Refusal) (class len out : ℕ) (other : ℕ → Type 0) → IsClass class → len ≡ class → IfOk r (λ c. class_for len ≡ Some c)
-    → IfErr r (λ e. (e ≡ Zero) ⊎ (e ≡ TooLarge)) → ((r ≡ Err Zero) ↔ (len ≡ 0)) → ((r ≡ Err TooLarge) ↔ (2048 < len)) → ResultUnwrapsOrElse r other out → out ≡ class
+    → IfErr r (λ e. (e ≡ Zero) ⊎ (e ≡ TooLarge)) → ((r ≡ Err Zero) ↔ (len ≡ 0)) → ((r ≡ Err TooLarge) ↔ (2048 < len)) → ResultUnwrapsOrElse r other out
+    → out ≡ class
 class_answered (Ok c) class len out other is same least refusals zero large unwrapped =
     let two : Some c ≡ Some class = sym least ∙ ap class_for same ∙ class_for_size class is in unwrapped ∙ cc two
 class_answered (Err e) class len out other is same least refusals zero large unwrapped = elim refusals [

@@ -10,6 +10,8 @@ apart c = let a = c.address-first.ensures.value in let b = c.address-second.ensu
     rw (a, b, i, j) (omega arith)
 
 pub returns : goal.returns
-returns c = class_answered c.class_of.result (span_at c.args.spans.now.spans c.args.span).class (c.address-second.result - c.address-first.result) c.unwrap_or_default.result _
-    (c.sound.ensures.span c.args.span c.requires).class (apart c) c.class_of.ensures.least c.class_of.ensures.refusals c.class_of.ensures.zero c.class_of.ensures.too_large
+returns c = class_answered c.class_of.result (span_at c.args.spans.now.spans c.args.span).class
+    (c.address-second.result - c.address-first.result) c.unwrap_or_default.result _
+    (c.sound.ensures.span c.args.span c.requires).class (apart c) c.class_of.ensures.least c.class_of.ensures.refusals c.class_of.ensures.zero
+    c.class_of.ensures.too_large
     c.unwrap_or_default.ensures

@@ -31,7 +31,8 @@ merged c = record {
 pub lower-requires : goal.lower-requires
 lower-requires c =
     let at = (goal.at.lower-requires c).After-merge in
-    meshed_within c.self.inside.spans c.merge.new.self c.args.source c.args.destination c.in_ok-class.class c.in_ok-class.meshed.pages c.in_ok-class.meshed.bytes
+    meshed_within c.self.inside.spans c.merge.new.self c.args.source c.args.destination c.in_ok-class.class c.in_ok-class.meshed.pages
+    c.in_ok-class.meshed.bytes
     c.self.inside.class_pages.counts c.self.inside.class_objects.counts c.sound.ensures (may_inside at) (source_class at) (merged at).merges c.self.invariant.1
 
 pub overflow_sub-self : goal.overflow_sub-self
@@ -46,7 +47,8 @@ invariant_of-self c =
       meshed_kept (seen_of c.self.inside) c.merge.new.self c.args.source c.args.destination c.in_ok-class.meshed.pages c.in_ok-class.meshed.bytes
           c.self.invariant.0 c.sound.ensures (may_inside at) (merged at),
       rw c.lower.ensures (meshed_counts c.self.inside.spans c.merge.new.self c.args.source c.args.destination c.in_ok-class.class c.in_ok-class.meshed.pages
-          c.in_ok-class.meshed.bytes c.self.inside.class_pages.counts c.self.inside.class_objects.counts c.sound.ensures (may_inside at) (source_class at) (merged at).merges
+          c.in_ok-class.meshed.bytes c.self.inside.class_pages.counts c.self.inside.class_objects.counts c.sound.ensures (may_inside at) (source_class at)
+          (merged at).merges
           c.self.invariant.1),
     )
 

@@ -27,9 +27,11 @@ raise-requires c =
 pub invariant_of-self : goal.invariant_of-self
 invariant_of-self c = (
   (left (goal.at.invariant_of-self c).After-occupy).0,
-  rw c.raise.ensures (occupied_counts c.self.inside.spans c.occupy.new.self c.in_ok-class.class c.in-Some.place.0 c.in-Some.place.1 c.self.inside.next_serial c.args.len
+  rw c.raise.ensures (occupied_counts c.self.inside.spans c.occupy.new.self c.in_ok-class.class c.in-Some.place.0 c.in-Some.place.1 c.self.inside.next_serial
+      c.args.len
       c.self.inside.class_pages.counts c.self.inside.class_objects.counts (is_class (goal.at.invariant_of-self c).After-occupy) c.in-Some.ensures.vacant
-      (record { spans = c.occupy.ensures.spans; groups = c.occupy.ensures.groups; table = c.occupy.ensures.table; closed = c.occupy.ensures.closed }) c.self.invariant.1),
+      (record { spans = c.occupy.ensures.spans; groups = c.occupy.ensures.groups; table = c.occupy.ensures.table; closed = c.occupy.ensures.closed })
+      c.self.invariant.1),
 )
 
 pub returns-clause-made : goal.returns-clause-made

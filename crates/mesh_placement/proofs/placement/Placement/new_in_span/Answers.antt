@@ -29,13 +29,15 @@ slot_within c = let is = slot_is c in let some = c.pages-count.ensures.class.som
 
 pub raise-requires : goal.raise-requires
 raise-requires c =
-    let few = pages_entry_few (seen_of c.self.inside) c.args.class c.self.inside.class_pages.counts c.self.inside.class_objects.counts c.pages-count.ensures.class
+    let few = pages_entry_few (seen_of c.self.inside) c.args.class c.self.inside.class_pages.counts c.self.inside.class_objects.counts
+    c.pages-count.ensures.class
     c.self.invariant.0 c.self.invariant.1 in
     let count = c.pages-count.ensures.value in let three = c.pages-count.ensures.class.few_pages in omega (arith, few, count, three)
 
 pub raise-requires-2 : goal.raise-requires-2
 raise-requires-2 c =
-    let few = objects_entry_few (seen_of c.self.inside) c.args.class c.self.inside.class_pages.counts c.self.inside.class_objects.counts c.pages-count.ensures.class
+    let few = objects_entry_few (seen_of c.self.inside) c.args.class c.self.inside.class_pages.counts c.self.inside.class_objects.counts
+    c.pages-count.ensures.class
     c.self.invariant.0 c.sound.ensures c.self.invariant.1 in omega (arith, few)
 
 pub invariant_of-self-2 : goal.invariant_of-self-2
@@ -45,16 +47,19 @@ invariant_of-self-2 c =
           c.pages-count.result c.self.invariant.0 c.sound.ensures c.pages-count.ensures.class (goes_inside at) c.pages-count.ensures.value
           c.if-self-count.false c.if-self-count-2.false c.in-Ok.ensures.added (slot_is at)
           (record { spans = c.occupy.ensures.spans; groups = c.occupy.ensures.groups; table = c.occupy.ensures.table; closed = c.occupy.ensures.closed }),
-      rw (c.raise.ensures, c.raise-2.ensures) (spanned_counts c.self.inside.spans c.add_span.new.spans c.occupy.new.self c.args.class c.self.inside.next_page c.in-Ok.span
+      rw (c.raise.ensures, c.raise-2.ensures) (spanned_counts c.self.inside.spans c.add_span.new.spans c.occupy.new.self c.args.class c.self.inside.next_page
+          c.in-Ok.span
           c.numbered-slot.result c.self.inside.next_serial c.args.len c.pages-count.result c.self.inside.class_pages.counts c.self.inside.class_objects.counts
           c.pages-count.ensures.class c.pages-count.ensures.value (slot_within at) c.in-Ok.ensures.added
-          (record { spans = c.occupy.ensures.spans; groups = c.occupy.ensures.groups; table = c.occupy.ensures.table; closed = c.occupy.ensures.closed }) c.self.invariant.1),
+          (record { spans = c.occupy.ensures.spans; groups = c.occupy.ensures.groups; table = c.occupy.ensures.table; closed = c.occupy.ensures.closed })
+          c.self.invariant.1),
     )
 
 pub returns-clause-made : goal.returns-clause-made
 returns-clause-made c =
     let at = (goal.at.returns-clause-made c).After-occupy in
-    rw (← c.self.view_is) (made_span (seen_of c.self.inside) c.add_span.new.spans c.occupy.new.self c.args.class c.args.len c.args.word c.in-Ok.span c.numbered-slot.result
+    rw (← c.self.view_is) (made_span (seen_of c.self.inside) c.add_span.new.spans c.occupy.new.self c.args.class c.args.len c.args.word c.in-Ok.span
+    c.numbered-slot.result
     c.pages-count.result c.self.invariant.0 c.sound.ensures c.pages-count.ensures.class (goes_inside at) c.pages-count.ensures.value
     c.if-self-count.false c.if-self-count-2.false c.in-Ok.ensures.added (slot_is at)
     (record { spans = c.occupy.ensures.spans; groups = c.occupy.ensures.groups; table = c.occupy.ensures.table; closed = c.occupy.ensures.closed }))

@@ -1,4 +1,4 @@
-use Rattle.std.proofs.Common.{◌≡◌, ℕ, ◌≤◌, List, map, refl, subst, sym, ◌∙◌}
+use Rattle.std.proofs.Common.{◌≡◌, ℕ, ◌≤◌, List, map, ap, subst, sym, ◌∙◌}
 use Rattle.std.specs.List.{All}
 use Rattle.model_words.specs.Classes.{table}
 use Rattle.mesh_placement.proofs.ClassBounds.{class_pages_few, pages_by_class, rows_few}
@@ -13,7 +13,7 @@ counts : (c : After-by_class) → c.by_class.result.now ≡ map (λ row. class_p
 counts c = c.by_class.ensures ∙ c.self.invariant.1.pages ∙ pages_by_class (seen_of c.self.inside)
 
 pub returns-clause-value : goal.returns-clause-value
-returns-clause-value c = counts c ∙ subst (λ (p : Placement). map (λ row. class_pages (table_of (seen_of c.self.inside)) row.size) table ≡ map (λ row. class_pages (table_of p) row.size) table) c.self.view_is refl
+returns-clause-value c = counts c ∙ ap (λ (p : Placement). map (λ row. class_pages (table_of p) row.size) table) c.self.view_is
 
 pub returns-clause-few : goal.returns-clause-few
 returns-clause-few c = subst (λ (xs : List ℕ). All (λ n. n ≤ 65538) xs) (sym (counts c))

@@ -20,7 +20,8 @@ retired c = record { spans = c.retire.ensures.spans; groups = c.retire.ensures.g
 
 pub lower-requires : goal.lower-requires
 lower-requires c = rw c.pages-pages.ensures.value
-    (retired_within c.self.inside.spans c.retire.new.self c.class-class.result c.args.n c.in-Some.group.now c.self.inside.class_pages.counts c.self.inside.class_objects.counts
+    (retired_within c.self.inside.spans c.retire.new.self c.class-class.result c.args.n c.in-Some.group.now c.self.inside.class_pages.counts
+    c.self.inside.class_objects.counts
     c.pages-pages.ensures.class (sym c.in-Some.ensures) (sym c.class-class.ensures) c.self.invariant.1)
 
 pub overflow_sub-self : goal.overflow_sub-self
@@ -35,7 +36,8 @@ invariant_of-self c =
       retired_kept (seen_of c.self.inside) c.retire.new.self c.args.n c.pages-pages.result c.in-Some.group.now c.self.invariant.0 (sym c.in-Some.ensures)
           (sym c.is_empty.ensures ∙ c.if-not-is_empty.false) (rw (← c.class-class.ensures) c.pages-pages.ensures.value) (retired at),
       rw (c.lower.ensures, c.pages-pages.ensures.value)
-          (retired_counts c.self.inside.spans c.retire.new.self c.class-class.result c.args.n c.in-Some.group.now c.self.inside.class_pages.counts c.self.inside.class_objects.counts
+          (retired_counts c.self.inside.spans c.retire.new.self c.class-class.result c.args.n c.in-Some.group.now c.self.inside.class_pages.counts
+          c.self.inside.class_objects.counts
           c.pages-pages.ensures.class (sym c.in-Some.ensures) (sym c.class-class.ensures) c.self.invariant.1
           (eqb-true (count_by is_some c.in-Some.group.now.slots) 0 (sym c.is_empty.ensures ∙ c.if-not-is_empty.false)) (retired at)),
     )
@@ -43,5 +45,6 @@ invariant_of-self c =
 pub returns : goal.returns
 returns c =
     let at = (goal.at.returns c).After-retire in
-    rw (← c.self.view_is) (retired_now (seen_of c.self.inside) c.retire.new.self c.args.n c.pages-pages.result c.in-Some.group.now c.self.invariant.0 (sym c.in-Some.ensures)
+    rw (← c.self.view_is) (retired_now (seen_of c.self.inside) c.retire.new.self c.args.n c.pages-pages.result c.in-Some.group.now c.self.invariant.0
+    (sym c.in-Some.ensures)
     (sym c.is_empty.ensures ∙ c.if-not-is_empty.false) (rw (← c.class-class.ensures) c.pages-pages.ensures.value) (retired at))
