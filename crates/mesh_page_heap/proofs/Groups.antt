@@ -1,6 +1,6 @@
 -- Groups of an index as groups of the table, and where each virtual page stands among a group's.
-use Rattle.std.proofs.Common.{◌≡◌, ℕ, zero, suc, ◌+◌, ◌-◌, ◌*◌, ◌/◌, ◌%◌, ◌<◌, ◌≤◌, Bool, true, false, ◌||◌, find, List, [], ◌∷◌, Option, Some, None, length, slice_index, slice_index_or, ap, refl, sym, ◌∙◌, arith, inl, inr, mod-lt}
-use Rattle.std.proofs.lemmas.Bool.{cases_Bool, eq-eqb, ne_eqb}
+use Rattle.std.proofs.Common.{◌≡◌, ℕ, zero, suc, ◌+◌, ◌*◌, ◌/◌, ◌%◌, ◌<◌, ◌≤◌, Bool, true, false, ◌||◌, find, List, [], ◌∷◌, Option, Some, None, length, slice_index, slice_index_or, ap, refl, sym, ◌∙◌, arith, inl, inr, mod-lt}
+use Rattle.std.proofs.lemmas.Bool.{cases_Bool, eq-eqb}
 use Rattle.std.specs.List.{flat_map, range_with_len}
 use Rattle.std.proofs.Math.ListN.{length-append}
 use Rattle.std.proofs.lemmas.List.{get_or-map, get_or_append_left, get_or-append_right, length-map}

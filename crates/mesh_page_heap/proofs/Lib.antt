@@ -6,7 +6,6 @@ pub mod Flags
 pub mod GroupNumbers
 pub mod Groups
 pub mod GrowthLemmas
-pub mod HandedOn
 pub mod Heaps
 pub mod Homes
 pub mod Insides

@@ -1,25 +1,19 @@
 -- Whether a mesh of two groups may begin, told by the index.
-use Rattle.std.proofs.Common.{◌≡◌, ◌≢◌, ℕ, ◌+◌, ◌<◌, ◌≤◌, Bool, true, false, not, map, is_some, length, IsSome, Option, Some, None, Err, ap, subst, refl, sym, ◌∙◌, arith}
-use Rattle.std.proofs.lemmas.List.{length-map}
-use Rattle.mesh_class.specs.Classes.{slots_of}
-use Rattle.mesh_bits.specs.Bits.{are_meshable}
+use Rattle.std.proofs.Common.{◌≡◌, ℕ, ◌<◌, Bool, length, IsSome, ap, subst, sym, ◌∙◌, arith}
 use Rattle.mesh_page_heap.proofs.Beginnings.{Begins, Closes, page_heap_begins}
-use Rattle.mesh_page_heap.proofs.Groups.{IsEntry, entry_in_table, none_in_table, table_entry}
+use Rattle.mesh_page_heap.proofs.Groups.{IsEntry, entry_in_table, table_entry}
 use Rattle.mesh_page_heap.proofs.MadeSteps.{pages_counted}
 use Rattle.mesh_page_heap.specs.Indexes.{layout_of}
 use Rattle.mesh_page_heap.specs.PageHeapInvariant.{IsPageHeap}
-use Rattle.model_heap.proofs.BeginRefusals.{busy_class, many_members, may_go, no_destination, no_source, other_class, overlapping, same_group}
 use Rattle.model_heap.proofs.FewMeshes.{few_meshes}
 use Rattle.model_heap.proofs.MayBegin.{may_begin_gives}
 use Rattle.model_heap.proofs.GroupPages.{found_sound}
 use Rattle.model_heap.proofs.MeshLists.{any_tells, class_tells}
-use Rattle.model_search.proofs.Searches.{overlap_by_sets}
-use Rattle.model_heap.specs.Mesh.{do_overlap, may_begin, step_count}
-use Rattle.model_heap.specs.Table.{Group, Made, Table, group_of}
+use Rattle.model_heap.specs.Mesh.{step_count}
+use Rattle.model_heap.specs.Table.{Group, Made, Table}
 use Rattle.model_words.specs.Classes.{row_of}
 use Rattle.model_heap.specs.Sound.{meshes_of}
 use Rattle.model_heap.specs.TableLaws.{IsBusyTest}
-use Rattle.model_words.specs.declared.refusals.Refusal.TheVariants.{Busy as BusyClass, Class, Members, NoGroup, Overlap, Same}
 use Rattle.mesh_spans.specs.Groups.{table_group}
 use Rattle.mesh_spans.specs.Index.{GroupEntry, Index}
 use Rattle.mesh_spans.specs.Pairs.{IsTableOf, MayMerge}

@@ -1,5 +1,5 @@
 -- Where the next object of a class goes.
-use Rattle.std.proofs.Common.{◌≡◌, ℕ, zero, suc, ◌+◌, ◌-◌, ◌%◌, ◌<◌, ◌≤◌, Bool, false, not, ◌&&◌, nat_eq, nat_lt, find, List, [], ◌∷◌, ◌++◌, map, Option, Some, None, Result, Ok, IsSome, IsSomeAnd, length, slice_get, slice_index, ap, subst, refl, sym, ◌∙◌, arith, inl, inr}
+use Rattle.std.proofs.Common.{◌≡◌, ℕ, zero, suc, ◌+◌, ◌%◌, ◌<◌, ◌≤◌, Bool, false, not, ◌&&◌, nat_eq, nat_lt, find, List, [], ◌∷◌, ◌++◌, Option, Some, None, Result, Ok, IsSome, IsSomeAnd, length, slice_get, slice_index, ap, subst, refl, sym, ◌∙◌, arith, inl, inr}
 use Rattle.std.specs.List.{list_any}
 use Rattle.std.specs.Option.{option_map_or}
 use Rattle.std.proofs.Math.ListN.{get_or-append, length-append}

@@ -218,24 +218,24 @@ spanned_counts old mid new class first span k serial len count pages objects is 
     (added_counts old mid class first span pages objects is added counted))
 
 -- two groups of a class were meshed
-module _ (old new : Index) (s d class freed bytes : ℕ) (pages objects : List ℕ) (sound : IsIndex old.spans old.groups) (may : MayMesh old s d freed bytes)
-    (of : may.a.class ≡ class) (merges : Merges old new s d may.a may.b) (counted : AreClassCounts old.groups pages objects) where
+module _ (old new : Index) (s d class freed bytes : ℕ) (pages objects : List ℕ) (sound : IsIndex old.spans old.groups) (may : MayMesh old s d class freed bytes)
+    (merges : Merges old new s d may.merge.pair.a may.merge.pair.b) (counted : AreClassCounts old.groups pages objects) where
   meshed_class : IsClass class
-  meshed_class = subst IsClass of (sound.each s may.a may.source_is).class
+  meshed_class = subst IsClass may.class_is (sound.each s may.merge.pair.a may.merge.pair.source).class
 
-  meshed_long : length may.a.slots ≡ length may.b.slots
-  meshed_long = (sound.each s may.a may.source_is).slots ∙ ap slots_of may.same_class ∙ sym (sound.each d may.b may.destination_is).slots
+  meshed_long : length may.merge.pair.a.slots ≡ length may.merge.pair.b.slots
+  meshed_long = (sound.each s may.merge.pair.a may.merge.pair.source).slots ∙ ap slots_of may.merge.pair.same_class ∙ sym (sound.each d may.merge.pair.b may.merge.pair.destination).slots
 
   freed_is : freed ≡ pages_of class
-  freed_is = may.pages_are ∙ ap pages_of of
+  freed_is = may.pages_are ∙ ap pages_of may.class_is
 
   pub meshed_counts : AreClassCounts new.groups (lowered pages class freed) objects
-  meshed_counts = rw freed_is (merged_counts old new s d class may.a may.b pages objects meshed_class may.two of
-      (sym may.same_class ∙ of) may.apart meshed_long merges counted)
+  meshed_counts = rw freed_is (merged_counts old new s d class may.merge.pair.a may.merge.pair.b pages objects meshed_class may.merge.pair.two may.class_is
+      (sym may.merge.pair.same_class ∙ may.class_is) may.merge.pair.apart meshed_long merges counted)
 
   pub meshed_within : freed ≤ slice_index pages (class_index class)
-  meshed_within = rw freed_is (merged_within old new s d class may.a may.b pages objects meshed_class may.two of
-      (sym may.same_class ∙ of) may.apart meshed_long merges counted)
+  meshed_within = rw freed_is (merged_within old new s d class may.merge.pair.a may.merge.pair.b pages objects meshed_class may.merge.pair.two may.class_is
+      (sym may.merge.pair.same_class ∙ may.class_is) may.merge.pair.apart meshed_long merges counted)
 
 -- with no group
 pub none_counted : AreClassCounts [] (replicate 10 0) (replicate 10 0)

@@ -3,13 +3,14 @@ use Rattle.std.proofs.Common.{◌≡◌, ◌≢◌, ℕ, ◌+◌, ◌-◌, ◌<�
 use Rattle.std.specs.Option.{option_map_or}
 use Rattle.std.proofs.lemmas.Bool.{eq-eqb, ne_eqb}
 use Rattle.std.proofs.lemmas.Bool.Decides.{eqb_tells, nat_tests}
-use Rattle.std.proofs.lemmas.List.Sums.{sum_by-cons, sum_by-set, sum_by_push}
+use Rattle.std.proofs.lemmas.List.Sums.{sum_by-set, sum_by_push}
 use Rattle.std.proofs.lemmas.Option.{get_or_from_slice_get, slice_get_within}
 use Rattle.model_heap.specs.Mesh.{do_overlap, united}
 use Rattle.model_heap.specs.Table.{Slot}
 use Rattle.model_words.specs.Classes.{Row, row_of, table}
 use Rattle.mesh_class.specs.Class.{class_index, place_in}
 use Rattle.mesh_class.specs.Classes.{IsClass, slots_of}
+use Rattle.mesh_spans.proofs.CountLemmas.{sum_united}
 use Rattle.mesh_spans.specs.Index.{GroupEntry, group_at}
 use Rattle.mesh_placement.specs.ClassCounts.{class_count, count_by_class, counted_for}
 
@@ -179,13 +180,4 @@ objects_set slots k was entry filled =
 -- the objects of two groups with no common occupied slot
 pub objects_united : (xs ys : List (Option Slot)) → length xs ≡ length ys → do_overlap xs ys ≡ false
     → count_by is_some (united ys xs) ≡ count_by is_some ys + count_by is_some xs
-objects_united [] [] long apart = refl
-objects_united [] (y ∷ ys) long apart = absurd (omega (arith, long))
-objects_united (x ∷ xs) [] long apart = absurd (omega (arith, long))
-objects_united (None ∷ xs) (None ∷ ys) long apart = let rest = objects_united xs ys (omega (arith, long)) apart in
-    omega (arith, rest, sum_by-cons one_of None xs, sum_by-cons one_of None ys, sum_by-cons one_of None (united ys xs))
-objects_united (None ∷ xs) (Some y ∷ ys) long apart = let rest = objects_united xs ys (omega (arith, long)) apart in
-    omega (arith, rest, sum_by-cons one_of None xs, sum_by-cons one_of (Some y) ys, sum_by-cons one_of (Some y) (united ys xs))
-objects_united (Some x ∷ xs) (None ∷ ys) long apart = let rest = objects_united xs ys (omega (arith, long)) apart in
-    omega (arith, rest, sum_by-cons one_of (Some x) xs, sum_by-cons one_of None ys, sum_by-cons one_of (Some x) (united ys xs))
-objects_united (Some x ∷ xs) (Some y ∷ ys) long apart = absurd (cc apart)
+objects_united xs ys long apart = sym (sum_united one_of refl xs ys long apart)

@@ -9,7 +9,7 @@ use Rattle.model_heap.specs.Sound.{AreSoundGroups, IsSound}
 use Rattle.model_heap.specs.Table.{Group, Table, object_count}
 use Rattle.model_words.specs.Classes.{Row, pages_of, row_of, slots_of, table}
 use Rattle.mesh_placement.specs.ClassCounts.{class_objects, class_pages}
-use Rattle.mesh_placement.specs.ClassLaws.{pages_needed}
+use Rattle.mesh_placement.specs.ClassLaws.{FitsPages, pages_needed}
 
 abbrev of_class : ℕ → List Group → List Group
 of_class class groups = filter (λ g. nat_eq g.class class) groups
@@ -62,9 +62,9 @@ spans_fit objects slots pages spans some few =
     (omega (arith, some, few)) in
     mul-le-mul_right pages (omega (arith, less))
 
-pub objects_fit : (t : Table) (class : ℕ) → IsSound t → pages_needed class (class_objects t class) ≤ class_pages t class
+pub objects_fit : (t : Table) → IsSound t → FitsPages t
 unfolding pages_of
-objects_fit t class sound = go (row_of class) refl
+objects_fit t sound class = go (row_of class) refl
   where
     go : (o : Option Row) → row_of class ≡ o → pages_needed class (class_objects t class) ≤ class_pages t class
     go None none =

@@ -9,7 +9,7 @@ use Rattle.model_words.proofs.Tests.{tells}
 use Rattle.model_words.specs.Classes.{pages_of}
 use Rattle.model_words.specs.declared.refusals.Refusal.{Refusal}
 use Rattle.model_words.specs.declared.refusals.Refusal.TheVariants.{NoGroup, NotEmpty}
-use Rattle.mesh_placement.proofs.Swept.{all_numbers, no_numbers, numbers_from, sweep_step}
+use Rattle.mesh_placement.proofs.Swept.{all_numbers, low_below_high, no_numbers, numbers_from, sweep_step}
 use Rattle.mesh_placement.specs.Sweeps.{sweep_each, swept, table_after}
 
 -- the group has an object
@@ -53,12 +53,8 @@ emptied_between n low high (x ∷ xs) g ascend found empty = grind (
 all_stay : (n low high : ℕ) (groups : List Group) → AscendBetween low groups high → high ≤ n → filter (stays_from n) groups ≡ groups
 all_stay n low high [] ascend above = refl
 all_stay n low high (x ∷ xs) ascend above =
-    let most = bounds (x.number + 1) high xs ascend.1 in
+    let most = low_below_high (x.number + 1) high xs ascend.1 in
     let rest = all_stay n (x.number + 1) high xs ascend.1 above in grind (arith, nat_tests)
-  where
-    bounds : (low high : ℕ) (gs : List Group) → AscendBetween low gs high → low ≤ high
-    bounds low high [] h = h
-    bounds low high (g ∷ gs) h = let rest = bounds (g.number + 1) high gs h.1 in omega (arith, rest, h.0)
 
 -- from 0 on those with an object
 filled_stay : (groups : List Group) → filter (stays_from 0) groups ≡ filter has_object groups

@@ -13,7 +13,7 @@ use Rattle.model_heap.specs.Table.{Group, Slot, changed_at, emptied_at, group_wi
 use Rattle.mesh_spans.proofs.IndexLemmas.{recorded_is}
 use Rattle.mesh_spans.specs.Groups.{groups_of, is_closed, table_group}
 use Rattle.mesh_spans.specs.Index.{AreUnused, GroupEntry, Index, IsIndex, IsRecorded, SpanEntry, address_in, named_in, record_at, slot_in, span_at, with_entry}
-use Rattle.mesh_placement.proofs.MergedRecords.{entry_found}
+use Rattle.mesh_spans.proofs.PairLemmas.{entry_in_table}
 use Rattle.mesh_placement.proofs.SlotRecords.{IsOf, others_stay, record_is, slot_of, slot_put}
 use Rattle.mesh_placement.specs.Placement.{FirstsAscend, IsFreed, IsPlacement, Placement, table_of, supply}
 
@@ -48,7 +48,7 @@ module _ (old : Placement) (new : Index) (span k serial len : ℕ) (kept : IsPla
   emptied : map (changed_at (group_number old.index span) (emptied_at k)) (groups_of old.index) ≡ map (group_without serial) (groups_of old.index)
   emptied = one_slot kept.named.memory (table_of old) (group_number old.index span) k
       (table_group old.index.spans (group_number old.index span) stands.group) (object_in old.index span serial len) kept.sound kept.named.tied
-      (entry_found old.index (group_number old.index span) stands.group stands.there) stands.filled
+      (entry_in_table old.index (group_number old.index span) stands.group stands.there) stands.filled
 
   table_is : table_of (with_index old new) ≡ without_object (table_of old) serial
   table_is = ap (λ (n : ℕ). record (table_of old) { next_span = n; groups = groups_of new }) (ap (λ (xs : List SpanEntry). length xs) out.spans)
@@ -57,7 +57,7 @@ module _ (old : Placement) (new : Index) (span k serial len : ℕ) (kept : IsPla
   kept_after : IsPlacement (with_index old new)
   kept_after =
       let live = kept.named.tied.slots (group_number old.index span) k (table_group old.index.spans (group_number old.index span) stands.group) (object_in old.index span serial len)
-      (entry_found old.index (group_number old.index span) stands.group stands.there) stands.filled in
+      (entry_in_table old.index (group_number old.index span) stands.group stands.there) stands.filled in
       record {
         sound = subst IsSound (sym table_is) (free_sound (table_of old) serial kept.sound);
         named = record {

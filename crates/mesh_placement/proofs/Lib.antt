@@ -10,6 +10,5 @@ pub mod MergedRecords
 pub mod Placed
 pub mod Room
 pub mod SlotRecords
-pub mod SpanClasses
 pub mod Swept
 pub mod WholeMeshes

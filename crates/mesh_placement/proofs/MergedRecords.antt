@@ -11,7 +11,7 @@ use Rattle.model_heap.specs.Mesh.{do_overlap, either_slot}
 use Rattle.model_heap.specs.Sound.{IsSound, times_in}
 use Rattle.model_heap.specs.Table.{Slot, Table, has_number}
 use Rattle.mesh_spans.proofs.IndexLemmas.{filled_below}
-use Rattle.mesh_spans.proofs.MergedTable.{group_found}
+use Rattle.mesh_spans.proofs.PairLemmas.{entry_in_table}
 use Rattle.mesh_spans.specs.Changes.{Merges, merged_entry}
 use Rattle.mesh_spans.specs.Groups.{first_of, groups_of, table_group}
 use Rattle.mesh_spans.specs.Index.{GroupEntry, Index, IsIndex, SpanEntry, group_at, named_in, slot_in, span_at}
@@ -34,12 +34,6 @@ first_place spans (m ∷ members) page some = elim (eqb_tells (first_of spans m)
       let low = rest.below in record { place = suc rest.place; below = omega (arith, low); is = rest.is }
 ]
 
--- the group of a number in the index is that of the table
-pub entry_found : (index : Index) (n : ℕ) (entry : GroupEntry) → group_at index.groups n ≡ Some entry
-    → find (has_number n) (groups_of index) ≡ Some (table_group index.spans n entry)
-unfolding groups_of
-entry_found index n entry at = group_found index.spans 0 n n index.groups entry at (omega arith)
-
 -- no slot is filled in both of two lists that do not overlap
 apart_at : (xs ys : List (Option Slot)) (k : ℕ) (x y : Slot) → do_overlap xs ys ≡ false → slice_index_or xs k None ≡ Some x → slice_index_or ys k None ≡ Some y → ⊥
 apart_at [] ys k x y apart at at' = (let two : ◌≡◌ {A = Option Slot} None (Some x) = at in cc two)
@@ -56,7 +50,7 @@ module _ (index : Index) (t : Table) (sound : IsIndex index.spans index.groups) 
       ((found_sound t (has_number n) (table_group index.spans n g) table found).objects k x got).in_member
     where
       found : find (has_number n) t.groups ≡ Some (table_group index.spans n g)
-      found = ap (find (has_number n)) groups_are ∙ entry_found index n g at
+      found = ap (find (has_number n)) groups_are ∙ entry_in_table index n g at
 
       got : slice_get g.slots k ≡ Some (Some x)
       got = elim (leb_tells (length g.slots) k) [

@@ -8,8 +8,6 @@ use Rattle.model_heap.proofs.NewObjects.{new_sound}
 use Rattle.model_heap.proofs.NewPlaces.{fresh_picked}
 use Rattle.model_heap.proofs.OpenGroups.{found_open, open_tests}
 use Rattle.model_heap.proofs.TiedNewObjects.{new_tied}
-use Rattle.model_heap.specs.PageCounts.{AreCounted}
-use Rattle.model_heap.specs.Sound.{IsSound}
 use Rattle.model_heap.specs.Table.{Group, Placed, Table, changed_at, first_member, fresh_group, is_open, object_count, picked_slot, place_in, place_new, placed_in, room_for_span, slot_address, takes_objects, with_object_in, with_span}
 use Rattle.model_words.specs.Classes.{class_for}
 use Rattle.model_words.specs.Words.{◌>>=◌}
@@ -73,12 +71,6 @@ spanned_new t len word serial class goes room = placed_new t len word serial cla
 module _ (old new : Placement) (len word address : ℕ) (kept : IsPlacement old)
     (went : place_new (table_of old) len word old.next_serial ≡ Ok (record { address = address; table = table_of new }))
     (next : new.next_serial ≡ old.next_serial + 1) where
-  sound_now : IsSound (table_of new)
-  sound_now = new_sound (table_of old) len word old.next_serial (record { address = address; table = table_of new }) kept.sound went
-
-  counted_now : AreCounted supply (table_of new)
-  counted_now = new_counted supply (table_of old) len word old.next_serial (record { address = address; table = table_of new }) kept.sound kept.counted went
-
   named_now : HasMemory new.next_serial (table_of new)
   named_now = record {
     memory = made kept.named.memory 0 len address;
@@ -90,10 +82,10 @@ module _ (old new : Placement) (len word address : ℕ) (kept : IsPlacement old)
   pub placed_kept : new.taken_pages < new.next_page → AreUnused new.index new.next_page → FirstsAscend new.index.spans
       → ((n : ℕ) → is_closed new.index n ≡ false) → IsPlacement new
   placed_kept few unused ascending calm = record {
-    sound = sound_now;
+    sound = new_sound (table_of old) len word old.next_serial (record { address = address; table = table_of new }) kept.sound went;
     named = named_now;
-    counted = counted_now;
     few = few;
+    counted = new_counted supply (table_of old) len word old.next_serial (record { address = address; table = table_of new }) kept.sound kept.counted went;
     unused = unused;
     ascending = ascending;
     calm = calm;

@@ -15,8 +15,8 @@ use Rattle.mesh_class.specs.Classes.{pages_of}
 use Rattle.mesh_spans.specs.Groups.{groups_of, is_closed, table_group}
 use Rattle.mesh_spans.specs.Index.{AreUnused, GroupEntry, Index, IsIndex, SpanEntry, address_in, group_at, span_at}
 use Rattle.mesh_placement.proofs.Kept.{taken_within}
-use Rattle.mesh_placement.proofs.MergedRecords.{entry_found, retired_records}
-use Rattle.mesh_placement.proofs.WholeMeshes.{none_found}
+use Rattle.mesh_spans.proofs.PairLemmas.{entry_in_table, none_in_table}
+use Rattle.mesh_placement.proofs.MergedRecords.{retired_records}
 use Rattle.mesh_placement.specs.Placement.{FirstsAscend, IsPlacement, IsSwept, IsSweptAt, Placement, table_of, supply}
 use Rattle.mesh_placement.specs.Records.{KeepsRecords}
 use Rattle.mesh_placement.specs.Sweeps.{sweep_each, swept, table_after}
@@ -33,12 +33,12 @@ refused_stays p n refusal is = record {
 
 -- there is no group to sweep
 pub none_stays : (p : Placement) (n : ℕ) → group_at p.index.groups n ≡ None → IsSweptAt p p n
-none_stays p n none = refused_stays p n NoGroup (rw (none_found p.index n none) refl)
+none_stays p n none = refused_stays p n NoGroup (rw (none_in_table p.index n none) refl)
 
 -- it has an object
 pub filled_stays : (p : Placement) (n : ℕ) (a : GroupEntry) → group_at p.index.groups n ≡ Some a → nat_eq (count_by is_some a.slots) 0 ≡ false → IsSweptAt p p n
 filled_stays p n a there filled =
-    let found : group_of (table_of p) n ≡ Some (table_group p.index.spans n a) = entry_found p.index n a there in
+    let found : group_of (table_of p) n ≡ Some (table_group p.index.spans n a) = entry_in_table p.index n a there in
     let other = eqb-false (count_by is_some a.slots) 0 filled in
     refused_stays p n NotEmpty (rw (found, lt-ltb 0 (count_by is_some a.slots) (omega (arith, other))) refl)
 
@@ -63,7 +63,7 @@ module _ (old : Placement) (new : Index) (n pages : ℕ) (a : GroupEntry) (kept 
 
   swept_out : sweep (table_of old) n ≡ Ok without
   swept_out =
-      let found : group_of (table_of old) n ≡ Some (table_group old.index.spans n a) = entry_found old.index n a there in
+      let found : group_of (table_of old) n ≡ Some (table_group old.index.spans n a) = entry_in_table old.index n a there in
       let none : nat_lt 0 (count_by is_some a.slots) ≡ false = ap (nat_lt 0) (eqb-true (count_by is_some a.slots) 0 empty) in
       rw (found, none) refl
 
@@ -145,16 +145,17 @@ pub all_numbers : (groups : List Group) → numbers_from 0 groups ≡ map (λ g.
 all_numbers [] = refl
 all_numbers (x ∷ xs) = grind (arith, nat_tests, all_numbers xs)
 
+-- numbers ascend from no more than the bound below which they stay
+pub low_below_high : (low high : ℕ) (groups : List Group) → AscendBetween low groups high → low ≤ high
+low_below_high low high [] ascend = ascend
+low_below_high low high (g ∷ groups) ascend = let rest = low_below_high (g.number + 1) high groups ascend.1 in omega (arith, rest, ascend.0)
+
 -- and from above the last one on there is none
 pub no_numbers : (n low high : ℕ) (groups : List Group) → AscendBetween low groups high → high ≤ n → numbers_from n groups ≡ []
 no_numbers n low high [] ascend above = refl
 no_numbers n low high (x ∷ xs) ascend above =
-    let most = bounds (x.number + 1) high xs ascend.1 in
+    let most = low_below_high (x.number + 1) high xs ascend.1 in
     let rest = no_numbers n (x.number + 1) high xs ascend.1 above in grind (arith, nat_tests)
-  where
-    bounds : (low high : ℕ) (gs : List Group) → AscendBetween low gs high → low ≤ high
-    bounds low high [] h = h
-    bounds low high (g ∷ gs) h = let rest = bounds (g.number + 1) high gs h.1 in omega (arith, rest, h.0)
 
 -- a sweep of one number leaves the later ones
 after_numbers : (t : Table) (n : ℕ) (r : Result Counted Refusal) → sweep t n ≡ r

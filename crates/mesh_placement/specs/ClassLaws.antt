@@ -9,6 +9,10 @@ use Rattle.mesh_placement.specs.ClassCounts.{class_objects, class_pages}
 abbrev pub pages_needed : ℕ → ℕ → ℕ
 pages_needed class objects = ((objects + slots_of class - 1) / slots_of class) * pages_of class
 
--- the groups of a class have at least the pages that their objects need
+-- the groups of each class have at least the pages that their objects need
+abbrev pub FitsPages : Table → Type 0
+FitsPages t = (class : ℕ) → pages_needed class (class_objects t class) ≤ class_pages t class
+
+-- so it is in every sound table
 abbrev pub ObjectsFitPages : Type 0
-ObjectsFitPages = (t : Table) (class : ℕ) → IsSound t → pages_needed class (class_objects t class) ≤ class_pages t class
+ObjectsFitPages = (t : Table) → IsSound t → FitsPages t

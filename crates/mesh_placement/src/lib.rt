@@ -9,7 +9,6 @@ pub mod class_laws;
 mod growth;
 mod meshed;
 mod placement;
-mod span_class;
 pub mod sweep_laws;
 
 pub use mesh_spans::{Slot, Span, Totals};

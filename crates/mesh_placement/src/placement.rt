@@ -8,6 +8,7 @@ ghost use Rattle.model_words.specs.Classes.{pages_of, table};
 ghost use Rattle.model_words.specs.declared.answers.NewFault.TheVariants.{Refused};
 ghost use Rattle.model_words.specs.declared.refusals.Refusal.TheVariants.{NoPages};
 ghost use Rattle.mesh_placement.specs.ClassCounts.{class_objects, class_pages};
+ghost use Rattle.mesh_placement.specs.ClassLaws.{FitsPages};
 ghost use Rattle.mesh_placement.specs.Placement.{GoesToSpan, IsFreed, IsMade, IsNotMade, IsPlacement, supply, table_of};
 ghost use Rattle.mesh_spans.specs.Counts.{byte_count};
 ghost use Rattle.mesh_spans.specs.Index.{IsIndex, IsRecorded, record_at};
@@ -16,7 +17,6 @@ mod meshes;
 
 use crate::class_counts::ClassCounts;
 use crate::growth::add_span;
-use crate::span_class::class_of_span;
 use mesh_class::{Class, class_of};
 use mesh_search::{ClassView, class_view};
 use mesh_spans::{Slot, Span, Spans, Totals};
@@ -84,10 +84,11 @@ impl Placement {
         })
     }
 
-    /// What always holds: the table is sound, and spans and groups fit together.
+    /// What always holds: the table is sound, spans and groups fit together, and each class has the pages that its objects need.
     pub fn sound(&self)
         ensures placement { IsPlacement self.now }
         ensures index { IsIndex self.now.index.spans self.now.index.groups }
+        ensures fits { FitsPages (table_of self.now) }
     {
         self.spans.sound();
     }
@@ -180,7 +181,7 @@ impl Placement {
         ensures { IsFreed self.old self.new span slot }
     {
         self.spans.sound();
-        let class = class_of_span(&self.spans, span);
+        let class = self.spans.class_of(span);
         self.spans.vacate(span, slot);
         self.class_objects.lower(class, 1);
     }

@@ -124,16 +124,16 @@ pub put_few : (group : GroupEntry) (bytes before now : ℕ) (entry : Option Slot
     → now ≡ len_in entry → bytes - before + now < 4294967296
 put_few group bytes before now entry is fits all new = omega (arith, bytes_few _ is, len_fits _ _ fits, is.class.most, all, new)
 
--- the bytes of two groups with no common occupied slot
-pub bytes_united : (xs ys : List (Option Slot)) → length xs ≡ length ys → do_overlap xs ys ≡ false
-    → sum_by len_in ys + sum_by len_in xs ≡ sum_by len_in (united ys xs)
-bytes_united [] [] long apart = refl
-bytes_united [] (y ∷ ys) long apart = absurd (omega (arith, long))
-bytes_united (x ∷ xs) [] long apart = absurd (omega (arith, long))
-bytes_united (None ∷ xs) (None ∷ ys) long apart = let rest = bytes_united xs ys (omega (arith, long)) apart in
-    omega (arith, rest, sum_by-cons len_in None xs, sum_by-cons len_in None ys, sum_by-cons len_in None (united ys xs))
-bytes_united (None ∷ xs) (Some y ∷ ys) long apart = let rest = bytes_united xs ys (omega (arith, long)) apart in
-    omega (arith, rest, sum_by-cons len_in None xs, sum_by-cons len_in (Some y) ys, sum_by-cons len_in (Some y) (united ys xs))
-bytes_united (Some x ∷ xs) (None ∷ ys) long apart = let rest = bytes_united xs ys (omega (arith, long)) apart in
-    omega (arith, rest, sum_by-cons len_in (Some x) xs, sum_by-cons len_in None ys, sum_by-cons len_in (Some x) (united ys xs))
-bytes_united (Some x ∷ xs) (Some y ∷ ys) long apart = absurd (cc apart)
+-- what the slots of two groups with no common occupied slot count, where an empty slot counts nothing
+pub sum_united : (f : Option Slot → ℕ) → f None ≡ 0 → (xs ys : List (Option Slot)) → length xs ≡ length ys → do_overlap xs ys ≡ false
+    → sum_by f ys + sum_by f xs ≡ sum_by f (united ys xs)
+sum_united f none [] [] long apart = refl
+sum_united f none [] (y ∷ ys) long apart = absurd (omega (arith, long))
+sum_united f none (x ∷ xs) [] long apart = absurd (omega (arith, long))
+sum_united f none (None ∷ xs) (None ∷ ys) long apart = let rest = sum_united f none xs ys (omega (arith, long)) apart in
+    omega (arith, none, rest, sum_by-cons f None xs, sum_by-cons f None ys, sum_by-cons f None (united ys xs))
+sum_united f none (None ∷ xs) (Some y ∷ ys) long apart = let rest = sum_united f none xs ys (omega (arith, long)) apart in
+    omega (arith, none, rest, sum_by-cons f None xs, sum_by-cons f (Some y) ys, sum_by-cons f (Some y) (united ys xs))
+sum_united f none (Some x ∷ xs) (None ∷ ys) long apart = let rest = sum_united f none xs ys (omega (arith, long)) apart in
+    omega (arith, none, rest, sum_by-cons f (Some x) xs, sum_by-cons f None ys, sum_by-cons f (Some x) (united ys xs))
+sum_united f none (Some x ∷ xs) (Some y ∷ ys) long apart = absurd (cc apart)

@@ -2,6 +2,7 @@ pub mod BinLemmas
 pub mod CountLemmas
 pub mod FindLemmas
 pub mod FlagLemmas
+pub mod HandedOn
 pub mod IndexLemmas
 pub mod KeptLemmas
 pub mod MergeLemmas

@@ -7,6 +7,11 @@ use Rattle.mesh_spans.specs.Changes.{IsMergeable}
 use Rattle.mesh_spans.specs.Groups.{groups_of, table_group}
 use Rattle.mesh_spans.specs.Index.{GroupEntry, Index, group_at}
 
+-- these are the groups of two numbers
+pub record AreBoth (index : Index) (s d : ℕ) (a b : GroupEntry) : Type 0 where
+  pub source : group_at index.groups s ≡ Some a
+  pub destination : group_at index.groups d ≡ Some b
+
 -- a table has the index's groups, and a rule of which classes are busy in it says this of the source's
 pub record IsTableOf (index : Index) (s : ℕ) (is_busy : Bool) (busy : Table → ℕ → Bool) (t : Table) : Type 0 where
   pub groups : t.groups ≡ groups_of index

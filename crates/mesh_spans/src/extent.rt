@@ -46,19 +46,19 @@ impl Extent {
         }
     }
 
+    /// The size class.
+    pub fn class(&self) -> Class
+        ensures { result ≡ self.now.class }
+    {
+        self.class
+    }
+
     /// The first virtual page.
     pub fn first(&self) -> u32
         ensures value { result ≡ self.now.first }
         ensures sound { IsSpan self.now }
     {
         self.first
-    }
-
-    /// The size class.
-    pub fn class(&self) -> Class
-        ensures { result ≡ self.now.class }
-    {
-        self.class
     }
 
     /// The number of the group.

@@ -1,6 +1,7 @@
 //! Which two groups may be merged.
-ghost use Rattle.std.specs.Prelude.{IfErr, IfOk};
-ghost use Rattle.mesh_spans.specs.Pairs.{IsRefusedPair, MayMerge};
+ghost use Rattle.std.specs.Prelude.{◌≡◌, ◌⊎◌, IfErr, IfNone, IfOk, IfSome, None};
+ghost use Rattle.mesh_spans.specs.Index.{group_at};
+ghost use Rattle.mesh_spans.specs.Pairs.{AreBoth, IsRefusedPair, MayMerge};
 
 use crate::group::{Group, MAX_MEMBERS};
 use crate::index::Spans;
@@ -17,8 +18,9 @@ impl Spans {
         ensures refused { IfErr result (IsRefusedPair self.now source destination is_busy) }
     {
         self.sound();
-        let from = self.group(source).ok_or(Refusal::NoGroup)?;
-        let into = self.group(destination).ok_or(Refusal::NoGroup)?;
+        let Some((from, into)) = self.both(source, destination) else {
+            return Err(Refusal::NoGroup);
+        };
         if source == destination {
             return Err(Refusal::Same);
         }
@@ -35,5 +37,13 @@ impl Spans {
             return Err(Refusal::Members);
         }
         Ok(from)
+    }
+
+    /// Two groups, where both numbers are such.
+    fn both(&self, source: u32, destination: u32) -> Option<(&Group, &Group)>
+        ensures some { IfSome result (λ both. AreBoth self.now source destination both.0.now both.1.now) }
+        ensures none { IfNone result (group_at self.now.groups source ≡ None ⊎ group_at self.now.groups destination ≡ None) }
+    {
+        Some((self.group(source)?, self.group(destination)?))
     }
 }

@@ -1,15 +1,15 @@
 //! The sweeps and meshes of a placement.
-ghost use Rattle.std.specs.Prelude.{◌≡◌, Err, IfErr, IfOk, IsSomeAnd, sum_by};
+ghost use Rattle.std.specs.Prelude.{◌≡◌, Err, IfErr, IfOk, sum_by};
 ghost use Rattle.model_heap.specs.Mesh.{may_begin, mesh_of_class, mesh_whole};
 ghost use Rattle.model_heap.specs.Table.{len_in};
 ghost use Rattle.mesh_placement.specs.Meshes.{MayMesh};
-ghost use Rattle.mesh_spans.specs.Index.{IsGroup, group_at};
+ghost use Rattle.mesh_spans.specs.Index.{IsGroup};
 ghost use Rattle.mesh_placement.specs.Placement.{IsMeshed, IsSwept, IsSweptAt, table_of};
 
 use super::Placement;
 use crate::Meshed;
 use mesh_class::Class;
-use mesh_spans::{Group, MAX_MEMBERS, Slot};
+use mesh_spans::{Group, Slot};
 use model_words::Refusal;
 
 impl Placement {
@@ -63,30 +63,12 @@ impl Placement {
 
     /// The class of two groups and what a mesh of them would come to, where they may be meshed.
     fn may_mesh(&self, source: u32, destination: u32) -> Result<(Class, Meshed), Refusal>
-        ensures may { IfOk result (λ done. MayMesh self.now.index source destination done.1.pages done.1.bytes) }
-        ensures class { IfOk result (λ done. IsSomeAnd (group_at self.now.index.groups source) (λ group. group.class ≡ done.0)) }
+        ensures may { IfOk result (λ done. MayMesh self.now.index source destination done.0 done.1.pages done.1.bytes) }
         ensures refused { IfErr result (λ refusal. may_begin mesh_of_class (table_of self.now) source destination ≡ Err refusal) }
     {
         self.spans.sound();
-        let Some(from) = self.spans.group(source) else {
-            return Err(Refusal::NoGroup);
-        };
-        let Some(into) = self.spans.group(destination) else {
-            return Err(Refusal::NoGroup);
-        };
-        if source == destination {
-            return Err(Refusal::Same);
-        }
+        let from = self.spans.may_merge(source, destination, false)?;
         let class = from.class();
-        if class.size() != into.class().size() {
-            return Err(Refusal::Class);
-        }
-        if !from.occupied().disjoint(into.occupied()) {
-            return Err(Refusal::Overlap);
-        }
-        if from.members().len() + into.members().len() > MAX_MEMBERS {
-            return Err(Refusal::Members);
-        }
         let meshed = Meshed {
             pages: class.pages(),
             bytes: bytes_of(from),

@@ -1,9 +1,7 @@
-use Rattle.std.proofs.Common.{◌≡◌, ◌%◌, None, Result, Ok, Err, IfErr, refl, sym, subst, ◌∙◌}
-use Rattle.std.specs.Result.{IsErrAnd}
+use Rattle.std.proofs.Common.{◌≡◌, ◌%◌, None, refl, sym, subst, ◌∙◌}
 use Rattle.mesh_class.specs.Classes.{slots_of}
 use Rattle.mesh_page_heap.specs.PageHeap.{IsPlaceFault, PageHeap, open_group, table_in}
-use Rattle.model_words.specs.declared.answers.NewFault.{NewFault}
-use Rattle.mesh_page_heap.proofs.HandedOn.{handed_on}
+use Rattle.mesh_spans.proofs.HandedOn.{handed_on}
 use Rattle.mesh_page_heap.proofs.NewPlaces.{open_is, place_fresh, place_open}
 use Rattle.mesh_page_heap.proofs.page_heap.PageHeap.place.Goals as goal
 

@@ -21,16 +21,16 @@ left c = freed (seen_of c.self.inside) c.vacate.new.self c.args.span c.args.slot
     (recorded c) (vacated c)
 
 pub lower-requires : goal.lower-requires
-lower-requires c = freed_within c.self.inside.spans c.class_of_span-class.result c.args.span c.args.slot c.self.inside.class_pages.counts
+lower-requires c = freed_within c.self.inside.spans c.class_of-class.result c.args.span c.args.slot c.self.inside.class_pages.counts
     c.self.inside.class_objects.counts c.sound.ensures
-    (recorded (goal.at.lower-requires c).After-vacate) c.class_of_span-class.ensures c.self.invariant.1
+    (recorded (goal.at.lower-requires c).After-vacate) c.class_of-class.ensures c.self.invariant.1
 
 pub invariant_of-self : goal.invariant_of-self
 invariant_of-self c = (
   (left (goal.at.invariant_of-self c).After-vacate).0,
-  rw c.lower.ensures (freed_counts c.self.inside.spans c.class_of_span-class.result c.args.span c.args.slot c.self.inside.class_pages.counts
+  rw c.lower.ensures (freed_counts c.self.inside.spans c.class_of-class.result c.args.span c.args.slot c.self.inside.class_pages.counts
       c.self.inside.class_objects.counts
-      c.sound.ensures (recorded (goal.at.invariant_of-self c).After-vacate) c.vacate.new.self c.class_of_span-class.ensures c.self.invariant.1
+      c.sound.ensures (recorded (goal.at.invariant_of-self c).After-vacate) c.vacate.new.self c.class_of-class.ensures c.self.invariant.1
       (vacated (goal.at.invariant_of-self c).After-vacate)),
 )
 

@@ -1,73 +1,32 @@
-use Rattle.std.proofs.Common.{◌≡◌, not, ap, sym, ◌∙◌}
-use Rattle.model_heap.specs.Mesh.{do_overlap}
-use Rattle.mesh_placement.proofs.WholeMeshes.{group_seen, overlap_is, refuses_class, refuses_destination, refuses_members, refuses_overlap, refuses_same, refuses_source, same_slots}
+use Rattle.std.proofs.Common.{◌≡◌, false, Err, ap, refl, subst, sum_by, sym, ◌∙◌}
+use Rattle.model_heap.specs.Mesh.{may_begin, mesh_of_class}
+use Rattle.model_heap.specs.Table.{len_in}
+use Rattle.mesh_class.specs.Classes.{pages_of}
+use Rattle.mesh_spans.proofs.HandedOn.{handed_on}
+use Rattle.mesh_spans.specs.Groups.{groups_of}
+use Rattle.mesh_spans.specs.Index.{GroupEntry}
+use Rattle.mesh_spans.specs.Pairs.{IsTableOf, MayMerge}
+use Rattle.mesh_placement.specs.Placement.{Placement, table_of}
 use Rattle.mesh_placement.proofs.placement.Placement.may_mesh.Goals as goal
-use Rattle.mesh_placement.proofs.placement.Placement.may_mesh.Goals.{After-disjoint}
+use Rattle.mesh_placement.proofs.placement.Placement.may_mesh.Goals.{After-may_merge}
 
-pub returns-in_default-clause-refused : goal.returns-in_default-clause-refused
-returns-in_default-clause-refused c = refuses_source c.args.self.now _ _ (group_seen _ _ _ _ c.self.view_is c.in_default.ensures)
+-- the table is one of the index, in which no class is busy
+idle : (c : After-may_merge) → IsTableOf c.self.inside.spans c.args.source false mesh_of_class (table_of c.args.self.now)
+idle c = record { groups = ap (λ (p : Placement). groups_of p.index) (sym c.self.view_is); says = λ a at. refl }
 
-pub returns-in_default-group-clause-refused : goal.returns-in_default-group-clause-refused
-returns-in_default-group-clause-refused c =
-    refuses_destination c.args.self.now c.args.source c.args.destination c.in-Some.from.now
-    (group_seen _ _ c.args.source _ c.self.view_is c.in-Some.ensures) (group_seen _ _ c.args.destination _ c.self.view_is c.in_default-group.ensures)
-
-pub returns-then-source-destination-clause-refused : goal.returns-then-source-destination-clause-refused
-returns-then-source-destination-clause-refused c =
-    refuses_same c.args.self.now c.args.source c.args.destination c.in-Some.from.now c.in-Some-group.into.now
-    (group_seen _ _ c.args.source _ c.self.view_is c.in-Some.ensures) (group_seen _ _ c.args.destination _ c.self.view_is c.in-Some-group.ensures)
-    c.if-source-destination.true
-
-pub returns-then-size-clause-refused : goal.returns-then-size-clause-refused
-returns-then-size-clause-refused c =
-    refuses_class c.args.self.now c.args.source c.args.destination c.in-Some.from.now c.in-Some-group.into.now
-    (group_seen _ _ c.args.source _ c.self.view_is c.in-Some.ensures) (group_seen _ _ c.args.destination _ c.self.view_is c.in-Some-group.ensures)
-    c.if-source-destination.false
-    (λ same. c.if-size.true (c.size.ensures.value ∙ c.class-class.ensures ∙ same ∙ sym (c.size-2.ensures.value ∙ c.class.ensures)))
-
-pub disjoint-requires : goal.disjoint-requires
-disjoint-requires c =
-    rw (c.occupied.ensures, c.occupied-2.ensures) (same_slots _ _ _ _ _ c.sound.ensures c.in-Some.ensures c.in-Some-group.ensures
-    (sym (c.size.ensures.value ∙ c.class-class.ensures) ∙ c.if-size.false ∙ c.size-2.ensures.value ∙ c.class.ensures))
-
--- whether their slots overlap
-overlap : (c : After-disjoint) → do_overlap c.in-Some.from.now.slots c.in-Some-group.into.now.slots ≡ not c.disjoint.result
-overlap c = overlap_is c.in-Some.from.now c.in-Some-group.into.now c.disjoint.result (rw (← c.occupied.ensures, ← c.occupied-2.ensures) c.disjoint.ensures.meshable)
-
--- the two groups are of one class
-one_class : (c : After-disjoint) → c.in-Some.from.now.class ≡ c.in-Some-group.into.now.class
-one_class c = sym (c.size.ensures.value ∙ c.class-class.ensures) ∙ c.if-size.false ∙ c.size-2.ensures.value ∙ c.class.ensures
-
-pub returns-then-not-disjoint-clause-refused : goal.returns-then-not-disjoint-clause-refused
-returns-then-not-disjoint-clause-refused c =
-    let at = (goal.at.returns-then-not-disjoint-clause-refused c).After-disjoint in
-    refuses_overlap c.args.self.now c.args.source c.args.destination c.in-Some.from.now c.in-Some-group.into.now
-    (group_seen _ _ c.args.source _ c.self.view_is c.in-Some.ensures) (group_seen _ _ c.args.destination _ c.self.view_is c.in-Some-group.ensures)
-    c.if-source-destination.false (one_class at) (overlap at ∙ ap not c.if-not-disjoint.true)
-
-pub returns-then-members-gt-MAX_MEMBERS-clause-refused : goal.returns-then-members-gt-MAX_MEMBERS-clause-refused
-returns-then-members-gt-MAX_MEMBERS-clause-refused c =
-    let at = (goal.at.returns-then-members-gt-MAX_MEMBERS-clause-refused c).After-disjoint in
-    refuses_members c.args.self.now c.args.source c.args.destination c.in-Some.from.now c.in-Some-group.into.now
-    (group_seen _ _ c.args.source _ c.self.view_is c.in-Some.ensures) (group_seen _ _ c.args.destination _ c.self.view_is c.in-Some-group.ensures)
-    c.if-source-destination.false (one_class at) (overlap at ∙ ap not c.if-not-disjoint.false)
-    (rw (← c.members.ensures.value, ← c.members-2.ensures.value) c.if-members-gt-MAX_MEMBERS.true)
-
-pub bytes_of-requires : goal.bytes_of-requires
-bytes_of-requires c = c.sound.ensures.each c.args.source c.in-Some.from.now (sym c.in-Some.ensures)
+pub returns-in_err-from-clause-refused : goal.returns-in_err-from-clause-refused
+returns-in_err-from-clause-refused c =
+    let at = (goal.at.returns-in_err-from-clause-refused c).After-may_merge in
+    handed_on c.from_residual.result c.in_err-from.field-0.0 (λ refusal. may_begin mesh_of_class (table_of c.args.self.now) c.args.source c.args.destination ≡ Err refusal)
+    c.from_residual.ensures.1 (c.in_err-from.ensures.refused mesh_of_class (table_of c.args.self.now) (idle at))
 
 pub returns-clause-may : goal.returns-clause-may
 returns-clause-may c =
-    let at = (goal.at.returns-clause-may c).After-disjoint in
+    let may = subst (λ (p : Placement). MayMerge p.index c.args.source c.args.destination false c.in_ok-from.from.now) c.self.view_is c.in_ok-from.ensures.may in
     record {
-      a = c.in-Some.from.now;
-      b = c.in-Some-group.into.now;
-      source_is = group_seen _ _ c.args.source _ c.self.view_is c.in-Some.ensures;
-      destination_is = group_seen _ _ c.args.destination _ c.self.view_is c.in-Some-group.ensures;
-      two = c.if-source-destination.false;
-      same_class = one_class at;
-      apart = overlap at ∙ ap not c.if-not-disjoint.false;
-      few = rw (← c.members.ensures.value, ← c.members-2.ensures.value) c.if-members-gt-MAX_MEMBERS.false;
-      pages_are = rw (← c.class-class.ensures) c.pages.ensures.value;
-      bytes_are = c.bytes_of.ensures;
+      from = c.in_ok-from.from.now;
+      merge = may;
+      class_is = ap (λ (x : GroupEntry). x.class) may.source_is ∙ sym c.class-class.ensures;
+      pages_are = c.pages.ensures.value ∙ ap pages_of (c.class-class.ensures ∙ ap (λ (x : GroupEntry). x.class) (sym may.source_is));
+      bytes_are = c.bytes_of.ensures ∙ ap (λ (x : GroupEntry). sum_by len_in x.slots) (sym may.source_is);
     }
