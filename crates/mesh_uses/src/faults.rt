@@ -4,14 +4,17 @@ use std::alloc::{AllocError, AllocFailed};
 use thiserror::Error;
 
 /// What ends a use.
-#[derive(Clone, Copy, Debug, Error)]
+#[derive(Debug, Drop, Error)]
 pub(crate) enum UseError {
     /// A call of the heap was refused.
     #[error("{0}")]
-    Refused(Refusal),
+    Refused(#[from] Refusal),
     /// An allocation failed.
     #[error("out of memory")]
     Memory,
+    /// Seats and journal made no history.
+    #[error("{0}")]
+    Finish(#[from] FinishError),
     /// A call was answered otherwise than it is here.
     #[error("another answer: {0}")]
     Answer(&'static str),
@@ -29,12 +32,6 @@ impl<T: Drop> From<AllocFailed<T>> for UseError {
     }
 }
 
-impl From<Refusal> for UseError {
-    fn from(refusal: Refusal) -> UseError {
-        UseError::Refused(refusal)
-    }
-}
-
 impl From<NewFault> for UseError {
     fn from(fault: NewFault) -> UseError {
         match fault {
@@ -47,14 +44,5 @@ impl From<NewFault> for UseError {
 impl From<OpenError> for UseError {
     fn from(_refused: OpenError) -> UseError {
         UseError::Memory
-    }
-}
-
-impl From<FinishError> for UseError {
-    fn from(error: FinishError) -> UseError {
-        match error {
-            FinishError::Memory => UseError::Memory,
-            _ => UseError::Answer("seats and journal make no history"),
-        }
     }
 }
