@@ -1,0 +1,83 @@
+//! `Figures`, which gathers what is looked at behind each call.
+ghost use Rattle.std.specs.Prelude.{◌≡◌, ℕ, ◌+◌, ◌<◌, ◌≤◌, ◌^◌, ◌↔◌, ◌∷◌, [], ◌++◌, List, IfOk, IsTrue};
+ghost use Rattle.mesh_figures.specs.declared.samples.Sample.{Sample as Samples};
+ghost use Rattle.mesh_figures.specs.declared.samples.Window.{Window as Windows};
+ghost use Rattle.mesh_figures.specs.Samples.{AreFew};
+ghost use Rattle.mesh_figures.specs.Figures.{IsOf};
+ghost use Rattle.mesh_figures.specs.Texts.{figures_text};
+
+use crate::lines::{add_calls, add_classes, add_meshes, add_most_saved, add_rows};
+use crate::measured::Measured;
+use crate::samples::{Counts, Sample, Window};
+use std::alloc::{AllocError, Global};
+use std::marker::Model;
+
+/// What is gathered of a run on two heaps, one of which meshes. It takes one sample behind each call.
+#[derive(Drop)]
+pub struct Figures {
+    window: Window,
+    // How many calls were looked at.
+    calls: u32,
+    // What is gathered of those that are measured.
+    measured: Measured,
+}
+
+impl Model for Figures {
+    ghost use Rattle.std.specs.Prelude.{◌≤◌};
+    ghost use Rattle.mesh_figures.specs.Figures.{Gathered, IsInBounds};
+
+    ghost Value = { Gathered };
+
+    ghost view = { λ f. record { window = f.window; calls = f.calls; measured = f.measured } };
+
+    ghost invariant = { λ f. IsInBounds f.measured × (f.measured.count ≤ f.calls) };
+}
+
+impl Figures {
+    /// The figures of no calls yet.
+    pub fn new(window: Window) -> Figures
+        ensures { IsOf result window [] }
+    {
+        Figures {
+            window,
+            calls: 0,
+            measured: Measured::none(),
+        }
+    }
+
+    /// Whether 2^32 - 1 calls were looked at. `look` must not be called then.
+    pub fn is_full(&self) -> bool
+        ensures { IsTrue result ↔ 4294967295 ≤ self.now.calls }
+    {
+        self.calls == u32::MAX
+    }
+
+    /// Looks at both heaps behind the next call. Only calls in the window are measured.
+    pub fn look(&mut self, sample: &Sample)
+        requires room { self.old.calls < 4294967295 }
+        requires without { AreFew sample.now.without }
+        requires with { AreFew sample.now.with }
+        requires perfect { AreFew sample.now.perfect }
+        requires bytes { sample.now.live_bytes < 2 ^ 40 }
+        ensures { (window : Windows) (samples : List Samples) → IsOf self.old window samples → IsOf self.new window (samples ++ sample.now ∷ []) }
+    {
+        self.calls += 1;
+        if self.window.from <= self.calls && self.calls <= self.window.to {
+            self.measured.add(self.calls, sample);
+        }
+    }
+
+    /// The table of the figures. An error is an allocation failure.
+    pub fn text(&self, alloc: Global, counts: &Counts) -> Result<Vec<u8>, AllocError>
+        ensures { (window : Windows) (samples : List Samples) → IsOf self.now window samples
+            → IfOk result (λ text. text.items ≡ figures_text window samples counts.now) }
+    {
+        let mut text = Vec::new(alloc);
+        add_calls(&mut text, self.calls, counts)?;
+        add_rows(&mut text, &self.measured)?;
+        add_most_saved(&mut text, &self.measured.most)?;
+        add_meshes(&mut text, counts)?;
+        add_classes(&mut text, &self.measured, &counts.used)?;
+        Ok(text)
+    }
+}

@@ -1,0 +1,86 @@
+//! The peak and the sum of numbers that come one after another.
+ghost use Rattle.std.specs.Prelude.{◌≡◌, ℕ, ◌+◌, ◌<◌, ◌≤◌, ◌^◌, ◌∷◌, [], ◌++◌, List, replicate, slice_index, sum};
+ghost use Rattle.mesh_figures.specs.Samples.{AreFew};
+ghost use Rattle.mesh_figures.specs.Figures.{IsColumn, IsColumnIn, IsLevel};
+
+use crate::samples::CLASSES;
+
+/// The greatest of some numbers and their sum.
+#[derive(Clone, Copy, Debug)]
+pub struct Level {
+    pub peak: u32,
+    pub sum: u64,
+}
+
+/// The level of the total pages of some samples, and the sum of the pages of each class.
+#[derive(Clone, Copy, Debug)]
+pub struct Column {
+    pub total: Level,
+    pub sums: [u64; CLASSES],
+}
+
+impl Level {
+    /// The level of no numbers.
+    pub fn none() -> Level
+        ensures level { IsLevel result [] }
+        ensures sum { result.sum ≡ 0 }
+    {
+        Level { peak: 0, sum: 0 }
+    }
+
+    /// Takes one more number.
+    pub fn add(&mut self, number: u32)
+        requires { self.old.sum < 2 ^ 63 }
+        ensures level { (ns : List ℕ) → IsLevel self.old ns → IsLevel self.new (ns ++ number ∷ []) }
+        ensures sum { self.new.sum ≡ self.old.sum + number }
+    {
+        self.peak = self.peak.max(number);
+        self.sum += u64::from(number);
+    }
+}
+
+impl Column {
+    /// The column of no samples.
+    pub fn none() -> Column
+        ensures column { IsColumn result [] }
+        ensures bounds { IsColumnIn result 0 }
+    {
+        Column {
+            total: Level::none(),
+            sums: [0; CLASSES],
+        }
+    }
+
+    /// Takes the pages of one more sample, and returns their total.
+    pub fn add(&mut self, pages: &[u32; CLASSES]) -> u32
+        requires few { AreFew pages.now }
+        requires bounds { IsColumnIn self.old 4294967295 }
+        ensures total { result ≡ sum pages.now }
+        ensures column { (samples : List (List ℕ)) → IsColumn self.old samples → IsColumn self.new (samples ++ pages.now ∷ []) }
+        ensures bounds { (count : ℕ) → IsColumnIn self.old count → IsColumnIn self.new (count + 1) }
+    {
+        let total = total_pages(pages);
+        self.total.add(total);
+        add_each(&mut self.sums, pages);
+        total
+    }
+}
+
+/// The pages of all classes together.
+pub fn total_pages(pages: &[u32; CLASSES]) -> u32
+    requires { AreFew pages.now }
+    ensures value { result ≡ sum pages.now }
+    ensures few { result ≤ 1310720 }
+{
+    pages.iter().sum()
+}
+
+/// Adds the pages of each class to its sum.
+fn add_each(sums: &mut [u64; CLASSES], pages: &[u32; CLASSES])
+    requires { (k : ℕ) → slice_index sums.old k + slice_index pages.now k < 2 ^ 64 }
+    ensures { (k : ℕ) → slice_index sums.new k ≡ slice_index sums.old k + slice_index pages.now k }
+{
+    for k in 0..CLASSES {
+        sums[k] += u64::from(pages[k]);
+    }
+}

@@ -1,0 +1,26 @@
+//! Division, rounded half up.
+ghost use Rattle.std.specs.Prelude.{◌≡◌, ◌<◌, ◌≤◌};
+ghost use Rattle.mesh_figures.specs.Samples.{mean_of, rounded};
+
+/// `a / b`, rounded half up.
+pub fn divided(a: u64, b: u64) -> u64
+    requires { 0 < b }
+    ensures value { result ≡ rounded a b }
+    ensures small { result ≤ a }
+{
+    let whole = a / b;
+    let rest = a % b;
+    if rest >= b - rest { whole + 1 } else { whole }
+}
+
+/// The mean of `count` numbers with this sum, rounded half up; 0 for none.
+pub fn mean(sum: u64, count: u32) -> u64
+    ensures value { result ≡ mean_of sum count }
+    ensures small { result ≤ sum }
+{
+    if count == 0 {
+        0
+    } else {
+        divided(sum, u64::from(count))
+    }
+}

@@ -1,0 +1,125 @@
+//! The words of a line: numbers, shares, and fields of a width.
+ghost use Rattle.std.specs.Prelude.{◌≡◌, ◌+◌, ◌*◌, ◌<◌, ◌^◌, ◌++◌, decimal, replicate, IfOk, OnOk};
+ghost use Rattle.mesh_figures.specs.Texts.{difference_text, left, right, saved_text, sign_text, tenths_text};
+
+use crate::rounding::divided;
+use itoa::Buffer;
+use std::alloc::{AllocError, Global};
+
+/// Adds a number in decimal digits. An error is an allocation failure, here and below.
+pub fn add_decimal(text: &mut Vec<u8>, number: u64) -> Result<(), AllocError>
+    ensures { OnOk result (text.new.items ≡ text.old.items ++ decimal number) }
+{
+    let mut digits = Buffer::new();
+    text.extend_from_slice(digits.format(number).as_bytes())
+}
+
+/// Adds spaces.
+fn add_spaces(text: &mut Vec<u8>, count: usize) -> Result<(), AllocError>
+    ensures { OnOk result (text.new.items ≡ text.old.items ++ replicate count 32) }
+{
+    for _added in 0..count {
+        text.push(b' ')?;
+    }
+    Ok(())
+}
+
+/// Adds a word at the right of a field of this width.
+pub fn add_right(text: &mut Vec<u8>, width: usize, word: &[u8]) -> Result<(), AllocError>
+    ensures { OnOk result (text.new.items ≡ text.old.items ++ right width word.now) }
+{
+    add_spaces(text, width.saturating_sub(word.len()))?;
+    text.extend_from_slice(word)
+}
+
+/// Adds a word at the left of a field of this width.
+pub fn add_left(text: &mut Vec<u8>, width: usize, word: &[u8]) -> Result<(), AllocError>
+    ensures { OnOk result (text.new.items ≡ text.old.items ++ left width word.now) }
+{
+    text.extend_from_slice(word)?;
+    add_spaces(text, width.saturating_sub(word.len()))
+}
+
+/// Adds a number at the right of a field of this width.
+pub fn add_number_right(
+    text: &mut Vec<u8>,
+    width: usize,
+    number: u64,
+) -> Result<(), AllocError>
+    ensures { OnOk result (text.new.items ≡ text.old.items ++ right width (decimal number)) }
+{
+    let mut digits = Buffer::new();
+    add_right(text, width, digits.format(number).as_bytes())
+}
+
+/// Adds a number at the left of a field of this width.
+pub fn add_number_left(
+    text: &mut Vec<u8>,
+    width: usize,
+    number: u64,
+) -> Result<(), AllocError>
+    ensures { OnOk result (text.new.items ≡ text.old.items ++ left width (decimal number)) }
+{
+    let mut digits = Buffer::new();
+    add_left(text, width, digits.format(number).as_bytes())
+}
+
+/// Adds tenths as a number with one decimal.
+#[tactic(auto, unfolding(crate::specs::Texts::tenths_text))]
+pub fn add_tenths(text: &mut Vec<u8>, tenths: u64) -> Result<(), AllocError>
+    ensures { OnOk result (text.new.items ≡ text.old.items ++ tenths_text tenths) }
+{
+    add_decimal(text, tenths / 10)?;
+    text.extend_from_slice(b".")?;
+    add_decimal(text, tenths % 10)
+}
+
+/// Adds a minus sign if `with` is above `without`.
+fn add_sign(text: &mut Vec<u8>, without: u64, with: u64) -> Result<(), AllocError>
+    ensures { OnOk result (text.new.items ≡ text.old.items ++ sign_text without with) }
+{
+    if without < with {
+        text.push(b'-')?;
+    }
+    Ok(())
+}
+
+/// Adds `without - with`.
+#[tactic(auto, unfolding(crate::specs::Texts::difference_text))]
+pub fn add_difference(text: &mut Vec<u8>, without: u64, with: u64) -> Result<(), AllocError>
+    ensures { OnOk result (text.new.items ≡ text.old.items ++ difference_text without with) }
+{
+    add_sign(text, without, with)?;
+    add_decimal(text, without.abs_diff(with))
+}
+
+/// Adds the share of pages that is saved, in percent.
+#[tactic(auto, unfolding(crate::specs::Texts::saved_text))]
+pub fn add_saved(text: &mut Vec<u8>, without: u64, with: u64) -> Result<(), AllocError>
+    requires without { without < 2 ^ 53 }
+    requires with { with < 2 ^ 53 }
+    ensures { OnOk result (text.new.items ≡ text.old.items ++ saved_text without with) }
+{
+    if without == 0 {
+        return text.extend_from_slice(b"-");
+    }
+    add_sign(text, without, with)?;
+    add_tenths(text, divided(1000 * without.abs_diff(with), without))?;
+    text.extend_from_slice(b"%")
+}
+
+/// Adds the share of pages that is saved at the right of a field of this width.
+pub fn add_saved_right(
+    text: &mut Vec<u8>,
+    width: usize,
+    without: u64,
+    with: u64,
+) -> Result<(), AllocError>
+    requires without { without < 2 ^ 53 }
+    requires with { with < 2 ^ 53 }
+    ensures { OnOk result (text.new.items ≡ text.old.items ++ right width (saved_text without with)) }
+{
+    let mut saved = Vec::new(*text.allocator());
+    add_saved(&mut saved, without, with)?;
+    add_right(text, width, saved.as_slice())
+}
