@@ -1,7 +1,7 @@
 -- What `Figures` gathered, and that it is of these samples.
 use Rattle.std.specs.Prelude.{◌≡◌, ℕ, ◌+◌, ◌-◌, ◌*◌, ◌<◌, ◌≤◌, List, [], ◌∷◌, ◌++◌, length, map, slice_index, slice_index_or, replicate, sum, Option, Some, None}
 use Rattle.std.specs.List.{AllByRecursion}
-use Rattle.mesh_figures.specs.Samples.{measured, first_call, total, of_class, live_pages, peak, AreFew, savings_from, SavesNoLess}
+use Rattle.mesh_figures.specs.Samples.{measured, first_call, total, of_class, live_pages, peak, savings_from, SavesNoLess}
 use Rattle.mesh_figures.specs.declared.samples.Sample.{Sample}
 use Rattle.mesh_figures.specs.declared.samples.Window.{Window}
 use Rattle.mesh_figures.specs.declared.levels.Level.{Level}
@@ -62,12 +62,12 @@ pub record IsOf (figures : Gathered) (w : Window) (samples : List Sample) : Type
 -- the sums of a column of so many samples are within bounds
 pub record IsColumnIn (column : Column) (count : ℕ) : Type 0 where
   pub total_in : column.total.sum ≤ count * 1310720
-  pub sums_in : (k : ℕ) → slice_index column.sums k ≤ count * 131072
+  pub sums_in : (k : ℕ) → k < 10 → slice_index column.sums k ≤ count * 131072
 
 -- the sums of what was measured, and the pages in the end, are within bounds
 pub record IsInBounds (m : Measured) : Type 0 where
   pub without_in : IsColumnIn m.without m.count
   pub with_in : IsColumnIn m.with m.count
   pub perfect_in : IsColumnIn m.perfect m.count
-  pub end_in : AreFew m.end.without × AreFew m.end.with × AreFew m.end.perfect
+  pub end_in : (total m.end.without ≤ 1310720) × (total m.end.with ≤ 1310720) × (total m.end.perfect ≤ 1310720)
   pub live_in : m.live.sum ≤ m.count * 268435456

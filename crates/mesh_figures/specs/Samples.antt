@@ -54,7 +54,7 @@ pages_by figure count samples =
     record {
       without = figure (map (λ (s : Sample). count s.without) samples);
       with = figure (map (λ (s : Sample). count s.with) samples);
-      perfect = figure (map (λ (s : Sample). count s.perfect) samples)
+      perfect = figure (map (λ (s : Sample). count s.perfect) samples);
     }
 
 -- the pages of both heaps behind the call of this number

@@ -1,5 +1,5 @@
 -- The table of the figures, as bytes.
-use Rattle.std.specs.Prelude.{ℕ, ◌+◌, ◌-◌, ◌*◌, ◌/◌, ◌%◌, nat_eq, nat_lt, if◌then◌else◌, Bool, false, List, [], ◌∷◌, ◌++◌, length, map, replicate, slice_index_or, Option, Some, None, codes, decimal}
+use Rattle.std.specs.Prelude.{ℕ, ◌-◌, ◌*◌, ◌/◌, ◌%◌, nat_eq, nat_lt, if◌then◌else◌, Bool, false, List, [], ◌++◌, length, map, replicate, slice_index_or, Option, Some, None, codes, decimal}
 use Rattle.std.specs.Int.{abs_diff}
 use Rattle.std.specs.List.{flat_map, range_with_len}
 use Rattle.mesh_class.specs.Class.{size_at}
@@ -35,20 +35,27 @@ saved_text without with =
 unfoldable pub difference_text : ℕ → ℕ → List ℕ
 difference_text without with = sign_text without with ++ decimal (abs_diff without with)
 
+-- a number after what it is
+unfoldable pub counted : List ℕ → ℕ → List ℕ
+counted name n = name ++ decimal n
+
 unfoldable pub calls_line : ℕ → Counts → List ℕ
 calls_line calls counts =
-    codes "calls " ++ decimal calls ++ codes "  objects at most " ++ decimal counts.most_objects ++ codes "  above 2048: " ++ decimal counts.large
-    ++ codes ", at most " ++ decimal counts.most_large_pages ++ codes " pages, not meshed\n"
+    counted (codes "calls ") calls ++ counted (codes "  objects at most ") counts.most_objects ++ counted (codes "  above 2048: ") counts.large
+    ++ counted (codes ", at most ") counts.most_large_pages ++ codes " pages, not meshed\n"
 
 unfoldable pub heading_line : List ℕ
 heading_line = codes "pages              without     with  saved  perfect  live bytes\n"
 
+-- a number in a column of this width, which a space parts from the column before
+abbrev pub column : ℕ → ℕ → List ℕ
+column width n = codes " " ++ right width (decimal n)
+
 -- a row of the table: total pages without meshing and with it, the share saved, perfect packing, and live bytes in pages
 unfoldable pub row_line : List ℕ → Pages → ℕ → List ℕ
 row_line name pages live =
-    left 14 name ++ codes " " ++ right 11 (decimal pages.without) ++ codes " " ++ right 8 (decimal pages.with) ++ codes " "
-    ++ right 6 (saved_text pages.without pages.with) ++ codes " " ++ right 8 (decimal pages.perfect) ++ codes " " ++ right 11 (decimal live)
-    ++ codes "\n"
+    left 14 name ++ column 11 pages.without ++ column 8 pages.with ++ (codes " " ++ right 6 (saved_text pages.without pages.with))
+    ++ column 8 pages.perfect ++ column 11 live ++ codes "\n"
 
 -- the row of one figure of all measured samples
 abbrev pub figure_line : List ℕ → (List ℕ → ℕ) → List Sample → List ℕ
@@ -57,14 +64,14 @@ figure_line name figure samples = row_line name (pages_by figure total samples) 
 unfoldable pub most_saved_line : Option Saving → List ℕ
 most_saved_line None = codes "most saved  -\n"
 most_saved_line (Some best) =
-    codes "most saved  " ++ difference_text best.without best.with ++ codes " of " ++ decimal best.without ++ codes " pages ("
-    ++ saved_text best.without best.with ++ codes ") at call " ++ decimal best.call ++ codes "\n"
+    codes "most saved  " ++ difference_text best.without best.with ++ counted (codes " of ") best.without ++ codes " pages ("
+    ++ saved_text best.without best.with ++ counted (codes ") at call ") best.call ++ codes "\n"
 
 unfoldable pub meshes_line : Counts → List ℕ
 meshes_line counts =
-    codes "meshes " ++ decimal counts.meshes ++ codes "  refused " ++ decimal counts.refused ++ codes "  copied "
-    ++ tenths_text (rounded counts.copied 100000) ++ codes " MB  rounds " ++ decimal counts.rounds ++ codes "  virtual pages "
-    ++ decimal counts.virtual_pages ++ codes "\n"
+    counted (codes "meshes ") counts.meshes ++ counted (codes "  refused ") counts.refused ++ codes "  copied "
+    ++ tenths_text (rounded counts.copied 100000) ++ counted (codes " MB  rounds ") counts.rounds
+    ++ counted (codes "  virtual pages ") counts.virtual_pages ++ codes "\n"
 
 -- pages of a class without meshing and with it, and by perfect packing
 unfoldable pub class_pages : Pages → List ℕ

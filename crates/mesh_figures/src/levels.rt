@@ -56,6 +56,7 @@ impl Column {
         requires few { AreFew pages.now }
         requires bounds { IsColumnIn self.old 4294967295 }
         ensures total { result ≡ sum pages.now }
+        ensures few { result ≤ 1310720 }
         ensures column { (samples : List (List ℕ)) → IsColumn self.old samples → IsColumn self.new (samples ++ pages.now ∷ []) }
         ensures bounds { (count : ℕ) → IsColumnIn self.old count → IsColumnIn self.new (count + 1) }
     {
@@ -68,17 +69,16 @@ impl Column {
 
 /// The pages of all classes together.
 pub fn total_pages(pages: &[u32; CLASSES]) -> u32
-    requires { AreFew pages.now }
-    ensures value { result ≡ sum pages.now }
-    ensures few { result ≤ 1310720 }
+    requires { sum pages.now < 2 ^ 32 }
+    ensures { result ≡ sum pages.now }
 {
     pages.iter().sum()
 }
 
 /// Adds the pages of each class to its sum.
 fn add_each(sums: &mut [u64; CLASSES], pages: &[u32; CLASSES])
-    requires { (k : ℕ) → slice_index sums.old k + slice_index pages.now k < 2 ^ 64 }
-    ensures { (k : ℕ) → slice_index sums.new k ≡ slice_index sums.old k + slice_index pages.now k }
+    requires { (k : ℕ) → k < 10 → slice_index sums.old k + slice_index pages.now k < 2 ^ 64 }
+    ensures { (k : ℕ) → k < 10 → slice_index sums.new k ≡ slice_index sums.old k + slice_index pages.now k }
 {
     for k in 0..CLASSES {
         sums[k] += u64::from(pages[k]);

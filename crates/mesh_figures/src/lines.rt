@@ -12,8 +12,8 @@ use crate::rounding::divided;
 use crate::samples::{CLASSES, Counts};
 use crate::savings::Saving;
 use crate::words::{
-    add_decimal, add_difference, add_left, add_number_left, add_number_right, add_saved,
-    add_saved_right, add_tenths,
+    add, add_column, add_counted, add_difference, add_left, add_number_left, add_number_right,
+    add_saved, add_saved_column, add_tenths,
 };
 use mesh_class::{Class, all_classes};
 use std::alloc::AllocError;
@@ -26,15 +26,11 @@ const TENTH_OF_MEGABYTE: u64 = 100000;
 pub fn add_calls(text: &mut Vec<u8>, calls: u32, counts: &Counts) -> Result<(), AllocError>
     ensures { OnOk result (text.new.items ≡ text.old.items ++ calls_line calls counts.now) }
 {
-    text.extend_from_slice(b"calls ")?;
-    add_decimal(text, u64::from(calls))?;
-    text.extend_from_slice(b"  objects at most ")?;
-    add_decimal(text, u64::from(counts.most_objects))?;
-    text.extend_from_slice(b"  above 2048: ")?;
-    add_decimal(text, u64::from(counts.large))?;
-    text.extend_from_slice(b", at most ")?;
-    add_decimal(text, counts.most_large_pages)?;
-    text.extend_from_slice(b" pages, not meshed\n")
+    add_counted(text, b"calls ", u64::from(calls))?;
+    add_counted(text, b"  objects at most ", u64::from(counts.most_objects))?;
+    add_counted(text, b"  above 2048: ", u64::from(counts.large))?;
+    add_counted(text, b", at most ", counts.most_large_pages)?;
+    add(text, b" pages, not meshed\n")
 }
 
 /// Adds the heading and the rows.
@@ -43,8 +39,18 @@ pub fn add_rows(text: &mut Vec<u8>, measured: &Measured) -> Result<(), AllocErro
     ensures { (first : ℕ) (samples : List Samples) → IsMeasured measured.now first samples → OnOk result (text.new.items ≡ text.old.items ++ rows samples) }
 {
     add_heading(text)?;
-    add_row(text, b"peak", &measured.peaks(), u64::from(measured.live.peak))?;
-    add_row(text, b"mean of calls", &measured.means(), measured.live_mean())?;
+    add_row(
+        text,
+        b"peak",
+        &measured.peaks(),
+        u64::from(measured.live.peak),
+    )?;
+    add_row(
+        text,
+        b"mean of calls",
+        &measured.means(),
+        measured.live_mean(),
+    )?;
     add_row(text, b"end", &measured.ends(), measured.live_end())
 }
 
@@ -53,7 +59,8 @@ pub fn add_rows(text: &mut Vec<u8>, measured: &Measured) -> Result<(), AllocErro
 fn add_heading(text: &mut Vec<u8>) -> Result<(), AllocError>
     ensures { OnOk result (text.new.items ≡ text.old.items ++ heading_line) }
 {
-    text.extend_from_slice(
+    add(
+        text,
         b"pages              without     with  saved  perfect  live bytes\n",
     )
 }
@@ -66,17 +73,12 @@ fn add_row(text: &mut Vec<u8>, name: &[u8], pages: &Pages, live: u64) -> Result<
     ensures { OnOk result (text.new.items ≡ text.old.items ++ row_line name.now pages.now live) }
 {
     add_left(text, 14, name)?;
-    text.push(b' ')?;
-    add_number_right(text, 11, pages.without)?;
-    text.push(b' ')?;
-    add_number_right(text, 8, pages.with)?;
-    text.push(b' ')?;
-    add_saved_right(text, 6, pages.without, pages.with)?;
-    text.push(b' ')?;
-    add_number_right(text, 8, pages.perfect)?;
-    text.push(b' ')?;
-    add_number_right(text, 11, live)?;
-    text.extend_from_slice(b"\n")
+    add_column(text, 11, pages.without)?;
+    add_column(text, 8, pages.with)?;
+    add_saved_column(text, 6, pages.without, pages.with)?;
+    add_column(text, 8, pages.perfect)?;
+    add_column(text, 11, live)?;
+    add(text, b"\n")
 }
 
 /// Adds the line of the call behind which most is saved.
@@ -86,7 +88,7 @@ pub fn add_most_saved(text: &mut Vec<u8>, most: &Option<Saving>) -> Result<(), A
 {
     match most {
         Some(best) => add_best(text, best),
-        None => text.extend_from_slice(b"most saved  -\n"),
+        None => add(text, b"most saved  -\n"),
     }
 }
 
@@ -97,15 +99,13 @@ fn add_best(text: &mut Vec<u8>, best: &Saving) -> Result<(), AllocError>
 {
     let without = u64::from(best.without);
     let with = u64::from(best.with);
-    text.extend_from_slice(b"most saved  ")?;
+    add(text, b"most saved  ")?;
     add_difference(text, without, with)?;
-    text.extend_from_slice(b" of ")?;
-    add_decimal(text, without)?;
-    text.extend_from_slice(b" pages (")?;
+    add_counted(text, b" of ", without)?;
+    add(text, b" pages (")?;
     add_saved(text, without, with)?;
-    text.extend_from_slice(b") at call ")?;
-    add_decimal(text, u64::from(best.call))?;
-    text.extend_from_slice(b"\n")
+    add_counted(text, b") at call ", u64::from(best.call))?;
+    add(text, b"\n")
 }
 
 /// Adds the line of the meshes.
@@ -113,17 +113,13 @@ fn add_best(text: &mut Vec<u8>, best: &Saving) -> Result<(), AllocError>
 pub fn add_meshes(text: &mut Vec<u8>, counts: &Counts) -> Result<(), AllocError>
     ensures { OnOk result (text.new.items ≡ text.old.items ++ meshes_line counts.now) }
 {
-    text.extend_from_slice(b"meshes ")?;
-    add_decimal(text, counts.meshes)?;
-    text.extend_from_slice(b"  refused ")?;
-    add_decimal(text, counts.refused)?;
-    text.extend_from_slice(b"  copied ")?;
+    add_counted(text, b"meshes ", counts.meshes)?;
+    add_counted(text, b"  refused ", counts.refused)?;
+    add(text, b"  copied ")?;
     add_tenths(text, divided(counts.copied, TENTH_OF_MEGABYTE))?;
-    text.extend_from_slice(b" MB  rounds ")?;
-    add_decimal(text, u64::from(counts.rounds))?;
-    text.extend_from_slice(b"  virtual pages ")?;
-    add_decimal(text, u64::from(counts.virtual_pages))?;
-    text.extend_from_slice(b"\n")
+    add_counted(text, b" MB  rounds ", u64::from(counts.rounds))?;
+    add_counted(text, b"  virtual pages ", u64::from(counts.virtual_pages))?;
+    add(text, b"\n")
 }
 
 /// Adds the lines of the classes that ever held an object.
@@ -137,11 +133,33 @@ pub fn add_classes(
 {
     let classes = all_classes();
     for k in 0..CLASSES {
-        if used[k] {
-            add_class(text, classes[k], &measured.class_means(k), &measured.class_ends(k))?;
-        }
+        add_if_used(text, measured, used, k, classes[k])?;
     }
     Ok(())
+}
+
+/// Adds the line of the class at this place of the class table, if it ever held an object.
+fn add_if_used(
+    text: &mut Vec<u8>,
+    measured: &Measured,
+    used: &[bool; CLASSES],
+    k: usize,
+    class: Class,
+) -> Result<(), AllocError>
+    requires place { k < 10 }
+    requires class { class ≡ size_at k }
+    ensures { (first : ℕ) (samples : List Samples) → IsMeasured measured.now first samples
+        → OnOk result (text.new.items ≡ text.old.items ++ used_line used.now samples k) }
+{
+    if !used[k] {
+        return Ok(());
+    }
+    add_class(
+        text,
+        class,
+        &measured.class_means(k),
+        &measured.class_ends(k),
+    )
 }
 
 /// Adds the line of a class: its pages in the mean and in the end.
@@ -154,13 +172,13 @@ fn add_class(
 ) -> Result<(), AllocError>
     ensures { OnOk result (text.new.items ≡ text.old.items ++ class_line class means.now ends.now) }
 {
-    text.extend_from_slice(b"class ")?;
+    add(text, b"class ")?;
     add_number_left(text, 4, u64::from(class.size()))?;
-    text.extend_from_slice(b"  mean ")?;
+    add(text, b"  mean ")?;
     add_class_pages(text, means)?;
-    text.extend_from_slice(b"  end ")?;
+    add(text, b"  end ")?;
     add_class_pages(text, ends)?;
-    text.extend_from_slice(b"\n")
+    add(text, b"\n")
 }
 
 /// Adds pages of a class.
@@ -169,8 +187,8 @@ fn add_class_pages(text: &mut Vec<u8>, pages: &Pages) -> Result<(), AllocError>
     ensures { OnOk result (text.new.items ≡ text.old.items ++ class_pages pages.now) }
 {
     add_number_right(text, 5, pages.without)?;
-    text.extend_from_slice(b" -> ")?;
+    add(text, b" -> ")?;
     add_number_right(text, 5, pages.with)?;
-    text.extend_from_slice(b"  perfect ")?;
+    add(text, b"  perfect ")?;
     add_number_right(text, 5, pages.perfect)
 }

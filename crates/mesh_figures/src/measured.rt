@@ -71,7 +71,14 @@ impl Measured {
         let with = self.with.add(&sample.with);
         self.perfect.add(&sample.perfect);
         self.live.add(whole_pages(sample.live_bytes));
-        self.most = better(self.most, Saving { call, without, with });
+        self.most = better(
+            self.most,
+            Saving {
+                call,
+                without,
+                with,
+            },
+        );
     }
 
     /// The peaks of the total pages.

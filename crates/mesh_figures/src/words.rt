@@ -1,17 +1,33 @@
 //! The words of a line: numbers, shares, and fields of a width.
-ghost use Rattle.std.specs.Prelude.{◌≡◌, ◌+◌, ◌*◌, ◌<◌, ◌^◌, ◌++◌, decimal, replicate, IfOk, OnOk};
-ghost use Rattle.mesh_figures.specs.Texts.{difference_text, left, right, saved_text, sign_text, tenths_text};
+ghost use Rattle.std.specs.Prelude.{◌≡◌, ◌+◌, ◌*◌, ◌<◌, ◌^◌, ◌++◌, codes, decimal, replicate, IfOk, OnOk};
+ghost use Rattle.mesh_figures.specs.Texts.{column, counted, difference_text, left, right, saved_text, sign_text, tenths_text};
 
 use crate::rounding::divided;
 use itoa::Buffer;
 use std::alloc::{AllocError, Global};
 
-/// Adds a number in decimal digits. An error is an allocation failure, here and below.
+/// Adds a word. An error is an allocation failure, here and below.
+pub fn add(text: &mut Vec<u8>, word: &[u8]) -> Result<(), AllocError>
+    ensures { OnOk result (text.new.items ≡ text.old.items ++ word.now) }
+{
+    text.extend_from_slice(word)
+}
+
+/// Adds a number in decimal digits.
 pub fn add_decimal(text: &mut Vec<u8>, number: u64) -> Result<(), AllocError>
     ensures { OnOk result (text.new.items ≡ text.old.items ++ decimal number) }
 {
     let mut digits = Buffer::new();
-    text.extend_from_slice(digits.format(number).as_bytes())
+    add(text, digits.format(number).as_bytes())
+}
+
+/// Adds a number after what it is.
+#[tactic(auto, unfolding(crate::specs::Texts::counted))]
+pub fn add_counted(text: &mut Vec<u8>, name: &[u8], number: u64) -> Result<(), AllocError>
+    ensures { OnOk result (text.new.items ≡ text.old.items ++ counted name.now number) }
+{
+    add(text, name)?;
+    add_decimal(text, number)
 }
 
 /// Adds spaces.
@@ -29,35 +45,35 @@ pub fn add_right(text: &mut Vec<u8>, width: usize, word: &[u8]) -> Result<(), Al
     ensures { OnOk result (text.new.items ≡ text.old.items ++ right width word.now) }
 {
     add_spaces(text, width.saturating_sub(word.len()))?;
-    text.extend_from_slice(word)
+    add(text, word)
 }
 
 /// Adds a word at the left of a field of this width.
 pub fn add_left(text: &mut Vec<u8>, width: usize, word: &[u8]) -> Result<(), AllocError>
     ensures { OnOk result (text.new.items ≡ text.old.items ++ left width word.now) }
 {
-    text.extend_from_slice(word)?;
+    add(text, word)?;
     add_spaces(text, width.saturating_sub(word.len()))
 }
 
 /// Adds a number at the right of a field of this width.
-pub fn add_number_right(
-    text: &mut Vec<u8>,
-    width: usize,
-    number: u64,
-) -> Result<(), AllocError>
+pub fn add_number_right(text: &mut Vec<u8>, width: usize, number: u64) -> Result<(), AllocError>
     ensures { OnOk result (text.new.items ≡ text.old.items ++ right width (decimal number)) }
 {
     let mut digits = Buffer::new();
     add_right(text, width, digits.format(number).as_bytes())
 }
 
+/// Adds a number in a column of this width.
+pub fn add_column(text: &mut Vec<u8>, width: usize, number: u64) -> Result<(), AllocError>
+    ensures { OnOk result (text.new.items ≡ text.old.items ++ column width number) }
+{
+    add(text, b" ")?;
+    add_number_right(text, width, number)
+}
+
 /// Adds a number at the left of a field of this width.
-pub fn add_number_left(
-    text: &mut Vec<u8>,
-    width: usize,
-    number: u64,
-) -> Result<(), AllocError>
+pub fn add_number_left(text: &mut Vec<u8>, width: usize, number: u64) -> Result<(), AllocError>
     ensures { OnOk result (text.new.items ≡ text.old.items ++ left width (decimal number)) }
 {
     let mut digits = Buffer::new();
@@ -70,7 +86,7 @@ pub fn add_tenths(text: &mut Vec<u8>, tenths: u64) -> Result<(), AllocError>
     ensures { OnOk result (text.new.items ≡ text.old.items ++ tenths_text tenths) }
 {
     add_decimal(text, tenths / 10)?;
-    text.extend_from_slice(b".")?;
+    add(text, b".")?;
     add_decimal(text, tenths % 10)
 }
 
@@ -79,7 +95,7 @@ fn add_sign(text: &mut Vec<u8>, without: u64, with: u64) -> Result<(), AllocErro
     ensures { OnOk result (text.new.items ≡ text.old.items ++ sign_text without with) }
 {
     if without < with {
-        text.push(b'-')?;
+        add(text, b"-")?;
     }
     Ok(())
 }
@@ -101,15 +117,15 @@ pub fn add_saved(text: &mut Vec<u8>, without: u64, with: u64) -> Result<(), Allo
     ensures { OnOk result (text.new.items ≡ text.old.items ++ saved_text without with) }
 {
     if without == 0 {
-        return text.extend_from_slice(b"-");
+        return add(text, b"-");
     }
     add_sign(text, without, with)?;
     add_tenths(text, divided(1000 * without.abs_diff(with), without))?;
-    text.extend_from_slice(b"%")
+    add(text, b"%")
 }
 
-/// Adds the share of pages that is saved at the right of a field of this width.
-pub fn add_saved_right(
+/// Adds the share of pages that is saved in a column of this width.
+pub fn add_saved_column(
     text: &mut Vec<u8>,
     width: usize,
     without: u64,
@@ -117,9 +133,10 @@ pub fn add_saved_right(
 ) -> Result<(), AllocError>
     requires without { without < 2 ^ 53 }
     requires with { with < 2 ^ 53 }
-    ensures { OnOk result (text.new.items ≡ text.old.items ++ right width (saved_text without with)) }
+    ensures { OnOk result (text.new.items ≡ text.old.items ++ (codes " " ++ right width (saved_text without with))) }
 {
     let mut saved = Vec::new(*text.allocator());
     add_saved(&mut saved, without, with)?;
+    add(text, b" ")?;
     add_right(text, width, saved.as_slice())
 }

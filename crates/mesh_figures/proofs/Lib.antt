@@ -1,0 +1,3 @@
+mod FigureLemmas
+mod SavingLemmas
+mod WindowLemmas

@@ -1,0 +1,33 @@
+-- One more sample, in the window or outside it.
+use Rattle.std.proofs.Common.{◌≡◌, ◌+◌, ◌-◌, ◌<◌, ◌≤◌, List, [], ◌∷◌, ◌++◌, length, take, drop, sym, ap, ◌∙◌, arith}
+use Rattle.std.proofs.lemmas.List.{take_all, drop_all, drop-append-le, take-append-le, length-drop, length-take, length_push}
+use Rattle.mesh_figures.specs.Samples.{measured, first_call}
+use Rattle.mesh_figures.specs.declared.samples.Sample.{Sample}
+use Rattle.mesh_figures.specs.declared.samples.Window.{Window}
+
+pub measured_inside : (w : Window) (samples : List Sample) (s : Sample) → w.from ≤ length samples + 1 → length samples + 1 ≤ w.to
+    → measured w (samples ++ s ∷ []) ≡ measured w samples ++ s ∷ []
+measured_inside w samples s from to =
+    let more : take w.to (samples ++ s ∷ []) ≡ samples ++ s ∷ [] = take_all w.to (samples ++ s ∷ []) (omega (arith, length_push samples s)) in
+    let all : take w.to samples ≡ samples = take_all w.to samples (omega arith) in
+    rw (more, all) (drop-append-le (w.from - 1) samples (s ∷ []) (omega arith))
+
+pub measured_before : (w : Window) (samples : List Sample) (s : Sample) → length samples + 1 < w.from
+    → measured w (samples ++ s ∷ []) ≡ measured w samples
+measured_before w samples s from =
+    drop_all (w.from - 1) (take w.to (samples ++ s ∷ [])) (omega (arith, length-take {A = Sample}, length_push samples s))
+    ∙ sym (drop_all (w.from - 1) (take w.to samples) (omega (arith, length-take {A = Sample})))
+
+pub measured_behind : (w : Window) (samples : List Sample) (s : Sample) → w.to < length samples + 1
+    → measured w (samples ++ s ∷ []) ≡ measured w samples
+measured_behind w samples s to =
+    ap (λ (taken : List Sample). drop (w.from - 1) taken) (take-append-le w.to samples (s ∷ []) (omega arith))
+
+pub measured_number : (w : Window) (samples : List Sample) → w.from ≤ length samples + 1 → length samples + 1 ≤ w.to
+    → length samples + 1 ≡ first_call w + length (measured w samples)
+measured_number w samples from to =
+    let all : take w.to samples ≡ samples = take_all w.to samples (omega arith) in
+    rw all (omega (arith, length-drop (w.from - 1) samples))
+
+pub measured_none : (w : Window) → measured w [] ≡ []
+measured_none w = rw (take_all {A = Sample} w.to [] (omega arith)) (drop_all {X = Sample} (w.from - 1) [] (omega arith))
