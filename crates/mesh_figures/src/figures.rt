@@ -1,7 +1,7 @@
 //! `Figures`, which gathers what is looked at behind each call.
 ghost use Rattle.std.specs.Prelude.{◌≡◌, ℕ, ◌+◌, ◌<◌, ◌≤◌, ◌^◌, ◌↔◌, ◌∷◌, [], ◌++◌, List, IfOk, IsTrue};
-ghost use Rattle.mesh_figures.specs.declared.samples.Sample.{Sample as Samples};
-ghost use Rattle.mesh_figures.specs.declared.samples.Window.{Window as Windows};
+ghost use Rattle.mesh_figures.specs.declared.samples.Sample.{Sample};
+ghost use Rattle.mesh_figures.specs.declared.samples.Window.{Window};
 ghost use Rattle.mesh_figures.specs.Samples.{AreFew};
 ghost use Rattle.mesh_figures.specs.Figures.{IsOf};
 ghost use Rattle.mesh_figures.specs.Texts.{figures_text};
@@ -59,7 +59,7 @@ impl Figures {
         requires with { AreFew sample.now.with }
         requires perfect { AreFew sample.now.perfect }
         requires bytes { sample.now.live_bytes < 2 ^ 40 }
-        ensures { (window : Windows) (samples : List Samples) → IsOf self.old window samples → IsOf self.new window (samples ++ sample.now ∷ []) }
+        ensures { (window : Window) (samples : List Sample) → IsOf self.old window samples → IsOf self.new window (samples ++ sample.now ∷ []) }
     {
         self.calls += 1;
         if self.window.from <= self.calls && self.calls <= self.window.to {
@@ -69,7 +69,7 @@ impl Figures {
 
     /// The table of the figures. An error is an allocation failure.
     pub fn text(&self, alloc: Global, counts: &Counts) -> Result<Vec<u8>, AllocError>
-        ensures { (window : Windows) (samples : List Samples) → IsOf self.now window samples
+        ensures { (window : Window) (samples : List Sample) → IsOf self.now window samples
             → IfOk result (λ text. text.items ≡ figures_text window samples counts.now) }
     {
         let mut text = Vec::new(alloc);

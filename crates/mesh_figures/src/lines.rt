@@ -1,7 +1,7 @@
 //! The lines of the table.
 ghost use Rattle.std.specs.Prelude.{◌≡◌, ℕ, ◌+◌, ◌*◌, ◌<◌, ◌^◌, ◌++◌, [], List, Bool, Some, OnOk};
 ghost use Rattle.mesh_class.specs.Class.{size_at};
-ghost use Rattle.mesh_figures.specs.declared.samples.Sample.{Sample as Samples};
+ghost use Rattle.mesh_figures.specs.declared.samples.Sample.{Sample};
 ghost use Rattle.mesh_figures.specs.Samples.{best_of, savings_from};
 ghost use Rattle.mesh_figures.specs.Figures.{IsInBounds, IsMeasured, IsMostSaved};
 ghost use Rattle.mesh_figures.specs.Texts.{calls_line, class_line, class_lines, class_pages, heading_line, meshes_line, most_saved_line, row_line, rows, used_line};
@@ -36,7 +36,7 @@ pub fn add_calls(text: &mut Vec<u8>, calls: u32, counts: &Counts) -> Result<(), 
 /// Adds the heading and the rows.
 pub fn add_rows(text: &mut Vec<u8>, measured: &Measured) -> Result<(), AllocError>
     requires { IsInBounds measured.now }
-    ensures { (first : ℕ) (samples : List Samples) → IsMeasured measured.now first samples → OnOk result (text.new.items ≡ text.old.items ++ rows samples) }
+    ensures { (first : ℕ) (samples : List Sample) → IsMeasured measured.now first samples → OnOk result (text.new.items ≡ text.old.items ++ rows samples) }
 {
     add_heading(text)?;
     add_row(
@@ -128,7 +128,7 @@ pub fn add_classes(
     measured: &Measured,
     used: &[bool; CLASSES],
 ) -> Result<(), AllocError>
-    ensures { (first : ℕ) (samples : List Samples) → IsMeasured measured.now first samples
+    ensures { (first : ℕ) (samples : List Sample) → IsMeasured measured.now first samples
         → OnOk result (text.new.items ≡ text.old.items ++ class_lines used.now samples) }
 {
     let classes = all_classes();
@@ -148,7 +148,7 @@ fn add_if_used(
 ) -> Result<(), AllocError>
     requires place { k < 10 }
     requires class { class ≡ size_at k }
-    ensures { (first : ℕ) (samples : List Samples) → IsMeasured measured.now first samples
+    ensures { (first : ℕ) (samples : List Sample) → IsMeasured measured.now first samples
         → OnOk result (text.new.items ≡ text.old.items ++ used_line used.now samples k) }
 {
     if !used[k] {

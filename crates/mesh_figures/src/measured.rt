@@ -1,7 +1,7 @@
 //! What is gathered of the calls that are measured.
 ghost use Rattle.std.specs.Prelude.{◌≡◌, ℕ, ◌+◌, ◌*◌, ◌<◌, ◌≤◌, ◌^◌, ◌∷◌, [], ◌++◌, List, length, map};
 ghost use Rattle.std.specs.Int.{div_ceil};
-ghost use Rattle.mesh_figures.specs.declared.samples.Sample.{Sample as Samples};
+ghost use Rattle.mesh_figures.specs.declared.samples.Sample.{Sample};
 ghost use Rattle.mesh_figures.specs.Samples.{AreFew, last, live_pages, mean, of_class, pages_by, peak, total};
 ghost use Rattle.mesh_figures.specs.Figures.{IsInBounds, IsMeasured};
 
@@ -60,7 +60,7 @@ impl Measured {
         requires with { AreFew sample.now.with }
         requires perfect { AreFew sample.now.perfect }
         requires bytes { sample.now.live_bytes < 2 ^ 40 }
-        ensures measured { (first : ℕ) (samples : List Samples) → IsMeasured self.old first samples → call ≡ first + length samples
+        ensures measured { (first : ℕ) (samples : List Sample) → IsMeasured self.old first samples → call ≡ first + length samples
             → IsMeasured self.new first (samples ++ sample.now ∷ []) }
         ensures bounds { IsInBounds self.new }
         ensures count { self.new.count ≡ self.old.count + 1 }
@@ -83,7 +83,7 @@ impl Measured {
 
     /// The peaks of the total pages.
     pub fn peaks(&self) -> Pages
-        ensures value { (first : ℕ) (samples : List Samples) → IsMeasured self.now first samples → result ≡ pages_by peak total samples }
+        ensures value { (first : ℕ) (samples : List Sample) → IsMeasured self.now first samples → result ≡ pages_by peak total samples }
         ensures small { (result.without < 2 ^ 53) × (result.with < 2 ^ 53) }
     {
         Pages {
@@ -96,7 +96,7 @@ impl Measured {
     /// The means of the total pages.
     pub fn means(&self) -> Pages
         requires { IsInBounds self.now }
-        ensures value { (first : ℕ) (samples : List Samples) → IsMeasured self.now first samples → result ≡ pages_by mean total samples }
+        ensures value { (first : ℕ) (samples : List Sample) → IsMeasured self.now first samples → result ≡ pages_by mean total samples }
         ensures small { (result.without < 2 ^ 53) × (result.with < 2 ^ 53) }
     {
         Pages {
@@ -109,7 +109,7 @@ impl Measured {
     /// The total pages behind the last call.
     pub fn ends(&self) -> Pages
         requires { IsInBounds self.now }
-        ensures value { (first : ℕ) (samples : List Samples) → IsMeasured self.now first samples → result ≡ pages_by last total samples }
+        ensures value { (first : ℕ) (samples : List Sample) → IsMeasured self.now first samples → result ≡ pages_by last total samples }
         ensures small { (result.without < 2 ^ 53) × (result.with < 2 ^ 53) }
     {
         Pages {
@@ -121,14 +121,14 @@ impl Measured {
 
     /// The mean live bytes in whole pages.
     pub fn live_mean(&self) -> u64
-        ensures { (first : ℕ) (samples : List Samples) → IsMeasured self.now first samples → result ≡ mean (map live_pages samples) }
+        ensures { (first : ℕ) (samples : List Sample) → IsMeasured self.now first samples → result ≡ mean (map live_pages samples) }
     {
         rounding::mean(self.live.sum, self.count)
     }
 
     /// The live bytes behind the last call, in whole pages.
     pub fn live_end(&self) -> u64
-        ensures { (first : ℕ) (samples : List Samples) → IsMeasured self.now first samples → result ≡ last (map live_pages samples) }
+        ensures { (first : ℕ) (samples : List Sample) → IsMeasured self.now first samples → result ≡ last (map live_pages samples) }
     {
         self.end.live_bytes.div_ceil(PAGE)
     }
@@ -136,7 +136,7 @@ impl Measured {
     /// The means of the pages of the class at a place of the class table.
     pub fn class_means(&self, k: usize) -> Pages
         requires { k < 10 }
-        ensures { (first : ℕ) (samples : List Samples) → IsMeasured self.now first samples → result ≡ pages_by mean (of_class k) samples }
+        ensures { (first : ℕ) (samples : List Sample) → IsMeasured self.now first samples → result ≡ pages_by mean (of_class k) samples }
     {
         Pages {
             without: rounding::mean(self.without.sums[k], self.count),
@@ -148,7 +148,7 @@ impl Measured {
     /// The pages of the class at a place of the class table behind the last call.
     pub fn class_ends(&self, k: usize) -> Pages
         requires { k < 10 }
-        ensures { (first : ℕ) (samples : List Samples) → IsMeasured self.now first samples → result ≡ pages_by last (of_class k) samples }
+        ensures { (first : ℕ) (samples : List Sample) → IsMeasured self.now first samples → result ≡ pages_by last (of_class k) samples }
     {
         Pages {
             without: u64::from(self.end.without[k]),

@@ -1,6 +1,6 @@
 //! The call behind which meshing saves most.
 ghost use Rattle.std.specs.Prelude.{◌≡◌, ◌∷◌, [], ◌++◌, List, Some};
-ghost use Rattle.mesh_figures.specs.declared.savings.Saving.{Saving as Savings};
+ghost use Rattle.mesh_figures.specs.declared.savings.Saving.{Saving};
 ghost use Rattle.mesh_figures.specs.Figures.{IsMostSaved};
 
 /// The total pages of both heaps behind a call.
@@ -13,7 +13,7 @@ pub struct Saving {
 
 /// The first of those that save most, after one more call.
 pub fn better(best: Option<Saving>, next: Saving) -> Option<Saving>
-    ensures { (savings : List Savings) → IsMostSaved best savings → IsMostSaved result (savings ++ next ∷ []) }
+    ensures { (savings : List Saving) → IsMostSaved best savings → IsMostSaved result (savings ++ next ∷ []) }
 {
     match best {
         Some(best) => Some(greater(best, next)),
@@ -23,7 +23,7 @@ pub fn better(best: Option<Saving>, next: Saving) -> Option<Saving>
 
 /// The earlier one, unless the later one saves more.
 fn greater(best: Saving, next: Saving) -> Saving
-    ensures { (savings : List Savings) → IsMostSaved (Some best) savings → IsMostSaved (Some result) (savings ++ next ∷ []) }
+    ensures { (savings : List Saving) → IsMostSaved (Some best) savings → IsMostSaved (Some result) (savings ++ next ∷ []) }
 {
     let kept = u64::from(best.without) + u64::from(next.with);
     let taken = u64::from(next.without) + u64::from(best.with);
