@@ -5,7 +5,7 @@ use Rattle.std.proofs.lemmas.List.{append-nil, map-append, get_or_push, length_p
 use Rattle.std.proofs.lemmas.List.Sums.{sum_by_push, sum_by-le}
 use Rattle.std.proofs.lemmas.Nat.{div-add-mod', div-mul-add, mod_below}
 use Rattle.std.proofs.Math.ListN.{get_or-map}
-use Rattle.mesh_figures.specs.Samples.{rounded, peak, last, total, of_class, AreFew}
+use Rattle.mesh_figures.specs.Samples.{rounded, mean, mean_of, peak, last, total, of_class, AreFew}
 use Rattle.mesh_figures.specs.Figures.{IsLevel, IsColumn, no_sample, last_sample}
 use Rattle.mesh_figures.specs.declared.samples.Sample.{Sample}
 use Rattle.mesh_figures.specs.declared.levels.Level.{Level}
@@ -83,10 +83,15 @@ four_pieces o p q r s a b c d e f g h = h ∙ ap (λ (x : List ℕ). x ++ d) (g 
 pub five_pieces : (o p q r s t a b c d e : List ℕ) → p ≡ o ++ a → q ≡ p ++ b → r ≡ q ++ c → s ≡ r ++ d → t ≡ s ++ e → t ≡ o ++ (a ++ b ++ c ++ d ++ e)
 five_pieces o p q r s t a b c d e f g h i j = j ∙ ap (λ (x : List ℕ). x ++ e) (four_pieces o p q r s a b c d f g h i) ∙ append_assoc o (a ++ b ++ c ++ d) e
 
+pub six_pieces : (o p q r s t u a b c d e f : List ℕ) → p ≡ o ++ a → q ≡ p ++ b → r ≡ q ++ c → s ≡ r ++ d → t ≡ s ++ e → u ≡ t ++ f
+    → u ≡ o ++ (a ++ b ++ c ++ d ++ e ++ f)
+six_pieces o p q r s t u a b c d e f g h i j k l =
+    l ∙ ap (λ (x : List ℕ). x ++ f) (five_pieces o p q r s t a b c d e g h i j k) ∙ append_assoc o (a ++ b ++ c ++ d ++ e) f
+
 pub seven_pieces : (o p q r s t u v a b c d e f g : List ℕ) → p ≡ o ++ a → q ≡ p ++ b → r ≡ q ++ c → s ≡ r ++ d → t ≡ s ++ e → u ≡ t ++ f → v ≡ u ++ g
     → v ≡ o ++ (a ++ b ++ c ++ d ++ e ++ f ++ g)
 seven_pieces o p q r s t u v a b c d e f g h i j k l m n =
-    n ∙ ap (λ (x : List ℕ). x ++ g) (m ∙ ap (λ (x : List ℕ). x ++ f) (five_pieces o p q r s t a b c d e h i j k l)) ∙ simp append_assoc
+    n ∙ ap (λ (x : List ℕ). x ++ g) (six_pieces o p q r s t u a b c d e f h i j k l m) ∙ append_assoc o (a ++ b ++ c ++ d ++ e ++ f) g
 
 pub map_twice : {X Y Z : Type 0} (f : X → Y) (g : Y → Z) (xs : List X) → map g (map f xs) ≡ map (λ x. g (f x)) xs
 map_twice f g [] = refl
@@ -101,3 +106,11 @@ lines_step line k old new below e =
 
 pub lines_end : (line : ℕ → List ℕ) (k : ℕ) (text : List ℕ) → 10 ≤ k → text ++ flat_map line (range_with_len k (10 - k)) ≡ text
 lines_end line k text all = let left : 10 - k ≡ 0 = omega arith in rw left (append-nil text)
+
+-- the mean of a class, from its sum
+pub class_mean : (column : Column) (f : Sample → List ℕ) (samples : List Sample) (k count n : ℕ) → k < 10 → IsColumn column (map f samples)
+    → count ≡ length samples → n ≡ mean_of (slice_index column.sums k) count → n ≡ mean (map (λ s. of_class k (f s)) samples)
+class_mean column f samples k count n below h many e =
+    let whole : slice_index column.sums k ≡ sum (map (λ s. of_class k (f s)) samples) = h.sums_are k below ∙ ap sum (map_twice f (of_class k) samples) in
+    let length_is : count ≡ length (map (λ s. of_class k (f s)) samples) = many ∙ sym (length-map samples (λ s. of_class k (f s))) in
+    e ∙ ap (λ (m : ℕ). mean_of m count) whole ∙ ap (mean_of (sum (map (λ s. of_class k (f s)) samples))) length_is

@@ -1,0 +1,12 @@
+use Rattle.std.proofs.lemmas.Result.{on_ok_weaker}
+use Rattle.mesh_figures.specs.Texts.{class_line}
+use Rattle.mesh_figures.proofs.FigureLemmas.{seven_pieces}
+use Rattle.mesh_figures.proofs.lines.add_class.Goals as goal
+
+pub returns : goal.returns
+unfolding class_line
+returns c =
+    let size = rw (c.from.ensures, c.size.ensures.value) at c.in_ok-add_number_left.ensures in
+    on_ok_weaker c.add-4.result
+    (λ end. seven_pieces _ _ _ _ _ _ _ _ _ _ _ _ _ _ _ c.in_ok-add.ensures size c.in_ok-add-2.ensures c.in_ok-add_class_pages.ensures c.in_ok-add-3.ensures c.in_ok-add_class_pages-2.ensures end)
+    c.add-4.ensures
