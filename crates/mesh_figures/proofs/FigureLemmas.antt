@@ -78,7 +78,8 @@ last_sample_push samples s = get_or_push samples s no_sample (length (samples ++
 
 -- texts that pieces are added to
 pub four_pieces : (o p q r s a b c d : List ℕ) → p ≡ o ++ a → q ≡ p ++ b → r ≡ q ++ c → s ≡ r ++ d → s ≡ o ++ (a ++ b ++ c ++ d)
-four_pieces o p q r s a b c d e f g h = h ∙ ap (λ (x : List ℕ). x ++ d) (g ∙ ap (λ (x : List ℕ). x ++ c) (f ∙ ap (λ (x : List ℕ). x ++ b) e)) ∙ simp append_assoc
+four_pieces o p q r s a b c d e f g h =
+    h ∙ ap (λ (x : List ℕ). x ++ d) (g ∙ ap (λ (x : List ℕ). x ++ c) (f ∙ ap (λ (x : List ℕ). x ++ b) e)) ∙ simp append_assoc
 
 pub five_pieces : (o p q r s t a b c d e : List ℕ) → p ≡ o ++ a → q ≡ p ++ b → r ≡ q ++ c → s ≡ r ++ d → t ≡ s ++ e → t ≡ o ++ (a ++ b ++ c ++ d ++ e)
 five_pieces o p q r s t a b c d e f g h i j = j ∙ ap (λ (x : List ℕ). x ++ e) (four_pieces o p q r s a b c d f g h i) ∙ append_assoc o (a ++ b ++ c ++ d) e

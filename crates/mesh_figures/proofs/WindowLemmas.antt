@@ -36,7 +36,8 @@ measured_none w = rw (take_all {A = Sample} w.to [] (omega arith)) (drop_all {X 
 -- one more call, which is measured
 pub look_measured : (w : Window) (old new : Gathered) (samples : List Sample) (s : Sample) → new.window ≡ old.window → new.calls ≡ old.calls + 1
     → old.window.from ≤ old.calls + 1 → old.calls + 1 ≤ old.window.to
-    → ((first : ℕ) (before : List Sample) → IsMeasured old.measured first before → new.calls ≡ first + length before → IsMeasured new.measured first (before ++ s ∷ []))
+    → ((first : ℕ) (before : List Sample) → IsMeasured old.measured first before → new.calls ≡ first + length before
+    → IsMeasured new.measured first (before ++ s ∷ []))
     → IsOf old w samples → IsOf new w (samples ++ s ∷ [])
 look_measured w old new samples s same more from to add h =
     let begun : w.from ≤ length samples + 1 = rw (← h.window_is, ← h.calls_are) from in

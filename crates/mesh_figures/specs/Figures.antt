@@ -33,12 +33,13 @@ no_sample = record { without = replicate 10 0; with = replicate 10 0; perfect = 
 abbrev pub last_sample : List Sample → Sample
 last_sample samples = slice_index_or samples (length samples - 1) no_sample
 
--- the first that saves no less than any of these; none where there are none
+-- no saving before this one saves as much, and none after it saves more
 pub record IsFirstBest (best : Saving) (savings before after : List Saving) : Type 0 where
   pub split : savings ≡ before ++ best ∷ after
   pub earlier : AllByRecursion (λ (s : Saving). s.without + best.with < best.without + s.with) before
   pub later : AllByRecursion (SavesNoLess best) after
 
+-- the first that saves no less than any of them; none where there are none
 abbrev pub IsMostSaved : Option Saving → List Saving → Type 0
 IsMostSaved None savings = savings ≡ []
 IsMostSaved (Some best) savings = (before after : List Saving) × IsFirstBest best savings before after

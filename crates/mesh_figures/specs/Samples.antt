@@ -48,7 +48,8 @@ mean_of whole count = if nat_eq count 0 then 0 else rounded whole count
 abbrev pub mean : List ℕ → ℕ
 mean ns = mean_of (sum ns) (length ns)
 
--- one figure (`peak`, `mean`, `last`) of what is counted (`total`, `of_class k`) of the pages without meshing, with it and of perfect packing
+-- a figure (`peak`, `mean` or `last`) of a count (`total` or `of_class k`) of the pages: without meshing, with it, and
+-- packed perfectly
 abbrev pub pages_by : (List ℕ → ℕ) → (List ℕ → ℕ) → List Sample → Pages
 pages_by figure count samples =
     record {

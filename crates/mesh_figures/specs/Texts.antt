@@ -51,7 +51,7 @@ heading_line = codes "pages              without     with  saved  perfect  live 
 abbrev pub column : ℕ → ℕ → List ℕ
 column width n = codes " " ++ right width (decimal n)
 
--- a row of the table: total pages without meshing and with it, the share saved, perfect packing, and live bytes in pages
+-- a row of the table: total pages without meshing and with it, the share saved, perfect packing, live bytes in pages
 unfoldable pub row_line : List ℕ → Pages → ℕ → List ℕ
 row_line name pages live =
     left 14 name ++ column 11 pages.without ++ column 8 pages.with ++ (codes " " ++ right 6 (saved_text pages.without pages.with))
@@ -95,7 +95,8 @@ class_lines used samples = flat_map (used_line used samples) (range_with_len 0 1
 
 -- the heading and the rows
 abbrev pub rows : List Sample → List ℕ
-rows samples = heading_line ++ figure_line (codes "peak") peak samples ++ figure_line (codes "mean of calls") mean samples ++ figure_line (codes "end") last samples
+rows samples =
+    heading_line ++ figure_line (codes "peak") peak samples ++ figure_line (codes "mean of calls") mean samples ++ figure_line (codes "end") last samples
 
 -- the whole table
 unfoldable pub figures_text : Window → List Sample → Counts → List ℕ

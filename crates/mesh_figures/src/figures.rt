@@ -1,5 +1,5 @@
 //! `Figures`, which gathers what is looked at behind each call.
-ghost use Rattle.std.specs.Prelude.{◌≡◌, ℕ, ◌+◌, ◌<◌, ◌≤◌, ◌^◌, ◌↔◌, ◌∷◌, [], ◌++◌, List, IfOk, IsTrue};
+ghost use Rattle.std.specs.Prelude.{◌≡◌, ◌<◌, ◌≤◌, ◌^◌, ◌↔◌, ◌∷◌, [], ◌++◌, List, IfOk, IsTrue};
 ghost use Rattle.mesh_figures.specs.declared.samples.Sample.{Sample};
 ghost use Rattle.mesh_figures.specs.declared.samples.Window.{Window};
 ghost use Rattle.mesh_figures.specs.Samples.{AreFew};

@@ -1,5 +1,5 @@
 //! The peak and the sum of numbers that come one after another.
-ghost use Rattle.std.specs.Prelude.{◌≡◌, ℕ, ◌+◌, ◌<◌, ◌≤◌, ◌^◌, ◌∷◌, [], ◌++◌, List, replicate, slice_index, sum};
+ghost use Rattle.std.specs.Prelude.{◌≡◌, ℕ, ◌+◌, ◌<◌, ◌≤◌, ◌^◌, ◌∷◌, [], ◌++◌, List, slice_index, sum};
 ghost use Rattle.mesh_figures.specs.Samples.{AreFew};
 ghost use Rattle.mesh_figures.specs.Figures.{IsColumn, IsColumnIn, IsLevel};
 

@@ -1,9 +1,8 @@
 //! The lines of the table.
-ghost use Rattle.std.specs.Prelude.{◌≡◌, ℕ, ◌+◌, ◌*◌, ◌<◌, ◌^◌, ◌++◌, [], List, Bool, Some, OnOk};
+ghost use Rattle.std.specs.Prelude.{◌≡◌, ℕ, ◌<◌, ◌^◌, ◌++◌, List, Some, OnOk};
 ghost use Rattle.mesh_class.specs.Class.{size_at};
 ghost use Rattle.mesh_figures.specs.declared.samples.Sample.{Sample};
-ghost use Rattle.mesh_figures.specs.Samples.{best_of, savings_from};
-ghost use Rattle.mesh_figures.specs.Figures.{IsInBounds, IsMeasured, IsMostSaved};
+ghost use Rattle.mesh_figures.specs.Figures.{IsInBounds, IsMeasured};
 ghost use Rattle.mesh_figures.specs.Texts.{calls_line, class_line, class_lines, class_pages, heading_line, meshes_line, most_saved_line, row_line, rows, used_line};
 
 use crate::measured::Measured;

@@ -1,5 +1,5 @@
 //! The call behind which meshing saves most.
-ghost use Rattle.std.specs.Prelude.{◌≡◌, ◌∷◌, [], ◌++◌, List, Some};
+ghost use Rattle.std.specs.Prelude.{◌∷◌, [], ◌++◌, List, Some};
 ghost use Rattle.mesh_figures.specs.declared.savings.Saving.{Saving};
 ghost use Rattle.mesh_figures.specs.Figures.{IsMostSaved};
 

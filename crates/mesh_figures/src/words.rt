@@ -1,5 +1,5 @@
 //! The words of a line: numbers, shares, and fields of a width.
-ghost use Rattle.std.specs.Prelude.{◌≡◌, ◌+◌, ◌*◌, ◌<◌, ◌^◌, ◌++◌, codes, decimal, replicate, IfOk, OnOk};
+ghost use Rattle.std.specs.Prelude.{◌≡◌, ◌<◌, ◌^◌, ◌++◌, codes, decimal, replicate, OnOk};
 ghost use Rattle.mesh_figures.specs.Texts.{column, counted, difference_text, left, right, saved_text, sign_text, tenths_text};
 
 use crate::rounding::divided;

@@ -7,6 +7,8 @@ pub returns : goal.returns
 unfolding class_line
 returns c =
     let size = rw (c.from.ensures, c.size.ensures.value) at c.in_ok-add_number_left.ensures in
+    let means = c.in_ok-add_class_pages.ensures in
+    let ends = c.in_ok-add_class_pages-2.ensures in
     on_ok_weaker c.add-4.result
-    (λ end. seven_pieces _ _ _ _ _ _ _ _ _ _ _ _ _ _ _ c.in_ok-add.ensures size c.in_ok-add-2.ensures c.in_ok-add_class_pages.ensures c.in_ok-add-3.ensures c.in_ok-add_class_pages-2.ensures end)
+    (λ end. seven_pieces _ _ _ _ _ _ _ _ _ _ _ _ _ _ _ c.in_ok-add.ensures size c.in_ok-add-2.ensures means c.in_ok-add-3.ensures ends end)
     c.add-4.ensures

@@ -5,7 +5,8 @@ use Rattle.mesh_figures.proofs.lines.add_classes.Goals as goal
 
 pub loop-k-preserved : goal.loop-k-preserved
 loop-k-preserved c = λ first samples h.
-    lines_step (used_line c.args.used.now samples) c.loop-k.k c.loop-k.text.items c.add_if_used.new.text.items (omega arith) (c.in_ok-add_if_used.ensures first samples h)
+    let line = c.in_ok-add_if_used.ensures first samples h in
+    lines_step (used_line c.args.used.now samples) c.loop-k.k c.loop-k.text.items c.add_if_used.new.text.items (omega arith) line
     ∙ c.loop-k.invariant first samples h
 
 pub returns : goal.returns

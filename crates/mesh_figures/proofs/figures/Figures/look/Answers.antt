@@ -1,4 +1,4 @@
-use Rattle.std.proofs.Common.{inl, inr, refl, sym, subst}
+use Rattle.std.proofs.Common.{arith, inl, inr, refl, sym, subst}
 use Rattle.mesh_figures.specs.Figures.{Gathered, IsOf}
 use Rattle.mesh_figures.proofs.WindowLemmas.{look_measured, look_passed}
 use Rattle.mesh_figures.proofs.figures.Figures.look.Goals as goal
@@ -7,12 +7,12 @@ use Rattle.mesh_figures.proofs.figures.Figures.look.Goals.{else-self-via-then-se
 pub returns-then-self-2 : goal.returns-then-self-2
 returns-then-self-2 c = λ window samples h.
     let before = subst (λ (f : Gathered). IsOf f window samples) (sym c.self.view_is) h in
-    look_measured window _ _ samples c.args.sample.now refl refl c.if-self.true c.if-self-2.true c.add.ensures.measured before
+    look_measured window _ _ samples c.args.sample.now refl refl (omega arith) (omega arith) c.add.ensures.measured before
 
 pub returns-else-self : goal.returns-else-self
 returns-else-self c = λ window samples h.
     let before = subst (λ (f : Gathered). IsOf f window samples) (sym c.self.view_is) h in
     elim c.else-self.branch [
-      | else-self-via-then-self+else-self-2 w ↦ rw w.self-is (look_passed window _ _ samples c.args.sample.now refl refl (inr w.if-self-2.false) refl before)
-      | else-self-via-else-self w ↦ rw w.self-is (look_passed window _ _ samples c.args.sample.now refl refl (inl w.if-self.false) refl before)
+      | else-self-via-then-self+else-self-2 w ↦ rw w.self-is (look_passed window _ _ samples c.args.sample.now refl refl (inr (omega arith)) refl before)
+      | else-self-via-else-self w ↦ rw w.self-is (look_passed window _ _ samples c.args.sample.now refl refl (inl (omega arith)) refl before)
     ]
