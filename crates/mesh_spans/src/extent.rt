@@ -46,13 +46,6 @@ impl Extent {
         }
     }
 
-    /// The size class.
-    pub fn class(&self) -> Class
-        ensures { result ≡ self.now.class }
-    {
-        self.class
-    }
-
     /// The first virtual page.
     pub fn first(&self) -> u32
         ensures value { result ≡ self.now.first }
@@ -66,6 +59,14 @@ impl Extent {
         ensures { result ≡ self.now.group }
     {
         self.group
+    }
+
+    /// The size class.
+    pub fn class(&self) -> Class
+        ensures value { result ≡ self.now.class }
+        ensures sound { IsSpan self.now }
+    {
+        self.class
     }
 
     /// Lets the span belong to another group.
