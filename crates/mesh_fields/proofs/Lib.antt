@@ -5,5 +5,6 @@ pub mod FewFields
 pub mod HexFields
 pub mod KeptLines
 pub mod LineSteps
+pub mod QuickFields
 pub mod Sames
 pub mod Splits

@@ -10,3 +10,4 @@ pub mod commands;
 pub mod hex;
 pub mod lines;
 pub mod numbers;
+pub mod quick;

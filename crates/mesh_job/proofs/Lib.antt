@@ -4,7 +4,6 @@ pub mod ManyFields
 pub mod PackedScripts
 pub mod Pairs
 pub mod PlanReadings
-pub mod QuickFields
 pub mod QuickLines
 pub mod ScriptLines
 pub mod Takes

@@ -1,11 +1,9 @@
--- What is known of a line that is read in one pass over the text, and of the digits of its fields.
-use Rattle.std.specs.Prelude.{◌≡◌, ℕ, List, ◌∷◌, ◌++◌, decimal}
+-- What is known of a line that is read in one pass over the text.
+use Rattle.std.specs.Prelude.{◌≡◌, ℕ, List, ◌∷◌, ◌++◌}
 use Rattle.model_jobs.specs.JobFiles.{IsValidCommand, IsValidLine}
-use Rattle.model_jobs.specs.Texts.{address_text, command_text, line_text}
+use Rattle.model_jobs.specs.Texts.{command_text, line_text}
 use Rattle.model_words.specs.declared.commands.Command.{Command}
 use Rattle.model_words.specs.declared.versions.Version.{Version}
-use Rattle.mesh_fields.specs.declared.bases.Base.{Base}
-use Rattle.mesh_fields.specs.declared.bases.Base.TheVariants.{Decimal, Hex}
 use Rattle.mesh_job.specs.Plan.{line_of}
 use Rattle.mesh_job.specs.declared.plan.PlanLine.{PlanLine}
 
@@ -18,13 +16,3 @@ pub record IsQuickCommand (text : List ℕ) (command : Command) (rest : List ℕ
 pub record IsQuickLine (version : Version) (workers : ℕ) (text : List ℕ) (line : PlanLine) (rest : List ℕ) : Type 0 where
   pub spelt : text ≡ line_text (line_of line) ++ 10 ∷ rest
   pub valid : IsValidLine version workers (line_of line)
-
--- the most digits that are read in one pass: so many decimal ones fit 64 bits, whatever they are, and so many hexadecimal ones has an address
-abbrev pub most_digits : Base → ℕ
-most_digits Decimal = 19
-most_digits Hex = 7
-
--- the spelling of a number in the base
-abbrev pub spelling : Base → ℕ → List ℕ
-spelling Decimal = decimal
-spelling Hex = address_text

@@ -18,7 +18,6 @@ mod job;
 mod plan;
 mod plan_lines;
 mod quick;
-mod quick_fields;
 mod reader;
 mod script;
 

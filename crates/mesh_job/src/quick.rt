@@ -8,8 +8,8 @@ ghost use Rattle.mesh_job.specs.Quick.{IsQuickCommand, IsQuickLine};
 
 use crate::PlanLine;
 use crate::plan_lines::is_class;
-use crate::quick_fields::{address, behind, byte, bytes, cell, number, word};
 use mesh_class::{Class, class_of};
+use mesh_fields::quick::{address, behind, byte, bytes, cell, number, word};
 use model_words::{Command, Version};
 
 /// The greatest length that a `new` may ask for, and the greatest offset of a `put` or a `get`.

@@ -1,9 +1,9 @@
 use Rattle.std.proofs.Common.{◌≡◌, ◌*◌, ◌<◌, ◌≤◌, ℕ, ap, arith, length, rules, sym}
 use Rattle.std.proofs.lemmas.List.{take_rest}
 use Rattle.mesh_fields.specs.Bases.{radix}
-use Rattle.mesh_job.specs.Quick.{most_digits}
-use Rattle.mesh_job.proofs.QuickFields.{below_power, one_fits, one_read, value_spelt}
-use Rattle.mesh_job.proofs.quick_fields.digits.Goals as goal
+use Rattle.mesh_fields.specs.Quick.{most_digits}
+use Rattle.mesh_fields.proofs.QuickFields.{below_power, one_fits, one_read, value_spelt}
+use Rattle.mesh_fields.proofs.quick.digits.Goals as goal
 
 pub overflow_mul-value : goal.overflow_mul-value
 overflow_mul-value c =

@@ -5,11 +5,11 @@ ghost use Rattle.std.specs.List.{All};
 ghost use Rattle.model_jobs.specs.Texts.{address_text, byte_text, bytes_text};
 ghost use Rattle.mesh_fields.specs.Bases.{radix};
 ghost use Rattle.mesh_fields.specs.Fields.{LeadsNoZero};
-ghost use Rattle.mesh_job.specs.Quick.{most_digits, spelling};
+ghost use Rattle.mesh_fields.specs.Quick.{most_digits, spelling};
 
+use crate::bases::Base;
+use crate::hex::{byte_of, has_leading_zero};
 use arrayvec::ArrayVec;
-use mesh_fields::bases::Base;
-use mesh_fields::hex::{byte_of, has_leading_zero};
 use model_words::MAX_BYTES;
 
 /// The most decimal digits that are read: so many fit 64 bits, whatever they are.
@@ -20,7 +20,7 @@ const MOST_HEX_DIGITS: usize = 7;
 
 /// The bytes behind this one, where the text begins with it.
 #[inline]
-pub(crate) fn behind(text: &[u8], byte: u8) -> Option<&[u8]>
+pub fn behind(text: &[u8], byte: u8) -> Option<&[u8]>
     ensures { IfSome result (λ rest. text.now ≡ byte ∷ rest.now) }
 {
     match text {
@@ -63,7 +63,7 @@ fn digits(text: &[u8], base: Base, most: usize) -> Option<(u64, &[u8])>
 
 /// A word of 64 bits, and the bytes behind its end.
 #[inline]
-pub(crate) fn word(text: &[u8], end: u8) -> Option<(u64, &[u8])>
+pub fn word(text: &[u8], end: u8) -> Option<(u64, &[u8])>
     ensures { IfSome result (λ read. text.now ≡ decimal read.0 ++ end ∷ read.1.now) }
 {
     let (value, rest) = digits(text, Base::Decimal, MOST_DIGITS)?;
@@ -73,7 +73,7 @@ pub(crate) fn word(text: &[u8], end: u8) -> Option<(u64, &[u8])>
 
 /// A number from `least` to `most`, and the bytes behind its end.
 #[inline]
-pub(crate) fn number(text: &[u8], least: u32, most: u32, end: u8) -> Option<(u32, &[u8])>
+pub fn number(text: &[u8], least: u32, most: u32, end: u8) -> Option<(u32, &[u8])>
     ensures spelt { IfSome result (λ read. text.now ≡ decimal read.0 ++ end ∷ read.1.now) }
     ensures least { IfSome result (λ read. least ≤ read.0) }
     ensures most { IfSome result (λ read. read.0 ≤ most) }
@@ -90,7 +90,7 @@ pub(crate) fn number(text: &[u8], least: u32, most: u32, end: u8) -> Option<(u32
 
 /// The number of a root cell, and the bytes behind its end.
 #[inline]
-pub(crate) fn cell(text: &[u8], end: u8) -> Option<(u8, &[u8])>
+pub fn cell(text: &[u8], end: u8) -> Option<(u8, &[u8])>
     ensures { IfSome result (λ read. text.now ≡ decimal read.0 ++ end ∷ read.1.now) }
 {
     let (value, rest) = number(text, 0, u32::from(u8::MAX), end)?;
@@ -99,7 +99,7 @@ pub(crate) fn cell(text: &[u8], end: u8) -> Option<(u8, &[u8])>
 
 /// An address, and the bytes behind its end.
 #[inline]
-pub(crate) fn address(text: &[u8], end: u8) -> Option<(u32, &[u8])>
+pub fn address(text: &[u8], end: u8) -> Option<(u32, &[u8])>
     ensures spelt { IfSome result (λ read. text.now ≡ address_text read.0 ++ end ∷ read.1.now) }
     ensures most { IfSome result (λ read. read.0 ≤ 268435455) }
 {
@@ -110,7 +110,7 @@ pub(crate) fn address(text: &[u8], end: u8) -> Option<(u32, &[u8])>
 
 /// A byte, and the bytes behind its end.
 #[inline]
-pub(crate) fn byte(text: &[u8], end: u8) -> Option<(u8, &[u8])>
+pub fn byte(text: &[u8], end: u8) -> Option<(u8, &[u8])>
     ensures { IfSome result (λ read. text.now ≡ byte_text read.0 ++ end ∷ read.1.now) }
 {
     let [high, low, rest @ ..] = text else {
@@ -123,7 +123,7 @@ pub(crate) fn byte(text: &[u8], end: u8) -> Option<(u8, &[u8])>
 
 /// From 1 to 32 bytes, and the bytes behind their end.
 #[inline]
-pub(crate) fn bytes(text: &[u8], end: u8) -> Option<(ArrayVec<u8, MAX_BYTES>, &[u8])>
+pub fn bytes(text: &[u8], end: u8) -> Option<(ArrayVec<u8, MAX_BYTES>, &[u8])>
     ensures spelt { IfSome result (λ read. text.now ≡ bytes_text read.0.items ++ end ∷ read.1.now) }
     ensures some { IfSome result (λ read. 1 ≤ length read.0.items) }
     ensures most { IfSome result (λ read. length read.0.items ≤ 32) }

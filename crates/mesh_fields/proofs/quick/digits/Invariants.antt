@@ -1,6 +1,6 @@
 use Rattle.std.proofs.Common.{◌-◌, ◌≤◌}
-use Rattle.mesh_job.proofs.QuickFields.{AreDigitsOf}
-use Rattle.mesh_job.proofs.quick_fields.digits.Given as goal
+use Rattle.mesh_fields.proofs.QuickFields.{AreDigitsOf}
+use Rattle.mesh_fields.proofs.quick.digits.Given as goal
 
 abbrev pub invariant-loop-place : goal.invariant-loop-place
 invariant-loop-place l = record {

@@ -1,7 +1,7 @@
 use Rattle.std.proofs.Common.{◌≡◌, ◌++◌, ◌≤◌, length}
 use Rattle.std.specs.List.{All}
 use Rattle.model_jobs.specs.Texts.{bytes_text}
-use Rattle.mesh_job.proofs.quick_fields.bytes.Given as goal
+use Rattle.mesh_fields.proofs.quick.bytes.Given as goal
 
 abbrev pub invariant-loop-rest : goal.invariant-loop-rest
 invariant-loop-rest l = record {

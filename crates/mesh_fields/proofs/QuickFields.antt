@@ -17,7 +17,7 @@ use Rattle.mesh_fields.proofs.Decimals.{digits_spell}
 use Rattle.mesh_fields.proofs.Digits.{decimal_digit_value, digit_is, one_more_digit}
 use Rattle.mesh_fields.proofs.HexFields.{hex_spelt}
 use Rattle.mesh_fields.proofs.Sames.{between_by_test}
-use Rattle.mesh_job.specs.Quick.{most_digits, spelling}
+use Rattle.mesh_fields.specs.Quick.{most_digits, spelling}
 
 -- so many digits of a text were read to a number
 pub record AreDigitsOf (base : Base) (text : List ℕ) (place number : ℕ) : Type 0 where

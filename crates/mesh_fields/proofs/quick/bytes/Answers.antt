@@ -2,8 +2,8 @@ use Rattle.std.proofs.Common.{◌≡◌, ◌≤◌, ℕ, List, ◌++◌, ◌∷�
 use Rattle.std.specs.List.{All}
 use Rattle.std.proofs.lemmas.List.{take_rest}
 use Rattle.std.proofs.lemmas.List.Elements.{All-append, All-cons, All-nil}
-use Rattle.mesh_job.proofs.QuickFields.{byte_spelt, bytes_spelt_on}
-use Rattle.mesh_job.proofs.quick_fields.bytes.Goals as goal
+use Rattle.mesh_fields.proofs.QuickFields.{byte_spelt, bytes_spelt_on}
+use Rattle.mesh_fields.proofs.quick.bytes.Goals as goal
 
 pub loop-rest-preserved : goal.loop-rest-preserved
 loop-rest-preserved c =
