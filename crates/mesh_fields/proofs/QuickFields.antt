@@ -1,16 +1,18 @@
 -- Fields that are read digit by digit, with the bytes behind them.
-use Rattle.std.proofs.Common.{◌≡◌, ℕ, ◌+◌, ◌*◌, ◌^◌, ◌<◌, ◌≤◌, true, List, [], ◌∷◌, ◌++◌, Some, Ok, length, get_or, take, drop, ap, refl, sym, ◌∙◌, arith, add-one, append_assoc}
+use Rattle.std.proofs.Common.{◌≡◌, ℕ, ◌+◌, ◌*◌, ◌^◌, ◌<◌, ◌≤◌, true, ◌&&◌, nat_le, List, [], ◌∷◌, ◌++◌, Some, Ok, length, get_or, take, drop, ap, refl, sym, ◌∙◌, arith, add-one, append_assoc}
 use Rattle.std.specs.Fmt.{decimal}
 use Rattle.std.specs.List.{list_all}
 use Rattle.std.proofs.Math.Nat.{pow-suc, pow-le-pow_right}
+use Rattle.std.proofs.lemmas.Bool.{and_parts}
 use Rattle.std.proofs.lemmas.List.{take-append-drop}
 use Rattle.std.proofs.lemmas.List.Concat.{flat_map-append}
 use Rattle.std.proofs.lemmas.List.Folds.{list_all_more}
-use Rattle.model_jobs.proofs.FieldReadings.{address_told, digit_told, digits_told}
-use Rattle.model_jobs.specs.JobFiles.{byte_from, hex_number}
-use Rattle.model_jobs.specs.Texts.{address_text, byte_text, bytes_text}
+use Rattle.model_jobs.proofs.FieldReadings.{digit_told, digits_told, let_pass, same_by_test}
+use Rattle.model_jobs.specs.JobFiles.{are_same, byte_from, hex_number}
+use Rattle.model_jobs.specs.Texts.{byte_text, bytes_text, hex_from}
+use Rattle.model_words.specs.declared.faults.FaultKind.TheVariants.{Number}
 use Rattle.mesh_fields.specs.Bases.{digit_value, is_digit, radix, value_in}
-use Rattle.mesh_fields.specs.Fields.{LeadsNoZero}
+use Rattle.mesh_fields.specs.Fields.{LeadsNoZero, hex_in}
 use Rattle.mesh_fields.specs.declared.bases.Base.{Base}
 use Rattle.mesh_fields.specs.declared.bases.Base.TheVariants.{Decimal, Hex}
 use Rattle.mesh_fields.proofs.Decimals.{digits_spell}
@@ -53,7 +55,7 @@ below_power Hex number place most below few = let power : 16 ^ place ≤ 16 ^ mo
 -- and fits 64 bits
 pub fits_digits : (base : Base) (number place : ℕ) → number < radix base ^ place → place ≤ most_digits base → number < 2 ^ 64
 fits_digits Decimal number place below few = omega (arith, below_power Decimal number place 19 below few)
-fits_digits Hex number place below few = omega (arith, below_power Hex number place 7 below few)
+fits_digits Hex number place below few = omega (arith, below_power Hex number place 12 below few)
 
 -- with one digit more a number of fewer digits than these fits 64 bits
 pub one_fits : (base : Base) (text : List ℕ) (place number value : ℕ) → place < length text → place < most_digits base
@@ -61,15 +63,22 @@ pub one_fits : (base : Base) (text : List ℕ) (place number value : ℕ) → pl
 one_fits base text place number value within few is so_far =
     fits_digits base _ (place + 1) (one_read base text place number value within is so_far).below (omega (arith, few))
 
+-- a field of hexadecimal digits that was read is the spelling of its number
+hex_told : (more most : ℕ) (field : List ℕ) (number : ℕ) → hex_in more most field ≡ Ok number → field ≡ hex_from more number
+hex_told more most field number read =
+    let passed = let_pass Number (are_same (hex_from more (hex_number field)) field && nat_le (hex_number field) most) (hex_number field) number read in
+    let parts = and_parts (are_same (hex_from more (hex_number field)) field) (nat_le (hex_number field) most) passed.0 in
+    sym (same_by_test (hex_from more (hex_number field)) field parts.0) ∙ ap (hex_from more) passed.1
+
 -- digits without a leading zero are the spelling of their value
 number_spelt : (base : Base) (digits : List ℕ) (number place : ℕ) → 1 ≤ length digits → place ≤ most_digits base → list_all (is_digit base) digits ≡ true
     → number ≡ value_in base digits → number < radix base ^ place → LeadsNoZero digits → digits ≡ spelling base number
 number_spelt Decimal digits number place some few are is below leads =
     digits_spell digits are some leads (omega (arith, is, fits_digits Decimal number place below few)) ∙ ap decimal (sym is)
 number_spelt Hex digits number place some few are is below leads =
-    let small = below_power Hex number place 7 below few in
-    let read = hex_spelt 7 268435455 digits (omega arith) some leads are (omega (arith, is, small)) in
-    (address_told digits (hex_number digits) read).0 ∙ ap address_text (sym is)
+    let small = below_power Hex number place 12 below few in
+    let read = hex_spelt 11 281474976710655 digits (omega arith) some leads are (omega (arith, is, small)) in
+    hex_told 11 281474976710655 digits (hex_number digits) read ∙ ap (hex_from 11) (sym is)
 
 pub value_spelt : (base : Base) (text : List ℕ) (place number : ℕ) → 1 ≤ length (take place text) → place ≤ most_digits base
     → AreDigitsOf base text place number → LeadsNoZero (take place text) → text ≡ spelling base number ++ drop place text

@@ -1,15 +1,16 @@
 -- The fields that are read in one pass over a text.
 use Rattle.std.specs.Prelude.{ℕ, List, decimal}
-use Rattle.model_jobs.specs.Texts.{address_text}
+use Rattle.model_jobs.specs.Texts.{hex_from}
 use Rattle.mesh_fields.specs.declared.bases.Base.{Base}
 use Rattle.mesh_fields.specs.declared.bases.Base.TheVariants.{Decimal, Hex}
 
--- the most digits that are read in one pass: so many decimal ones fit 64 bits, whatever they are, and so many hexadecimal ones has an address
+-- the most digits that are read in one pass: so many decimal ones fit 64 bits, whatever they are, and so many hexadecimal
+-- ones has an address of 48 bits
 abbrev pub most_digits : Base → ℕ
 most_digits Decimal = 19
-most_digits Hex = 7
+most_digits Hex = 12
 
 -- the spelling of a number in the base
 abbrev pub spelling : Base → ℕ → List ℕ
 spelling Decimal = decimal
-spelling Hex = address_text
+spelling Hex = hex_from 11

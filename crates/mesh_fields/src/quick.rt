@@ -2,7 +2,7 @@
 //! spelt so: then its line is read field by field.
 ghost use Rattle.std.specs.Prelude.{◌≡◌, ◌∷◌, ◌++◌, ◌<◌, ◌≤◌, ◌^◌, decimal, length, IfSome, IsTrue};
 ghost use Rattle.std.specs.List.{All};
-ghost use Rattle.model_jobs.specs.Texts.{address_text, byte_text, bytes_text};
+ghost use Rattle.model_jobs.specs.Texts.{address_text, byte_text, bytes_text, hex_from};
 ghost use Rattle.mesh_fields.specs.Bases.{radix};
 ghost use Rattle.mesh_fields.specs.Fields.{LeadsNoZero};
 ghost use Rattle.mesh_fields.specs.Quick.{most_digits, spelling};
@@ -15,8 +15,11 @@ use model_words::MAX_BYTES;
 /// The most decimal digits that are read: so many fit 64 bits, whatever they are.
 const MOST_DIGITS: usize = 19;
 
-/// The most digits of an address.
+/// The most digits of an address of a job.
 const MOST_HEX_DIGITS: usize = 7;
+
+/// The most digits of an address of 48 bits.
+const MOST_WIDE_DIGITS: usize = 12;
 
 /// The bytes behind this one, where the text begins with it.
 #[inline]
@@ -27,6 +30,14 @@ pub fn behind(text: &[u8], byte: u8) -> Option<&[u8]>
         [first, rest @ ..] if *first == byte => Some(rest),
         _ => None,
     }
+}
+
+/// The bytes behind these, where the text begins with them.
+#[inline]
+pub fn behind_all<'a>(text: &'a [u8], front: &[u8]) -> Option<&'a [u8]>
+    ensures { IfSome result (λ rest. text.now ≡ front.now ++ rest.now) }
+{
+    text.strip_prefix(front)
 }
 
 /// Whether some digits are the spelling of a number: there is one at least, and no zero before others.
@@ -97,7 +108,7 @@ pub fn cell(text: &[u8], end: u8) -> Option<(u8, &[u8])>
     Some((value as u8, rest))
 }
 
-/// An address, and the bytes behind its end.
+/// An address of a job, and the bytes behind its end.
 #[inline]
 pub fn address(text: &[u8], end: u8) -> Option<(u32, &[u8])>
     ensures spelt { IfSome result (λ read. text.now ≡ address_text read.0 ++ end ∷ read.1.now) }
@@ -106,6 +117,17 @@ pub fn address(text: &[u8], end: u8) -> Option<(u32, &[u8])>
     let (value, rest) = digits(text, Base::Hex, MOST_HEX_DIGITS)?;
     let rest = behind(rest, end)?;
     Some((value as u32, rest))
+}
+
+/// An address of 48 bits, and the bytes behind its end.
+#[inline]
+pub fn wide_address(text: &[u8], end: u8) -> Option<(u64, &[u8])>
+    ensures spelt { IfSome result (λ read. text.now ≡ hex_from 11 read.0 ++ end ∷ read.1.now) }
+    ensures most { IfSome result (λ read. read.0 ≤ 281474976710655) }
+{
+    let (value, rest) = digits(text, Base::Hex, MOST_WIDE_DIGITS)?;
+    let rest = behind(rest, end)?;
+    Some((value, rest))
 }
 
 /// A byte, and the bytes behind its end.

@@ -1,2 +1,3 @@
 pub mod HistoryFiles
+pub mod QuickEntries
 pub mod RecordedWords

@@ -17,7 +17,7 @@ use model_words::FaultKind;
 const VERSION: u32 = 1;
 
 /// The greatest number of a worker.
-const MAX_WORKER: u32 = 65_535;
+pub(crate) const MAX_WORKER: u32 = 65_535;
 
 /// Reads the first line of a history, `history 1`, without its end.
 ///

@@ -4,10 +4,12 @@
 #![tactic(auto)]
 
 mod entries;
+mod quick;
 mod refusals;
 mod replies;
 mod words;
 
 pub use entries::{read_entry, read_head};
 pub use mesh_fields::commands::SpeltCommand;
+pub use quick::quick_entry;
 pub use words::{RecordedEntry, RecordedReply};

@@ -1,0 +1,18 @@
+-- What is known of an entry that is read in one pass over the text.
+use Rattle.std.specs.Prelude.{◌≡◌, ℕ, ◌≤◌, List, ◌∷◌, ◌++◌, Ok, length}
+use Rattle.model_words.specs.Commands.{IsInRange}
+use Rattle.mesh_fields.specs.Commands.{plain_command}
+use Rattle.mesh_fields.specs.KeptLines.{IsUnended}
+use Rattle.mesh_history.specs.HistoryFiles.{entry_in}
+use Rattle.mesh_history.specs.RecordedWords.{IsNarrow, plain_entry}
+use Rattle.mesh_history.specs.declared.words.RecordedEntry.{RecordedEntry}
+
+-- the text's first line is read as this entry, and this is the rest behind the line's end
+pub record IsQuickEntry (text : List ℕ) (entry : RecordedEntry) (rest : List ℕ) : Type 0 where
+  pub line : List ℕ
+  pub whole : text ≡ line ++ 10 ∷ rest
+  pub unended : IsUnended line
+  pub short : length line ≤ 1024
+  pub read : entry_in line ≡ Ok (plain_entry entry)
+  pub in_range : IsInRange (plain_command entry.command)
+  pub narrow : IsNarrow entry.reply

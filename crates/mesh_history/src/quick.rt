@@ -1,0 +1,83 @@
+//! The entries that most histories have, each read in one pass over the text, with the bytes behind its line's end. None where a line
+//! isn't one of these, or isn't plain in any way: then it is read field by field.
+ghost use Rattle.std.specs.Prelude.{◌≡◌, ◌∷◌, ◌++◌, ◌≤◌, codes, decimal, IfSome};
+ghost use Rattle.mesh_history.specs.QuickEntries.{IsQuickEntry};
+
+use crate::entries::MAX_WORKER;
+use crate::{RecordedEntry, RecordedReply};
+use mesh_fields::commands::SpeltCommand;
+use mesh_fields::quick::{behind_all, number, wide_address, word};
+
+/// The entry that the text's first line is, and the bytes behind that line's end.
+///
+/// None of a line without its end, of one that has a fault, and of any other than a `new` that made an object, a `free` and an `alias` that
+/// were done: such lines are cut into fields.
+pub fn quick_entry(text: &[u8]) -> Option<(RecordedEntry, &[u8])>
+    ensures { IfSome result (λ read. IsQuickEntry text.now read.0 read.1.now) }
+{
+    let (worker, rest) = number(text, 0, MAX_WORKER, b' ')?;
+    if let Some(fields) = behind_all(rest, b"new ") {
+        return new_of(worker, fields);
+    }
+    if let Some(fields) = behind_all(rest, b"free ") {
+        return free_of(worker, fields);
+    }
+    alias_of(worker, behind_all(rest, b"alias ")?)
+}
+
+/// A number of 32 bits, and the bytes behind its end.
+#[inline]
+fn wide(text: &[u8], end: u8) -> Option<(u32, &[u8])>
+    ensures { IfSome result (λ read. text.now ≡ decimal read.0 ++ end ∷ read.1.now) }
+{
+    number(text, 0, u32::MAX, end)
+}
+
+/// `CELL LEN WORD -> object SERIAL at ADDR` of a `new`
+fn new_of(worker: u32, fields: &[u8]) -> Option<(RecordedEntry, &[u8])>
+    requires { worker ≤ 65535 }
+    ensures { IfSome result (λ read. IsQuickEntry (decimal worker ++ 32 ∷ (codes "new " ++ fields.now)) read.0 read.1.now) }
+{
+    let (cell, rest) = wide(fields, b' ')?;
+    let (len, rest) = wide(rest, b' ')?;
+    let (word, rest) = word(rest, b' ')?;
+    let (serial, rest) = wide(behind_all(rest, b"-> object ")?, b' ')?;
+    let (address, rest) = wide_address(behind_all(rest, b"at ")?, b'\n')?;
+    let entry = RecordedEntry {
+        worker,
+        command: SpeltCommand::New(cell, len, word),
+        reply: RecordedReply::Object(serial, address),
+    };
+    Some((entry, rest))
+}
+
+/// `CELL -> done` of a `free`
+fn free_of(worker: u32, fields: &[u8]) -> Option<(RecordedEntry, &[u8])>
+    requires { worker ≤ 65535 }
+    ensures { IfSome result (λ read. IsQuickEntry (decimal worker ++ 32 ∷ (codes "free " ++ fields.now)) read.0 read.1.now) }
+{
+    let (of, rest) = wide(fields, b' ')?;
+    let rest = behind_all(rest, b"-> done\n")?;
+    let entry = RecordedEntry {
+        worker,
+        command: SpeltCommand::Free(of),
+        reply: RecordedReply::Done,
+    };
+    Some((entry, rest))
+}
+
+/// `TO FROM -> done` of an `alias`
+fn alias_of(worker: u32, fields: &[u8]) -> Option<(RecordedEntry, &[u8])>
+    requires { worker ≤ 65535 }
+    ensures { IfSome result (λ read. IsQuickEntry (decimal worker ++ 32 ∷ (codes "alias " ++ fields.now)) read.0 read.1.now) }
+{
+    let (to, rest) = wide(fields, b' ')?;
+    let (from, rest) = wide(rest, b' ')?;
+    let rest = behind_all(rest, b"-> done\n")?;
+    let entry = RecordedEntry {
+        worker,
+        command: SpeltCommand::Alias(to, from),
+        reply: RecordedReply::Done,
+    };
+    Some((entry, rest))
+}
