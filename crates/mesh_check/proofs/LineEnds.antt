@@ -26,20 +26,6 @@ use Rattle.mesh_check.specs.declared.lines.Judge.{Judge}
 use Rattle.mesh_check.specs.declared.pieces.Judging.{Judging}
 use Rattle.mesh_check.specs.declared.verdicts.Verdict.{Verdict}
 
--- the first line of a text has no line end
-pub unended : (line more : List ℕ) (lines : List (List ℕ)) → text_lines (line ++ more) ≡ line ∷ lines → IsUnended line
-unended [] more lines is = All-nil (λ b. nat_eq b 10 ≡ false)
-unended (b ∷ bs) more lines is = elim (eqb_tells b 10) [
-  | inl same ↦ let cut = sym (slice_split-cons_yes (λ b. nat_eq b 10) b (bs ++ more) same.0) ∙ is in absurd (cc cut)
-  | inr other ↦
-      let parts = some_part 10 (bs ++ more) in
-      let cut : (b ∷ parts.first) ∷ parts.later ≡ (b ∷ bs) ∷ lines
-      = sym (slice_split-cons_no (λ b. nat_eq b 10) b (bs ++ more) other.0 ∙ ap (onto_first b) parts.is) ∙ is in
-      let first : parts.first ≡ bs = cc cut in
-      let later : parts.later ≡ lines = cc cut in
-      All-cons (λ b. nat_eq b 10 ≡ false) b bs other.0 (unended bs more lines (parts.is ∙ rw (first, later) refl))
-]
-
 -- a line of which nothing is kept hasn't begun
 none_begun : (begun : List ℕ) → [] ≡ take 1025 begun → begun ≡ []
 none_begun [] is = refl
@@ -287,15 +273,6 @@ pub cut_piece : (piece front rest line behind : List ℕ) → piece ≡ front ++
 cut_piece piece front rest line behind is cut =
     let whole = (first_line rest line behind cut).whole in
     is ∙ ap (λ (all : List ℕ). front ++ all) (whole ∙ sym (append_assoc line (10 ∷ []) behind)) ∙ sym (append_assoc front (line ++ 10 ∷ []) behind)
-
--- the line has no line end
-pub cut_unended : (rest line behind : List ℕ) → text_lines rest ≡ line ∷ text_lines behind → IsUnended line
-cut_unended rest line behind cut =
-    let whole = (first_line rest line behind cut).whole in unended line (10 ∷ behind) (text_lines behind) (ap (λ (all : List ℕ). text_lines all) (sym whole) ∙ cut)
-
--- nor have bytes that are no line
-pub rest_unended : (rest : List ℕ) → text_lines rest ≡ rest ∷ [] → IsUnended rest
-rest_unended rest uncut = unended rest [] [] (ap (λ (all : List ℕ). text_lines all) (append-nil rest) ∙ uncut)
 
 -- what holds of an option's value, where it has this one
 pub some_holds : {X : Type 0} (P : X → Type 0) (o : Option X) (x : X) → o ≡ Some x → IfSome o P → P x

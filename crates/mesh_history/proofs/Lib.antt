@@ -1,2 +1,3 @@
 pub mod Arrows
 pub mod QuickEntries
+pub mod Readings

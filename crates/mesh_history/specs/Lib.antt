@@ -1,3 +1,5 @@
 pub mod HistoryFiles
 pub mod QuickEntries
+pub mod Readers
+pub mod Readings
 pub mod RecordedWords

@@ -3,8 +3,10 @@
 //! Cells, lengths and addresses have wider ranges than in a job file. A contract sees what was read as commands and replies of the plain memory.
 #![tactic(auto)]
 
+mod begun;
 mod entries;
 mod quick;
+mod reading;
 mod refusals;
 mod replies;
 mod words;
@@ -12,4 +14,5 @@ mod words;
 pub use entries::{read_entry, read_head};
 pub use mesh_fields::commands::SpeltCommand;
 pub use quick::quick_entry;
+pub use reading::EntryReader;
 pub use words::{RecordedEntry, RecordedReply};

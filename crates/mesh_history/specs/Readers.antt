@@ -1,0 +1,57 @@
+-- The entries of a text that comes in pieces: whatever follows, what is read from the new place on is what is left to read from the old one.
+use Rattle.std.specs.Prelude.{◌≡◌, ℕ, ◌+◌, ◌<◌, if◌then◌else◌, nat_eq, List, [], ◌++◌, Option, Some, Result, Ok, Err, IfOk, IfSome, length}
+use Rattle.model_words.specs.Commands.{IsInRange}
+use Rattle.model_words.specs.declared.faults.TextFault.{TextFault}
+use Rattle.mesh_fields.specs.Commands.{plain_command}
+use Rattle.mesh_fields.specs.Lines.{text_lines}
+use Rattle.mesh_job.specs.declared.faults.ReadFault.{ReadFault}
+use Rattle.mesh_job.specs.declared.faults.ReadFault.TheVariants.{Text, Memory as OfMemory}
+use Rattle.mesh_history.specs.Readings.{LineRead, Reading, ends_with, reading_from, with_entry}
+use Rattle.mesh_history.specs.RecordedWords.{IsNarrow, plain_entry}
+use Rattle.mesh_history.specs.declared.reading.EntryReader.{EntryReader}
+use Rattle.mesh_history.specs.declared.words.RecordedEntry.{RecordedEntry}
+use denote.Ref.{Bor}
+
+-- how many lines a reader has taken
+abbrev pub lines_of : EntryReader → ℕ
+lines_of reader = reader.lines
+
+-- the beginning of a line that it stands behind
+abbrev pub begun_of : EntryReader → List ℕ
+begun_of reader = reader.begun.bytes.items
+
+-- the line of the next entry: the first line is the head
+abbrev pub next_line : EntryReader → ℕ
+next_line reader = if nat_eq (lines_of reader) 0 then 2 else lines_of reader + 1
+
+-- what is left to read where these bytes follow
+abbrev pub reading_behind : EntryReader → List ℕ → Reading
+reading_behind reader more = reading_from (lines_of reader) (text_lines (begun_of reader ++ more))
+
+-- the next entry of a text was read of a piece, which leaves this rest
+pub record HasRead (old new : EntryReader) (piece : List ℕ) (entry : RecordedEntry) (rest : List ℕ) : Type 0 where
+  pub reads : (more : List ℕ) → reading_behind old (piece ++ more) ≡ with_entry (plain_entry entry) (reading_behind new (rest ++ more))
+  pub line : lines_of new ≡ next_line old
+  pub begun : begun_of new ≡ []
+  pub shorter : length rest < length piece
+  pub in_range : IsInRange (plain_command entry.command)
+  pub narrow : IsNarrow entry.reply
+
+-- the piece was taken, and no entry ends in it
+pub record HasTaken (old new : EntryReader) (piece : List ℕ) : Type 0 where
+  pub reads : (more : List ℕ) → reading_behind old (piece ++ more) ≡ reading_behind new more
+  pub line : next_line new ≡ next_line old
+
+-- no entry is read where the piece follows, but this fault; where memory was refused nothing is said
+abbrev pub HasFault : EntryReader → List ℕ → ReadFault → Type 0
+HasFault old piece (Text fault) = (more : List ℕ) → reading_behind old (piece ++ more) ≡ ends_with (Some fault)
+HasFault old piece OfMemory = Unit {0}
+
+-- the fault is the one that a line was read to
+abbrev pub IsFaultOf : Result LineRead TextFault → ReadFault → Type 0
+IsFaultOf read (Text fault) = read ≡ Err fault
+IsFaultOf read OfMemory = ⊥
+
+-- what holds of the next entry and of the rest of the piece, where there is one
+abbrev pub IfRead : Result (Option (RecordedEntry × Bor (List ℕ))) ReadFault → (RecordedEntry → List ℕ → Type 0) → Type 0
+IfRead result holds = IfOk result (λ next. IfSome next (λ read. holds read.0 read.1.now))

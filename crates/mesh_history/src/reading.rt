@@ -1,0 +1,231 @@
+//! The entries of a text that comes in pieces.
+ghost use Rattle.std.specs.Prelude.{◌≡◌, ◌∷◌, ◌++◌, ◌≤◌, ℕ, List, Ok, Err, Some, None, [], false, length, IfErr, IfOk, IfSome, IsNone, OnOk};
+ghost use Rattle.model_jobs.specs.JobFiles.{fault_at};
+ghost use Rattle.model_words.specs.Commands.{IsInRange};
+ghost use Rattle.mesh_fields.specs.Commands.{plain_command};
+ghost use Rattle.mesh_fields.specs.KeptLines.{IsUnended};
+ghost use Rattle.mesh_history.specs.Readers.{HasFault, HasRead, HasTaken, IfRead, IsFaultOf, begun_of, lines_of, reading_behind};
+ghost use Rattle.mesh_history.specs.Readings.{Head, OfEntry, end_fault, ends_with, is_full, long_line, next_in, reading_of};
+ghost use Rattle.mesh_history.specs.RecordedWords.{IsNarrow, plain_entry};
+
+use crate::begun::BegunLine;
+use crate::{RecordedEntry, quick_entry, read_entry, read_head};
+use mesh_fields::lines::{cut, rest_fault};
+use mesh_job::ReadFault;
+use model_words::{FaultKind, TextFault};
+use std::alloc::Global;
+
+/// A recorded history of which a beginning was read.
+#[derive(Drop)]
+pub struct EntryReader {
+    /// How many lines were taken.
+    lines: u32,
+    /// The beginning of the line whose end did not come yet.
+    begun: BegunLine,
+}
+
+impl EntryReader {
+    /// A reader to which nothing has come. It takes no memory.
+    pub fn new(alloc: Global) -> EntryReader
+        ensures lines { lines_of result ≡ 0 }
+        ensures reads { (text : List ℕ) → reading_behind result text ≡ reading_of text }
+    {
+        EntryReader {
+            lines: 0,
+            begun: BegunLine::new(alloc),
+        }
+    }
+
+    /// How many lines were taken: the line number of the entry that came last.
+    pub fn lines(&self) -> u32
+        ensures { result ≡ lines_of self.now }
+    {
+        self.lines
+    }
+
+    /// The next entry of the text, of which `piece` are the next bytes, and the bytes of the piece behind that entry's line. None where the
+    /// piece is used up: of a line that it begins the bytes are kept.
+    ///
+    /// Text comes where a line has a fault: LONG_LINE as soon as too many bytes of it have come, and TOO_LONG where it is one line too many.
+    /// Memory comes where there was none for a line that has begun. The reader is of no use behind either.
+    pub fn next<'a>(
+        &mut self,
+        piece: &'a [u8],
+    ) -> Result<Option<(RecordedEntry, &'a [u8])>, ReadFault>
+        ensures entry { IfRead result (HasRead self.old self.new piece.now) }
+        ensures used_up { IfOk result (λ next. IsNone next → HasTaken self.old self.new piece.now) }
+        ensures fault { IfErr result (HasFault self.old piece.now) }
+    {
+        if self.lines > 0 {
+            return self.next_entry(piece);
+        }
+        let Some((last, rest)) = cut(piece, b'\n') else {
+            self.keep(piece)?;
+            return Ok(None);
+        };
+        self.end_head(last)?;
+        self.next_entry(rest)
+    }
+
+    /// The same behind the first line.
+    fn next_entry<'a>(
+        &mut self,
+        piece: &'a [u8],
+    ) -> Result<Option<(RecordedEntry, &'a [u8])>, ReadFault>
+        requires later { 1 ≤ lines_of self.old }
+        ensures entry { IfRead result (HasRead self.old self.new piece.now) }
+        ensures used_up { IfOk result (λ next. IsNone next → HasTaken self.old self.new piece.now) }
+        ensures fault { IfErr result (HasFault self.old piece.now) }
+    {
+        if let Some(read) = self.quick(piece) {
+            return Ok(Some(read));
+        }
+        let Some((last, rest)) = cut(piece, b'\n') else {
+            self.keep(piece)?;
+            return Ok(None);
+        };
+        let entry = self.end_entry(last)?;
+        Ok(Some((entry, rest)))
+    }
+
+    /// The next entry, where it is a common one and its whole line is in the piece.
+    fn quick<'a>(&mut self, piece: &'a [u8]) -> Option<(RecordedEntry, &'a [u8])>
+        requires later { 1 ≤ lines_of self.old }
+        ensures entry { IfSome result (λ read. HasRead self.old self.new piece.now read.0 read.1.now) }
+        ensures none { IsNone result → self.new ≡ self.old }
+    {
+        if !self.begun.is_empty() || self.lines == u32::MAX {
+            return None;
+        }
+        let (entry, rest) = quick_entry(piece)?;
+        self.lines += 1;
+        Some((entry, rest))
+    }
+
+    /// Takes the last bytes of the first line, and its end.
+    fn end_head(&mut self, last: &[u8]) -> Result<(), ReadFault>
+        requires first { lines_of self.old ≡ 0 }
+        requires unended { IsUnended last.now }
+        ensures lines { OnOk result (lines_of self.new ≡ 1) }
+        ensures taken { OnOk result (HasTaken self.old self.new (last.now ++ 10 ∷ [])) }
+        ensures fault { IfErr result (HasFault self.old (last.now ++ 10 ∷ [])) }
+    {
+        if self.begun.is_empty() {
+            head_at(last)?;
+            self.lines = 1;
+            return Ok(());
+        }
+        self.keep(last)?;
+        head_at(self.begun.as_slice())?;
+        self.begun.clear();
+        self.lines = 1;
+        Ok(())
+    }
+
+    /// Takes the last bytes of an entry's line, and its end.
+    fn end_entry(&mut self, last: &[u8]) -> Result<RecordedEntry, ReadFault>
+        requires later { 1 ≤ lines_of self.old }
+        requires unended { IsUnended last.now }
+        ensures entry { IfOk result (λ entry. HasRead self.old self.new (last.now ++ 10 ∷ []) entry []) }
+        ensures fault { IfErr result (HasFault self.old (last.now ++ 10 ∷ [])) }
+    {
+        if self.begun.is_empty() {
+            let entry = entry_at(self.lines, last)?;
+            self.lines += 1;
+            return Ok(entry);
+        }
+        self.keep(last)?;
+        let entry = entry_at(self.lines, self.begun.as_slice())?;
+        self.begun.clear();
+        self.lines += 1;
+        Ok(entry)
+    }
+
+    /// Keeps bytes of a line whose end did not come yet.
+    fn keep(&mut self, bytes: &[u8]) -> Result<(), ReadFault>
+        requires unended { IsUnended bytes.now }
+        ensures begun { OnOk result (begun_of self.new ≡ begun_of self.old ++ bytes.now) }
+        ensures lines { OnOk result (lines_of self.new ≡ lines_of self.old) }
+        ensures fault { IfErr result (HasFault self.old bytes.now) }
+    {
+        if bytes.len() > self.begun.room() {
+            return Err(long_line(self.lines));
+        }
+        self.begun.add(bytes)?;
+        Ok(())
+    }
+
+    /// The fault of a text that ends here: CUT where it ends in a line or before its first, and TOO_LONG where it ends in one line too many.
+    pub fn finish(&self) -> Result<(), TextFault>
+        ensures ok { OnOk result (reading_behind self.now [] ≡ ends_with None) }
+        ensures fault { IfErr result (λ fault. reading_behind self.now [] ≡ ends_with (Some fault)) }
+    {
+        match end_fault(self.lines, self.begun.as_slice()) {
+            None => Ok(()),
+            Some(fault) => Err(fault),
+        }
+    }
+}
+
+/// The fault of a text that ends behind so many lines, with these bytes behind its last line end.
+fn end_fault(lines: u32, rest: &[u8]) -> Option<TextFault>
+    ensures { result ≡ end_fault lines rest.now }
+{
+    if rest.is_empty() {
+        return if lines == 0 {
+            Some(fault_at(1, FaultKind::Cut))
+        } else {
+            None
+        };
+    }
+    if lines == u32::MAX {
+        return Some(fault_at(0, FaultKind::TooLong));
+    }
+    Some(fault_at(lines + 1, rest_fault(rest)))
+}
+
+/// Reads the first line.
+fn head_at(line: &[u8]) -> Result<(), ReadFault>
+    ensures ok { OnOk result (next_in 0 line.now ≡ Ok Head) }
+    ensures fault { IfErr result (IsFaultOf (next_in 0 line.now)) }
+{
+    match read_head(line) {
+        Ok(()) => Ok(()),
+        Err(kind) => Err(ReadFault::Text(fault_at(1, kind))),
+    }
+}
+
+/// Reads the line of an entry that has so many lines before it.
+fn entry_at(lines: u32, line: &[u8]) -> Result<RecordedEntry, ReadFault>
+    requires { 1 ≤ lines }
+    ensures few { OnOk result (is_full lines ≡ false) }
+    ensures ok { IfOk result (λ entry. next_in lines line.now ≡ Ok (OfEntry (plain_entry entry))) }
+    ensures fault { IfErr result (IsFaultOf (next_in lines line.now)) }
+    ensures in_range { IfOk result (λ entry. IsInRange (plain_command entry.command)) }
+    ensures narrow { IfOk result (λ entry. IsNarrow entry.reply) }
+{
+    if lines == u32::MAX {
+        return Err(ReadFault::Text(fault_at(0, FaultKind::TooLong)));
+    }
+    match read_entry(line) {
+        Ok(entry) => Ok(entry),
+        Err(kind) => Err(ReadFault::Text(fault_at(lines + 1, kind))),
+    }
+}
+
+/// The fault of a line behind so many of which too many bytes have come.
+fn long_line(lines: u32) -> ReadFault
+    ensures { result ≡ ReadFault.Text (long_line lines) }
+{
+    if lines == u32::MAX {
+        return ReadFault::Text(fault_at(0, FaultKind::TooLong));
+    }
+    ReadFault::Text(fault_at(lines + 1, FaultKind::LongLine))
+}
+
+/// A fault of a line.
+fn fault_at(line: u32, kind: FaultKind) -> TextFault
+    ensures { result ≡ fault_at line kind }
+{
+    TextFault { line, kind }
+}
