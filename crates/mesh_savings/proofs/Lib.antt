@@ -1,0 +1,4 @@
+pub mod DrawnWords
+pub mod MovedBytes
+pub mod PairCounts
+pub mod Pairs

@@ -1,0 +1,34 @@
+-- The words of `new` and of the shuffles: those of xoshiro256++ (Blackman and Vigna), its state made of a seed by SplitMix64.
+use Rattle.std.specs.Prelude.{ℕ, zero, suc, ◌+◌, ◌%◌, ◌^◌, List}
+use Rattle.rand_xoshiro.specs.SplitMix64.{splitmix_seed}
+use Rattle.rand_xoshiro.specs.Xoshiro256.{of_seed, plus_plus}
+use Rattle.mesh_savings.specs.declared.settings.Words.{Words}
+use Rattle.mesh_savings.specs.declared.settings.Words.TheVariants.{Seeded, FirstFit}
+
+-- the state that is made of a seed
+abbrev pub state_of : ℕ → List ℕ
+state_of seed = of_seed (splitmix_seed 32 seed)
+
+-- the state after so many words
+abbrev pub after_words : ℕ → List ℕ → List ℕ
+after_words zero state = state
+after_words (suc count) state = after_words count (plus_plus state).1
+
+-- the seed of the words of `new`
+abbrev pub new_seed : Words → ℕ
+new_seed (Seeded seed) = seed
+new_seed FirstFit = 1
+
+-- the seed of the words of the shuffles
+abbrev pub shuffle_seed : Words → ℕ
+shuffle_seed words = (new_seed words + 1) % 2 ^ 64
+
+-- the word of the next object
+abbrev pub new_word : Words → List ℕ → ℕ
+new_word (Seeded seed) state = (plus_plus state).0
+new_word FirstFit state = 0
+
+-- the state after it
+abbrev pub after_new_word : Words → List ℕ → List ℕ
+after_new_word (Seeded seed) state = (plus_plus state).1
+after_new_word FirstFit state = state

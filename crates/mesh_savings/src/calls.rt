@@ -1,0 +1,30 @@
+//! The calls of a recorded history that the heaps follow.
+ghost use Rattle.std.specs.Prelude.{◌≡◌};
+ghost use Rattle.mesh_history.specs.RecordedWords.{plain_entry};
+ghost use Rattle.mesh_savings.specs.Calls.{call_of};
+
+use mesh_history::{RecordedEntry, RecordedReply, SpeltCommand};
+
+/// A call of a recorded program. A cell is any 32-bit number.
+#[derive(Clone, Copy, Debug, PartialEq, Eq)]
+pub enum Call {
+    /// `New(cell, len)`: an object of `len` bytes was made, and its reference stored in `cell`.
+    New(u32, u32),
+    /// `Free(cell)`: the object that `cell` holds was freed.
+    Free(u32),
+    /// `Alias(to, from)`: the reference that `from` holds was stored in `to`.
+    Alias(u32, u32),
+}
+
+/// The call of an entry: of a `new` that was answered by an object, or of a `free` or an `alias` that was answered by `done`. All other entries
+/// have none.
+pub fn call_of(entry: &RecordedEntry) -> Option<Call>
+    ensures { result ≡ call_of (plain_entry entry.now) }
+{
+    match (&entry.command, &entry.reply) {
+        (SpeltCommand::New(cell, len, _), RecordedReply::Object(_, _)) => Some(Call::New(*cell, *len)),
+        (SpeltCommand::Free(cell), RecordedReply::Done) => Some(Call::Free(*cell)),
+        (SpeltCommand::Alias(to, from), RecordedReply::Done) => Some(Call::Alias(*to, *from)),
+        _ => None,
+    }
+}

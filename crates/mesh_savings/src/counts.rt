@@ -1,0 +1,164 @@
+//! What is counted along the calls.
+ghost use Rattle.std.specs.Prelude.{◌≡◌, ◌<◌, ◌-◌, ◌^◌};
+ghost use Rattle.mesh_savings.specs.Counts.{IsFew, alias_counted, large_free_counted, large_new_counted, no_count, no_mesh, small_free_counted, small_new_counted, whole_pages};
+
+use mesh_class::Class;
+
+/// The bytes of a page.
+const PAGE: u64 = 4096;
+
+/// What was counted of the calls so far. Objects of up to 2,048 bytes are small, all others are large.
+#[derive(Clone, Copy, Debug)]
+pub struct Counts {
+    /// Calls that were made.
+    pub calls: u32,
+    /// Objects that were made.
+    pub made: u32,
+    /// Small objects that were made.
+    pub small: u32,
+    /// The most small objects that were live at once.
+    pub most_small: u32,
+    /// Large objects that were made.
+    pub large: u32,
+    /// The pages of the live large objects, each in whole pages.
+    pub large_pages: u64,
+    /// The most pages of live large objects at once.
+    pub most_large_pages: u64,
+    /// Frees of small objects.
+    pub freed: u32,
+    /// Rounds that were made.
+    pub rounds: u32,
+    /// For each class, the least first, whether it ever held an object.
+    pub used: [bool; 10],
+}
+
+/// What all meshes came to.
+#[derive(Clone, Copy, Debug, PartialEq, Eq)]
+pub struct MeshCounts {
+    /// Pairs that were meshed.
+    pub meshes: u64,
+    /// Pairs that were found and refused.
+    pub refused: u64,
+    /// Bytes of the objects that the meshes moved.
+    pub moved: u64,
+}
+
+impl MeshCounts {
+    /// Before the first mesh.
+    pub(crate) fn none() -> MeshCounts
+        ensures { result ≡ no_mesh }
+    {
+        MeshCounts {
+            meshes: 0,
+            refused: 0,
+            moved: 0,
+        }
+    }
+}
+
+/// So many bytes in whole pages, rounded up.
+fn whole_pages(len: u32) -> u64
+    ensures { result ≡ whole_pages len }
+{
+    (u64::from(len) + (PAGE - 1)) / PAGE
+}
+
+impl Counts {
+    /// Before the first call.
+    pub(crate) fn none() -> Counts
+        ensures value { result ≡ no_count }
+        ensures few { IsFew result }
+    {
+        Counts {
+            calls: 0,
+            made: 0,
+            small: 0,
+            most_small: 0,
+            large: 0,
+            large_pages: 0,
+            most_large_pages: 0,
+            freed: 0,
+            rounds: 0,
+            used: [false; 10],
+        }
+    }
+
+    /// After a small object of a class was made, with which so many are live.
+    pub(crate) fn small_new(&self, class: Class, live: u32) -> Counts
+        requires few { IsFew self.now }
+        requires calls { self.now.calls < 2 ^ 32 - 1 }
+        ensures value { result ≡ small_new_counted self.now class live }
+        ensures few { IsFew result }
+    {
+        let mut used = self.used;
+        used[class.index() as usize] = true;
+        Counts {
+            calls: self.calls + 1,
+            made: self.made + 1,
+            small: self.small + 1,
+            most_small: self.most_small.max(live),
+            used,
+            ..*self
+        }
+    }
+
+    /// After a large object was made.
+    pub(crate) fn large_new(&self, len: u32) -> Counts
+        requires few { IsFew self.now }
+        requires calls { self.now.calls < 2 ^ 32 - 1 }
+        ensures value { result ≡ large_new_counted self.now len }
+        ensures few { IsFew result }
+    {
+        let large_pages = self.large_pages + whole_pages(len);
+        Counts {
+            calls: self.calls + 1,
+            made: self.made + 1,
+            large: self.large + 1,
+            large_pages,
+            most_large_pages: self.most_large_pages.max(large_pages),
+            ..*self
+        }
+    }
+
+    /// After a small object was freed, behind which a round is made or not.
+    pub(crate) fn small_free(&self, is_due: bool) -> Counts
+        requires few { IsFew self.now }
+        requires calls { self.now.calls < 2 ^ 32 - 1 }
+        ensures value { result ≡ small_free_counted self.now is_due }
+        ensures few { IsFew result }
+    {
+        Counts {
+            calls: self.calls + 1,
+            freed: self.freed + 1,
+            rounds: self.rounds + u32::from(is_due),
+            ..*self
+        }
+    }
+
+    /// After a large object was freed.
+    pub(crate) fn large_free(&self, len: u32) -> Counts
+        requires few { IsFew self.now }
+        requires calls { self.now.calls < 2 ^ 32 - 1 }
+        ensures value { result ≡ large_free_counted self.now len }
+        ensures few { IsFew result }
+    {
+        Counts {
+            calls: self.calls + 1,
+            large_pages: self.large_pages.saturating_sub(whole_pages(len)),
+            ..*self
+        }
+    }
+
+    /// After a reference was stored in another cell.
+    pub(crate) fn alias(&self) -> Counts
+        requires few { IsFew self.now }
+        requires calls { self.now.calls < 2 ^ 32 - 1 }
+        ensures value { result ≡ alias_counted self.now }
+        ensures few { IsFew result }
+    {
+        Counts {
+            calls: self.calls + 1,
+            ..*self
+        }
+    }
+}

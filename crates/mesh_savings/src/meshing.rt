@@ -1,0 +1,80 @@
+//! The heap that meshes.
+ghost use Rattle.std.specs.Prelude.{◌≡◌, ◌+◌, ◌*◌, ◌<◌, ◌^◌, IfOk, OnOk, length};
+ghost use Rattle.mesh_placement.specs.Records.{KeepsRecords};
+ghost use Rattle.mesh_savings.specs.Mesher.{Fits, IsAsBefore, meshing_of};
+ghost use Rattle.mesh_savings.specs.Meshing.{IsAfterPairs, class_meshed, class_sizes, classes_meshed, pair_meshed, pairs_meshed};
+
+use crate::counts::MeshCounts;
+use crate::words::draw;
+use mesh_class::{Class, all_classes};
+use mesh_placement::Placement;
+use mesh_search::{Pair, search_one};
+use rand_xoshiro::Xoshiro256PlusPlus;
+use std::alloc::{AllocError, Global};
+
+/// The heap that meshes, what its meshes came to, and the generator of the words of its shuffles.
+#[derive(Drop)]
+pub(crate) struct Mesher {
+    pub placement: Placement,
+    pub counts: MeshCounts,
+    pub words: Xoshiro256PlusPlus,
+}
+
+impl Mesher {
+    /// Meshes a pair, or counts that it was refused.
+    fn mesh_pair(&mut self, pair: Pair)
+        requires { Fits self.old.counts 1 }
+        ensures value { meshing_of self.new ≡ pair_meshed (meshing_of self.old) pair }
+        ensures counts { IsAfterPairs self.old.counts self.new.counts 1 }
+        ensures kept { IsAsBefore self.old self.new }
+    {
+        self.placement.sound();
+        match self.placement.mesh(pair.source, pair.destination) {
+            Ok(meshed) => {
+                self.counts.meshes += 1;
+                self.counts.moved += u64::from(meshed.bytes);
+            }
+            Err(_) => self.counts.refused += 1,
+        }
+    }
+
+    /// Meshes pairs, one after another.
+    fn mesh_pairs(&mut self, pairs: &[Pair])
+        requires { Fits self.old.counts (length pairs.now) }
+        ensures value { meshing_of self.new ≡ pairs_meshed (meshing_of self.old) pairs.now }
+        ensures counts { IsAfterPairs self.old.counts self.new.counts (length pairs.now) }
+        ensures kept { IsAsBefore self.old self.new }
+    {
+        for pair in pairs {
+            self.mesh_pair(*pair);
+        }
+    }
+
+    /// Searches a class and meshes the pairs found.
+    fn mesh_class(&mut self, alloc: Global, probe: u32, class: Class) -> Result<(), AllocError>
+        requires { Fits self.old.counts 32768 }
+        ensures value { OnOk result (meshing_of self.new ≡ class_meshed probe (meshing_of self.old) class) }
+        ensures counts { IsAfterPairs self.old.counts self.new.counts 32768 }
+        ensures kept { IsAsBefore self.old self.new }
+    {
+        let view = self.placement.view(alloc, class)?;
+        let words = draw(alloc, &mut self.words, view.len())?;
+        let found = search_one(alloc, &view, words.as_slice(), probe)?;
+        self.mesh_pairs(found.pairs.as_slice());
+        Ok(())
+    }
+
+    /// Searches each class, the least first, and meshes the pairs found. An error is an allocation failure.
+    pub(crate) fn mesh_classes(&mut self, alloc: Global, probe: u32) -> Result<(), AllocError>
+        requires { Fits self.old.counts 327680 }
+        ensures value { OnOk result (meshing_of self.new ≡ classes_meshed probe (meshing_of self.old) class_sizes) }
+        ensures counts { IsAfterPairs self.old.counts self.new.counts 327680 }
+        ensures kept { IsAsBefore self.old self.new }
+    {
+        let classes = all_classes();
+        for k in 0..classes.len() {
+            self.mesh_class(alloc, probe, classes[k])?;
+        }
+        Ok(())
+    }
+}
