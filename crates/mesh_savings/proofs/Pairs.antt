@@ -1,13 +1,16 @@
--- A pair meshed or refused.
-use Rattle.std.proofs.Common.{◌≡◌, ◌∙◌, ℕ, ◌+◌, Option, Some, Ok, Err, ap, sym}
+-- A pair meshed or refused, a class searched and meshed, and a whole round.
+use Rattle.std.proofs.Common.{◌≡◌, ◌∙◌, ℕ, ◌+◌, List, length, Option, Some, Ok, Err, ap, sym, refl}
 use Rattle.std.specs.Prelude.{option_map, unwrap_or}
 use Rattle.model_heap.specs.Mesh.{mesh_of_class, mesh_whole}
 use Rattle.model_heap.specs.Table.{Table, group_of}
-use Rattle.model_search.specs.Search.{Pairing}
+use Rattle.model_search.specs.Search.{Found, Pairing, View, search, view_of}
 use Rattle.model_words.specs.declared.refusals.Refusal.{Refusal}
+use Rattle.mesh_placement.specs.Sweeps.{swept}
 use Rattle.mesh_spans.specs.Counts.{byte_count}
-use Rattle.mesh_savings.specs.Meshing.{Meshing, after_mesh, pair_meshed}
-use Rattle.mesh_savings.specs.declared.counts.MeshCounts.{MeshCounts}
+use Rattle.rand_core.specs.Steps.{first_words}
+use Rattle.rand_xoshiro.specs.Xoshiro256.{plus_plus}
+use Rattle.mesh_savings.specs.Words.{after_words}
+use Rattle.mesh_savings.specs.Meshing.{Heaps, Meshing, after_mesh, after_round, class_meshed, class_sizes, classes_meshed, pair_meshed, pairs_meshed}
 
 pub meshed_is : (m : Meshing) (pair : Pairing) (pages bytes : ℕ) (after : Table)
     → mesh_whole mesh_of_class m.table pair.source pair.destination ≡ Ok (record { count = pages; table = after })
@@ -34,3 +37,14 @@ pub refused_is : (m : Meshing) (pair : Pairing) (refusal : Refusal) → mesh_who
     } ≡ pair_meshed m pair
 unfolding pair_meshed
 refused_is m pair refusal e = sym (ap (after_mesh m pair.source) e)
+
+pub class_is : (probe class : ℕ) (m after : Meshing) (view : View) (count : ℕ) (words state : List ℕ) (found : Found) (pairs : List Pairing)
+    → view ≡ view_of m.table class → count ≡ length view.candidates → words ≡ first_words plus_plus count m.words → state ≡ after_words count m.words
+    → found ≡ search view words probe → pairs ≡ found.pairs → after ≡ pairs_meshed (record m { words = state }) pairs → after ≡ class_meshed probe m class
+unfolding class_meshed
+class_is probe class m after view count words state found pairs e1 e2 e3 e4 e5 e6 e7 = rw (e7, e6, e5, e3, e4, e2, e1) refl
+
+pub round_is : (probe : ℕ) (h : Heaps) (without table : Table) (after : Meshing) → without ≡ swept h.without → table ≡ swept h.meshing.table
+    → after ≡ classes_meshed probe (record h.meshing { table = table }) class_sizes → record { without = without; meshing = after } ≡ after_round probe h
+unfolding after_round
+round_is probe h without table after e1 e2 e3 = rw (e3, e2, e1) refl

@@ -7,7 +7,15 @@ use Rattle.mesh_savings.specs.declared.counts.MeshCounts.{MeshCounts}
 -- before the first call
 abbrev pub no_count : Counts
 no_count = record {
-  calls = 0; made = 0; small = 0; most_small = 0; large = 0; large_pages = 0; most_large_pages = 0; freed = 0; rounds = 0;
+  calls = 0;
+  made = 0;
+  small = 0;
+  most_small = 0;
+  large = 0;
+  large_pages = 0;
+  most_large_pages = 0;
+  freed = 0;
+  rounds = 0;
   used = replicate 10 false;
 }
 

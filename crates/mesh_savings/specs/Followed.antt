@@ -1,5 +1,5 @@
 -- What following a program comes to, call after call: the objects and the cells, both heaps, and the counts.
-use Rattle.std.specs.Prelude.{ℕ, ◌+◌, ◌%◌, Bool, ◌&&◌, if◌then◌else◌, nat_eq, nat_lt, max, List, [], ◌∷◌, Option, Some, None, Result, Ok, Err, option_map, sum_by}
+use Rattle.std.specs.Prelude.{ℕ, ◌+◌, ◌%◌, Bool, ◌&&◌, if◌then◌else◌, nat_eq, nat_lt, max, List, [], ◌∷◌, Option, Some, None, Result, Ok, option_map, sum_by}
 use Rattle.model_heap.specs.Table.{Placed, Table, empty_table, object_count, place_new, without_object}
 use Rattle.model_words.specs.Classes.{class_for}
 use Rattle.model_words.specs.declared.refusals.Refusal.{Refusal}
@@ -34,6 +34,13 @@ pub data Outcome : Type 0 where
   -- a heap has too few virtual pages left
   NoAddresses : Outcome
 
+-- both heaps with no object, and the generator of this seed
+abbrev pub empty_heaps : ℕ → Heaps
+empty_heaps seed = record {
+  without = empty_table supply;
+  meshing = record { table = empty_table supply; counts = no_mesh; words = state_of seed };
+}
+
 -- before the first call
 abbrev pub start : Settings → Followed
 start settings = record {
@@ -41,10 +48,7 @@ start settings = record {
   live = λ number. None;
   counts = no_count;
   new_words = state_of (new_seed settings.words);
-  heaps = record {
-    without = empty_table supply;
-    meshing = record { table = empty_table supply; counts = no_mesh; words = state_of (shuffle_seed settings.words) };
-  };
+  heaps = empty_heaps (shuffle_seed settings.words);
 }
 
 -- the function with another value at one number
@@ -134,7 +138,7 @@ aliased f to (Some (number, live)) = Goes (record f { cells = with_at to (Some n
 
 -- a call. An object of 0 bytes is made as one of 1 byte
 unfoldable pub step : Settings → Followed → Call → Outcome
-step settings f (New cell len) = made settings f cell (max 1 len) (class_for (max 1 len))
+step settings f (New cell len) = made settings f cell (max len 1) (class_for (max len 1))
 step settings f (Free cell) = freed settings f cell (object_in f cell)
 step settings f (Alias to from) = aliased f to (object_in f from)
 

@@ -1,5 +1,5 @@
 -- A round: both heaps swept, and the one that meshes searched and meshed, class after class.
-use Rattle.std.specs.Prelude.{◌≡◌, ℕ, ◌+◌, ◌*◌, ◌≤◌, List, [], ◌∷◌, Result, Ok, Err, length, map, unwrap_or, option_map}
+use Rattle.std.specs.Prelude.{ℕ, ◌+◌, ◌*◌, ◌≤◌, List, [], ◌∷◌, Result, Ok, Err, length, map, unwrap_or, option_map}
 use Rattle.model_heap.specs.Mesh.{mesh_of_class, mesh_whole}
 use Rattle.model_heap.specs.Table.{Counted, Table, group_of}
 use Rattle.model_search.specs.Search.{Pairing, search, view_of}

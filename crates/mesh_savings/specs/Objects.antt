@@ -1,5 +1,5 @@
 -- The live objects and the cells, as the code has them.
-use Rattle.std.specs.Prelude.{◌≡◌, ℕ, Bool, true, false, if◌then◌else◌, nat_eq, is_some, List, Option, Some, None}
+use Rattle.std.specs.Prelude.{◌≡◌, ℕ, Bool, true, false, if◌then◌else◌, nat_eq, is_some, Option, Some, None}
 use Rattle.std.specs.Map.{lookup}
 use Rattle.mesh_savings.specs.Followed.{with_at}
 use Rattle.mesh_savings.specs.declared.objects.Object.{Object}

@@ -22,7 +22,9 @@ pub fn call_of(entry: &RecordedEntry) -> Option<Call>
     ensures { result ≡ call_of (plain_entry entry.now) }
 {
     match (&entry.command, &entry.reply) {
-        (SpeltCommand::New(cell, len, _), RecordedReply::Object(_, _)) => Some(Call::New(*cell, *len)),
+        (SpeltCommand::New(cell, len, _), RecordedReply::Object(_, _)) => Some(Call::New(
+            *cell, *len,
+        )),
         (SpeltCommand::Free(cell), RecordedReply::Done) => Some(Call::Free(*cell)),
         (SpeltCommand::Alias(to, from), RecordedReply::Done) => Some(Call::Alias(*to, *from)),
         _ => None,

@@ -1,17 +1,19 @@
 //! Both heaps.
-ghost use Rattle.std.specs.Prelude.{◌≡◌, ℕ, ◌+◌, ◌<◌, ◌-◌, ◌^◌, ◌≤◌, IfOk, OnOk, is_ok, true, if◌then◌else◌, sum_by, IsTrue, Some};
+ghost use Rattle.std.specs.Prelude.{◌≡◌, ℕ, ◌+◌, ◌<◌, ◌-◌, ◌^◌, ◌≤◌, IfOk, OnOk, is_ok, true, false, if◌then◌else◌, sum_by, IsTrue, Some};
 ghost use Rattle.model_heap.specs.Table.{object_count, place_new};
 ghost use Rattle.mesh_placement.specs.Placement.{IsFreed, IsMade, table_of};
 ghost use Rattle.mesh_placement.specs.Records.{KeepsRecords};
 ghost use Rattle.mesh_spans.specs.Index.{record_at};
-ghost use Rattle.mesh_savings.specs.Followed.{after_free, without_serial};
-ghost use Rattle.mesh_savings.specs.Follows.{AreKept, AreKeptBut, IsAt, IsFreedFrom, heaps_of};
+ghost use Rattle.mesh_savings.specs.Followed.{after_free, empty_heaps, without_serial};
+ghost use Rattle.mesh_savings.specs.Follows.{AreKept, AreKeptBut, has_room, HaveNoSerial, HaveSerial, IsAt, IsFreedFrom, IsMadeIn, heaps_of};
 ghost use Rattle.mesh_savings.specs.Meshing.{IsAfterPairs, after_round};
 ghost use Rattle.mesh_savings.specs.Mesher.{Fits};
 
+use crate::counts::MeshCounts;
 use crate::meshing::Mesher;
 use crate::objects::Places;
-use mesh_placement::{Placement, Slot, Span};
+use crate::words::seeded;
+use mesh_placement::{NewFault, Placement, Slot, Span};
 use std::alloc::{AllocError, Global};
 
 /// Both heaps: one that doesn't mesh, and one that does.
@@ -31,7 +33,66 @@ fn free_at(placement: &mut Placement, place: (Span, Slot))
     }
 }
 
+/// Makes an object where a heap makes it. An error is an allocation failure.
+fn place(placement: &mut Placement, len: u32, word: u64) -> Result<(Span, Slot), AllocError>
+    requires room { is_ok (place_new (table_of placement.old) len word placement.old.next_serial) ≡ true }
+    requires serial { placement.old.next_serial < 2 ^ 32 - 1 }
+    ensures { IfOk result (λ r. IsMade placement.old placement.new len word r.0 r.1) }
+{
+    match placement.new(len, word) {
+        Ok(place) => Ok(place),
+        Err(NewFault::Memory) => Err(AllocError),
+        Err(NewFault::Refused(_)) => unreachable!(),
+    }
+}
+
 impl TwoHeaps {
+    /// Both heaps with no object. An error is an allocation failure.
+    pub(crate) fn open(alloc: Global, shuffle_seed: u64) -> Result<TwoHeaps, AllocError>
+        ensures heaps { IfOk result (λ heaps. heaps_of heaps ≡ empty_heaps shuffle_seed) }
+        ensures without_serial { IfOk result (λ heaps. heaps.without.next_serial ≡ 0) }
+        ensures with_serial { IfOk result (λ heaps. heaps.mesher.placement.next_serial ≡ 0) }
+    {
+        Ok(TwoHeaps {
+            without: Placement::open(alloc)?,
+            mesher: Mesher {
+                placement: Placement::open(alloc)?,
+                counts: MeshCounts::none(),
+                words: seeded(shuffle_seed),
+            },
+        })
+    }
+
+    /// Whether all serial numbers of a heap are used up.
+    pub(crate) fn is_full(&self) -> bool
+        ensures full { result ≡ true → HaveNoSerial self.now }
+        ensures left { result ≡ false → HaveSerial self.now }
+    {
+        self.without.is_full() || self.mesher.placement.is_full()
+    }
+
+    /// Whether an object of this length finds room in both heaps.
+    pub(crate) fn has_room(&self, len: u32) -> bool
+        requires some { 1 ≤ len }
+        requires small { len ≤ 2048 }
+        ensures { (word serial : ℕ) → has_room self.now len word serial ≡ result }
+    {
+        self.without.has_room(len) && self.mesher.placement.has_room(len)
+    }
+
+    /// Makes an object of this length in both heaps, by the same word. An error is an allocation failure.
+    pub(crate) fn new(&mut self, len: u32, word: u64) -> Result<Places, AllocError>
+        requires serials { HaveSerial self.old }
+        requires without { is_ok (place_new (table_of self.old.without) len word self.old.without.next_serial) ≡ true }
+        requires with { is_ok (place_new (table_of self.old.mesher.placement) len word self.old.mesher.placement.next_serial) ≡ true }
+        ensures made { IfOk result (λ places. IsMadeIn self.old self.new len word places) }
+        ensures counts { self.new.mesher.counts ≡ self.old.mesher.counts }
+    {
+        let without = place(&mut self.without, len, word)?;
+        let with = place(&mut self.mesher.placement, len, word)?;
+        Ok(Places { without, with })
+    }
+
     /// Frees an object in both heaps.
     fn free(&mut self, places: Places)
         ensures freed { (serial len : ℕ) → IsAt self.old places serial len → IsFreedFrom self.old self.new serial }

@@ -4,15 +4,18 @@
 mod calls;
 mod counts;
 mod heaps;
+pub mod laws;
 mod meshing;
 mod objects;
-// mod savings;
+mod savings;
 mod settings;
+mod taken;
 mod words;
 
 pub use calls::{Call, call_of};
 pub use counts::{Counts, MeshCounts};
 pub use mesh_history::RecordedEntry;
 pub use mesh_placement::Placement;
-// pub use savings::{Savings, Taken};
+pub use savings::Savings;
 pub use settings::{Settings, Words};
+pub use taken::Taken;

@@ -1,4 +1,7 @@
 //! How two heaps follow a program.
+ghost use Rattle.std.specs.Prelude.{◌≡◌};
+ghost use Rattle.mesh_savings.specs.Followed.{is_due};
+ghost use Rattle.mesh_savings.specs.Words.{new_seed};
 
 /// Where the words of `new` and of the shuffles come from.
 #[derive(Clone, Copy, Debug, PartialEq, Eq)]
@@ -18,4 +21,25 @@ pub struct Settings {
     pub probe: u32,
     /// The words.
     pub words: Words,
+}
+
+impl Words {
+    /// The seed of the words of `new`.
+    pub(crate) fn new_seed(self) -> u64
+        ensures { result ≡ new_seed self }
+    {
+        match self {
+            Words::Seeded(seed) => seed,
+            Words::FirstFit => 1,
+        }
+    }
+}
+
+impl Settings {
+    /// Whether a round follows the free of this number, from 1.
+    pub(crate) fn is_due(&self, free: u32) -> bool
+        ensures { result ≡ is_due self.now.every free }
+    {
+        self.every != 0 && free % self.every == 0
+    }
 }

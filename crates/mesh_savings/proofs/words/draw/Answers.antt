@@ -2,7 +2,6 @@ use Rattle.std.proofs.Common.{◌∙◌, ◌+◌, ◌-◌, ◌++◌, ap, sym, ar
 use Rattle.rand_core.specs.Steps.{first_words}
 use Rattle.rand_xoshiro.specs.Xoshiro256.{plus_plus}
 use Rattle.mesh_savings.proofs.DrawnWords.{no_word_on, one_state_on, one_word_on}
-use Rattle.mesh_savings.specs.Words.{after_words}
 use Rattle.mesh_savings.proofs.words.draw.Goals as goal
 
 pub loop-preserved : goal.loop-preserved
