@@ -1,3 +1,4 @@
 pub mod FirstWords
 pub mod Messages
+pub mod ThreadEnds
 pub mod WordCounts

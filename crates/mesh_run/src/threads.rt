@@ -5,7 +5,7 @@ ghost use Rattle.std.specs.List.{All};
 ghost use Rattle.model_jobs.specs.Texts.{ended};
 ghost use Rattle.model_words.specs.Commands.{IsInRange};
 ghost use Rattle.mesh_mutator.specs.Book.{memory_in};
-ghost use Rattle.mesh_run.specs.Runs.{HasTold};
+ghost use Rattle.mesh_run.specs.Runs.{HasTold, IsSound};
 ghost use Rattle.mesh_run.specs.Seen.{seen};
 ghost use Rattle.mesh_run.specs.Threads.{EndsThreads, HasFailedRun, HasRoom, HasStoppedRun, HasWrittenRun, IsBookOf, IsNoRun, IsPlanOf, IsTextOfRun, command_count, text_of_run, threads_status, threads_text};
 ghost use Rattle.mesh_run.specs.declared.printed.Printed.{Printed};
@@ -18,7 +18,7 @@ use crate::fault_line::threads_line_of;
 use crate::printed::Printed;
 use crate::runs::{status_of, tell};
 use crate::shuffle_words::words;
-use crate::{ThreadsArgs, ThreadsError};
+use crate::{Devices, ThreadsArgs, ThreadsError};
 use mesh_command_line::status::{DONE, FAILED, FAULTY};
 use mesh_devices::{ReplayError, Sink, Source, write_all};
 use mesh_mutator::{Book, Entry};
@@ -50,44 +50,33 @@ pub fn threads_run<R: Threads + Wait + Sync, I: Source, O: Sink, E: Sink>(
     ensures { EndsThreads Printed.Answers (seen (I.remaining input.old) (O.written output.old) (E.written errors.old) (I.has_failed input.old) (O.has_failed output.old) (E.has_failed errors.old))
         (seen (I.remaining input.new) (O.written output.new) (E.written errors.new) (I.has_failed input.new) (O.has_failed output.new) (E.has_failed errors.new)) result }
 {
-    print_run(rt, alloc, input, output, errors, args, Printed::Answers)
+    match run_file(rt, alloc, input, output, args, Printed::Answers) {
+        Ok(()) => DONE,
+        Err(error) => threads_stopped(errors, error),
+    }
 }
 
 /// The same as `threads_run`, but writes the recorded history of all threads to the output in place of each worker's answers.
 pub fn threads_history_run<R: Threads + Wait + Sync, I: Source, O: Sink, E: Sink>(
     rt: &R,
     alloc: Global,
-    input: &mut I,
-    output: &mut O,
-    errors: &mut E,
+    devices: &mut Devices<I, O, E>,
     args: &ThreadsArgs,
 ) -> u8
-    requires input { I.has_failed input.old ≡ false }
-    requires output { O.has_failed output.old ≡ false }
-    ensures { EndsThreads Printed.History (seen (I.remaining input.old) (O.written output.old) (E.written errors.old) (I.has_failed input.old) (O.has_failed output.old) (E.has_failed errors.old))
-        (seen (I.remaining input.new) (O.written output.new) (E.written errors.new) (I.has_failed input.new) (O.has_failed output.new) (E.has_failed errors.new)) result }
+    requires { IsSound devices.old }
+    ensures { EndsThreads Printed.History devices.old devices.new result }
 {
-    print_run(rt, alloc, input, output, errors, args, Printed::History)
-}
-
-/// Runs the scripts of the job that the input gives, writes what is to be printed to the output, or a fault to `errors`, and returns the exit status.
-fn print_run<R: Threads + Wait + Sync, I: Source, O: Sink, E: Sink>(
-    rt: &R,
-    alloc: Global,
-    input: &mut I,
-    output: &mut O,
-    errors: &mut E,
-    args: &ThreadsArgs,
-    printed: Printed,
-) -> u8
-    requires input { I.has_failed input.old ≡ false }
-    requires output { O.has_failed output.old ≡ false }
-    ensures { EndsThreads printed (seen (I.remaining input.old) (O.written output.old) (E.written errors.old) (I.has_failed input.old) (O.has_failed output.old) (E.has_failed errors.old))
-        (seen (I.remaining input.new) (O.written output.new) (E.written errors.new) (I.has_failed input.new) (O.has_failed output.new) (E.has_failed errors.new)) result }
-{
-    match run_file(rt, alloc, input, output, args, printed) {
+    let outcome = run_file(
+        rt,
+        alloc,
+        &mut devices.input,
+        &mut devices.output,
+        args,
+        Printed::History,
+    );
+    match outcome {
         Ok(()) => DONE,
-        Err(error) => threads_stopped(errors, error),
+        Err(error) => threads_stopped(&mut devices.errors, error),
     }
 }
 

@@ -93,7 +93,8 @@ fn run_on<R: Threads + Wait + Sync, I: Source + Drop, O: Sink + Drop, E: Sink + 
             threads_run(threads, alloc, &mut input, &mut output, &mut errors, args)
         }
         Args::ThreadsHistory(_, args) => {
-            threads_history_run(threads, alloc, &mut input, &mut output, &mut errors, args)
+            let mut devices = Devices::new(input, output, errors);
+            threads_history_run(threads, alloc, &mut devices, args)
         }
         Args::Draw(path, args) => {
             draw_run(alloc, path, args, &mut Devices::new(input, output, errors))

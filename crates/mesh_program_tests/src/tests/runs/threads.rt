@@ -1,7 +1,7 @@
 //! Runs of scripts in threads: a worked example, and what stops a run before a thread is started.
 ghost use Rattle.std.specs.Prelude.{◌≡◌, ◌≤◌, false};
 
-use crate::memory::{ROW_END, Ran, SlowSource, faulty_files, fields};
+use crate::memory::{ROW_END, Ran, SlowSource, faulty_files, fields, in_memory};
 use crate::tests::check;
 use mesh_run::{
     Input, Output, Source, ThreadsArgs, ThreadsError, threads_history_run, threads_run,
@@ -48,11 +48,9 @@ fn history_of<R: Threads + Wait + Sync + AllocGlobal>(
     args: &ThreadsArgs,
 ) -> Ran {
     let alloc = rt.alloc();
-    let mut input = Input::new(file);
-    let mut output = Output::new(Vec::new(alloc));
-    let mut errors = Output::new(Vec::new(alloc));
-    let status = threads_history_run(rt, alloc, &mut input, &mut output, &mut errors, args);
-    Ran::of_outputs(status, output, errors)
+    let mut devices = in_memory(alloc, Input::new(file));
+    let status = threads_history_run(rt, alloc, &mut devices, args);
+    Ran::of(status, devices)
 }
 
 #[test]
