@@ -4,7 +4,6 @@ use crate::memory::Ran;
 use std::fmt::Display;
 use std::process::Abort;
 
-mod replays;
 mod runs;
 
 /// Asserts that the run of a case went so. One function asserts it for all, since an assertion is proved anew wherever it stands.

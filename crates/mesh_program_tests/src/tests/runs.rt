@@ -1,6 +1,5 @@
-//! The other runs: histories judged, explorations, live sessions and scripts in threads; and command lines that ask for no run.
+//! Explorations, live sessions and scripts in threads; and command lines that ask for no run.
 
-mod checks;
 mod explorations;
 mod live;
 mod stops;

@@ -1,6 +1,6 @@
 //! The text of a history: its answers, and as it is recorded.
-use crate::tests::replays::history_of;
-use crate::tests::{check, check_text};
+use crate::tests::check;
+use crate::tests::replays::{check_text, history_of};
 use mesh_mutator::{Command, Entry, Refusal, Reply};
 use mesh_text::{history_lines, recorded_history};
 use std::alloc::AllocError;

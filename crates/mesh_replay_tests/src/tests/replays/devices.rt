@@ -1,10 +1,10 @@
 //! Devices that give or take one byte a call, and fail at some call, on a file with a mesh.
 ghost use Rattle.std.specs.Prelude.{◌≡◌, None, false};
 
-use crate::memory::files::{MESH_ANSWERS, MESH_FILE};
-use crate::memory::{Bytes, Ran, SlowSource};
 use crate::tests::check;
 use crate::tests::replays::replayed_from;
+use mesh_program_tests::memory::files::{MESH_ANSWERS, MESH_FILE};
+use mesh_program_tests::memory::{Bytes, Ran, SlowSource};
 use mesh_run::{DeviceFault, Input, Output, Sink, Source, replay_run};
 use std::alloc::Global;
 use std::io;

@@ -1,8 +1,8 @@
 //! Recorded histories, and what is found of them.
 ghost use Rattle.std.specs.Prelude.{◌≡◌, false};
 
-use crate::memory::{ROW_END, Ran, SlowSource, fields, in_memory};
 use crate::tests::check;
+use mesh_program_tests::memory::{ROW_END, Ran, SlowSource, fields, in_memory};
 use mesh_run::{Input, Source, check_run};
 use std::alloc::Global;
 use std::process::Abort;

@@ -2,9 +2,11 @@
 
 ghost use Rattle.std.specs.Prelude.{◌≡◌, false};
 
-use crate::memory::{Ran, in_memory};
+use mesh_program_tests::memory::{Ran, in_memory};
 use mesh_run::{Input, Output, Source, replay_history_run, replay_run};
 use std::alloc::Global;
+use std::fmt::Display;
+use std::process::Abort;
 
 mod devices;
 mod faults;
@@ -32,4 +34,9 @@ fn history_of(alloc: Global, file: &[u8]) -> Ran {
 /// Replays a file from memory to memory, and prints its answers.
 fn replayed(alloc: Global, file: &[u8]) -> Ran {
     replayed_from(alloc, Input::new(file))
+}
+
+/// Asserts that the text of a case is this.
+fn check_text<N: Display>(rt: &impl Abort, text: &[u8], wanted: &[u8], case: &N) {
+    assert_eq!(rt; text, wanted, "{case}");
 }

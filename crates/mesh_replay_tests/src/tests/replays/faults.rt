@@ -1,8 +1,8 @@
 //! Files that are no job.
-use crate::memory::files::FIRST_FILE;
-use crate::memory::{LENGTHS, ROW_END, faulty_files, fields, letters};
 use crate::tests::check;
 use crate::tests::replays::{history_of, replayed};
+use mesh_program_tests::memory::files::FIRST_FILE;
+use mesh_program_tests::memory::{LENGTHS, ROW_END, faulty_files, fields, letters};
 use std::process::Abort;
 use std::test::Fail;
 

@@ -1,9 +1,9 @@
 //! The worked rows.
-use crate::memory::files::{
+use crate::tests::replays::replayed;
+use mesh_program_tests::memory::files::{
     ABANDONED, CANCELS, MUTATORS, SEARCHES, SMALL_STEPS, VERSION_2, WHOLE_MESHES,
 };
-use crate::memory::{ROW_END, fields};
-use crate::tests::replays::replayed;
+use mesh_program_tests::memory::{ROW_END, fields};
 use std::alloc::Global;
 use std::process::Abort;
 

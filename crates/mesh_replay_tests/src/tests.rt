@@ -1,0 +1,13 @@
+//! Each expected text was worked out by hand from the rules, and none was copied from a run.
+
+use mesh_program_tests::memory::Ran;
+use std::fmt::Display;
+use std::process::Abort;
+
+mod checks;
+mod replays;
+
+/// Asserts that the run of a case went so.
+fn check<N: Display + Drop>(rt: &(impl Abort + AllocGlobal), goes: bool, run: &Ran, case: N) {
+    assert!(rt; goes, "{case}: {run:?}");
+}
