@@ -2,7 +2,8 @@
 use Rattle.std.proofs.Common.{◌≡◌, ◌≢◌, ◌∙◌, ℕ, ◌+◌, ◌<◌, Bool, true, false, if◌then◌else◌, nat_eq, is_some, ◌⊎◌, Option, Some, None, option_map, ap, refl, subst, sym, arith, inl, inr, eq-eqb}
 use Rattle.std.proofs.lemmas.Bool.Decides.{eqb_tells}
 use Rattle.mesh_savings.specs.Followed.{Followed, Large as LiveLarge, Live, Small as LiveSmall, object_in, object_of, with_at}
-use Rattle.mesh_savings.specs.Follows.{AreApart, IsAt, IsKept}
+use Rattle.mesh_savings.specs.Follows.{AreApart, IsKept}
+use Rattle.mesh_savings.specs.HeapChanges.{IsAt}
 use Rattle.mesh_savings.specs.Objects.{cell_of, entry_of, live_number, number_in}
 use Rattle.mesh_savings.specs.declared.heaps.TwoHeaps.{TwoHeaps}
 use Rattle.mesh_savings.specs.declared.objects.Object.{Object}

@@ -8,7 +8,8 @@ use Rattle.mesh_placement.specs.Placement.{table_of}
 use Rattle.mesh_savings.proofs.FollowsLemmas.{Agree, IsHeld, apart_large, apart_small, apart_without, at_other, at_same, below_large, below_small, held_at, held_none, held_some, kept_at, kept_on}
 use Rattle.mesh_savings.specs.Counts.{alias_counted, large_free_counted, large_new_counted, small_free_counted, small_new_counted}
 use Rattle.mesh_savings.specs.Followed.{Followed, Large as LiveLarge, Live, NoAddresses as HasNoAddresses, Small as LiveSmall, after_free, aliased, freed, is_due, large_freed, made, object_in, small_freed, small_made, small_placed, with_at, without_serial}
-use Rattle.mesh_savings.specs.Follows.{AreKeptBut, Follows, IsAt, IsKept, IsMadeIn, IsTaken, has_room, heaps_of, kept_of}
+use Rattle.mesh_savings.specs.Follows.{Follows, IsKept, IsTaken, kept_of}
+use Rattle.mesh_savings.specs.HeapChanges.{AreKeptBut, IsAt, IsMadeIn, has_room, heaps_of}
 use Rattle.mesh_savings.specs.Meshing.{Heaps, Meshing}
 use Rattle.mesh_savings.specs.Objects.{IsAliased, IsTakenOut, cell_of, entry_of, number_in}
 use Rattle.mesh_savings.specs.Words.{after_new_word, new_word}
@@ -35,9 +36,9 @@ alias_by s o n c w h f to from (Some number) fol is done =
     let follows : Follows (kept_of s n (alias_counted c) w h) after = record {
       cells = λ k. done.0 k ∙ at_same to k (Some number) (cell_of o) f.cells (fol.cells k);
       objects = λ k. subst (λ live. IsKept h (lookup (nat_eq k) live.entries) (f.live k)) (sym done.1) (fol.objects k);
-      counts = ap alias_counted fol.counts;
       new_words = fol.new_words;
       heaps = fol.heaps;
+      counts = ap alias_counted fol.counts;
       without_serial = fol.without_serial;
       with_serial = fol.with_serial;
       apart = fol.apart;

@@ -1,81 +1,18 @@
 -- What the code keeps, and which state of the definitions it stands for.
-use Rattle.std.specs.Prelude.{◌≡◌, ◌≢◌, ℕ, ◌*◌, ◌+◌, ◌-◌, ◌^◌, ◌<◌, ◌≤◌, ◌⊎◌, ◌&&◌, Bool, List, Ok, is_ok, Option, Some, None, nat_eq}
-use Rattle.model_heap.specs.Table.{place_new}
+use Rattle.std.specs.Prelude.{◌≡◌, ℕ, ◌*◌, ◌+◌, ◌-◌, ◌^◌, ◌<◌, ◌≤◌, List, Option, Some, None, nat_eq}
 use Rattle.std.specs.Map.{lookup}
-use Rattle.mesh_placement.specs.Placement.{table_of}
-use Rattle.mesh_spans.specs.Index.{record_at}
 use Rattle.mesh_savings.specs.Counts.{IsFew}
-use Rattle.mesh_savings.specs.Followed.{Followed, Goes, Large as LiveLarge, Live, NoAddresses as HasNoAddresses, NoObject as HasNoObject, Outcome, Small as LiveSmall, without_serial}
-use Rattle.mesh_savings.specs.Meshing.{Heaps}
+use Rattle.mesh_savings.specs.Followed.{Followed, Goes, Large as LiveLarge, Live, NoAddresses as HasNoAddresses, NoObject as HasNoObject, Outcome, Small as LiveSmall}
+use Rattle.mesh_savings.specs.HeapChanges.{HaveSerial, IsAt, heaps_of}
 use Rattle.mesh_savings.specs.declared.counts.Counts.{Counts}
 use Rattle.mesh_savings.specs.declared.counts.MeshCounts.{MeshCounts}
 use Rattle.mesh_savings.specs.declared.heaps.TwoHeaps.{TwoHeaps}
 use Rattle.mesh_savings.specs.declared.objects.Object.{Object}
 use Rattle.mesh_savings.specs.declared.objects.Object.TheVariants.{Small, Large}
 use Rattle.mesh_savings.specs.declared.objects.Objects.{Objects}
-use Rattle.mesh_savings.specs.declared.objects.Places.{Places}
 use Rattle.mesh_savings.specs.declared.taken.Taken.{Taken}
 use Rattle.mesh_savings.specs.declared.taken.Taken.TheVariants.{Made, NoAddresses, NoObject}
 use Rattle.mesh_savings.specs.declared.settings.Settings.{Settings}
-
--- both heaps of the code as the definitions have them
-abbrev pub heaps_of : TwoHeaps → Heaps
-heaps_of h = record {
-  without = table_of h.without;
-  meshing = record { table = table_of h.mesher.placement; counts = h.mesher.counts; words = h.mesher.words };
-}
-
--- the object of this serial and this length is at its places in both heaps
-pub record IsAt (h : TwoHeaps) (places : Places) (serial len : ℕ) : Type 0 where
-  pub without : record_at h.without.index places.without.0 places.without.1 ≡ Some (serial, len)
-  pub with : record_at h.mesher.placement.index places.with.0 places.with.1 ≡ Some (serial, len)
-
--- no object has another place, and none was made
-pub record AreKept (old new : TwoHeaps) : Type 0 where
-  pub without_serial : new.without.next_serial ≡ old.without.next_serial
-  pub with_serial : new.mesher.placement.next_serial ≡ old.mesher.placement.next_serial
-  pub objects : (places : Places) (serial len : ℕ) → IsAt old places serial len → IsAt new places serial len
-
--- the same of all objects but that of a serial
-pub record AreKeptBut (old new : TwoHeaps) (freed : ℕ) : Type 0 where
-  pub without_serial : new.without.next_serial ≡ old.without.next_serial
-  pub with_serial : new.mesher.placement.next_serial ≡ old.mesher.placement.next_serial
-  pub objects : (places : Places) (serial len : ℕ) → serial ≢ freed → IsAt old places serial len → IsAt new places serial len
-
--- both heaps have a serial left
-pub record HaveSerial (h : TwoHeaps) : Type 0 where
-  pub without : h.without.next_serial < 2 ^ 32 - 1
-  pub with : h.mesher.placement.next_serial < 2 ^ 32 - 1
-
--- one of them has none
-abbrev pub HaveNoSerial : TwoHeaps → Type 0
-HaveNoSerial h = (2 ^ 32 - 1 ≤ h.without.next_serial) ⊎ (2 ^ 32 - 1 ≤ h.mesher.placement.next_serial)
-
--- whether both heaps have room for an object
-abbrev pub has_room : TwoHeaps → ℕ → ℕ → ℕ → Bool
-has_room h len word serial =
-    is_ok (place_new (table_of h.without) len word serial) && is_ok (place_new (table_of h.mesher.placement) len word serial)
-
--- an object of this length was made in both heaps, by the same word: it is where the tables place it
-pub record IsMadeIn (old new : TwoHeaps) (len word : ℕ) (places : Places) : Type 0 where
-  pub without_address : ℕ
-  pub without_placed : place_new (table_of old.without) len word old.without.next_serial
-      ≡ Ok (record { address = without_address; table = table_of new.without })
-  pub with_address : ℕ
-  pub with_placed : place_new (table_of old.mesher.placement) len word old.mesher.placement.next_serial
-      ≡ Ok (record { address = with_address; table = table_of new.mesher.placement })
-  pub counts : new.mesher.counts ≡ old.mesher.counts
-  pub words : new.mesher.words ≡ old.mesher.words
-  pub without_serial : new.without.next_serial ≡ old.without.next_serial + 1
-  pub with_serial : new.mesher.placement.next_serial ≡ old.mesher.placement.next_serial + 1
-  pub without_recorded : record_at new.without.index places.without.0 places.without.1 ≡ Some (old.without.next_serial, len)
-  pub with_recorded : record_at new.mesher.placement.index places.with.0 places.with.1 ≡ Some (old.mesher.placement.next_serial, len)
-  pub objects : (other : Places) (serial size : ℕ) → IsAt old other serial size → IsAt new other serial size
-
--- the object of a serial was freed in both heaps
-pub record IsFreedFrom (old new : TwoHeaps) (serial : ℕ) : Type 0 where
-  pub heaps : heaps_of new ≡ without_serial (heaps_of old) serial
-  pub kept : AreKeptBut old new serial
 
 -- what the code keeps of an object is that of the live object
 abbrev pub IsKept : TwoHeaps → Option Object → Option Live → Type 0

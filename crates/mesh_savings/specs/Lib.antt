@@ -3,6 +3,7 @@ pub mod Calls
 pub mod Counts
 pub mod Followed
 pub mod Follows
+pub mod HeapChanges
 pub mod Mesher
 pub mod Meshing
 pub mod Objects

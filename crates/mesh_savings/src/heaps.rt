@@ -5,7 +5,7 @@ ghost use Rattle.mesh_placement.specs.Placement.{IsFreed, IsMade, table_of};
 ghost use Rattle.mesh_placement.specs.Records.{KeepsRecords};
 ghost use Rattle.mesh_spans.specs.Index.{record_at};
 ghost use Rattle.mesh_savings.specs.Followed.{after_free, empty_heaps, without_serial};
-ghost use Rattle.mesh_savings.specs.Follows.{AreKept, AreKeptBut, has_room, HaveNoSerial, HaveSerial, IsAt, IsFreedFrom, IsMadeIn, heaps_of};
+ghost use Rattle.mesh_savings.specs.HeapChanges.{AreKept, AreKeptBut, has_room, HaveNoSerial, HaveSerial, IsAt, IsFreedFrom, IsMadeIn, heaps_of};
 ghost use Rattle.mesh_savings.specs.Meshing.{IsAfterPairs, after_round};
 ghost use Rattle.mesh_savings.specs.Mesher.{Fits};
 

@@ -1,5 +1,5 @@
 use Rattle.std.proofs.Common.{◌∙◌}
-use Rattle.mesh_savings.specs.Follows.{AreKept, AreKeptBut}
+use Rattle.mesh_savings.specs.HeapChanges.{AreKept, AreKeptBut}
 use Rattle.mesh_savings.specs.declared.heaps.TwoHeaps.{TwoHeaps}
 use Rattle.mesh_savings.proofs.heaps.TwoHeaps.free_and_round.Goals as goal
 

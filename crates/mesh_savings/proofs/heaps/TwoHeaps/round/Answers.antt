@@ -1,6 +1,6 @@
 use Rattle.std.proofs.lemmas.Result.{on_ok_weaker}
 use Rattle.mesh_savings.proofs.Pairs.{round_is}
-use Rattle.mesh_savings.specs.Follows.{heaps_of}
+use Rattle.mesh_savings.specs.HeapChanges.{heaps_of}
 use Rattle.mesh_savings.proofs.heaps.TwoHeaps.round.Goals as goal
 
 pub returns-clause-value : goal.returns-clause-value
