@@ -1,5 +1,5 @@
 -- What is found of a text, by its lines.
-use Rattle.std.proofs.Common.{◌≡◌, ℕ, suc, ◌+◌, ◌-◌, ◌<◌, ◌≤◌, Bool, true, false, nat_eq, if◌then◌else◌, List, [], ◌∷◌, ◌++◌, length, ap, refl, sym, subst, ◌∙◌, arith, inl, inr, Result, Ok, Err}
+use Rattle.std.proofs.Common.{◌≡◌, ℕ, suc, ◌+◌, ◌-◌, ◌<◌, ◌≤◌, Bool, true, false, nat_eq, if◌then◌else◌, List, [], ◌∷◌, ◌++◌, length, ap, refl, sym, subst, ◌∙◌, arith, inl, inr, Some, None, Result, Ok, Err}
 use Rattle.std.proofs.lemmas.Bool.{true≢false}
 use Rattle.std.proofs.lemmas.Bool.Decides.{eqb_tells, leb_tells}
 use Rattle.model_memory.specs.Plain.{Entry}
@@ -8,11 +8,14 @@ use Rattle.model_history.proofs.Steps.{one_step}
 use Rattle.model_jobs.specs.JobFiles.{fault_at, is_empty}
 use Rattle.model_words.specs.Words.{◌>>=◌}
 use Rattle.model_words.specs.declared.faults.FaultKind.{FaultKind}
+use Rattle.model_words.specs.declared.faults.FaultKind.TheVariants.{Cut}
 use Rattle.model_words.specs.declared.faults.TextFault.{TextFault}
+use Rattle.mesh_fields.specs.KeptLines.{rest_fault}
 use Rattle.mesh_fields.specs.Lines.{text_lines}
 use Rattle.mesh_fields.proofs.Splits.{Parts}
 use Rattle.mesh_history.specs.HistoryFiles.{entry_in, head_in}
-use Rattle.mesh_check.specs.Outcomes.{Faulty, Head, IsJudged, IsStopLine, IsTakenLine, IsVerdict, LeadsTo, Legal, LineRead, OfEntry, Outcome, Wrong, end_of, is_full, line_in, too_long}
+use Rattle.mesh_history.specs.Readings.{Head, LineRead, OfEntry, is_full, line_in, too_long}
+use Rattle.mesh_check.specs.Outcomes.{Faulty, IsJudged, IsStopLine, IsTakenLine, IsVerdict, LeadsTo, Legal, Outcome, Wrong, end_of, ended}
 use Rattle.mesh_check.specs.VerdictLaws.{AreEntries, IsFirstWrong, IsHistory}
 use Rattle.mesh_check.proofs.LineEnds.{judged_on, right_line}
 
@@ -90,6 +93,22 @@ head_of_read line read h = go (head_in line) refl h
     go (Ok tt) is same = (is, (let both : Ok Head ≡ Ok read = same in cc both))
     go (Err kind) is same = absurd (cc same)
 
+-- what is found where a text ends, by what is left and how many lines there are
+ended_by : (full empty none : Bool) (lines : ℕ) (f f' f'' : TextFault)
+    → ended lines (if full then (if empty then None else Some f) else (if empty then (if none then Some f' else None) else Some f''))
+    ≡ (if full then (if empty then Legal (lines - 1) else Faulty f) else (if empty then (if none then Faulty f' else Legal (lines - 1)) else Faulty f''))
+ended_by true true none lines f f' f'' = refl
+ended_by true false none lines f f' f'' = refl
+ended_by false true true lines f f' f'' = refl
+ended_by false true false lines f f' f'' = refl
+ended_by false false none lines f f' f'' = refl
+
+end_cases : (lines : ℕ) (rest : List ℕ)
+    → end_of lines rest
+    ≡ (if is_full lines then (if is_empty rest then Legal (lines - 1) else Faulty too_long)
+    else (if is_empty rest then (if nat_eq lines 0 then Faulty (fault_at 1 Cut) else Legal (lines - 1)) else Faulty (fault_at (lines + 1) (rest_fault rest))))
+end_cases lines rest = ended_by (is_full lines) (is_empty rest) (nat_eq lines 0) lines too_long (fault_at 1 Cut) (fault_at (lines + 1) (rest_fault rest))
+
 -- where a text ends no entry is found wrong
 not_wrong : (full empty none : Bool) (k line : ℕ) (f f' f'' : TextFault)
     → Wrong line ≡ (if full then (if empty then Legal k else Faulty f) else (if empty then (if none then Faulty f' else Legal k) else Faulty f'')) → ⊥
@@ -130,7 +149,7 @@ record IsWrongFrom (n : ℕ) (r : Recorded) (left : List (List ℕ)) (line : ℕ
 
 wrong_from : (n : ℕ) (r : Recorded) (left : List (List ℕ)) (line : ℕ) → 1 ≤ n → IsJudged n r left (Wrong line) → IsWrongFrom n r left line
 wrong_from n r [] line some h = absurd h
-wrong_from n r (rest ∷ []) line some h = absurd (not_wrong (is_full n) (is_empty rest) (nat_eq n 0) (n - 1) line _ _ _ h)
+wrong_from n r (rest ∷ []) line some h = absurd (not_wrong (is_full n) (is_empty rest) (nat_eq n 0) (n - 1) line _ _ _ (h ∙ end_cases n rest))
 wrong_from n r (first ∷ next ∷ more) line some (inl (inl faulty)) = let is : Wrong line ≡ Faulty _ = faulty.1.2 in absurd (cc is)
 wrong_from n r (first ∷ next ∷ more) line some (inl (inr (inr full))) = let is : Wrong line ≡ Faulty too_long = full.1 in absurd (cc is)
 wrong_from n r (first ∷ next ∷ more) line some (inl (inr (inl wrong))) =
@@ -221,7 +240,7 @@ below_full n h = elim (leb_tells 4294967295 n) [ inl full ↦ absurd (true≢fal
 legal_from : (n : ℕ) (r : Recorded) (left : List (List ℕ)) (k : ℕ) → 1 ≤ n → n ≤ 4294967295 → IsJudged n r left (Legal k) → IsLegalFrom n r left k
 legal_from n r [] k some few h = absurd h
 legal_from n r (rest ∷ []) k some few h =
-    let is = if_legal (is_full n) (is_empty rest) (nat_eq n 0) (n - 1) k _ _ _ h in
+    let is = if_legal (is_full n) (is_empty rest) (nat_eq n 0) (n - 1) k _ _ _ (h ∙ end_cases n rest) in
     let same = is.1 in record {
       lines = [];
       split = ap (λ (bytes : List ℕ). bytes ∷ []) (nothing_left rest is.0);
@@ -296,6 +315,7 @@ from_legal : (n : ℕ) (r end : Recorded) (lines : List (List ℕ)) (entries : L
     → RecordedRuns any_allocator r entries end → IsJudged n r (lines ++ [] ∷ []) (Legal (length entries + n - 1))
 from_legal n r end [] [] some few are run =
     ap (λ (k : ℕ). Legal k) (omega arith) ∙ ends_legal (is_full n) (nat_eq n 0) (n - 1) too_long (fault_at 1 _) not_none
+    ∙ sym (end_cases n [])
   where
     not_none : nat_eq n 0 ≡ false
     not_none = elim (eqb_tells n 0) [ inl none ↦ (let is = none.1 in absurd (omega (arith, is, some))) | inr other ↦ other.0 ]

@@ -17,9 +17,10 @@ use Rattle.mesh_fields.specs.Lines.{text_lines}
 use Rattle.mesh_fields.proofs.KeptLines.{Kept, Long, Whole, both_unended, kept_of, none_kept, rest_too_long}
 use Rattle.mesh_fields.proofs.Splits.{Parts, first_line, some_part, unended_more}
 use Rattle.mesh_history.specs.HistoryFiles.{entry_in}
+use Rattle.mesh_history.specs.Readings.{OfEntry, is_full, line_in, long_line as too_long_line, too_long}
 use Rattle.mesh_job.specs.declared.faults.ReadFault.{ReadFault}
 use Rattle.mesh_job.specs.declared.faults.ReadFault.TheVariants.{Text, Memory as OfMemory}
-use Rattle.mesh_check.specs.Outcomes.{Faulty, HasFault, IsJudged, IsStopLine, IsTakenLine, OfEntry, Outcome, Stops, Takes, Wrong, end_of, is_full, line_in, outcome_of, long_line as too_long_line, too_long}
+use Rattle.mesh_check.specs.Outcomes.{Faulty, HasFault, IsJudged, IsStopLine, IsTakenLine, Outcome, Stops, Takes, Wrong, end_of, ended, outcome_of}
 use Rattle.mesh_check.specs.Pieces.{Closes, ClosesIn, Ends, EndsIn, HasOutcome, Leads}
 use Rattle.mesh_check.specs.Stands.{Stands}
 use Rattle.mesh_check.specs.declared.lines.Judge.{Judge}
@@ -307,7 +308,7 @@ long_told : (lines : ℕ) (kept : List ℕ) → 1024 < length kept → Faulty (t
 long_told lines [] over = absurd (omega (arith, over))
 long_told lines (b ∷ bs) over = rw (le-leb 1025 (length (b ∷ bs)) (omega (arith, over))) (go (is_full lines))
   where
-    go : (full : Bool) → Faulty (if full then too_long else fault_at (lines + 1) LongLine) ≡ (if full then Faulty too_long else Faulty (fault_at (lines + 1) LongLine))
+    go : (full : Bool) → Faulty (if full then too_long else fault_at (lines + 1) LongLine) ≡ ended lines (if full then Some too_long else Some (fault_at (lines + 1) LongLine))
     go true = refl
     go false = refl
 

@@ -1,15 +1,11 @@
 -- What is found of a text: whether it is a recorded history, and where not.
-use Rattle.std.specs.Prelude.{◌≡◌, ◌⊎◌, ℕ, ◌+◌, ◌-◌, Bool, true, false, if◌then◌else◌, nat_eq, nat_le, nat_lt, List, [], ◌∷◌, Result, Ok, Err, length}
-use Rattle.model_jobs.specs.JobFiles.{fault_at, is_empty}
-use Rattle.model_memory.specs.Plain.{Entry}
+use Rattle.std.specs.Prelude.{◌≡◌, ◌⊎◌, ℕ, ◌+◌, ◌-◌, true, false, List, [], ◌∷◌, Option, Some, None, Ok, Err}
+use Rattle.model_jobs.specs.JobFiles.{fault_at}
 use Rattle.model_history.specs.Recorded.{Recorded, RecordedStep, any_allocator, nothing_recorded}
-use Rattle.model_words.specs.Words.{◌>>=◌}
 use Rattle.model_words.specs.declared.faults.FaultKind.{FaultKind}
-use Rattle.model_words.specs.declared.faults.FaultKind.TheVariants.{Cut, LongLine, TooLong}
 use Rattle.model_words.specs.declared.faults.TextFault.{TextFault}
-use Rattle.mesh_fields.specs.KeptLines.{rest_fault}
 use Rattle.mesh_fields.specs.Lines.{text_lines}
-use Rattle.mesh_history.specs.HistoryFiles.{entry_in, head_in}
+use Rattle.mesh_history.specs.Readings.{Head, LineRead, OfEntry, end_fault, is_full, line_in, too_long}
 use Rattle.mesh_job.specs.declared.faults.ReadFault.{ReadFault}
 use Rattle.mesh_job.specs.declared.faults.ReadFault.TheVariants.{Text, Memory as OfMemory}
 use Rattle.mesh_check.specs.Stands.{Stands}
@@ -28,27 +24,10 @@ abbrev pub outcome_of : Verdict → Outcome
 outcome_of (IsLegal entries) = Legal entries
 outcome_of (IsWrong line reason) = Wrong line
 
--- what a line is read as: the head of a history, or an entry
-pub data LineRead : Type 0 where
-  Head : LineRead
-  OfEntry : Entry → LineRead
-
--- what a line is read as that has so many before it: the first is the head
-abbrev pub line_in : ℕ → List ℕ → Result LineRead FaultKind
-line_in lines line = if nat_eq lines 0 then (head_in line >>= λ _. Ok Head) else (entry_in line >>= λ entry. Ok (OfEntry entry))
-
 -- from here the line leads there: the head changes nothing, an entry is a recorded step
 abbrev pub LeadsTo : Recorded → LineRead → Recorded → Type 0
 LeadsTo r Head n = n ≡ r
 LeadsTo r (OfEntry entry) n = RecordedStep any_allocator r entry.command entry.reply n
-
--- so many lines are all that a history may have
-abbrev pub is_full : ℕ → Bool
-is_full lines = nat_le 4294967295 lines
-
--- the fault of a text that has more
-abbrev pub too_long : TextFault
-too_long = fault_at 0 TooLong
 
 -- behind so many lines a line is taken
 abbrev pub IsTakenLine : ℕ → Recorded → List ℕ → Recorded → Type 0
@@ -66,15 +45,14 @@ IsWrongLine lines r line o = (is_full lines ≡ false) × ((read : LineRead) × 
 abbrev pub IsStopLine : ℕ → Recorded → List ℕ → Outcome → Type 0
 IsStopLine lines r line o = IsFaultyLine lines r line o ⊎ (IsWrongLine lines r line o ⊎ ((is_full lines ≡ true) × (o ≡ Faulty too_long)))
 
--- the fault of a line behind so many that is too long
-abbrev pub long_line : ℕ → TextFault
-long_line lines = if is_full lines then too_long else fault_at (lines + 1) LongLine
+-- what is found where a text ends behind so many lines, all of them entries but the first: it is legal where it has no fault there
+abbrev pub ended : ℕ → Option TextFault → Outcome
+ended lines None = Legal (lines - 1)
+ended lines (Some fault) = Faulty fault
 
--- what is found where a text ends with these bytes behind its last line end: a fault, where there are some, or where there is no line
+-- what is found where a text ends with these bytes behind its last line end
 abbrev pub end_of : ℕ → List ℕ → Outcome
-end_of lines rest =
-    if is_full lines then (if is_empty rest then Legal (lines - 1) else Faulty too_long)
-    else (if is_empty rest then (if nat_eq lines 0 then Faulty (fault_at 1 Cut) else Legal (lines - 1)) else Faulty (fault_at (lines + 1) (rest_fault rest)))
+end_of lines rest = ended lines (end_fault lines rest)
 
 -- what is found of the lines that are left, the last of which is what follows the last line end
 abbrev pub IsJudged : ℕ → Recorded → List (List ℕ) → Outcome → Type 0

@@ -2,9 +2,10 @@
 ghost use Rattle.std.specs.Prelude.{◌≡◌, ◌^◌, ◌-◌, ◌<◌, ◌≤◌, IfErr, IfOk, IfSome, IsNone, OnOk};
 ghost use Rattle.model_history.specs.Recorded.{any_allocator, nothing_recorded};
 ghost use Rattle.model_jobs.specs.JobFiles.{fault_at};
+ghost use Rattle.mesh_history.specs.Readings.{too_long};
 ghost use Rattle.mesh_check.specs.Stands.{Stands};
-ghost use Rattle.mesh_check.specs.Outcomes.{HasFault, Stops, Takes, outcome_of, too_long};
 ghost use Rattle.mesh_check.specs.Reasons.{HasTold};
+ghost use Rattle.mesh_check.specs.Outcomes.{HasFault, Stops, Takes, outcome_of};
 
 use crate::memory::Tracked;
 use crate::verdicts::Verdict;

@@ -2,7 +2,8 @@
 ghost use Rattle.std.specs.Prelude.{◌≡◌, ◌≤◌, ◌++◌, [], ◌∷◌, IfErr, IfOk, IfSome, IsNone, OnOk, length, take};
 ghost use Rattle.model_history.specs.Recorded.{any_allocator, nothing_recorded};
 ghost use Rattle.mesh_fields.specs.KeptLines.{IsUnended};
-ghost use Rattle.mesh_check.specs.Outcomes.{end_of, long_line, outcome_of};
+ghost use Rattle.mesh_history.specs.Readings.{long_line};
+ghost use Rattle.mesh_check.specs.Outcomes.{end_of, outcome_of};
 ghost use Rattle.mesh_check.specs.Pieces.{Closes, ClosesIn, Ends, EndsIn, IsAt, IsSound, Leads, HasOutcome};
 
 use crate::lines::{Judge, fault_at, too_long};

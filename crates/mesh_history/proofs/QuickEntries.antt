@@ -1,16 +1,16 @@
 -- The line of an entry that is spelt field by field, and what it is read as.
-use Rattle.std.proofs.Common.{◌≡◌, ℕ, ◌+◌, ◌*◌, ◌%◌, ◌^◌, ◌<◌, ◌≤◌, ◌&&◌, true, false, nat_eq, nat_lt, List, [], ◌∷◌, ◌++◌, Ok, length, ap, append_assoc, length-append, refl, sym, ◌∙◌, arith}
+use Rattle.std.proofs.Common.{◌≡◌, ℕ, ◌+◌, ◌*◌, ◌%◌, ◌^◌, ◌<◌, ◌≤◌, ◌&&◌, true, false, nat_eq, List, [], ◌∷◌, ◌++◌, Ok, length, ap, append_assoc, length-append, refl, sym, ◌∙◌, arith}
 use Rattle.std.specs.Prelude.{codes}
 use Rattle.std.specs.Fmt.{decimal}
 use Rattle.std.specs.List.{All, list_all}
 use Rattle.std.proofs.lemmas.Bool.Decides.{nat_tests}
-use Rattle.std.proofs.lemmas.Bool.{and_parts, le-leb, lt-leb, ne_eqb}
+use Rattle.std.proofs.lemmas.Bool.{and_parts, le-leb, ne_eqb}
 use Rattle.std.proofs.lemmas.Fmt.{decimal_by_steps}
 use Rattle.std.proofs.lemmas.List.Elements.{All-cons, All-nil}
 use Rattle.std.proofs.lemmas.List.Folds.{list_all-append}
 use Rattle.std.proofs.lemmas.List.Splits.{slice_split_at, slice_split_none}
 use Rattle.model_jobs.proofs.Fields.{AreWithin, between_by_test, decimal_short, decimal_within, hex_within, number_back, same_bytes, value_of_hex, within_append, within_by_test}
-use Rattle.model_jobs.specs.JobFiles.{are_same, is_between, is_empty, is_printable, number_in, word_in}
+use Rattle.model_jobs.specs.JobFiles.{is_between, is_empty, is_printable, number_in, word_in}
 use Rattle.model_jobs.specs.Texts.{hex_from}
 use Rattle.model_words.specs.declared.commands.Command.TheVariants.{New, Free, Alias}
 use Rattle.model_words.specs.declared.commands.Reply.TheVariants.{Object as Made, Done}

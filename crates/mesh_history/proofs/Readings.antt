@@ -1,13 +1,10 @@
 -- What is read of a text that comes in pieces.
-use Rattle.std.proofs.Common.{◌≡◌, ℕ, ◌+◌, ◌-◌, ◌<◌, ◌≤◌, Bool, true, false, nat_eq, List, [], ◌∷◌, ◌++◌, append-nil, append_assoc, length, length-append, ap, refl, sym, subst, ◌∙◌, arith, inl, inr, Option, Some, None, Result, Ok, Err, if◌then◌else◌}
-use Rattle.std.specs.Prelude.{IfErr, IfOk, IfSome, IsErrAnd, IsNone}
+use Rattle.std.proofs.Common.{◌≡◌, ℕ, ◌+◌, ◌-◌, ◌<◌, ◌≤◌, Bool, true, false, nat_eq, List, [], ◌∷◌, ◌++◌, append-nil, append_assoc, length, length-append, ap, refl, sym, subst, ◌∙◌, arith, inl, inr, Option, Some, None, Result, Ok, Err}
+use Rattle.std.specs.Prelude.{IfErr, IfOk, IsErrAnd, IsNone}
 use Rattle.std.proofs.lemmas.Bool.{le-leb, ne_eqb}
 use Rattle.std.proofs.lemmas.Bool.Decides.{leb_tells}
 use Rattle.std.proofs.lemmas.List.Splits.{slice_split_at, slice_split_none}
-use Rattle.model_jobs.specs.JobFiles.{fault_at}
-use Rattle.model_memory.specs.Plain.{Entry}
 use Rattle.model_words.specs.Commands.{IsInRange}
-use Rattle.model_words.specs.declared.faults.FaultKind.TheVariants.{LongLine}
 use Rattle.model_words.specs.declared.faults.TextFault.{TextFault}
 use Rattle.mesh_fields.specs.Commands.{plain_command}
 use Rattle.mesh_fields.specs.KeptLines.{IsUnended}
@@ -16,10 +13,9 @@ use Rattle.mesh_fields.proofs.KeptLines.{both_unended, rest_too_long}
 use Rattle.mesh_fields.proofs.Splits.{Parts, first_line, some_part, unended_more}
 use Rattle.mesh_job.specs.declared.faults.ReadFault.{ReadFault}
 use Rattle.mesh_job.specs.declared.faults.ReadFault.TheVariants.{Text, Memory as OfMemory}
-use Rattle.mesh_history.specs.HistoryFiles.{entry_in}
 use Rattle.mesh_history.specs.QuickEntries.{IsQuickEntry}
 use Rattle.mesh_history.specs.Readers.{HasFault, HasRead, HasTaken, IfRead, IsFaultOf, begun_of, lines_of, next_line, reading_behind}
-use Rattle.mesh_history.specs.Readings.{Head, LineRead, OfEntry, Reading, end_fault, ends_with, is_full, line_in, long_line, next_in, read_on, reading_from, too_long, with_entry}
+use Rattle.mesh_history.specs.Readings.{Head, LineRead, OfEntry, Reading, end_fault, ends_with, is_full, long_line, next_in, read_on, reading_from, with_entry}
 use Rattle.mesh_history.specs.RecordedWords.{IsNarrow, plain_entry}
 use Rattle.mesh_history.specs.declared.reading.EntryReader.{EntryReader}
 use Rattle.mesh_history.specs.declared.words.RecordedEntry.{RecordedEntry}
@@ -83,6 +79,13 @@ line_faulty old last (Text fault) unended read = λ more.
     read_line (lines_of old) (begun_of old) last more old.begun.unended unended
     ∙ ap (λ (line : Result LineRead TextFault). read_on line (reading_from (lines_of old + 1) (text_lines more))) read
 line_faulty old last OfMemory unended read = tt
+
+-- a line whose reading has a fault, which is handed on
+pub line_stops : {T : Type 0} (result : Result T ReadFault) (old : EntryReader) (last : List ℕ) (fault : ReadFault) (read : Result LineRead TextFault) → IsUnended last
+    → IsErrAnd result (λ e. e ≡ fault) → read ≡ next_in (lines_of old) (begun_of old ++ last) → IsFaultOf read fault → IfErr result (HasFault old (last ++ 10 ∷ []))
+line_stops (Ok x) old last fault read unended same line is = absurd same
+line_stops (Err e) old last fault read unended same line is =
+    subst (HasFault old (last ++ 10 ∷ [])) (sym same) (line_faulty old last fault unended (subst (λ (r : Result LineRead TextFault). IsFaultOf r fault) line is))
 
 -- a line that was kept
 pub next_kept : (old mid : EntryReader) (last line : List ℕ) → begun_of mid ≡ begun_of old ++ last → lines_of mid ≡ lines_of old → line ≡ begun_of mid

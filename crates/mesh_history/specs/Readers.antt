@@ -1,5 +1,5 @@
 -- The entries of a text that comes in pieces: whatever follows, what is read from the new place on is what is left to read from the old one.
-use Rattle.std.specs.Prelude.{◌≡◌, ℕ, ◌+◌, ◌<◌, if◌then◌else◌, nat_eq, List, [], ◌++◌, Option, Some, Result, Ok, Err, IfOk, IfSome, length}
+use Rattle.std.specs.Prelude.{◌≡◌, ℕ, ◌+◌, ◌<◌, if◌then◌else◌, nat_eq, List, [], ◌++◌, Option, Some, Result, Err, IfOk, IfSome, length}
 use Rattle.model_words.specs.Commands.{IsInRange}
 use Rattle.model_words.specs.declared.faults.TextFault.{TextFault}
 use Rattle.mesh_fields.specs.Commands.{plain_command}

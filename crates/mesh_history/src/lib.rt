@@ -1,6 +1,8 @@
 //! The lines of a recorded history: commands and answers of any allocator, read.
 //!
-//! Cells, lengths and addresses have wider ranges than in a job file. A contract sees what was read as commands and replies of the plain memory.
+//! Cells, lengths and addresses have wider ranges than in a job file. `read_head` and `read_entry` read one line, and `quick_entry` a common one
+//! in one pass over the text. An `EntryReader` gives the entries of a text that comes in pieces. A contract sees what was read as commands and
+//! replies of the plain memory.
 #![tactic(auto)]
 
 mod begun;

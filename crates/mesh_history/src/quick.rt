@@ -33,6 +33,14 @@ fn wide(text: &[u8], end: u8) -> Option<(u32, &[u8])>
     number(text, 0, u32::MAX, end)
 }
 
+/// The bytes behind `-> done` and the line's end.
+#[inline]
+fn behind_done(text: &[u8]) -> Option<&[u8]>
+    ensures { IfSome result (λ rest. text.now ≡ codes "-> done" ++ 10 ∷ rest.now) }
+{
+    behind_all(text, b"-> done\n")
+}
+
 /// `CELL LEN WORD -> object SERIAL at ADDR` of a `new`
 fn new_of(worker: u32, fields: &[u8]) -> Option<(RecordedEntry, &[u8])>
     requires { worker ≤ 65535 }
@@ -57,7 +65,7 @@ fn free_of(worker: u32, fields: &[u8]) -> Option<(RecordedEntry, &[u8])>
     ensures { IfSome result (λ read. IsQuickEntry (decimal worker ++ 32 ∷ (codes "free " ++ fields.now)) read.0 read.1.now) }
 {
     let (of, rest) = wide(fields, b' ')?;
-    let rest = behind_all(rest, b"-> done\n")?;
+    let rest = behind_done(rest)?;
     let entry = RecordedEntry {
         worker,
         command: SpeltCommand::Free(of),
@@ -73,7 +81,7 @@ fn alias_of(worker: u32, fields: &[u8]) -> Option<(RecordedEntry, &[u8])>
 {
     let (to, rest) = wide(fields, b' ')?;
     let (from, rest) = wide(rest, b' ')?;
-    let rest = behind_all(rest, b"-> done\n")?;
+    let rest = behind_done(rest)?;
     let entry = RecordedEntry {
         worker,
         command: SpeltCommand::Alias(to, from),

@@ -1,7 +1,8 @@
 use Rattle.std.proofs.Common.{◌<◌, ◌++◌, ◌∷◌, [], ℕ, List, length, arith, refl, sym, subst}
+use Rattle.mesh_fields.proofs.KeptLines.{cut_unended, rest_unended}
 use Rattle.mesh_check.specs.Outcomes.{outcome_of}
 use Rattle.mesh_check.specs.Pieces.{Ends, EndsIn, Leads}
-use Rattle.mesh_check.proofs.LineEnds.{cut_piece, cut_unended, ends_early, ends_in_early, ends_in_on, ends_on, handed_on, leads_on, long_fault, none_is, none_leads, rest_unended, some_holds}
+use Rattle.mesh_check.proofs.LineEnds.{cut_piece, ends_early, ends_in_early, ends_in_on, ends_on, handed_on, leads_on, long_fault, none_is, none_leads, some_holds}
 use Rattle.mesh_check.proofs.pieces.Judging.take.Goals as goal
 
 pub end_line-requires-clause-unended : goal.end_line-requires-clause-unended

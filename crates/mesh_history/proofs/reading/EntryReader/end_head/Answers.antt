@@ -1,18 +1,15 @@
-use Rattle.std.proofs.Common.{◌≡◌, ◌++◌, ◌∷◌, [], List, Ok, Result, ℕ, ap, rules, refl, sym, subst, ◌∙◌}
-use Rattle.model_words.specs.declared.faults.TextFault.{TextFault}
-use Rattle.mesh_history.specs.Readers.{HasFault, IsFaultOf, begun_of, lines_of}
-use Rattle.mesh_history.specs.Readings.{LineRead, next_in}
-use Rattle.mesh_history.proofs.Readings.{handed_on, head_ended, line_faulty, next_kept, next_whole}
+use Rattle.std.proofs.Common.{◌≡◌, [], ℕ, ap, rules, refl, sym, ◌∙◌}
+use Rattle.mesh_history.specs.Readers.{begun_of}
+use Rattle.mesh_history.specs.Readings.{next_in}
+use Rattle.mesh_history.proofs.Readings.{head_ended, line_stops, next_kept, next_whole}
 use Rattle.mesh_history.proofs.reading.EntryReader.end_head.Goals as goal
 
 pub returns-in_err-head_at-clause-fault : goal.returns-in_err-head_at-clause-fault
 returns-in_err-head_at-clause-fault c =
     let none : begun_of c.args.self.now ≡ [] = search rules in
-    let fault = c.in_err-head_at.field-0.0 in
     let line = ap (λ (n : ℕ). next_in n c.args.last.now) (sym c.requires.first) ∙ next_whole c.args.self.now c.args.last.now none in
-    handed_on c.from_residual.result fault (HasFault c.args.self.now (c.args.last.now ++ 10 ∷ [])) c.from_residual.ensures.1
-    (line_faulty c.args.self.now c.args.last.now fault c.requires.unended
-    (subst (λ (read : Result LineRead TextFault). IsFaultOf read fault) line c.in_err-head_at.ensures.fault))
+    line_stops c.from_residual.result c.args.self.now c.args.last.now c.in_err-head_at.field-0.0 _ c.requires.unended c.from_residual.ensures.1 line
+    c.in_err-head_at.ensures.fault
 
 pub returns-then-is_empty-clause-taken : goal.returns-then-is_empty-clause-taken
 returns-then-is_empty-clause-taken c =
@@ -22,12 +19,10 @@ returns-then-is_empty-clause-taken c =
 
 pub returns-in_err-head_at-2-clause-fault : goal.returns-in_err-head_at-2-clause-fault
 returns-in_err-head_at-2-clause-fault c =
-    let fault = c.in_err-head_at-2.field-0.0 in
     let kept = next_kept c.args.self.now c.keep.new.self c.args.last.now c.as_slice.result.now c.in_ok-keep.ensures.begun c.in_ok-keep.ensures.lines c.as_slice.ensures in
     let line = ap (λ (n : ℕ). next_in n c.as_slice.result.now) (sym (c.in_ok-keep.ensures.lines ∙ c.requires.first)) ∙ kept in
-    handed_on c.from_residual-in_err-head_at-2.result fault (HasFault c.args.self.now (c.args.last.now ++ 10 ∷ [])) c.from_residual-in_err-head_at-2.ensures.1
-    (line_faulty c.args.self.now c.args.last.now fault c.requires.unended
-    (subst (λ (read : Result LineRead TextFault). IsFaultOf read fault) line c.in_err-head_at-2.ensures.fault))
+    line_stops c.from_residual-in_err-head_at-2.result c.args.self.now c.args.last.now c.in_err-head_at-2.field-0.0 _ c.requires.unended
+    c.from_residual-in_err-head_at-2.ensures.1 line c.in_err-head_at-2.ensures.fault
 
 pub returns-clause-taken : goal.returns-clause-taken
 returns-clause-taken c =
