@@ -1,3 +1,5 @@
 pub mod Arrows
+pub mod HistoryInputs
+pub mod Pendings
 pub mod QuickEntries
 pub mod Readings

@@ -14,7 +14,7 @@ use Rattle.mesh_fields.proofs.Splits.{Parts, first_line, some_part, unended_more
 use Rattle.mesh_job.specs.declared.faults.ReadFault.{ReadFault}
 use Rattle.mesh_job.specs.declared.faults.ReadFault.TheVariants.{Text, Memory as OfMemory}
 use Rattle.mesh_history.specs.QuickEntries.{IsQuickEntry}
-use Rattle.mesh_history.specs.Readers.{HasFault, HasRead, HasTaken, IfRead, IsFaultOf, begun_of, lines_of, next_line, reading_behind}
+use Rattle.mesh_history.specs.Readers.{HasFault, HasRead, HasTaken, IfRead, IsFaultOf, begun_of, bytes_left, lines_of, next_line, reading_behind}
 use Rattle.mesh_history.specs.Readings.{Head, LineRead, OfEntry, Reading, end_fault, ends_with, is_full, long_line, next_in, read_on, reading_from, with_entry}
 use Rattle.mesh_history.specs.RecordedWords.{IsNarrow, plain_entry}
 use Rattle.mesh_history.specs.declared.reading.EntryReader.{EntryReader}
@@ -55,10 +55,16 @@ entry_ended old new last entry unended read later lines begun in_range narrow = 
       ∙ ap (λ (behind : Reading). with_entry (plain_entry entry) behind) (at_line new (lines_of old + 1) more lines begun);
   line = lines ∙ later_line old later;
   begun = begun;
+  front = last ++ 10 ∷ [];
+  whole = sym (append-nil (last ++ 10 ∷ []));
   shorter = omega (arith, length-append last (10 ∷ []));
   in_range = in_range;
   narrow = narrow;
 }
+
+-- behind the first line fewer bytes are left than within it
+head_nearer : (old new : EntryReader) → lines_of old ≡ 0 → lines_of new ≡ 1 → begun_of new ≡ [] → bytes_left new < bytes_left old
+head_nearer old new first lines begun = rw (first, lines, begun) (omega arith)
 
 -- the first line ends
 pub head_ended : (old new : EntryReader) (last : List ℕ) → IsUnended last → next_in (lines_of old) (begun_of old ++ last) ≡ Ok Head → lines_of old ≡ 0
@@ -70,6 +76,8 @@ head_ended old new last unended read first lines begun =
           ∙ ap (λ (line : Result LineRead TextFault). read_on line (reading_from (lines_of old + 1) (text_lines more))) read
           ∙ at_line new (lines_of old + 1) more next begun;
       line = rw (first, lines) refl;
+      no_more = omega (arith, head_nearer old new first lines begun);
+      fewer = λ _. head_nearer old new first lines begun;
     }
 
 -- a line ends that has a fault
@@ -142,6 +150,8 @@ read_in_piece old new piece front rest entry read whole = record {
       ∙ read.reads (rest ++ more);
   line = read.line;
   begun = read.begun;
+  front = front;
+  whole = whole;
   shorter = omega (arith, read.shorter, ap (λ (bytes : List ℕ). length bytes) whole, length-append front rest);
   in_range = read.in_range;
   narrow = read.narrow;
@@ -172,6 +182,8 @@ taken_then_read old mid new piece front rest left entry taken whole read = recor
       ∙ taken.reads (rest ++ more) ∙ read.reads more;
   line = read.line ∙ taken.line;
   begun = read.begun;
+  front = front ++ read.front;
+  whole = whole ∙ ap (λ (bytes : List ℕ). front ++ bytes) read.whole ∙ sym (append_assoc front read.front left);
   shorter = omega (arith, read.shorter, ap (λ (bytes : List ℕ). length bytes) whole, length-append front rest);
   in_range = read.in_range;
   narrow = read.narrow;
@@ -183,6 +195,13 @@ taken_then_taken old mid new piece front rest taken whole later = record {
       ap (λ (bytes : List ℕ). reading_behind old (bytes ++ more)) whole ∙ ap (λ (bytes : List ℕ). reading_behind old bytes) (append_assoc front rest more)
       ∙ taken.reads (rest ++ more) ∙ later.reads more;
   line = later.line ∙ taken.line;
+  no_more = omega (arith, later.no_more, taken.no_more);
+  fewer = λ some.
+      let len : length piece ≡ length front + length rest = ap (λ (bytes : List ℕ). length bytes) whole ∙ length-append front rest in
+      elim (leb_tells 1 (length front)) [
+        | inl first ↦ omega (arith, taken.fewer first.1, later.no_more)
+        | inr none ↦ (let n = none.1 in omega (arith, later.fewer (omega (arith, n, len, some)), taken.no_more))
+      ];
 }
 
 pub taken_then_fault : (old mid : EntryReader) (piece front rest : List ℕ) (fault : ReadFault) → HasTaken old mid front → piece ≡ front ++ rest → HasFault mid rest fault

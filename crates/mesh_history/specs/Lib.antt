@@ -1,4 +1,6 @@
 pub mod HistoryFiles
+pub mod Inputs
+pub mod Pendings
 pub mod QuickEntries
 pub mod Readers
 pub mod Readings

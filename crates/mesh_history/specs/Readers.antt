@@ -1,5 +1,5 @@
 -- The entries of a text that comes in pieces: whatever follows, what is read from the new place on is what is left to read from the old one.
-use Rattle.std.specs.Prelude.{◌≡◌, ℕ, ◌+◌, ◌<◌, if◌then◌else◌, nat_eq, List, [], ◌++◌, Option, Some, Result, Err, IfOk, IfSome, length}
+use Rattle.std.specs.Prelude.{◌≡◌, ℕ, ◌+◌, ◌-◌, ◌<◌, ◌≤◌, if◌then◌else◌, nat_eq, List, [], ◌++◌, Option, Some, Result, Err, IfOk, IfSome, length}
 use Rattle.model_words.specs.Commands.{IsInRange}
 use Rattle.model_words.specs.declared.faults.TextFault.{TextFault}
 use Rattle.mesh_fields.specs.Commands.{plain_command}
@@ -28,11 +28,17 @@ next_line reader = if nat_eq (lines_of reader) 0 then 2 else lines_of reader + 1
 abbrev pub reading_behind : EntryReader → List ℕ → Reading
 reading_behind reader more = reading_from (lines_of reader) (text_lines (begun_of reader ++ more))
 
+-- how many more bytes a reader takes before an entry ends or it has a fault
+abbrev pub bytes_left : EntryReader → ℕ
+bytes_left reader = (if nat_eq (lines_of reader) 0 then 1025 else 0) + (1024 - length (begun_of reader))
+
 -- the next entry of a text was read of a piece, which leaves this rest
 pub record HasRead (old new : EntryReader) (piece : List ℕ) (entry : RecordedEntry) (rest : List ℕ) : Type 0 where
   pub reads : (more : List ℕ) → reading_behind old (piece ++ more) ≡ with_entry (plain_entry entry) (reading_behind new (rest ++ more))
   pub line : lines_of new ≡ next_line old
   pub begun : begun_of new ≡ []
+  pub front : List ℕ
+  pub whole : piece ≡ front ++ rest
   pub shorter : length rest < length piece
   pub in_range : IsInRange (plain_command entry.command)
   pub narrow : IsNarrow entry.reply
@@ -41,6 +47,8 @@ pub record HasRead (old new : EntryReader) (piece : List ℕ) (entry : RecordedE
 pub record HasTaken (old new : EntryReader) (piece : List ℕ) : Type 0 where
   pub reads : (more : List ℕ) → reading_behind old (piece ++ more) ≡ reading_behind new more
   pub line : next_line new ≡ next_line old
+  pub no_more : bytes_left new ≤ bytes_left old
+  pub fewer : 1 ≤ length piece → bytes_left new < bytes_left old
 
 -- no entry is read where the piece follows, but this fault; where memory was refused nothing is said
 abbrev pub HasFault : EntryReader → List ℕ → ReadFault → Type 0

@@ -1,5 +1,5 @@
 -- What is read of the text of a recorded history: its entries up to the first fault, and that fault.
-use Rattle.std.specs.Prelude.{ℕ, ◌+◌, Bool, if◌then◌else◌, nat_eq, nat_le, List, [], ◌∷◌, Option, Some, None, Result, Ok, Err}
+use Rattle.std.specs.Prelude.{ℕ, ◌+◌, Bool, if◌then◌else◌, nat_eq, nat_le, List, [], ◌∷◌, ◌++◌, Option, Some, None, Result, Ok, Err}
 use Rattle.model_jobs.specs.JobFiles.{fault_at, is_empty, or_fault}
 use Rattle.model_memory.specs.Plain.{Entry}
 use Rattle.model_words.specs.Words.{◌>>=◌}
@@ -49,6 +49,10 @@ ends_with fault = record { entries = []; fault = fault }
 -- an entry, and what is read behind it
 abbrev pub with_entry : Entry → Reading → Reading
 with_entry entry later = record { entries = entry ∷ later.entries; fault = later.fault }
+
+-- entries, and what is read behind them
+abbrev pub with_entries : List Entry → Reading → Reading
+with_entries entries later = record { entries = entries ++ later.entries; fault = later.fault }
 
 -- what the next line is read as behind so many, or the fault of the text there
 abbrev pub next_in : ℕ → List ℕ → Result LineRead TextFault

@@ -1,12 +1,14 @@
 //! The lines of a recorded history: commands and answers of any allocator, read.
 //!
 //! Cells, lengths and addresses have wider ranges than in a job file. `read_head` and `read_entry` read one line, and `quick_entry` a common one
-//! in one pass over the text. An `EntryReader` gives the entries of a text that comes in pieces. A contract sees what was read as commands and
-//! replies of the plain memory.
+//! in one pass over the text. An `EntryReader` gives the entries of a text that comes in pieces, and a `HistoryInput` those of a device. A contract
+//! sees what was read as commands and replies of the plain memory.
 #![tactic(auto)]
 
 mod begun;
 mod entries;
+mod inputs;
+mod pending;
 mod quick;
 mod reading;
 mod refusals;
@@ -14,6 +16,7 @@ mod replies;
 mod words;
 
 pub use entries::{read_entry, read_head};
+pub use inputs::HistoryInput;
 pub use mesh_fields::commands::SpeltCommand;
 pub use quick::quick_entry;
 pub use reading::EntryReader;

@@ -158,6 +158,7 @@ impl EntryReader {
     /// The fault of a text that ends here: CUT where it ends in a line or before its first, and TOO_LONG where it ends in one line too many.
     pub fn finish(&self) -> Result<(), TextFault>
         ensures ok { OnOk result (reading_behind self.now [] ≡ ends_with None) }
+        ensures some { OnOk result (1 ≤ lines_of self.now) }
         ensures fault { IfErr result (λ fault. reading_behind self.now [] ≡ ends_with (Some fault)) }
     {
         match end_fault(self.lines, self.begun.as_slice()) {

@@ -1,0 +1,99 @@
+//! The entries of the history that a device gives.
+ghost use Rattle.std.specs.Prelude.{◌≡◌, ◌<◌, ◌≤◌, ◌∷◌, ◌++◌, ℕ, List, Option, Err, [], false, true, IfErr, IfOk, IfSome, IsNone, OnOk};
+ghost use Rattle.model_memory.specs.Plain.{Entry};
+ghost use Rattle.model_words.specs.Commands.{IsInRange};
+ghost use Rattle.mesh_devices.specs.declared.faults.ReplayError.{ReplayError};
+ghost use Rattle.mesh_fields.specs.Commands.{plain_command};
+ghost use Rattle.mesh_history.specs.Inputs.{EndsWithFault, HasCome, HasEnded, HasStopped, IsFault, IsFresh, IsNext, IsUsedUp, MayEnd, lines_before};
+ghost use Rattle.mesh_history.specs.RecordedWords.{IsNarrow, plain_entry};
+
+use crate::pending::Pending;
+use crate::{EntryReader, RecordedEntry};
+use mesh_devices::{ReplayError, Source};
+use mesh_job::ReadFault;
+use std::alloc::{AllocError, Global};
+
+/// A recorded history that comes from a device, of which a beginning was read.
+#[derive(Drop)]
+pub struct HistoryInput {
+    /// What was read of the bytes so far.
+    reader: EntryReader,
+    /// The bytes at which nobody looked yet.
+    pending: Pending,
+}
+
+impl HistoryInput {
+    /// A history of which nothing was read, with the memory for one read. An error is an allocation failure.
+    pub fn new(alloc: Global) -> Result<HistoryInput, AllocError>
+        ensures { IfOk result IsFresh }
+    {
+        Ok(HistoryInput {
+            reader: EntryReader::new(alloc),
+            pending: Pending::new(alloc)?,
+        })
+    }
+
+    /// How many lines were taken: the line number of the entry that came last, from 1.
+    pub fn lines(&self) -> u32
+        ensures { result ≡ lines_before self.now }
+    {
+        self.reader.lines()
+    }
+
+    /// The next entry of the history that the input gives. None at its end.
+    ///
+    /// Errors: Text if a line has a fault, or the text ends in a line; Read exactly if the input failed; Memory if an
+    /// allocation failed. Write is never returned. The history is of no use behind an error.
+    pub fn next<I: Source>(&mut self, input: &mut I) -> Result<Option<RecordedEntry>, ReplayError>
+        requires { I.has_failed input.old ≡ false }
+        ensures ok { OnOk result (I.has_failed input.new ≡ false) }
+        ensures entry { (left : Option (List ℕ)) (entries : List Entry) → HasCome self.old left (I.remaining input.old) entries
+            → IfOk result (λ next. IfSome next (λ entry. HasCome self.new left (I.remaining input.new) (entries ++ plain_entry entry ∷ []))) }
+        ensures later { IfOk result (λ next. IfSome next (λ _. lines_before self.old < lines_before self.new)) }
+        ensures in_range { IfOk result (λ next. IfSome next (λ entry. IsInRange (plain_command entry.command))) }
+        ensures narrow { IfOk result (λ next. IfSome next (λ entry. IsNarrow entry.reply)) }
+        ensures ended { (left : Option (List ℕ)) (entries : List Entry) → HasCome self.old left (I.remaining input.old) entries
+            → IfOk result (λ next. IsNone next → HasEnded self.new left (I.remaining input.new) entries) }
+        ensures fault { (left : Option (List ℕ)) (entries : List Entry) → HasCome self.old left (I.remaining input.old) entries
+            → IfErr result (HasStopped left (I.remaining input.new) entries) }
+        ensures read { result ≡ Err ReplayError.Read → I.has_failed input.new ≡ true }
+        ensures failed { I.has_failed input.new ≡ true → result ≡ Err ReplayError.Read }
+    {
+        loop {
+            if let Some(entry) = self.take()? {
+                return Ok(Some(entry));
+            }
+            if !self.pending.read(input)? {
+                self.finish()?;
+                return Ok(None);
+            }
+        }
+    }
+
+    /// The next entry of the bytes that were read. None if they are used up.
+    fn take(&mut self) -> Result<Option<RecordedEntry>, ReadFault>
+        ensures entry { IfOk result (λ next. IfSome next (IsNext self.old self.new)) }
+        ensures used_up { IfOk result (λ next. IsNone next → IsUsedUp self.old self.new) }
+        ensures fault { IfErr result (IsFault self.old) }
+    {
+        let Some((entry, rest)) = self.reader.next(self.pending.as_slice())? else {
+            self.pending.keep_last(0);
+            return Ok(None);
+        };
+        let left = rest.len();
+        self.pending.keep_last(left);
+        Ok(Some(entry))
+    }
+
+    /// Ends the history. An error is the fault of a text that ends here.
+    fn finish(&self) -> Result<(), ReplayError>
+        requires { self.now.pending ≡ [] }
+        ensures ok { OnOk result (MayEnd self.now) }
+        ensures fault { IfErr result (EndsWithFault self.now) }
+    {
+        match self.reader.finish() {
+            Ok(()) => Ok(()),
+            Err(fault) => Err(ReplayError::Text(fault)),
+        }
+    }
+}
