@@ -5,7 +5,7 @@ use Rattle.model_memory.specs.Memory.{Memory}
 use Rattle.model_memory.specs.Plain.{Follows, plain}
 use Rattle.model_history.specs.Recorded.{Recorded, RecordedStep, any_allocator}
 use Rattle.model_words.specs.declared.commands.Command.{Command}
-use Rattle.model_words.specs.declared.commands.Command.TheVariants.{New, Put, Get, Free, Alias, Addr, Peek, Poke, Copy as CopyBytes}
+use Rattle.model_words.specs.declared.commands.Command.TheVariants.{New}
 use Rattle.model_words.specs.declared.commands.Reply.{Reply}
 use Rattle.model_words.specs.declared.refusals.Refusal.{Refusal}
 use Rattle.mesh_check.specs.Judged.{IsAnswered, IsWrong, is_new}
@@ -13,7 +13,7 @@ use Rattle.mesh_check.specs.Reasons.{IsDifference, IsOnly, Tells, is_refusal}
 use Rattle.mesh_check.specs.Stands.{Stands, with_memory}
 use Rattle.mesh_check.specs.declared.memory.Tracked.{Tracked}
 use Rattle.mesh_check.specs.declared.reasons.Reason.{Reason}
-use Rattle.mesh_check.specs.declared.reasons.Reason.TheVariants.{Differs, NoObject, LiveRefused, SerialAgain, Overlaps}
+use Rattle.mesh_check.specs.declared.reasons.Reason.TheVariants.{Differs, NoObject, LiveRefused}
 
 -- a recorded step that is no `new` follows what the plain memory does
 step_follows : (r : Recorded) (command : Command) (reply : Reply) (n : Recorded) → is_new command ≡ false → RecordedStep any_allocator r command reply n

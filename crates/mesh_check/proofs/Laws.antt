@@ -17,7 +17,28 @@ use Rattle.mesh_history.specs.HistoryFiles.{entry_in, head_in}
 use Rattle.mesh_history.specs.Readings.{Head, LineRead, OfEntry, is_full, line_in, too_long}
 use Rattle.mesh_check.specs.Outcomes.{Faulty, IsJudged, IsStopLine, IsTakenLine, IsVerdict, LeadsTo, Legal, Outcome, Wrong, end_of, ended}
 use Rattle.mesh_check.specs.VerdictLaws.{AreEntries, IsFirstWrong, IsHistory}
-use Rattle.mesh_check.proofs.LineEnds.{judged_on, right_line}
+
+-- a line that is taken, and what is found behind it
+judged_on : (lines : ℕ) (r n : Recorded) (line : List ℕ) (later : List (List ℕ)) (o : Outcome) → Parts later → IsTakenLine lines r line n
+    → IsJudged (lines + 1) n later o → IsJudged lines r (line ∷ later) o
+judged_on lines r n line [] o some taken h = absurd (cc some.is)
+judged_on lines r n line (next ∷ later) o some taken h = inr (n, taken, h)
+
+-- a line that is an entry
+entry_line : (lines : ℕ) (line : List ℕ) (entry : Entry) → 1 ≤ lines → entry_in line ≡ Ok entry → line_in lines line ≡ Ok (OfEntry entry)
+entry_line lines line entry later read = elim (eqb_tells lines 0) [
+  | inl first ↦ let f = first.1 in absurd (omega (arith, f, later))
+  | inr other ↦ rw other.0 (rw read refl)
+]
+
+-- a history may have a line more
+not_full : (lines : ℕ) → lines < 4294967295 → is_full lines ≡ false
+not_full lines few = elim (leb_tells 4294967295 lines) [ inl many ↦ (let m = many.1 in absurd (omega (arith, m, few))) | inr not ↦ not.0 ]
+
+-- it is taken where it is a step
+right_line : (lines : ℕ) (r n : Recorded) (line : List ℕ) (entry : Entry) → 1 ≤ lines → lines < 4294967295 → entry_in line ≡ Ok entry
+    → RecordedStep any_allocator r entry.command entry.reply n → IsTakenLine lines r line n
+right_line lines r n line entry later few read step = (not_full lines few, (OfEntry entry, entry_line lines line entry later read, step))
 
 -- a line is read as one thing
 same_read : (lines : ℕ) (line : List ℕ) (read read' : LineRead) → line_in lines line ≡ Ok read → line_in lines line ≡ Ok read' → read ≡ read'
@@ -70,12 +91,12 @@ pub verdicts_are_one : (text : List ℕ) (o o' : Outcome) → IsVerdict text o �
 verdicts_are_one text o o' h h' = one_found 0 (nothing_recorded any_allocator) (text_lines text) o o' h h'
 
 -- a line behind the first is an entry
-record IsEntryLine (line : List ℕ) (read : LineRead) : Type 0 where
+pub record IsEntryLine (line : List ℕ) (read : LineRead) : Type 0 where
   pub entry : Entry
   pub is_entry : entry_in line ≡ Ok entry
   pub is_read : read ≡ OfEntry entry
 
-entry_of_read : (lines : ℕ) (line : List ℕ) (read : LineRead) → 1 ≤ lines → line_in lines line ≡ Ok read → IsEntryLine line read
+pub entry_of_read : (lines : ℕ) (line : List ℕ) (read : LineRead) → 1 ≤ lines → line_in lines line ≡ Ok read → IsEntryLine line read
 entry_of_read lines line read later h = elim (eqb_tells lines 0) [
   | inl first ↦ let f = first.1 in absurd (omega (arith, f, later))
   | inr other ↦ go (entry_in line) refl (rw other.0 at h)
@@ -86,7 +107,7 @@ entry_of_read lines line read later h = elim (eqb_tells lines 0) [
     go (Err kind) is same = absurd (cc same)
 
 -- the first is the head
-head_of_read : (line : List ℕ) (read : LineRead) → line_in 0 line ≡ Ok read → (head_in line ≡ Ok tt) × (read ≡ Head)
+pub head_of_read : (line : List ℕ) (read : LineRead) → line_in 0 line ≡ Ok read → (head_in line ≡ Ok tt) × (read ≡ Head)
 head_of_read line read h = go (head_in line) refl h
   where
     go : (r : Result (Unit {0}) FaultKind) → head_in line ≡ r → (r >>= λ _. Ok Head) ≡ Ok read → (head_in line ≡ Ok tt) × (read ≡ Head)

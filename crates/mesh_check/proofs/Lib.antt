@@ -1,9 +1,8 @@
 pub mod Commands
-pub mod InputReads
+pub mod Entries
 pub mod Judged
 mod Kept
 pub mod Laws
-pub mod LineEnds
 mod Overwritten
 pub mod Ranges
 pub mod ReasonTexts

@@ -5,7 +5,6 @@ pub mod Chunks
 pub mod Judged
 pub mod Objects
 pub mod Outcomes
-pub mod Pieces
 pub mod Reasons
 pub mod Stands
 pub mod VerdictLaws

@@ -6,10 +6,6 @@ use Rattle.model_words.specs.declared.faults.FaultKind.{FaultKind}
 use Rattle.model_words.specs.declared.faults.TextFault.{TextFault}
 use Rattle.mesh_fields.specs.Lines.{text_lines}
 use Rattle.mesh_history.specs.Readings.{Head, LineRead, OfEntry, end_fault, is_full, line_in, too_long}
-use Rattle.mesh_job.specs.declared.faults.ReadFault.{ReadFault}
-use Rattle.mesh_job.specs.declared.faults.ReadFault.TheVariants.{Text, Memory as OfMemory}
-use Rattle.mesh_check.specs.Stands.{Stands}
-use Rattle.mesh_check.specs.declared.lines.Judge.{Judge}
 use Rattle.mesh_check.specs.declared.verdicts.Verdict.{Verdict}
 use Rattle.mesh_check.specs.declared.verdicts.Verdict.TheVariants.{Legal as IsLegal, Wrong as IsWrong}
 
@@ -64,17 +60,3 @@ IsJudged lines r (line ∷ next ∷ more) o =
 -- this is found of a text
 abbrev pub IsVerdict : List ℕ → Outcome → Type 0
 IsVerdict text o = IsJudged 0 (nothing_recorded any_allocator) (text_lines text) o
-
--- wherever a judge stands, the line is taken, and the judge stands behind it
-abbrev pub Takes : Judge → Judge → List ℕ → Type 0
-Takes old new line =
-    (r : Recorded) → Stands old.memory r → (n : Recorded) × IsTakenLine old.lines r line n × Stands new.memory n × (new.lines ≡ old.lines + 1)
-
--- wherever a judge stands, this is found at the line
-abbrev pub Stops : Judge → List ℕ → Outcome → Type 0
-Stops judge line o = (r : Recorded) → Stands judge.memory r → IsStopLine judge.lines r line o
-
--- the fault is found at the line; where memory was refused nothing is said
-abbrev pub HasFault : Judge → List ℕ → ReadFault → Type 0
-HasFault judge line (Text fault) = Stops judge line (Faulty fault)
-HasFault judge line OfMemory = Unit {0}

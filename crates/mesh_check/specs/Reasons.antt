@@ -1,22 +1,18 @@
 -- What is told by the reason for which an entry is not taken.
-use Rattle.std.specs.Prelude.{◌≡◌, ℕ, ◌≤◌, Bool, true, false, if◌then◌else◌, nat_eq, List, Ok}
-use Rattle.model_memory.specs.Plain.{Entry, IsVacantRange}
+use Rattle.std.specs.Prelude.{◌≡◌, ℕ, ◌≤◌, Bool, true, false, if◌then◌else◌, nat_eq}
+use Rattle.model_memory.specs.Plain.{IsVacantRange}
 use Rattle.model_history.specs.Recorded.{Recorded, RecordedStep, any_allocator, was_given}
 use Rattle.model_words.specs.declared.commands.Command.{Command}
 use Rattle.model_words.specs.declared.commands.Command.TheVariants.{New}
 use Rattle.model_words.specs.declared.commands.Reply.{Reply}
 use Rattle.model_words.specs.declared.commands.Reply.TheVariants.{Object as Made, Refused}
 use Rattle.model_words.specs.declared.refusals.Refusal.TheVariants.{Zero}
-use Rattle.mesh_history.specs.HistoryFiles.{entry_in}
 use Rattle.mesh_history.specs.RecordedWords.{plain_reply}
 use Rattle.mesh_history.specs.declared.words.RecordedReply.TheVariants.{Refused as RecordedRefused}
 use Rattle.mesh_check.specs.Stands.{IsOverlapped, Stands}
-use Rattle.mesh_check.specs.declared.lines.Judge.{Judge}
 use Rattle.mesh_check.specs.declared.memory.Tracked.{Tracked}
 use Rattle.mesh_check.specs.declared.reasons.Reason.{Reason}
 use Rattle.mesh_check.specs.declared.reasons.Reason.TheVariants.{Differs, NoObject, LiveRefused, SerialAgain, Overlaps}
-use Rattle.mesh_check.specs.declared.verdicts.Verdict.{Verdict}
-use Rattle.mesh_check.specs.declared.verdicts.Verdict.TheVariants.{Legal as IsLegal, Wrong as IsWrong}
 
 -- the answer is a refusal
 abbrev pub is_refusal : Reply → Bool
@@ -70,8 +66,3 @@ IsReason r command reply (Overlaps serial) = IsCrowded r command reply serial
 -- it is so of whatever the trees stand for
 abbrev pub Tells : Tracked → Command → Reply → Reason → Type 0
 Tells old command reply reason = (r : Recorded) → Stands old r → IsReason r command reply reason
-
--- the verdict at a line tells a reason of the entry that the line is read as
-abbrev pub HasTold : Judge → List ℕ → Verdict → Type 0
-HasTold judge line (IsWrong number reason) = (entry : Entry) × (entry_in line ≡ Ok entry) × Tells judge.memory entry.command entry.reply reason
-HasTold judge line (IsLegal entries) = ⊥

@@ -1,20 +1,20 @@
 //! Recorded histories, judged by the plain memory.
 //!
-//! `check` reads a history from a device, and gives its verdict: it is legal, or the entry of a line is the first that isn't taken, and why. From the
-//! bottom up: `sparse` has the bytes of one object, of which only those that were stored take memory. `stored`, `maps` and `memory` keep the plain memory of the entries so far in trees, `Tracked`, and do its commands; `faults` says why one
-//! changed nothing. `judge` compares an entry with what the plain memory answers, and `reasons` are what is told where it doesn't take it. `lines` reads
-//! a line and judges it, `pieces` cuts a text into lines as it comes, and `inputs` reads the device. `verdicts` has the verdict, `texts` its line, and
-//! `verdict_laws` says what a verdict means of the whole text. Contracts see a text as a list of bytes, and speak of any memory that the trees stand for.
+//! `check` judges the history that a device gives: it is legal, or the entry of a line is the first that isn't taken,
+//! and why. From the bottom up: `chunks` and `sparse` have the bytes of one object, of which only those that were
+//! stored take memory. `stored`, `maps` and `memory` keep the plain memory of the entries so far in trees, `Tracked`,
+//! and do its commands; `faults` says why one changed nothing. `reasons` are what is told of an entry that isn't
+//! taken, and `judge` compares an entry with what the plain memory answers. `verdicts` has the verdict, `inputs` finds
+//! it entry by entry, and `texts` has its line. `verdict_laws` says what a verdict means of the whole text. Contracts
+//! see a text as a list of bytes, and speak of any memory that the trees stand for.
 #![tactic(auto)]
 
 mod chunks;
 mod faults;
 mod inputs;
 mod judge;
-mod lines;
 mod maps;
 mod memory;
-mod pieces;
 mod reasons;
 mod sparse;
 mod stored;

@@ -1,31 +1,66 @@
-use Rattle.mesh_devices.specs.Faults.{replay_error_of}
+use Rattle.std.proofs.Common.{arith}
+use Rattle.mesh_history.proofs.Readings.{handed_on}
 use Rattle.mesh_check.specs.Checks.{HasNotJudged}
-use Rattle.mesh_check.specs.Outcomes.{outcome_of}
-use Rattle.mesh_check.proofs.InputReads.{closed_fault, closed_judged, fault_judged, found_judged}
-use Rattle.mesh_check.proofs.LineEnds.{handed_on, none_is, some_holds}
+use Rattle.mesh_check.proofs.Entries.{ended_judged, fault_judged, line_of, more_taken, none_is, none_taken, some_holds, wrong_judged}
 use Rattle.mesh_check.proofs.inputs.judge_input.Goals as goal
 
-pub returns-in_err-verdict-clause-fault : goal.returns-in_err-verdict-clause-fault
-returns-in_err-verdict-clause-fault g c =
-    let left = g.I.Source.remaining in
-    let error = c.in_err-verdict.field-0.0 in
-    handed_on c.from_residual.result error (HasNotJudged (left c.args.input.now) (left c.read_input.new.input)) c.from_residual.ensures.1
-    (fault_judged c.args.judging.now (left c.args.input.now) (left c.read_input.new.input) error c.requires.at c.requires.lines c.in_err-verdict.ensures.fault)
+pub loop-entry-init : goal.loop-entry-init
+loop-entry-init g c = record {
+  open_input = c.requires.open;
+  taken = none_taken c.args.history.now c.args.memory.now (g.I.Source.remaining c.args.input.now) c.requires.fresh c.requires.stands c.requires.made;
+}
 
-pub returns-in_err-finish-in-None-clause-fault : goal.returns-in_err-finish-in-None-clause-fault
-returns-in_err-finish-in-None-clause-fault g c =
-    let left = g.I.Source.remaining in
-    let fault = c.in_err-finish-in-None.field-0.0 in
-    handed_on c.from_residual-in_err-finish-in-None.result (replay_error_of fault) (HasNotJudged (left c.args.input.now) (left c.read_input.new.input))
-    c.from_residual-in_err-finish-in-None.ensures.1 (closed_fault _ _ _ _ _ c.requires.at c.requires.lines
-    (c.in_ok-verdict.ensures.ended (none_is _ c.in-None.is)) c.in_err-finish-in-None.ensures.fault)
+pub next-requires : goal.next-requires
+next-requires g c = c.loop-entry.invariant.open_input
 
-pub returns-in-Some-clause-judged : goal.returns-in-Some-clause-judged
-returns-in-Some-clause-judged g c =
+pub returns-in_err-entry-clause-fault : goal.returns-in_err-entry-clause-fault
+returns-in_err-entry-clause-fault g c =
     let left = g.I.Source.remaining in
-    found_judged _ _ _ _ c.requires.at c.requires.lines (some_holds _ _ _ c.in-Some.is c.in_ok-verdict.ensures.found)
+    let before = c.loop-entry.invariant.taken in
+    let error = c.in_err-entry.field-0.0 in
+    handed_on c.from_residual.result error (HasNotJudged (left c.args.input.now) (left c.next.new.input)) c.from_residual.ensures.1
+    (fault_judged c.loop-entry.history c.loop-entry.memory _ _ _ error before (c.in_err-entry.ensures.fault (left c.args.input.now) before.entries before.come))
 
-pub returns-in_ok-finish-in-None-clause-judged : goal.returns-in_ok-finish-in-None-clause-judged
-returns-in_ok-finish-in-None-clause-judged g c =
+pub judge-requires-clause-few : goal.judge-requires-clause-few
+judge-requires-clause-few g c =
     let left = g.I.Source.remaining in
-    closed_judged _ _ _ _ _ c.requires.at c.requires.lines (c.in_ok-verdict.ensures.ended (none_is _ c.in-None.is)) c.in_ok-finish-in-None.ensures.found
+    let before = c.loop-entry.invariant.taken in
+    let come = some_holds _ _ _ c.in-Some.is (c.in_ok-entry.ensures.entry (left c.args.input.now) before.entries before.come) in
+    let later = some_holds _ _ _ c.in-Some.is c.in_ok-entry.ensures.later in
+    let line = line_of _ _ _ before.entries _ c.lines-line.result come c.lines-line.ensures (omega (arith, later, c.lines-line.ensures)) in
+    omega (arith, line, before.few, c.lines-line.type_inv)
+
+pub returns-in-Some-2-clause-judged : goal.returns-in-Some-2-clause-judged
+returns-in-Some-2-clause-judged g c =
+    let left = g.I.Source.remaining in
+    let before = c.loop-entry.invariant.taken in
+    let come = some_holds _ _ _ c.in-Some.is (c.in_ok-entry.ensures.entry (left c.args.input.now) before.entries before.come) in
+    let later = some_holds _ _ _ c.in-Some.is c.in_ok-entry.ensures.later in
+    let line = line_of _ _ _ before.entries _ c.lines-line.result come c.lines-line.ensures (omega (arith, later, c.lines-line.ensures)) in
+    wrong_judged _ _ _ _ _ _ _ c.lines-line.result before come (some_holds _ _ _ c.in-Some-2.is c.in_ok-reason.ensures.wrong) line
+
+pub loop-entry-smaller : goal.loop-entry-smaller
+loop-entry-smaller g c =
+    let later = some_holds _ _ _ c.in-Some.is c.in_ok-entry.ensures.later in
+    omega (arith, later, c.lines-line.ensures, c.lines-line.type_inv)
+
+pub loop-entry-preserved : goal.loop-entry-preserved
+loop-entry-preserved g c =
+    let left = g.I.Source.remaining in
+    let before = c.loop-entry.invariant.taken in
+    let come = some_holds _ _ _ c.in-Some.is (c.in_ok-entry.ensures.entry (left c.args.input.now) before.entries before.come) in record {
+      open_input = c.in_ok-entry.ensures.ok;
+      taken = more_taken _ _ _ _ _ _ _ _ before come (c.in_ok-reason.ensures.taken (none_is _ c.in_default-2.is)) c.in_ok-reason.ensures.made;
+    }
+
+pub overflow_sub-result : goal.overflow_sub-result
+overflow_sub-result g c =
+    let before = c.loop-entry.invariant.taken in
+    let ends = c.in_ok-entry.ensures.ended (g.I.Source.remaining c.args.input.now) before.entries before.come (none_is _ c.in_default.is) in
+    omega (arith, ends.lines, c.lines.ensures)
+
+pub returns-clause-judged : goal.returns-clause-judged
+returns-clause-judged g c =
+    let before = c.loop-entry.invariant.taken in
+    let ends = c.in_ok-entry.ensures.ended (g.I.Source.remaining c.args.input.now) before.entries before.come (none_is _ c.in_default.is) in
+    ended_judged _ _ _ _ _ _ c.lines.result before ends c.lines.ensures
