@@ -3,7 +3,7 @@ use Rattle.std.proofs.Common.{◌≡◌, ℕ, List, [], ◌∷◌, ◌++◌, Opt
 use Rattle.std.proofs.KnownBytes.{Appends-nil, Appends-trans}
 use Rattle.std.specs.Io.KnownBytes.{Appends}
 use Rattle.mesh_draw.specs.Draws.{HasDrawn, HasWritten}
-use Rattle.mesh_picture.specs.Begins.{Begins}
+use Rattle.mesh_svg.specs.Begins.{Begins}
 
 -- nothing was written yet
 pub none_written : (written : Option (List ℕ)) → HasWritten written written

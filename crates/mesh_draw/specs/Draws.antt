@@ -4,7 +4,7 @@ use Rattle.std.specs.Io.KnownBytes.{Appends, Keeps}
 use Rattle.model_jobs.specs.Jobs.{Job}
 use Rattle.mesh_draw.specs.Points.{next_shown}
 use Rattle.mesh_draw.specs.declared.run.Shown.{Shown}
-use Rattle.mesh_picture.specs.Begins.{Begins}
+use Rattle.mesh_svg.specs.Begins.{Begins}
 use Rattle.mesh_text.specs.Replay.{HasFound}
 use Rattle.mesh_devices.specs.declared.faults.ReplayError.{ReplayError}
 use Rattle.mesh_devices.specs.declared.faults.ReplayError.TheVariants.{Read, Write, Text, Memory}

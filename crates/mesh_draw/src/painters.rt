@@ -1,7 +1,7 @@
 //! The two painters of a picture: one that measures it, and one that draws it.
 ghost use Rattle.std.specs.Prelude.{◌≡◌, [], IfOk, IfSome, Some, codes, false, length};
 ghost use Rattle.mesh_draw.specs.Painters.{next_drawn, next_measured};
-ghost use Rattle.mesh_picture.specs.Begins.{Begins};
+ghost use Rattle.mesh_svg.specs.Begins.{Begins};
 
 use crate::points::{Painter, Point};
 use crate::run::DrawOptions;

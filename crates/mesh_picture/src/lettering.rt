@@ -1,6 +1,6 @@
 //! Labels: text of a width that does not depend on the reader's fonts.
 use crate::numbers::share;
-use mesh_svg::{Look, Text, add_attribute, add_look};
+use mesh_svg::{Anchor, Label as Words, Look, Text};
 
 /// The kinds of lettering.
 #[derive(Clone, Copy)]
@@ -100,17 +100,6 @@ pub fn width_of(face: Face, words: &[u8]) -> u32 {
     share(face.size(), hundredths, 100)
 }
 
-/// Which point of its words a label's place is.
-#[derive(Clone, Copy)]
-pub enum Anchor {
-    /// Their start.
-    Start,
-    /// Their middle.
-    Middle,
-    /// Their end.
-    End,
-}
-
 /// How and where words stand.
 #[derive(Clone, Copy)]
 pub struct Label {
@@ -172,16 +161,15 @@ impl Label {
 
     /// Adds words.
     pub fn add(self, text: &mut Text, words: &[u8]) {
-        text.add(b"<text");
-        add_look(text, self.ink.with(self.face.rule()));
-        add_attribute(text, "x", self.x);
-        add_attribute(text, "y", self.y);
-        add_anchor(text, self.anchor);
         let width = width_of(self.face, words).min(self.room).max(1);
-        add_attribute(text, "textLength", width);
-        text.add(b" lengthAdjust=\"spacingAndGlyphs\">");
-        text.add_escaped(words);
-        text.add(b"</text>\n");
+        Words {
+            look: self.ink.with(self.face.rule()),
+            anchor: self.anchor,
+            x: self.x,
+            y: self.y,
+            width: Some(width),
+        }
+        .add(text, words);
     }
 
     /// Adds words that were put together.
@@ -196,14 +184,5 @@ impl Label {
         all.add(words.as_bytes());
         all.add_number(number);
         self.add_text(text, &all);
-    }
-}
-
-/// Adds which point of its words a label's place is, where it is not their start.
-fn add_anchor(text: &mut Text, anchor: Anchor) {
-    match anchor {
-        Anchor::Start => {}
-        Anchor::Middle => text.add(b" text-anchor=\"middle\""),
-        Anchor::End => text.add(b" text-anchor=\"end\""),
     }
 }

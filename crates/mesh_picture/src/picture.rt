@@ -1,6 +1,6 @@
 //! The picture: a card for each change of the heap.
 ghost use Rattle.std.specs.Prelude.{◌≡◌, ◌+◌, [], IfOk, IfSome, OnOk, Some, codes};
-ghost use Rattle.mesh_picture.specs.Begins.{Begins};
+ghost use Rattle.mesh_svg.specs.Begins.{Begins};
 
 use crate::arrows::draw_arrows;
 use crate::frame::{Counts, Frame};
@@ -14,8 +14,8 @@ use crate::numbers::narrow;
 use crate::occupancy::draw_groups;
 use crate::pages::{Scene, draw_physical, draw_row_names, draw_virtual};
 use crate::pills::{LINE, draw_captions};
-use crate::style::{add_style, add_svg};
-use mesh_svg::{Area, Look, Text, add_rect};
+use crate::style::add_rules;
+use mesh_svg::{Area, Look, Text, add_rect, add_root};
 use std::alloc::{AllocError, Global};
 use std::marker::Model;
 
@@ -122,8 +122,11 @@ impl Picture {
             .max(LEAST_WIDTH)
             .saturating_add(2 * MARGIN);
         let height = total_height(self.measured.rows.as_slice());
-        add_svg(text, self.title.as_slice(), width, height);
-        add_style(text);
+        let mut title = text.empty();
+        title.add(b"Meshing in ");
+        title.add(self.title.as_slice());
+        add_root(text, &title, width, height);
+        add_rules(text);
         let all = Area {
             x: 0,
             y: 0,

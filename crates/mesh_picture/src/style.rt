@@ -1,9 +1,9 @@
 //! The style of a picture: its lettering, and its colours on light and on dark ground.
-use mesh_svg::{Text, add_attribute};
+use mesh_svg::{LETTERING as FAMILY, Text, add_lines, add_style};
 
 /// Lettering.
 static LETTERING: [&str; 6] = [
-    "text{font-family:'DejaVu Sans',Verdana,Helvetica,Arial,sans-serif}",
+    FAMILY,
     ".fl,.fm,.fp{font-family:'DejaVu Sans Mono',Menlo,Consolas,monospace}",
     ".ft{font-size:170px}.fn,.fs{font-size:110px}.fl{font-size:115px}",
     ".fm,.fa,.fb{font-size:100px}.fp,.fo{font-size:105px}",
@@ -83,39 +83,10 @@ static HATCHING: [&str; 2] = [
     "<rect class='hg' width='70' height='70'/><rect class='hs' width='20' height='70'/></pattern></defs>",
 ];
 
-/// Adds the root element, which has a title for those who do not see the picture.
-pub(crate) fn add_svg(text: &mut Text, title: &[u8], width: u32, height: u32) {
-    text.add(b" xmlns=\"http://www.w3.org/2000/svg\" role=\"img\"");
-    add_attribute(text, "width", width / 10);
-    add_attribute(text, "height", height / 10);
-    text.add(b" viewBox=\"0 0 ");
-    text.add_number(width);
-    text.add(b" ");
-    text.add_number(height);
-    text.add(b"\">\n<title>Meshing in ");
-    text.add_escaped(title);
-    text.add(b"</title>\n");
-}
-
 /// Adds the rules of the style, and the hatching of read-only pages.
-pub(crate) fn add_style(text: &mut Text) {
-    text.add(b"<style>\n");
-    add_lines(text, &LETTERING);
-    add_lines(text, &GROUNDS);
-    add_lines(text, &GROUPS);
-    add_lines(text, &OBJECTS);
-    add_lines(text, &STATES);
-    text.add(b"@media (prefers-color-scheme:dark){\n");
-    add_lines(text, &DARK_GROUNDS);
-    add_lines(text, &DARK_GROUPS);
-    text.add(b"}\n</style>\n");
+pub(crate) fn add_rules(text: &mut Text) {
+    let rules: [&[&str]; 5] = [&LETTERING, &GROUNDS, &GROUPS, &OBJECTS, &STATES];
+    let dark: [&[&str]; 2] = [&DARK_GROUNDS, &DARK_GROUPS];
+    add_style(text, &rules, &dark);
     add_lines(text, &HATCHING);
-}
-
-/// Adds lines.
-fn add_lines(text: &mut Text, lines: &[&str]) {
-    for line in lines {
-        text.add(line.as_bytes());
-        text.add(b"\n");
-    }
 }
