@@ -1,3 +1,3 @@
 mod FigureLemmas
 mod SavingLemmas
-mod WindowLemmas
+pub mod WindowLemmas

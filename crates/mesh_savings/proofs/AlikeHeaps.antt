@@ -18,7 +18,7 @@ use Rattle.mesh_placement.specs.Sweeps.{sweep_each, swept, table_after}
 use Rattle.rand_core.specs.Steps.{first_words}
 use Rattle.rand_xoshiro.specs.Xoshiro256.{plus_plus}
 use Rattle.mesh_savings.proofs.ObjectCounts.{but, free_count, mesh_count, new_count, new_one, swept_count}
-use Rattle.mesh_savings.specs.Alike.{AreAlike, Test, count_in, passes}
+use Rattle.mesh_savings.specs.Alike.{AreAlike, AreSound, Test, count_in, passes}
 use Rattle.mesh_savings.specs.Followed.{Followed, Goes, Large, Live, NoAddresses, NoObject, Outcome, Small, after_free, aliased, freed, is_due, made, object_in, run, run_on, small_placed, start, step, without_serial}
 use Rattle.mesh_savings.specs.Meshing.{Heaps, Meshing, after_mesh, after_round, class_meshed, class_sizes, classes_meshed, pair_meshed, pairs_meshed}
 use Rattle.mesh_savings.specs.Words.{after_words}
@@ -197,10 +197,15 @@ run_more settings NoAddresses (call ∷ calls) (next ∷ more) = refl
 same_start : (settings : Settings) → AreSame (start settings).heaps
 same_start settings = record { without = calm_empty; with = calm_empty; alike = λ test. refl }
 
+same_heaps : (settings : Settings) (calls : List Call) (f : Followed) → run settings (start settings) calls ≡ Goes f → AreSame f.heaps
+same_heaps settings calls f is = subst IsSame is (same_run settings (Goes (start settings)) calls (same_start settings))
+
+pub heaps_sound : (settings : Settings) (calls : List Call) (f : Followed) → run settings (start settings) calls ≡ Goes f → AreSound f.heaps
+heaps_sound settings calls f is =
+    let same = same_heaps settings calls f is in record { without = same.without.sound; with = same.with.sound }
+
 pub heaps_alike : (settings : Settings) (calls : List Call) (f : Followed) → run settings (start settings) calls ≡ Goes f → AreAlike f.heaps.without f.heaps.meshing.table
-heaps_alike settings calls f is =
-    let same : AreSame f.heaps = subst IsSame is (same_run settings (Goes (start settings)) calls (same_start settings)) in
-    same.alike
+heaps_alike settings calls f is = (same_heaps settings calls f is).alike
 
 -- the objects of a class
 

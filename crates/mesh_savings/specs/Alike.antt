@@ -1,8 +1,10 @@
--- Both heaps always have the same objects.
+-- Both heaps are always sound and have the same objects.
 use Rattle.std.specs.Prelude.{◌≡◌, ℕ, Bool, false, List, ◌++◌, Option, Some, None, count_by, sum_by}
+use Rattle.model_heap.specs.Sound.{IsSound}
 use Rattle.model_heap.specs.Table.{Group, Slot, Table}
 use Rattle.mesh_placement.specs.ClassCounts.{class_objects}
 use Rattle.mesh_savings.specs.Followed.{Followed, Goes, Outcome, run, run_on, start}
+use Rattle.mesh_savings.specs.Meshing.{Heaps}
 use Rattle.mesh_savings.specs.declared.calls.Call.{Call}
 use Rattle.mesh_savings.specs.declared.settings.Settings.{Settings}
 
@@ -36,6 +38,15 @@ HeapsAreAlike = (settings : Settings) (calls : List Call) (f : Followed) → run
 abbrev pub ClassesAreAlike : Type 0
 ClassesAreAlike = (settings : Settings) (calls : List Call) (f : Followed) (class : ℕ) → run settings (start settings) calls ≡ Goes f
     → class_objects f.heaps.without class ≡ class_objects f.heaps.meshing.table class
+
+-- both are sound
+pub record AreSound (h : Heaps) : Type 0 where
+  pub without : IsSound h.without
+  pub with : IsSound h.meshing.table
+
+-- so they are after any calls
+abbrev pub HeapsAreSound : Type 0
+HeapsAreSound = (settings : Settings) (calls : List Call) (f : Followed) → run settings (start settings) calls ≡ Goes f → AreSound f.heaps
 
 -- calls one after another lead where their two parts lead
 abbrev pub RunsGoOn : Type 0

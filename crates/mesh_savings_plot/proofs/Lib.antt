@@ -1,0 +1,3 @@
+mod SpanLemmas
+mod PieceLemmas
+mod WindowLemmas

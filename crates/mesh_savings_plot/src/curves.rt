@@ -1,0 +1,101 @@
+//! `Curves`, which gathers what is looked at behind each call.
+ghost use Rattle.std.specs.Prelude.{◌≡◌, ◌<◌, ◌≤◌, ◌^◌, ◌↔◌, ◌∷◌, [], ◌++◌, List, IfOk, IsTrue, codes};
+ghost use Rattle.mesh_figures.specs.declared.samples.Sample.{Sample};
+ghost use Rattle.mesh_figures.specs.declared.samples.Window.{Window};
+ghost use Rattle.mesh_figures.specs.Samples.{AreFew};
+ghost use Rattle.mesh_svg.specs.Begins.{Begins};
+ghost use Rattle.mesh_savings_plot.specs.Intervals.{IsOf};
+
+use crate::intervals::Intervals;
+use crate::plot::Plotted;
+use crate::readings::Reading;
+use mesh_figures::{Sample, Window};
+use mesh_svg::Text;
+use std::alloc::{AllocError, Global};
+use std::marker::Model;
+
+/// Four curves over the calls that are measured, kept in at most 600 intervals of equally many calls each. It takes one
+/// sample behind each call. Of each curve an interval keeps the least and the greatest value.
+#[derive(Drop)]
+pub struct Curves {
+    window: Window,
+    // How many calls were looked at.
+    calls: u32,
+    // What is gathered of those that are measured.
+    intervals: Intervals,
+}
+
+impl Model for Curves {
+    ghost use Rattle.std.specs.Prelude.{◌≤◌, take};
+    ghost use Rattle.std.specs.Int.{div_ceil};
+    ghost use Rattle.mesh_savings_plot.specs.Intervals.{Gathered, IsSound};
+
+    ghost Value = { Gathered };
+
+    ghost view = { λ c. record {
+      window = c.window;
+      calls = c.calls;
+      count = c.intervals.count;
+      width = c.intervals.width;
+      intervals = take (div_ceil c.intervals.count c.intervals.width) c.intervals.list.items;
+    } };
+
+    ghost invariant = { λ c. IsSound c.intervals × (c.intervals.count ≤ c.calls) };
+}
+
+impl Curves {
+    /// The curves of no calls yet, with all the memory that they take. An error is an allocation failure.
+    pub fn new(alloc: Global, window: Window) -> Result<Curves, AllocError>
+        ensures { IfOk result (λ curves. IsOf curves window []) }
+    {
+        Ok(Curves {
+            window,
+            calls: 0,
+            intervals: Intervals::new(alloc)?,
+        })
+    }
+
+    /// Whether 2^32 - 1 calls were looked at. `look` must not be called then.
+    pub fn is_full(&self) -> bool
+        ensures { IsTrue result ↔ 4294967295 ≤ self.now.calls }
+    {
+        self.calls == u32::MAX
+    }
+
+    /// Looks at both heaps behind the next call. Only calls in the window are measured. It allocates nothing.
+    pub fn look(&mut self, sample: &Sample)
+        requires room { self.old.calls < 4294967295 }
+        requires without { AreFew sample.now.without }
+        requires with { AreFew sample.now.with }
+        requires perfect { AreFew sample.now.perfect }
+        requires bytes { sample.now.live_bytes < 2 ^ 40 }
+        ensures { (window : Window) (samples : List Sample) → IsOf self.old window samples → IsOf self.new window (samples ++ sample.now ∷ []) }
+    {
+        self.calls += 1;
+        if self.window.from <= self.calls && self.calls <= self.window.to {
+            self.intervals.add(Reading::of(sample));
+        }
+    }
+
+    /// The plot, as an SVG file. An error is an allocation failure.
+    pub fn picture(&self, alloc: Global) -> Result<Vec<u8>, AllocError>
+        ensures { IfOk result (λ file. Begins (codes "<svg") file.items) }
+    {
+        let mut text = Text::new(alloc);
+        self.plotted().draw(&mut text);
+        let mut file = Vec::new(alloc);
+        file.extend_from_slice(b"<svg")?;
+        file.extend_from_slice(text.whole()?)?;
+        Ok(file)
+    }
+
+    /// What is plotted.
+    fn plotted(&self) -> Plotted<'_> {
+        Plotted {
+            intervals: self.intervals.used(),
+            width: self.intervals.width,
+            before: self.window.from.saturating_sub(1),
+            count: self.intervals.count,
+        }
+    }
+}

@@ -1,0 +1,16 @@
+//! A plot of the pages of two heaps, one of which meshes, over the calls of a recorded program.
+#![tactic(auto)]
+
+mod axes;
+mod curves;
+mod intervals;
+mod legend;
+mod lines;
+mod plot;
+mod readings;
+mod scale;
+mod spans;
+mod style;
+mod words;
+
+pub use curves::Curves;

@@ -1,0 +1,127 @@
+//! The lines of the curves.
+use crate::plot::PLOT;
+use crate::scale::Axis;
+use crate::spans::{Interval, Span};
+use mesh_svg::{Look, Text, add_point, begin_path, end_path};
+
+/// A curve.
+#[derive(Clone, Copy)]
+pub enum Curve {
+    /// Pages of the heap that doesn't mesh.
+    Without,
+    /// Pages of the heap that meshes.
+    With,
+    /// Pages if the live objects were packed perfectly.
+    Perfect,
+    /// The live bytes in whole pages.
+    Live,
+}
+
+/// The curves, in the order of the legend. Later ones are drawn above earlier ones.
+pub static CURVES: [Curve; 4] = [Curve::Without, Curve::With, Curve::Perfect, Curve::Live];
+
+impl Curve {
+    /// Its name.
+    pub fn name(self) -> &'static str {
+        match self {
+            Curve::Without => "without meshing",
+            Curve::With => "with meshing",
+            Curve::Perfect => "perfect packing",
+            Curve::Live => "live bytes",
+        }
+    }
+
+    /// Its rule of the style.
+    pub fn look(self) -> Look {
+        match self {
+            Curve::Without => Look::of("without"),
+            Curve::With => Look::of("with"),
+            Curve::Perfect => Look::of("perfect"),
+            Curve::Live => Look::of("live"),
+        }
+    }
+
+    /// Its least and greatest value in an interval.
+    fn span(self, interval: &Interval) -> Span {
+        match self {
+            Curve::Without => interval.without,
+            Curve::With => interval.with,
+            Curve::Perfect => interval.perfect,
+            Curve::Live => interval.live,
+        }
+    }
+}
+
+/// The intervals that are drawn, and the axes.
+#[derive(Clone, Copy)]
+pub struct Drawn<'a> {
+    pub intervals: &'a [Interval],
+    /// The calls of an interval.
+    pub width: u32,
+    pub calls: Axis,
+    pub pages: Axis,
+}
+
+/// The greatest number of pages of all curves.
+pub fn most_pages(intervals: &[Interval]) -> u32 {
+    let mut most = 0u32;
+    for interval in intervals {
+        let heaps = interval.without.greatest.max(interval.with.greatest);
+        let bounds = interval.perfect.greatest.max(interval.live.greatest);
+        most = most.max(heaps).max(bounds);
+    }
+    most
+}
+
+impl Drawn<'_> {
+    /// Draws a curve.
+    pub fn draw(&self, text: &mut Text, curve: Curve) {
+        begin_path(text, curve.look());
+        let mut before: Option<Span> = None;
+        let mut begin = self.calls.first;
+        for interval in self.intervals {
+            let span = curve.span(interval);
+            let way = if before.is_none() { "M" } else { "L" };
+            let points = self.points(begin, span, is_rising(before, span));
+            add_point(text, way, points[0].0, points[0].1);
+            add_point(text, "L", points[1].0, points[1].1);
+            before = Some(span);
+            begin = begin.saturating_add(self.width);
+        }
+        end_path(text);
+    }
+
+    /// The points of an interval that begins behind so many calls: its least and its greatest value, at its first and its
+    /// last call. Which comes first is not kept: where the curve rises, it is the least.
+    fn points(&self, begin: u32, span: Span, rising: bool) -> [(u32, u32); 2] {
+        let end = begin.saturating_add(self.width).min(self.calls.last);
+        let first = self.x(begin.saturating_add(1).min(end));
+        let last = self.x(end);
+        let least = self.y(span.least);
+        let greatest = self.y(span.greatest);
+        if rising {
+            [(first, least), (last, greatest)]
+        } else {
+            [(first, greatest), (last, least)]
+        }
+    }
+
+    /// Where a call lies.
+    fn x(&self, call: u32) -> u32 {
+        self.calls.place(call, PLOT.w).saturating_add(PLOT.x)
+    }
+
+    /// Where so many pages lie.
+    fn y(&self, pages: u32) -> u32 {
+        let height = self.pages.place_of_pages(pages, PLOT.h);
+        PLOT.bottom().saturating_sub(height)
+    }
+}
+
+/// Whether a curve rises from an interval to the next.
+fn is_rising(before: Option<Span>, span: Span) -> bool {
+    match before {
+        Some(before) => before.middle() <= span.middle(),
+        None => true,
+    }
+}

@@ -1,0 +1,79 @@
+//! The least and the greatest value of each curve in an interval of calls.
+ghost use Rattle.std.specs.Prelude.{◌≡◌, ◌+◌, ◌<◌, [], ◌∷◌, ◌++◌, List, ℕ, length, max, min};
+ghost use Rattle.mesh_savings_plot.specs.Intervals.{interval_of, span_of};
+ghost use Rattle.mesh_savings_plot.specs.declared.readings.Reading.{Reading};
+
+use crate::readings::Reading;
+
+/// The least and the greatest number of pages.
+#[derive(Clone, Copy, Debug)]
+pub struct Span {
+    pub least: u32,
+    pub greatest: u32,
+}
+
+/// The spans of the four curves.
+#[derive(Clone, Copy, Debug)]
+pub struct Interval {
+    pub without: Span,
+    pub with: Span,
+    pub perfect: Span,
+    pub live: Span,
+}
+
+impl Span {
+    /// The span of one number.
+    pub fn of(pages: u32) -> Span
+        ensures { result ≡ span_of (pages ∷ []) }
+    {
+        Span {
+            least: pages,
+            greatest: pages,
+        }
+    }
+
+    /// The span of both.
+    pub fn joined(self, next: Span) -> Span
+        ensures least { result.least ≡ min self.least next.least }
+        ensures greatest { result.greatest ≡ max self.greatest next.greatest }
+    {
+        Span {
+            least: self.least.min(next.least),
+            greatest: self.greatest.max(next.greatest),
+        }
+    }
+
+    /// Twice the number between both.
+    pub fn middle(self) -> u64
+        ensures { result ≡ self.least + self.greatest }
+    {
+        u64::from(self.least) + u64::from(self.greatest)
+    }
+}
+
+impl Interval {
+    /// The interval of one call.
+    pub fn of(reading: Reading) -> Interval
+        ensures { result ≡ interval_of (reading ∷ []) }
+    {
+        Interval {
+            without: Span::of(reading.without),
+            with: Span::of(reading.with),
+            perfect: Span::of(reading.perfect),
+            live: Span::of(reading.live),
+        }
+    }
+
+    /// The interval of the calls of both. Neither is of no calls.
+    pub fn joined(self, next: Interval) -> Interval
+        ensures { (these those : List Reading) → 0 < length these → 0 < length those → self ≡ interval_of these → next ≡ interval_of those
+            → result ≡ interval_of (these ++ those) }
+    {
+        Interval {
+            without: self.without.joined(next.without),
+            with: self.with.joined(next.with),
+            perfect: self.perfect.joined(next.perfect),
+            live: self.live.joined(next.live),
+        }
+    }
+}
