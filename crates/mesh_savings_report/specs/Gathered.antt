@@ -1,0 +1,19 @@
+-- What was gathered, and that it is of these samples.
+use Rattle.std.specs.Prelude.{◌≡◌, ℕ, List}
+use Rattle.mesh_figures.specs.Figures.{IsOf as AreFiguresOf}
+use Rattle.mesh_figures.specs.declared.samples.Sample.{Sample}
+use Rattle.mesh_savings_plot.specs.Intervals.{IsOf as AreCurvesOf}
+use Rattle.mesh_savings_report.specs.declared.gathered.Gathered.{Gathered}
+use Rattle.mesh_savings_report.specs.declared.gathered.Gathered.TheVariants.{Plot, Table}
+use Rattle.mesh_savings_report.specs.declared.options.Form.TheVariants.{Plot as OfPlot, Table as OfTable}
+use Rattle.mesh_savings_report.specs.declared.options.SavingsOptions.{SavingsOptions}
+
+-- it is for the form that is asked for, and of these samples, one behind each call
+abbrev pub IsOf : Gathered → SavingsOptions → List Sample → Type 0
+IsOf (Table figures) options samples = (options.form ≡ OfTable) × AreFiguresOf figures options.window samples
+IsOf (Plot curves) options samples = (options.form ≡ OfPlot) × AreCurvesOf curves options.window samples
+
+-- how many calls were looked at
+abbrev pub calls_in : Gathered → ℕ
+calls_in (Table figures) = figures.calls
+calls_in (Plot curves) = curves.calls

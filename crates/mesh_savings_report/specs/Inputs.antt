@@ -1,0 +1,41 @@
+-- What is reported of the history that a device gives.
+use Rattle.std.specs.Prelude.{◌≡◌, ◌⊎◌, ℕ, List, ◌++◌, Option}
+use Rattle.std.specs.Io.KnownBytes.{Consumes, IsAtEnd}
+use Rattle.mesh_devices.specs.declared.faults.ReplayError.TheVariants.{Read, Write, Text, Memory}
+use Rattle.mesh_figures.specs.declared.samples.Sample.{Sample}
+use Rattle.mesh_savings.specs.Followed.{Followed}
+use Rattle.mesh_savings.specs.declared.settings.Settings.{Settings}
+use Rattle.mesh_savings_report.specs.Reports.{Faulty, IsShown, NotHistory, Report, report_of, report_with}
+use Rattle.mesh_savings_report.specs.Runs.{IsRun}
+use Rattle.mesh_savings_report.specs.declared.errors.SavingsError.{SavingsError}
+use Rattle.mesh_savings_report.specs.declared.errors.SavingsError.TheVariants.{Replay, NotAHistory}
+use Rattle.mesh_savings_report.specs.declared.options.SavingsOptions.{SavingsOptions}
+use Rattle.mesh_savings_report.specs.declared.runs.Run.{Run}
+
+-- this is reported of the text that was read, whatever follows it; or of the text to the input's end
+pub record HasReported (settings : Settings) (left left' : Option (List ℕ)) (report : Report) : Type 0 where
+  pub text : List ℕ
+  pub taken : Consumes left left' text
+  pub reported : ((more : List ℕ) → report_of settings (text ++ more) ≡ report) ⊎ ((report_of settings text ≡ report) × IsAtEnd left')
+
+-- this text shows what is reported
+pub record HasShown (options : SavingsOptions) (left left' : Option (List ℕ)) (used_up : Option ℕ) (text : List ℕ) : Type 0 where
+  pub followed : Followed
+  pub samples : List Sample
+  pub reported : HasReported options.settings left left' (report_with used_up followed samples)
+  pub shown : IsShown options followed samples text
+
+-- why nothing is shown: the text has this fault, or the entry on this line is of no history
+abbrev pub HasNotReported : SavingsOptions → Option (List ℕ) → Option (List ℕ) → SavingsError → Type 0
+HasNotReported options left left' (NotAHistory line) = HasReported options.settings left left' (NotHistory line)
+HasNotReported options left left' (Replay (Text fault)) = HasReported options.settings left left' (Faulty fault)
+HasNotReported options left left' (Replay Read) = Unit {0}
+HasNotReported options left left' (Replay Memory) = Unit {0}
+HasNotReported options left left' (Replay Write) = ⊥
+
+-- what is reported is what the run's calls have led to
+pub record HasFollowed (run : Run) (options : SavingsOptions) (left left' : Option (List ℕ)) (used_up : Option ℕ) : Type 0 where
+  pub followed : Followed
+  pub samples : List Sample
+  pub is_run : IsRun run options followed samples
+  pub reported : HasReported options.settings left left' (report_with used_up followed samples)

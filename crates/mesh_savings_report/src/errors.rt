@@ -1,0 +1,35 @@
+//! Why there is no report.
+ghost use Rattle.std.specs.Prelude.{◌≡◌};
+ghost use Rattle.mesh_savings_report.specs.declared.errors.SavingsError.{SavingsError};
+ghost use Rattle.mesh_devices.specs.declared.faults.ReplayError.{ReplayError};
+
+use mesh_devices::ReplayError;
+use std::alloc::AllocError;
+use thiserror::Error;
+
+/// Why there is no report.
+#[derive(Clone, Copy, Debug, PartialEq, Eq, Error)]
+pub enum SavingsError {
+    /// What stops a replay too: the input failed, its text has a fault, or an allocation failed.
+    #[error("{0}")]
+    Replay(ReplayError),
+    /// The entry on this line is the first `free` or `alias` of a cell that holds no live object.
+    #[error("line {0}: not a history")]
+    NotAHistory(u32),
+}
+
+impl From<ReplayError> for SavingsError {
+    ghost from_gives = { λ replay error. error ≡ SavingsError.Replay replay };
+
+    fn from(error: ReplayError) -> SavingsError {
+        SavingsError::Replay(error)
+    }
+}
+
+impl From<AllocError> for SavingsError {
+    ghost from_gives = { λ _ error. error ≡ SavingsError.Replay ReplayError.Memory };
+
+    fn from(_refused: AllocError) -> SavingsError {
+        SavingsError::Replay(ReplayError::Memory)
+    }
+}

@@ -1,0 +1,69 @@
+//! `Gathered`: what was looked at behind each call, for a table or for a plot.
+ghost use Rattle.std.specs.Prelude.{◌≡◌, ◌-◌, ◌<◌, ◌≤◌, ◌^◌, ◌↔◌, ◌++◌, ◌∷◌, [], List, IfOk, IsTrue};
+ghost use Rattle.mesh_figures.specs.Samples.{AreFew};
+ghost use Rattle.mesh_figures.specs.declared.samples.Sample.{Sample};
+ghost use Rattle.mesh_savings_report.specs.Gathered.{IsOf, calls_in};
+ghost use Rattle.mesh_savings_report.specs.Reports.{IsShownAs};
+ghost use Rattle.mesh_savings_report.specs.declared.options.SavingsOptions.{SavingsOptions};
+
+use crate::options::{Form, SavingsOptions};
+use mesh_figures::{Counts, Figures, Sample};
+use mesh_savings_plot::Curves;
+use std::alloc::{AllocError, Global};
+
+/// What was looked at behind each call.
+#[derive(Drop)]
+pub(crate) enum Gathered {
+    /// The figures of a table.
+    Table(Figures),
+    /// The curves of a plot.
+    Plot(Curves),
+}
+
+impl Gathered {
+    /// Nothing yet, for the form that is asked for. An error is an allocation failure.
+    pub(crate) fn new(alloc: Global, options: &SavingsOptions) -> Result<Gathered, AllocError>
+        ensures { IfOk result (λ gathered. IsOf gathered options.now []) }
+    {
+        match options.form {
+            Form::Table => Ok(Gathered::Table(Figures::new(options.window))),
+            Form::Plot => Ok(Gathered::Plot(Curves::new(alloc, options.window)?)),
+        }
+    }
+
+    /// Whether 2^32 - 1 calls were looked at. `look` must not be called then.
+    pub(crate) fn is_full(&self) -> bool
+        ensures { IsTrue result ↔ 2 ^ 32 - 1 ≤ calls_in self.now }
+    {
+        match self {
+            Gathered::Table(figures) => figures.is_full(),
+            Gathered::Plot(curves) => curves.is_full(),
+        }
+    }
+
+    /// Looks at both heaps behind the next call.
+    pub(crate) fn look(&mut self, sample: &Sample)
+        requires room { calls_in self.old < 2 ^ 32 - 1 }
+        requires without { AreFew sample.now.without }
+        requires with { AreFew sample.now.with }
+        requires perfect { AreFew sample.now.perfect }
+        requires bytes { sample.now.live_bytes < 2 ^ 40 }
+        ensures { (options : SavingsOptions) (samples : List Sample) → IsOf self.old options samples → IsOf self.new options (samples ++ sample.now ∷ []) }
+    {
+        match self {
+            Gathered::Table(figures) => figures.look(sample),
+            Gathered::Plot(curves) => curves.look(sample),
+        }
+    }
+
+    /// The table, with these counts of the whole run, or the plot, which shows no counts. An error is an allocation failure.
+    pub(crate) fn text(&self, alloc: Global, counts: &Counts) -> Result<Vec<u8>, AllocError>
+        ensures { (options : SavingsOptions) (samples : List Sample) → IsOf self.now options samples
+            → IfOk result (λ text. IsShownAs options.form options.window samples counts.now text.items) }
+    {
+        match self {
+            Gathered::Table(figures) => figures.text(alloc, counts),
+            Gathered::Plot(curves) => curves.picture(alloc),
+        }
+    }
+}

@@ -1,0 +1,116 @@
+//! `Run`: calls on both heaps, which are looked at behind each.
+ghost use Rattle.std.specs.Prelude.{◌≡◌, ◌-◌, ◌^◌, ◌≤◌, [], List, true, false, length, IfErr, IfOk, IfSome, IsNone};
+ghost use Rattle.mesh_figures.specs.declared.samples.Sample.{Sample};
+ghost use Rattle.mesh_history.specs.Readings.{too_long};
+ghost use Rattle.mesh_history.specs.RecordedWords.{plain_entry};
+ghost use Rattle.mesh_savings.specs.Calls.{call_of};
+ghost use Rattle.mesh_savings.specs.Followed.{Followed, start, step};
+ghost use Rattle.mesh_savings_report.specs.Reports.{IsShown};
+ghost use Rattle.mesh_savings_report.specs.Runs.{Fails, HasRoom, IsRun, IsTakenBy, Passes, UsesUp};
+ghost use Rattle.mesh_savings_report.specs.declared.errors.SavingsError.{SavingsError};
+ghost use Rattle.mesh_savings_report.specs.declared.options.SavingsOptions.{SavingsOptions};
+ghost use Rattle.mesh_devices.specs.declared.faults.ReplayError.{ReplayError};
+
+use crate::errors::SavingsError;
+use crate::gathered::Gathered;
+use crate::options::SavingsOptions;
+use crate::samples::{counts_of, sample_of};
+use mesh_devices::ReplayError;
+use mesh_savings::{Call, RecordedEntry, Savings, Taken, call_of};
+use model_words::{FaultKind, TextFault};
+use std::alloc::{AllocError, Global};
+
+/// The calls so far: both heaps, and what was gathered of them.
+#[derive(Drop)]
+pub(crate) struct Run {
+    savings: Savings,
+    gathered: Gathered,
+}
+
+impl Run {
+    /// Before the first call. An error is an allocation failure.
+    pub(crate) fn new(alloc: Global, options: &SavingsOptions) -> Result<Run, AllocError>
+        ensures { IfOk result (λ run. IsRun run options.now (start options.now.settings) []) }
+    {
+        Ok(Run {
+            savings: Savings::new(alloc, options.settings)?,
+            gathered: Gathered::new(alloc, options)?,
+        })
+    }
+
+    /// Whether 2^32 - 1 calls were made.
+    pub(crate) fn is_full(&self) -> bool
+        ensures left { result ≡ false → HasRoom self.now }
+        ensures full { (options : SavingsOptions) (f : Followed) (samples : List Sample) → IsRun self.now options f samples
+            → result ≡ true → 2 ^ 32 - 1 ≤ length samples }
+    {
+        self.savings.is_full() || self.gathered.is_full()
+    }
+
+    /// The number of calls that were made.
+    pub(crate) fn calls(&self) -> u32
+        ensures { result ≡ self.now.savings.counts.calls }
+    {
+        self.savings.counts().calls
+    }
+
+    /// Makes the next call in both heaps, and looks at them behind it. One that can't be made changes nothing. An error
+    /// is an allocation failure.
+    pub(crate) fn take(&mut self, call: &Call) -> Result<Taken, AllocError>
+        requires { HasRoom self.old }
+        ensures { IfOk result (IsTakenBy self.old self.new (λ options f. step options.settings f call.now)) }
+    {
+        let taken = self.savings.take(call)?;
+        if taken == Taken::Made {
+            let sample = sample_of(&self.savings);
+            self.gathered.look(&sample);
+        }
+        Ok(taken)
+    }
+
+    /// Takes the entry on a line: makes its call, if it has one. Returns the number of the call, from 1, if a heap has
+    /// too few virtual pages left for it.
+    ///
+    /// Errors: NotAHistory if the call is a `free` or an `alias` of a cell that holds no live object, and Memory if an
+    /// allocation failed. TOO_LONG would come behind 2^32 - 1 calls, but each of them has a line before this one.
+    pub(crate) fn take_entry(
+        &mut self,
+        entry: &RecordedEntry,
+        line: u32,
+    ) -> Result<Option<u32>, SavingsError>
+        ensures passed { IfOk result (λ used_up. IsNone used_up → Passes self.old self.new line (call_of (plain_entry entry.now))) }
+        ensures used_up { IfOk result (λ used_up. IfSome used_up (UsesUp self.old self.new line (call_of (plain_entry entry.now)))) }
+        ensures fault { IfErr result (Fails self.old line (call_of (plain_entry entry.now))) }
+    {
+        let Some(call) = call_of(entry) else {
+            return Ok(None);
+        };
+        if self.is_full() {
+            return Err(too_many_calls());
+        }
+        let number = self.calls() + 1;
+        match self.take(&call)? {
+            Taken::Made => Ok(None),
+            Taken::NoObject => Err(SavingsError::NotAHistory(line)),
+            Taken::NoAddresses => Ok(Some(number)),
+        }
+    }
+
+    /// The table of the calls so far, or their plot. An error is an allocation failure.
+    pub(crate) fn text(&self, alloc: Global) -> Result<Vec<u8>, AllocError>
+        ensures { (options : SavingsOptions) (f : Followed) (samples : List Sample) → IsRun self.now options f samples
+            → IfOk result (λ text. IsShown options f samples text.items) }
+    {
+        self.gathered.text(alloc, &counts_of(&self.savings))
+    }
+}
+
+/// The fault of a text with more calls than there are numbers for them.
+fn too_many_calls() -> SavingsError
+    ensures { result ≡ SavingsError.Replay (ReplayError.Text too_long) }
+{
+    SavingsError::Replay(ReplayError::Text(TextFault {
+        line: 0,
+        kind: FaultKind::TooLong,
+    }))
+}

@@ -1,0 +1,73 @@
+//! What both heaps hold, and what was counted.
+ghost use Rattle.std.specs.Prelude.{◌≡◌, ◌<◌, ◌≤◌, ◌^◌};
+ghost use Rattle.mesh_figures.specs.Samples.{AreFew};
+ghost use Rattle.mesh_placement.specs.ClassLaws.{FitsPages, pages_needed};
+ghost use Rattle.mesh_placement.specs.Placement.{table_of};
+ghost use Rattle.mesh_savings.specs.Followed.{Followed};
+ghost use Rattle.mesh_savings.specs.Follows.{Follows};
+ghost use Rattle.mesh_savings_report.specs.Samples.{counts_of, perfect_pages, sample_of};
+
+use mesh_class::{Class, all_classes};
+use mesh_figures::{Counts, Sample};
+use mesh_savings::{Placement, Savings};
+
+/// What both heaps hold.
+pub(crate) fn sample_of(savings: &Savings) -> Sample
+    ensures value { (f : Followed) → Follows savings.now f → result ≡ sample_of f }
+    ensures without { AreFew result.without }
+    ensures with { AreFew result.with }
+    ensures perfect { AreFew result.perfect }
+    ensures bytes { result.live_bytes < 2 ^ 40 }
+{
+    let without = savings.without();
+    Sample {
+        without: *without.pages_by_class(),
+        with: *savings.with().pages_by_class(),
+        perfect: perfect_pages(without),
+        live_bytes: u64::from(without.totals().bytes),
+    }
+}
+
+/// What was counted of the calls so far.
+pub(crate) fn counts_of(savings: &Savings) -> Counts
+    ensures { (f : Followed) → Follows savings.now f → result ≡ counts_of f }
+{
+    let counts = savings.counts();
+    let meshes = savings.mesh_counts();
+    let used = counts.used;
+    Counts {
+        most_objects: counts.most_small,
+        large: counts.large,
+        most_large_pages: counts.most_large_pages,
+        meshes: meshes.meshes,
+        refused: meshes.refused,
+        copied: meshes.moved,
+        rounds: counts.rounds,
+        virtual_pages: savings.with().used_pages(),
+        used,
+    }
+}
+
+/// The pages of the fewest spans of each class that the objects of a heap fit in.
+fn perfect_pages(placement: &Placement) -> [u32; 10]
+    ensures value { result ≡ perfect_pages (table_of placement.now) }
+    ensures fits { FitsPages (table_of placement.now) }
+{
+    placement.sound();
+    let objects = placement.objects_by_class();
+    let classes = all_classes();
+    let mut pages = [0; 10];
+    for k in 0..classes.len() {
+        pages[k] = pages_needed(classes[k], objects[k]);
+    }
+    pages
+}
+
+/// The pages of the fewest spans of a class that so many objects fit in.
+fn pages_needed(class: Class, objects: u32) -> u32
+    requires { objects ≤ 2 ^ 24 }
+    ensures { result ≡ pages_needed class objects }
+{
+    let slots = class.slots();
+    (objects + slots - 1) / slots * class.pages()
+}
