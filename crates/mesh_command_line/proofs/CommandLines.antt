@@ -11,7 +11,7 @@ use Rattle.clap.specs.declared.parser.matches.ArgMatches.TheViews.{out-ArgMatche
 use Rattle.clap.specs.declared.parser.matches.Found.{Found}
 use Rattle.clap.proofs.OnLiterals.{clap_on_literals}
 use Rattle.clap.proofs.WalkLemmas.{first_value-rows}
-use Rattle.mesh_command_line.specs.CommandLine.{Asked, IsSaidOf, asked, asked_by, asked_in, asked_of, is_taken, kinds_of, check_of, draw_of, explore_of, live_of, meshrun_app, replay_history_of, replay_of, threads_history_of, threads_of}
+use Rattle.mesh_command_line.specs.CommandLine.{Asked, IsSaidOf, asked, asked_by, asked_in, asked_of, is_taken, kinds_of, check_of, draw_of, explore_of, live_of, meshrun_app, replay_history_of, replay_of, savings_of, threads_history_of, threads_of}
 
 -- the command line is one whose matches and faults `clap` tells
 pub is_told : is_simple_and_free meshrun_app ≡ true
@@ -134,7 +134,25 @@ explorations_are_asked :
 unfolding clap_on_literals asked is_taken digits
 explorations_are_asked = ((refl, refl), (refl, refl))
 
--- the flag has no value, 17 threads make no search, there is no line 0, a session has no file, a picture isn't of a history, and a mesh has to be given
+-- a history is followed with a round behind every 10,000 frees, 64 rounds of tries, words of the seed 1, and figures of all calls; or with what is given
+savings_are_asked :
+    Asks (codes "savings a.history")
+    (savings_of (codes "a.history") (record { every = 10000; probe = 64; seed = Some 1; from = 1; to = 4294967295; is_plot = false }))
+    × Asks (codes "savings --svg --to=9 - --from 9 --seed=18446744073709551615 --probe=0 --every 1")
+    (savings_of (codes "-") (record { every = 1; probe = 0; seed = Some 18446744073709551615; from = 9; to = 9; is_plot = true }))
+    × Asks (codes "savings a.history --first-fit")
+    (savings_of (codes "a.history") (record { every = 10000; probe = 64; seed = None; from = 1; to = 4294967295; is_plot = false }))
+unfolding clap_on_literals asked is_taken
+savings_are_asked = ((refl, refl), (refl, refl), (refl, refl))
+
+-- a seed beside `--first-fit`, and figures that end before they begin, ask for nothing
+apart_asks_nothing :
+    (asked (spoken (codes "savings a.history --seed=1 --first-fit")) ≡ None) × (asked (spoken (codes "savings a.history --from=2 --to=1")) ≡ None)
+unfolding clap_on_literals asked
+apart_asks_nothing = (refl, refl)
+
+-- the flag has no value, 17 threads make no search, there is no line 0, a session has no file, a picture isn't of a history, a mesh has to be given, and no
+-- round comes behind 0 frees
 are_refused :
     (is_taken (spoken (codes "replay hello.job --history=no")) ≡ false)
     × (is_taken (spoken (codes "threads a.job --probe=2 --rounds=3 --workers=17 --seed=5")) ≡ false)
@@ -142,8 +160,9 @@ are_refused :
     × (is_taken (spoken (codes "live a.job")) ≡ false)
     × (is_taken (spoken (codes "draw a.job --history")) ≡ false)
     × (is_taken (spoken (codes "explore a.job")) ≡ false)
+    × (is_taken (spoken (codes "savings a.history --every=0")) ≡ false)
 unfolding clap_on_literals is_taken
-are_refused = (refl, refl, refl, refl, refl, refl)
+are_refused = (refl, refl, refl, refl, refl, refl, refl)
 
 -- a group has one spelling, and none is above 65,535: such words ask for nothing
 abbrev AsksNothing : Text → Type 0

@@ -2,4 +2,5 @@ pub mod CommandLines
 pub mod CommandsBuilt
 pub mod ExplorationsRead
 pub mod NumbersRead
+pub mod SeedsRead
 pub mod Subcommands

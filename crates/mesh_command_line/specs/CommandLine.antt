@@ -15,12 +15,13 @@ use Rattle.model_jobs.specs.Texts.{ended}
 use Rattle.mesh_command_line.specs.Meshes.{pairs_of}
 use Rattle.model_words.specs.declared.faults.FaultKind.{FaultKind}
 use Rattle.mesh_command_line.specs.declared.command_line.Args.{Args}
-use Rattle.mesh_command_line.specs.declared.command_line.Args.TheVariants.{Check, Draw, Explore, Live, Replay, ReplayHistory, Threads, ThreadsHistory}
+use Rattle.mesh_command_line.specs.declared.command_line.Args.TheVariants.{Check, Draw, Explore, Live, Replay, ReplayHistory, Savings, Threads, ThreadsHistory}
 use Rattle.mesh_command_line.specs.declared.command_line.Stop.{Stop}
 use Rattle.mesh_command_line.specs.declared.draw_args.DrawArgs.{DrawArgs}
 use Rattle.mesh_command_line.specs.declared.explore_args.ExploreArgs.{ExploreArgs}
 use Rattle.mesh_explore.specs.declared.pair.MeshPair.{MeshPair}
 use Rattle.mesh_command_line.specs.declared.live_args.LiveArgs.{LiveArgs}
+use Rattle.mesh_command_line.specs.declared.savings_args.SavingsArgs.{SavingsArgs}
 use Rattle.mesh_command_line.specs.declared.threads_args.ThreadsArgs.{ThreadsArgs}
 
 -- ---- what the program takes
@@ -80,16 +81,24 @@ explore_app = with_rule (with_rule (with_rule (with_rule (with_rule (new_app (co
 abbrev pub check_app : App
 check_app = with_rule (new_app (codes "check")) file_rule
 
+-- `savings FILE [--every F] [--probe T] [--seed S] [--first-fit] [--from CALL] [--to CALL] [--svg]`
+abbrev pub savings_app : App
+savings_app = with_rule (with_rule (with_rule (with_rule (with_rule (with_rule (with_rule (with_rule (new_app (codes "savings")) file_rule)
+    (number_or (codes "every") 1 4294967295 (codes "10000"))) (number_or (codes "probe") 0 64 (codes "64")))
+    (number_rule (codes "seed") 0 18446744073709551615)) (flag_rule (codes "first-fit"))) (number_or (codes "from") 1 4294967295 (codes "1")))
+    (number_or (codes "to") 1 4294967295 (codes "4294967295"))) (flag_rule (codes "svg"))
+
 -- the program alone: it has a version, whose text `clap`'s model of a command doesn't see, wants a subcommand, and shows its help without a word
 abbrev pub bare_app : App
 bare_app = let app = new_app (codes "meshrun") in
     record app { top = record app.top { has_version = true; subcommand_required = true; arg_required_else_help = true } }
 
--- `meshrun replay FILE ..`, `meshrun threads FILE ..`, `meshrun draw FILE ..`, `meshrun live ..`, `meshrun explore FILE ..` and `meshrun check FILE`
+-- `meshrun replay FILE ..`, `meshrun threads FILE ..`, `meshrun draw FILE ..`, `meshrun live ..`, `meshrun explore FILE ..`, `meshrun check FILE` and
+-- `meshrun savings FILE ..`
 abbrev pub meshrun_app : App
 meshrun_app =
-    with_subcommand (with_subcommand (with_subcommand (with_subcommand (with_subcommand (with_subcommand bare_app replay_app.top) threads_app.top) draw_app.top)
-    live_app.top) explore_app.top) check_app.top
+    with_subcommand (with_subcommand (with_subcommand (with_subcommand (with_subcommand (with_subcommand (with_subcommand bare_app replay_app.top)
+    threads_app.top) draw_app.top) live_app.top) explore_app.top) check_app.top) savings_app.top
 
 -- ---- what words ask for
 
@@ -121,9 +130,20 @@ pub record Explored : Type 0 where
   pub states : ℕ
   pub witness : Option ℕ
 
+-- how a recorded history is followed on two heaps, and what is printed of it: how many objects are freed between two rounds of meshing, how many rounds of
+-- tries a search makes at most, what the words of the objects are made from, 0 being each of them without it, the first and the last call of the figures,
+-- and whether a plot is printed in place of the table
+pub record Compared : Type 0 where
+  pub every : ℕ
+  pub probe : ℕ
+  pub seed : Option ℕ
+  pub from : ℕ
+  pub to : ℕ
+  pub is_plot : Bool
+
 -- a replay of the job file at this path or the recorded history of one, its scripts run by threads with these numbers or the recorded history of such a
--- run, a picture of what is shown of its plan, or what is left of its scripts explored; a session of these sizes; or a judgement of the recorded history
--- at this path
+-- run, a picture of what is shown of its plan, or what is left of its scripts explored; a session of these sizes; a judgement of the recorded history
+-- at this path, or what meshing saves for it
 pub data Asked : Type 0 where
   replay_of : Text → Asked
   replay_history_of : Text → Asked
@@ -133,6 +153,7 @@ pub data Asked : Type 0 where
   explore_of : Text → Explored → Asked
   live_of : SessionSizes → Asked
   check_of : Text → Asked
+  savings_of : Text → Compared → Asked
 
 -- the number of this text, where `clap` takes it as one in the range
 abbrev pub number_of : ℕ → ℕ → Text → Option ℕ
@@ -142,9 +163,13 @@ number_of least most text = if is_unsigned_in least most text then Some (digits_
 abbrev pub number_in : Text → ℕ → ℕ → List Row → Option ℕ
 number_in name least most rows = option_and_then (number_of least most) (one_of name rows)
 
--- whether the flag `--history` is given: its value is `true` then
+-- whether the flag of this name is given: its value is `true` then
+abbrev pub flag_in : Text → List Row → Option Bool
+flag_in name rows = option_map (λ value. bytes_eq value (codes "true")) (first_of name rows)
+
+-- whether the flag `--history` is given
 abbrev pub is_recorded_in : List Row → Option Bool
-is_recorded_in rows = option_map (λ value. bytes_eq value (codes "true")) (first_of (codes "history") rows)
+is_recorded_in rows = flag_in (codes "history") rows
 
 -- what `replay` asks for of a file, without `--history` and with it
 abbrev pub replay_by : Text → Bool → Asked
@@ -204,6 +229,29 @@ explored_in rows =
     option_map (λ witness. record { meshes = meshes; cancel = cancel; states = states; witness = witness })
     (given_in (codes "witness") 0 1000000 rows)) (number_in (codes "states") 1 10000000 rows)) (given_in (codes "cancel") 0 1000 rows)) (meshes_in rows)
 
+-- the seed that the matches have for `savings`: 1 where neither it nor `--first-fit` is given, and none with `--first-fit`, beside which it may not stand
+abbrev pub seed_by : Bool → List Row → Option (Option ℕ)
+seed_by first_fit rows =
+    if is_some (first_of (codes "seed") rows)
+    then (if first_fit then None else option_map Some (number_in (codes "seed") 0 18446744073709551615 rows))
+    else Some (if first_fit then None else Some 1)
+
+-- the same, by the flag that they have
+abbrev pub seed_in : List Row → Option (Option ℕ)
+seed_in rows = option_and_then (λ first_fit. seed_by first_fit rows) (flag_in (codes "first-fit") rows)
+
+-- the figures end no earlier than they begin
+abbrev pub in_order : Compared → Option Compared
+in_order compared = if nat_le compared.from compared.to then Some compared else None
+
+-- what the matches have for `savings`
+abbrev pub compared_in : List Row → Option Compared
+compared_in rows =
+    option_and_then (λ every. option_and_then (λ probe. option_and_then (λ seed. option_and_then (λ from. option_and_then (λ to. option_and_then (λ is_plot.
+    in_order (record { every = every; probe = probe; seed = seed; from = from; to = to; is_plot = is_plot }))
+    (flag_in (codes "svg") rows)) (number_in (codes "to") 1 4294967295 rows)) (number_in (codes "from") 1 4294967295 rows)) (seed_in rows))
+    (number_in (codes "probe") 0 64 rows)) (number_in (codes "every") 1 4294967295 rows)
+
 -- the sizes that the matches have for `live`
 abbrev pub sizes_in : List Row → Option SessionSizes
 sizes_in rows =
@@ -217,7 +265,8 @@ asked_of name rows file =
     else (if bytes_eq name (codes "threads") then option_and_then (λ numbers. option_map (threads_by file numbers) (is_recorded_in rows)) (numbers_in rows)
     else (if bytes_eq name (codes "draw") then option_map (draw_of file) (shown_in rows)
     else (if bytes_eq name (codes "explore") then option_map (explore_of file) (explored_in rows)
-    else (if bytes_eq name (codes "check") then Some (check_of file) else None))))
+    else (if bytes_eq name (codes "check") then Some (check_of file)
+    else (if bytes_eq name (codes "savings") then option_map (savings_of file) (compared_in rows) else None)))))
 
 -- what a subcommand of this name with these matches asks for: a session needs no file
 abbrev pub asked_by : Text → List Row → Option Asked
@@ -253,6 +302,10 @@ shown_of args = record { from = args.from; to = args.to; columns = args.columns 
 abbrev pub explored_of : ExploreArgs → Explored
 explored_of args = record { meshes = pairs_of args.meshes; cancel = args.cancel; states = args.states; witness = args.witness }
 
+-- what was read of how a history is followed
+abbrev pub compared_of : SavingsArgs → Compared
+compared_of args = record { every = args.every; probe = args.probe; seed = args.seed; from = args.from; to = args.to; is_plot = args.is_plot }
+
 -- the sizes that were read
 abbrev pub sizes_of : LiveArgs → SessionSizes
 sizes_of args = record { pages = args.pages; history = args.history; workers = args.workers }
@@ -267,6 +320,7 @@ asking (Draw path args) = draw_of path.now (shown_of args)
 asking (Explore path args) = explore_of path.now (explored_of args)
 asking (Live args) = live_of (sizes_of args)
 asking (Check path) = check_of path.now
+asking (Savings path args) = savings_of path.now (compared_of args)
 
 -- the words ask for this
 abbrev pub IsAsked : List Text → Args → Type 0

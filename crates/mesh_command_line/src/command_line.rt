@@ -5,11 +5,11 @@ ghost use Rattle.std.specs.declared.io.ErrorKind.TheVariants.{OutOfMemory as IoO
 ghost use Rattle.clap.specs.Words.{app_of, first_of, found_of, kind_of, rows_of, rule_of, subcommand_rows_of};
 ghost use Rattle.mesh_command_line.specs.Meshes.{pairs_of};
 ghost use Rattle.mesh_command_line.specs.Subcommands.{argument_rule, subcommand_app, with_subcommands};
-ghost use Rattle.mesh_command_line.specs.CommandLine.{IsAllowedOf, IsAsked, IsNoText, IsOutOfMemory, IsSaidOf, IsStopAt, asked, asked_in, asked_of, asking, bare_app, explored_in, explored_of, flag_rule, given_in, is_recorded_in, is_taken, mesh_rule, meshes_in, meshrun_app, number_in, number_rule, numbers_in, numbers_of, pair_of, pairs_in, replay_by, shown_in, shown_of, sizes_in, sizes_of, status_of_kind, threads_by};
+ghost use Rattle.mesh_command_line.specs.CommandLine.{IsAllowedOf, IsAsked, IsNoText, IsOutOfMemory, IsSaidOf, IsStopAt, asked, asked_in, asked_of, asking, bare_app, compared_in, compared_of, explored_in, explored_of, flag_in, flag_rule, given_in, is_recorded_in, is_taken, mesh_rule, meshes_in, meshrun_app, number_in, number_rule, numbers_in, numbers_of, pair_of, pairs_in, replay_by, seed_in, shown_in, shown_of, sizes_in, sizes_of, status_of_kind, threads_by};
 
 use crate::meshes::MOST_MESHES;
 use crate::status::{DONE, FAILED, FAULTY};
-use crate::{DrawArgs, ExploreArgs, LiveArgs, Meshes, ThreadsArgs};
+use crate::{DrawArgs, ExploreArgs, LiveArgs, Meshes, SavingsArgs, ThreadsArgs};
 use clap::builder::ValueParser;
 use clap::error::ErrorKind;
 use clap::{Arg, ArgAction, ArgMatches, Command, Error};
@@ -27,6 +27,12 @@ const FILE: &str = "FILE";
 /// The flag that asks for a recorded history.
 const RECORDED: &str = "history";
 
+/// The flag that asks for words that are all 0.
+const FIRST_FIT: &str = "first-fit";
+
+/// The flag that asks for a plot.
+const SVG: &str = "svg";
+
 /// The option that asks for a mesh.
 const MESH: &str = "mesh";
 
@@ -36,6 +42,10 @@ const GROUPS: &str = "SRC:DST";
 /// What is said of meshes that can't be read: `clap` has refused all else that asks for nothing.
 const UNREAD_MESHES: &str =
     "--mesh wants SRC:DST, two group numbers from 0 to 65535, and is given 1 to 10 times\n";
+
+/// What is said of options of `savings` that don't go together.
+const UNREAD_SAVINGS: &str =
+    "--seed and --first-fit exclude each other, and --from is at most --to\n";
 
 /// What stands between the two groups.
 const BETWEEN: u8 = b':';
@@ -166,6 +176,41 @@ const WITNESS: NumberOption = NumberOption {
     help: "Print a job file that leads to outcome K, 0 to 1000000, in place of what is told of all",
 };
 
+const EVERY: NumberOption = NumberOption {
+    name: "every",
+    value: "F",
+    least: 1,
+    most: 4294967295,
+    help: "Mesh after every F frees of objects of up to 2048 bytes, 1 to 4294967295",
+};
+
+const OBJECT_SEED: NumberOption = NumberOption {
+    name: "seed",
+    value: "S",
+    least: 0,
+    most: u64::MAX,
+    help: "What the words of the objects are made from, 0 to 18446744073709551615; 1 if not given",
+};
+
+const FIRST_CALL: NumberOption = NumberOption {
+    name: "from",
+    value: "CALL",
+    least: 1,
+    most: 4294967295,
+    help: "The first call that the figures are of, 1 to 4294967295",
+};
+
+const LAST_CALL: NumberOption = NumberOption {
+    name: "to",
+    value: "CALL",
+    least: 1,
+    most: 4294967295,
+    help: "The last call that the figures are of, 1 to 4294967295",
+};
+
+/// The seed where none is given.
+const SEED_NOT_GIVEN: u64 = 1;
+
 /// What may stand behind the name of a subcommand.
 #[derive(Clone, Copy)]
 enum Argument {
@@ -179,8 +224,8 @@ enum Argument {
     Default(NumberOption, &'static str),
     /// An option with a number that may be left out.
     Optional(NumberOption),
-    /// The flag that asks for a recorded history, with what help says of it.
-    Recorded(&'static str),
+    /// The flag of this name, with what help says of it.
+    Flag(&'static str, &'static str),
 }
 
 /// A subcommand: its name, what help says of it, and what may stand behind it.
@@ -191,6 +236,9 @@ struct Subcommand {
     arguments: &'static [Argument],
 }
 
+/// What help says of the file of a subcommand that reads a recorded history.
+const HISTORY_FILE: &str = "The recorded history, or - for standard input";
+
 /// The subcommands, in the order in which help shows them.
 const SUBCOMMANDS: &[Subcommand] = &[
     Subcommand {
@@ -198,7 +246,10 @@ const SUBCOMMANDS: &[Subcommand] = &[
         about: "Run a job file's plan and print one answer a line",
         arguments: &[
             Argument::File("The job file to replay"),
-            Argument::Recorded("Print the journal as a recorded history in place of the answers"),
+            Argument::Flag(
+                RECORDED,
+                "Print the journal as a recorded history in place of the answers",
+            ),
         ],
     },
     Subcommand {
@@ -211,7 +262,8 @@ const SUBCOMMANDS: &[Subcommand] = &[
             Argument::Required(WORKERS),
             Argument::Required(SEED),
             Argument::Default(MESHERS, "1"),
-            Argument::Recorded(
+            Argument::Flag(
+                RECORDED,
                 "Print the history of all threads as a recorded history in place of each worker's answers",
             ),
         ],
@@ -249,7 +301,24 @@ const SUBCOMMANDS: &[Subcommand] = &[
     Subcommand {
         name: "check",
         about: "Judge a recorded history by the plain memory and say whether it is legal",
-        arguments: &[Argument::File("The recorded history, or - for standard input")],
+        arguments: &[Argument::File(HISTORY_FILE)],
+    },
+    Subcommand {
+        name: "savings",
+        about: "Follow a recorded history on a heap that meshes and on one that doesn't, and compare their pages",
+        arguments: &[
+            Argument::File(HISTORY_FILE),
+            Argument::Default(EVERY, "10000"),
+            Argument::Default(PROBE, "64"),
+            Argument::Optional(OBJECT_SEED),
+            Argument::Flag(
+                FIRST_FIT,
+                "Put each object into the first free slot of its group, in place of a random one",
+            ),
+            Argument::Default(FIRST_CALL, "1"),
+            Argument::Default(LAST_CALL, "4294967295"),
+            Argument::Flag(SVG, "Print a plot as an SVG picture in place of the table"),
+        ],
     },
 ];
 
@@ -275,6 +344,8 @@ pub enum Args<'a> {
     Explore(&'a str, ExploreArgs),
     /// `check FILE`: judge the recorded history at this path, or at `-` that of standard input.
     Check(&'a str),
+    /// `savings FILE ..`: follow the recorded history at this path, or at `-` that of standard input, and print what meshing saves.
+    Savings(&'a str, SavingsArgs),
 }
 
 /// Why the program ends before it begins, and what it says.
@@ -323,7 +394,15 @@ fn read_by<'a, S: AsStr>(command: &mut Command<'a>, words: &'a [S]) -> Result<Ar
     let matches = matches_of(command, words)?;
     match asked_for(&matches) {
         Some(args) => Ok(args),
-        None => Err(command.error(ErrorKind::ValueValidation, UNREAD_MESHES)?),
+        None => Err(command.error(ErrorKind::ValueValidation, unread(&matches))?),
+    }
+}
+
+/// What is said of matches that ask for nothing.
+fn unread<'a>(matches: &ArgMatches<'a>) -> &'static str {
+    match matches.subcommand() {
+        Some(("savings", _)) => UNREAD_SAVINGS,
+        _ => UNREAD_MESHES,
     }
 }
 
@@ -362,15 +441,23 @@ fn asked_of<'a>(name: &str, matches: &ArgMatches<'a>) -> Option<Args<'a>>
         "draw" => Some(Args::Draw(file, shown(matches)?)),
         "explore" => Some(Args::Explore(file, explored(matches)?)),
         "check" => Some(Args::Check(file)),
+        "savings" => Some(Args::Savings(file, compared(matches)?)),
         _ => None,
     }
 }
 
-/// Whether a recorded history is asked for. The value of the flag is `true` where it is given, and `false` where it isn't.
+/// Whether a recorded history is asked for.
 fn is_recorded<'a>(matches: &ArgMatches<'a>) -> Option<bool>
     ensures { result ≡ is_recorded_in (rows_of (found_of matches.now)) }
 {
-    let value = matches.get_str(RECORDED)?;
+    is_given(matches, RECORDED)
+}
+
+/// Whether a flag is given. Its value is `true` where it is, and `false` where it isn't.
+fn is_given<'a>(matches: &ArgMatches<'a>, flag: &str) -> Option<bool>
+    ensures { result ≡ flag_in flag.now (rows_of (found_of matches.now)) }
+{
+    let value = matches.get_str(flag)?;
     Some(value == "true")
 }
 
@@ -430,6 +517,42 @@ fn explored<'a>(matches: &ArgMatches<'a>) -> Option<ExploreArgs>
         states: number(matches, STATES)? as u32,
         witness: number_if_given(matches, WITNESS)?,
     })
+}
+
+/// How a history is to be followed, and what is to be printed.
+fn compared<'a>(matches: &ArgMatches<'a>) -> Option<SavingsArgs>
+    ensures { option_map compared_of result ≡ compared_in (rows_of (found_of matches.now)) }
+{
+    let every = number(matches, EVERY)? as u32;
+    let probe = number(matches, PROBE)? as u32;
+    let seed = seed(matches)?;
+    let from = number(matches, FIRST_CALL)? as u32;
+    let to = number(matches, LAST_CALL)? as u32;
+    let is_plot = is_given(matches, SVG)?;
+    if to < from {
+        return None;
+    }
+    Some(SavingsArgs {
+        every,
+        probe,
+        seed,
+        from,
+        to,
+        is_plot,
+    })
+}
+
+/// What the words of the objects are to be made from: None inside where they are to be 0.
+fn seed<'a>(matches: &ArgMatches<'a>) -> Option<Option<u64>>
+    ensures { result ≡ seed_in (rows_of (found_of matches.now)) }
+{
+    let is_first_fit = is_given(matches, FIRST_FIT)?;
+    match matches.get_str(OBJECT_SEED.name) {
+        Some(_) if is_first_fit => None,
+        Some(_) => Some(Some(number(matches, OBJECT_SEED)?)),
+        None if is_first_fit => Some(None),
+        None => Some(Some(SEED_NOT_GIVEN)),
+    }
 }
 
 /// The meshes that are asked for: one to ten, each of which is a pair of groups.
@@ -567,17 +690,15 @@ fn argument_of<'a>(alloc: Global, argument: &Argument) -> Arg<'a>
         Argument::Required(option) => number_option(alloc, option).required(true),
         Argument::Default(option, default) => number_option(alloc, option).default_value(default),
         Argument::Optional(option) => number_option(alloc, option),
-        Argument::Recorded(help) => recorded(alloc).help(help),
+        Argument::Flag(name, help) => flag(alloc, name).help(help),
     }
 }
 
-/// The flag that asks for a recorded history.
-fn recorded<'a>(alloc: Global) -> Arg<'a>
-    ensures { rule_of result ≡ flag_rule (codes "history") }
+/// A flag.
+fn flag<'a>(alloc: Global, name: &'static str) -> Arg<'a>
+    ensures { rule_of result ≡ flag_rule name.now }
 {
-    Arg::new(alloc, RECORDED)
-        .long(RECORDED)
-        .action(ArgAction::SetTrue)
+    Arg::new(alloc, name).long(name).action(ArgAction::SetTrue)
 }
 
 /// The option that asks for a mesh, and has to be given once or more.

@@ -8,6 +8,7 @@ mod draw_args;
 mod explore_args;
 mod live_args;
 mod meshes;
+mod savings_args;
 pub mod status;
 mod threads_args;
 
@@ -17,4 +18,5 @@ pub use explore_args::ExploreArgs;
 pub use live_args::LiveArgs;
 pub use mesh_explore::MeshPair;
 pub use meshes::Meshes;
+pub use savings_args::SavingsArgs;
 pub use threads_args::ThreadsArgs;

@@ -1,6 +1,8 @@
 //! Command lines, and what they ask for. Each expected text was worked out by hand from the rules, and none was copied from a run.
 
-use mesh_command_line::{Args, DrawArgs, ExploreArgs, LiveArgs, ThreadsArgs, arguments};
+use mesh_command_line::{
+    Args, DrawArgs, ExploreArgs, LiveArgs, SavingsArgs, ThreadsArgs, arguments,
+};
 use std::alloc::{AllocError, Global};
 use std::process::Abort;
 
@@ -71,7 +73,19 @@ meshrun explore a.job --witness +3 --states 0012 --mesh 1:0|explore a.job 1:0 - 
 meshrun explore a.job --mesh 1:0 --witness 3|explore a.job 1:0 - 100000 3#\
 meshrun explore a.job --mesh 9:0 --mesh 8:1 --mesh 7:2 --mesh 6:3 --mesh 5:4 --mesh 4:5 --mesh 3:6 --mesh 2:7 --mesh 1:8 --mesh 0:9|explore a.job 9:0 8:1 7:2 6:3 5:4 4:5 3:6 2:7 1:8 0:9 - 100000 -";
 
-/// Command lines with a fault, each of a command that has numbers or a flag, or of `check`.
+/// Command lines that follow `a.history` on two heaps, and what each asks for: frees between two rounds, tries of a search, the seed, `-` where all
+/// words are 0, the first call, the last one, and whether a table is printed or a plot.
+static FOLLOWED: &str = "\
+meshrun savings a.history|savings a.history 10000 64 1 1 4294967295 table#\
+meshrun savings -|savings - 10000 64 1 1 4294967295 table#\
+meshrun savings a.history --every 2 --probe 3 --seed 4 --from 5 --to 6|savings a.history 2 3 4 5 6 table#\
+meshrun savings a.history --first-fit|savings a.history 10000 64 - 1 4294967295 table#\
+meshrun savings --svg a.history --first-fit --to 9|savings a.history 10000 64 - 1 9 plot#\
+meshrun savings a.history --every 1 --probe 0 --seed 0 --from 1 --to 1|savings a.history 1 0 0 1 1 table#\
+meshrun savings --every=4294967295 --seed=18446744073709551615 a.history --from=4294967295|savings a.history 4294967295 64 18446744073709551615 4294967295 4294967295 table#\
+meshrun savings a.history --seed 1 --svg|savings a.history 10000 64 1 1 4294967295 plot";
+
+/// Command lines with a fault, each of a command that has numbers or a flag, or of a history.
 static FAULTY: &str = "\
 meshrun threads a.job --probe 65 --rounds 3 --workers 4 --seed 5 --meshers 6\n\
 meshrun threads a.job --probe 2 --rounds 1001 --workers 4 --seed 5 --meshers 6\n\
@@ -154,7 +168,23 @@ meshrun live --workers 0\n\
 meshrun live --workers 65\n\
 meshrun check a.history b.history\n\
 meshrun check a.history --history\n\
-meshrun check a.history --version";
+meshrun check a.history --version\n\
+meshrun savings\n\
+meshrun savings a.history b.history\n\
+meshrun savings a.history --every 0\n\
+meshrun savings a.history --every 4294967296\n\
+meshrun savings a.history --probe 65\n\
+meshrun savings a.history --seed 18446744073709551616\n\
+meshrun savings a.history --seed 5 --first-fit\n\
+meshrun savings a.history --first-fit --seed 5\n\
+meshrun savings a.history --from 0\n\
+meshrun savings a.history --to 0\n\
+meshrun savings a.history --from 4294967296\n\
+meshrun savings a.history --from 3 --to 2\n\
+meshrun savings a.history --svg --svg\n\
+meshrun savings a.history --svg=true\n\
+meshrun savings a.history --history\n\
+meshrun savings a.history --version";
 
 /// What a command line asks for, as the tables write it.
 fn asked(rt: &(impl Abort + AllocGlobal), line: &str) -> String {
@@ -177,6 +207,7 @@ fn written(alloc: Global, args: &Args<'_>) -> Result<String, AllocError> {
         Args::Live(args) => add_session(&mut text, &args)?,
         Args::Explore(path, args) => add_exploration(&mut text, path, &args)?,
         Args::Check(path) => write!(text, "check {path}")?,
+        Args::Savings(path, args) => add_savings(&mut text, path, &args)?,
     }
     Ok(text)
 }
@@ -225,6 +256,17 @@ fn add_exploration(text: &mut String, path: &str, args: &ExploreArgs) -> Result<
     add_if_given(text, args.witness)
 }
 
+/// Writes how a history is followed.
+fn add_savings(text: &mut String, path: &str, args: &SavingsArgs) -> Result<(), AllocError> {
+    write!(text, "savings {path} {} {}", args.every, args.probe)?;
+    match args.seed {
+        Some(seed) => write!(text, " {seed}")?,
+        None => text.push_str(" -")?,
+    }
+    write!(text, " {} {}", args.from, args.to)?;
+    text.push_str(if args.is_plot { " plot" } else { " table" })
+}
+
 /// Writes a number that may be asked for.
 fn add_if_given(text: &mut String, number: Option<u32>) -> Result<(), AllocError> {
     match number {
@@ -244,7 +286,7 @@ fn check_lines(rt: &(impl Abort + AllocGlobal), table: &str) {
 
 #[test]
 fn reads_what_each_line_asks_for(rt: HostRuntime) {
-    for table in [PRINTED, CHECKED, NUMBERS, SHOWN, EXPLORED, SIZES] {
+    for table in [PRINTED, CHECKED, FOLLOWED, NUMBERS, SHOWN, EXPLORED, SIZES] {
         check_lines(&rt, table);
     }
 }
