@@ -3,6 +3,7 @@ pub mod Draws
 pub mod Explores
 pub mod LiveSizes
 pub mod Runs
+pub mod Savings
 pub mod Seen
 pub mod Status
 pub mod StatusLaws

@@ -1,5 +1,5 @@
 //! The line that tells why a replay or a run in threads stopped.
-ghost use Rattle.std.specs.Prelude.{◌≡◌, ◌+◌, ◌≤◌, [], ◌++◌, length};
+ghost use Rattle.std.specs.Prelude.{◌≡◌, ◌+◌, ◌≤◌, [], ◌++◌, decimal, length};
 ghost use Rattle.model_jobs.specs.Texts.{ended};
 ghost use Rattle.mesh_run.specs.Runs.{error_text, fault_text};
 ghost use Rattle.mesh_run.specs.Threads.{threads_text};
@@ -10,8 +10,8 @@ use itoa::Buffer;
 use mesh_devices::ReplayError;
 use mesh_text::TextFault;
 
-/// The bytes of a line, with room for the longest: `line 4294967295: LONG_LINE` and its end.
-pub(crate) type Line = ArrayVec<u8, 32>;
+/// The bytes of a line, with room for the longest: `addresses used up at call 4294967295` and its end.
+pub(crate) type Line = ArrayVec<u8, 48>;
 
 /// The line of an error, with its end.
 pub(crate) fn line_of(error: ReplayError) -> Line
@@ -42,7 +42,7 @@ pub(crate) fn threads_line_of(error: ThreadsError) -> Line
 
 /// A line of these bytes and its end.
 pub(crate) fn line_with(bytes: &[u8]) -> Line
-    requires { length bytes.now ≤ 31 }
+    requires { length bytes.now ≤ 47 }
     ensures { result.items ≡ ended bytes.now }
 {
     let mut line = Line::new();
@@ -51,11 +51,25 @@ pub(crate) fn line_with(bytes: &[u8]) -> Line
     line
 }
 
+/// A line of a number between these bytes, and its end.
+pub(crate) fn number_line(before: &[u8], number: u32, behind: &[u8]) -> Line
+    requires { length before.now + length behind.now ≤ 37 }
+    ensures { result.items ≡ ended (before.now ++ decimal number ++ behind.now) }
+{
+    let mut digits = Buffer::new();
+    let mut line = Line::new();
+    add(&mut line, before);
+    add(&mut line, digits.format(number).as_bytes());
+    add(&mut line, behind);
+    add(&mut line, b"\n");
+    line
+}
+
 /// Adds what a fault's line says.
 fn add_fault(line: &mut Line, fault: TextFault)
     requires { line.old.items ≡ [] }
     ensures text { line.new.items ≡ fault_text fault }
-    ensures short { length line.new.items ≤ 31 }
+    ensures short { length line.new.items ≤ 47 }
 {
     let mut digits = Buffer::new();
     add(line, b"line ");
@@ -66,7 +80,7 @@ fn add_fault(line: &mut Line, fault: TextFault)
 
 /// Adds bytes for which there is room.
 fn add(line: &mut Line, bytes: &[u8])
-    requires { length line.old.items + length bytes.now ≤ 32 }
+    requires { length line.old.items + length bytes.now ≤ 48 }
     ensures { line.new.items ≡ line.old.items ++ bytes.now }
 {
     let _ = line.try_extend_from_slice(bytes);

@@ -12,6 +12,7 @@ mod fault_line;
 mod live;
 mod printed;
 mod runs;
+mod savings;
 mod shuffle_words;
 pub mod status_laws;
 mod threads;
@@ -24,11 +25,12 @@ pub use draw::draw_run;
 pub use explore::explore_run;
 pub use live::live_run;
 pub use mesh_command_line::{
-    Args, DrawArgs, ExploreArgs, LiveArgs, MeshPair, Meshes, Stop, ThreadsArgs, arguments,
-    unread_words,
+    Args, DrawArgs, ExploreArgs, LiveArgs, MeshPair, Meshes, SavingsArgs, Stop, ThreadsArgs,
+    arguments, unread_words,
 };
 pub use mesh_devices::{DeviceFault, Input, Output, Sink, Source};
 pub use runs::{replay_history_run, replay_run, stop_run, unopened_run};
+pub use savings::savings_run;
 pub use shuffle_words::words;
 pub use threads::{threads_history_run, threads_run, threads_stopped};
 pub use threads_error::ThreadsError;

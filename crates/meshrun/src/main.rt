@@ -4,15 +4,15 @@
 //! scripts, each on a thread of its own, while other threads search and mesh, and prints each worker's answers. With `--history` both print the
 //! journal, as a recorded history. `meshrun draw FILE ..` prints a picture of the plan. `meshrun explore FILE ..` runs what the plan leaves of the
 //! scripts in every interleaving with meshes, and prints all answers. `meshrun live ..` answers the lines of standard input one by one.
-//! `meshrun check FILE` judges a recorded history.
+//! `meshrun check FILE` judges a recorded history, and `meshrun savings FILE ..` tells what meshing would save for it.
 #![tactic(auto)]
 
 ghost use Rattle.std.specs.Prelude.{◌≡◌, false};
 
 use mesh_run::{
     Args, Devices, Input, Output, Sink, Source, arguments, check_run, draw_run, explore_run,
-    live_run, replay_history_run, replay_run, stop_run, threads_history_run, threads_run,
-    unopened_run, unread_words,
+    live_run, replay_history_run, replay_run, savings_run, stop_run, threads_history_run,
+    threads_run, unopened_run, unread_words,
 };
 use std::alloc::Global;
 use std::fs::File;
@@ -61,14 +61,15 @@ fn run<R: Threads + Wait + Sync, O: Sink + Drop, E: Sink + Drop>(
 fn path_of<'a>(args: &Args<'a>) -> Option<&'a str> {
     match *args {
         Args::Live(_) => None,
-        Args::Check(path) if path == STANDARD_INPUT => None,
+        Args::Check(path) | Args::Savings(path, _) if path == STANDARD_INPUT => None,
         Args::Replay(path)
         | Args::ReplayHistory(path)
         | Args::Threads(path, _)
         | Args::ThreadsHistory(path, _)
         | Args::Draw(path, _)
         | Args::Explore(path, _)
-        | Args::Check(path) => Some(path),
+        | Args::Check(path)
+        | Args::Savings(path, _) => Some(path),
     }
 }
 
@@ -104,6 +105,9 @@ fn run_on<R: Threads + Wait + Sync, I: Source + Drop, O: Sink + Drop, E: Sink + 
         }
         Args::Live(args) => live_run(alloc, args, &mut Devices::new(input, output, errors)),
         Args::Check(_) => check_run(alloc, &mut Devices::new(input, output, errors)),
+        Args::Savings(_, args) => {
+            savings_run(alloc, args, &mut Devices::new(input, output, errors))
+        }
     }
 }
 

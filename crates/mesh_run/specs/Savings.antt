@@ -1,0 +1,87 @@
+-- What a report on what meshing saves writes, and what is known where it stops.
+use Rattle.std.specs.Prelude.{◌≡◌, ◌<◌, ◌≤◌, ◌⊎◌, ℕ, Bool, if◌then◌else◌, List, ◌++◌, Option, Some, None, codes, decimal}
+use Rattle.std.specs.Io.KnownBytes.{Appends, Keeps}
+use Rattle.model_jobs.specs.Texts.{ended}
+use Rattle.mesh_command_line.specs.declared.savings_args.SavingsArgs.{SavingsArgs}
+use Rattle.mesh_devices.specs.Transfer.{AppendsBeginning}
+use Rattle.mesh_devices.specs.declared.faults.ReplayError.TheVariants.{Read, Write, Memory, Text}
+use Rattle.mesh_run.specs.Runs.{HasFailed, HasTold, IsDone, IsSound, IsStoppedFor, Moves, error_text}
+use Rattle.mesh_run.specs.Seen.{Seen}
+use Rattle.mesh_run.specs.Status.{status_of_error}
+use Rattle.mesh_savings.specs.declared.settings.Words.{Words}
+use Rattle.mesh_savings.specs.declared.settings.Words.TheVariants.{FirstFit, Seeded}
+use Rattle.mesh_savings_report.specs.Inputs.{HasReported, HasShown}
+use Rattle.mesh_savings_report.specs.Reports.{Faulty, NotHistory}
+use Rattle.mesh_savings_report.specs.declared.errors.SavingsError.{SavingsError}
+use Rattle.mesh_savings_report.specs.declared.errors.SavingsError.TheVariants.{NotAHistory, Replay}
+use Rattle.mesh_savings_report.specs.declared.options.Form.{Form}
+use Rattle.mesh_savings_report.specs.declared.options.Form.TheVariants.{Plot, Table}
+use Rattle.mesh_savings_report.specs.declared.options.SavingsOptions.{SavingsOptions}
+
+-- what the words of the objects are made from
+abbrev pub words_of_seed : Option ℕ → Words
+words_of_seed (Some seed) = Seeded seed
+words_of_seed None = FirstFit
+
+-- how the figures are shown
+abbrev pub form_of : Bool → Form
+form_of is_plot = if is_plot then Plot else Table
+
+-- how a history is followed, which of its calls the figures are of, and how they are shown
+abbrev pub options_of : SavingsArgs → SavingsOptions
+options_of args = record {
+  settings = record { every = args.every; probe = args.probe; words = words_of_seed args.seed };
+  window = record { from = args.from; to = args.to };
+  form = form_of args.is_plot;
+}
+
+-- the line of the call for which a heap had no virtual pages left, without its end
+abbrev pub used_up_text : ℕ → List ℕ
+used_up_text call = codes "addresses used up at call " ++ decimal call
+
+-- an error's line, without its end
+abbrev pub savings_text : SavingsError → List ℕ
+savings_text (Replay error) = error_text error
+savings_text (NotAHistory line) = codes "line " ++ decimal line ++ codes ": not a history"
+
+-- the status of a report that stopped: 2 where the text has a fault, else 1
+abbrev pub savings_status : SavingsError → ℕ
+savings_status (Replay error) = status_of_error error
+savings_status (NotAHistory line) = 1
+
+-- the device that an error tells of has failed
+abbrev pub HasFailedSavings : Bool → Bool → SavingsError → Type 0
+HasFailedSavings input output (Replay error) = HasFailed input output error
+HasFailedSavings input output (NotAHistory line) = Unit {0}
+
+-- the table or the plot was written, of the whole history or of the calls before one for which a heap had no virtual pages left
+abbrev pub HasWrittenReport : SavingsOptions → Option (List ℕ) → Option (List ℕ) → Option (List ℕ) → Option (List ℕ) → Option ℕ → Type 0
+HasWrittenReport options left left' written written' used_up =
+    (text : List ℕ) × HasShown options left left' used_up text × Appends written written' text
+
+-- a beginning of it was written
+abbrev pub HasBegunReport : SavingsOptions → Option (List ℕ) → Option (List ℕ) → Option (List ℕ) → Option (List ℕ) → Type 0
+HasBegunReport options left left' written written' =
+    (used_up : Option ℕ) × (text : List ℕ) × HasShown options left left' used_up text × AppendsBeginning written written' text
+
+-- what was read and written, by the error that a report stopped for
+abbrev pub HasStoppedSavings : SavingsOptions → Option (List ℕ) → Option (List ℕ) → Option (List ℕ) → Option (List ℕ) → SavingsError → Type 0
+HasStoppedSavings options left left' written written' (NotAHistory line) = HasReported options.settings left left' (NotHistory line) × Keeps written written'
+HasStoppedSavings options left left' written written' (Replay (Text fault)) = HasReported options.settings left left' (Faulty fault) × Keeps written written'
+HasStoppedSavings options left left' written written' (Replay Write) = HasBegunReport options left left' written written'
+HasStoppedSavings options left left' written written' (Replay Read) = Keeps written written'
+HasStoppedSavings options left left' written written' (Replay Memory) = Keeps written written'
+
+-- what shows the calls before one was written, and the line of that call
+pub record IsUsedUp (options : SavingsOptions) (before after : Seen) (call : ℕ) : Type 0 where
+  pub written : HasWrittenReport options before.left after.left before.written after.written (Some call)
+  pub sound : IsSound after
+  pub told : HasTold after.errors_failed before.told after.told (ended (used_up_text call))
+
+-- a report ends: with status 0 what shows the whole history was written, with 1 perhaps what shows the calls before one for which a heap had no virtual
+-- pages left, and with another one, or else, it stopped for an error of that status
+pub record EndsSavings (options : SavingsOptions) (before after : Seen) (status : ℕ) : Type 0 where
+  pub done : status ≡ 0 → IsDone (λ left left' written written'. HasWrittenReport options left left' written written' None) before after
+  pub stopped : 0 < status → ((status ≡ 1) × ((call : ℕ) × IsUsedUp options before after call))
+      ⊎ ((error : SavingsError) × (status ≡ savings_status error) × IsStoppedFor savings_text HasFailedSavings (HasStoppedSavings options) before after error)
+  pub small : status ≤ 2

@@ -1,0 +1,115 @@
+//! The program's report on what meshing saves.
+ghost use Rattle.std.specs.Prelude.{◌≡◌, ◌≤◌, false, IfErr, IfOk, OnOk};
+ghost use Rattle.model_jobs.specs.Texts.{ended};
+ghost use Rattle.mesh_run.specs.Runs.{IsSound};
+ghost use Rattle.mesh_run.specs.Savings.{EndsSavings, HasFailedSavings, HasStoppedSavings, HasWrittenReport, options_of, savings_status, savings_text, used_up_text};
+ghost use Rattle.mesh_savings_report.specs.declared.errors.SavingsError.{SavingsError};
+
+use crate::fault_line::{Line, line_of, number_line};
+use crate::runs::{status_of, tell};
+use crate::{Devices, SavingsArgs};
+use mesh_command_line::status::{DONE, FAILED};
+use mesh_devices::{Sink, Source, write_lines};
+use mesh_savings_report::{Form, SavingsError, SavingsOptions, Settings, Window, Words, report};
+use std::alloc::Global;
+
+/// Follows the recorded history that the input gives on two heaps, writes what meshing saves to the output, as a table or
+/// a plot, and returns the exit status. If there is none, it writes the reason to `errors`.
+///
+/// The status is 0 with the table. It is 1 with the table and the line `addresses used up at call N` if a heap has no
+/// virtual pages left for the `new` of call N: the table is of the calls before it. It is 1 with the line
+/// `line L: not a history`, `read fault`, `write fault` or `out of memory`, and 2 with the line `line L: KIND` if the text
+/// has a fault before anything else. If the line can't be written, the status is the same.
+pub fn savings_run<I: Source, O: Sink, E: Sink>(
+    alloc: Global,
+    args: &SavingsArgs,
+    devices: &mut Devices<I, O, E>,
+) -> u8
+    requires { IsSound devices.old }
+    ensures { EndsSavings (options_of args.now) devices.old devices.new result }
+{
+    let options = options_of(args);
+    match write_report(alloc, &mut devices.input, &mut devices.output, &options) {
+        Ok(None) => DONE,
+        Ok(Some(call)) => {
+            tell(&mut devices.errors, used_up_line(call).as_slice());
+            FAILED
+        }
+        Err(error) => {
+            tell(&mut devices.errors, savings_line_of(error).as_slice());
+            savings_status_of(error)
+        }
+    }
+}
+
+/// How the history is followed, which of its calls the figures are of, and how they are shown.
+fn options_of(args: &SavingsArgs) -> SavingsOptions
+    ensures { result ≡ options_of args.now }
+{
+    SavingsOptions {
+        settings: Settings {
+            every: args.every,
+            probe: args.probe,
+            words: match args.seed {
+                Some(seed) => Words::Seeded(seed),
+                None => Words::FirstFit,
+            },
+        },
+        window: Window {
+            from: args.from,
+            to: args.to,
+        },
+        form: if args.is_plot {
+            Form::Plot
+        } else {
+            Form::Table
+        },
+    }
+}
+
+/// Reports on the history that the input gives, writes the table or the plot, and returns the call for which a heap had no
+/// virtual pages left, if there is one.
+fn write_report<I: Source, O: Sink>(
+    alloc: Global,
+    input: &mut I,
+    output: &mut O,
+    options: &SavingsOptions,
+) -> Result<Option<u32>, SavingsError>
+    requires input { I.has_failed input.old ≡ false }
+    requires output { O.has_failed output.old ≡ false }
+    ensures ok { OnOk result ((I.has_failed input.new ≡ false) × (O.has_failed output.new ≡ false)) }
+    ensures written { IfOk result (HasWrittenReport options.now (I.remaining input.old) (I.remaining input.new) (O.written output.old) (O.written output.new)) }
+    ensures stopped { IfErr result (HasStoppedSavings options.now (I.remaining input.old) (I.remaining input.new) (O.written output.old) (O.written output.new)) }
+    ensures failed { IfErr result (HasFailedSavings (I.has_failed input.new) (O.has_failed output.new)) }
+{
+    let report = report(alloc, input, options)?;
+    write_lines(output, report.text.as_slice())?;
+    Ok(report.used_up_at)
+}
+
+/// The line of the call for which a heap had no virtual pages left, with its end.
+fn used_up_line(call: u32) -> Line
+    ensures { result.items ≡ ended (used_up_text call) }
+{
+    number_line(b"addresses used up at call ", call, b"")
+}
+
+/// The line of an error, with its end.
+fn savings_line_of(error: SavingsError) -> Line
+    ensures { result.items ≡ ended (savings_text error) }
+{
+    match error {
+        SavingsError::Replay(error) => line_of(error),
+        SavingsError::NotAHistory(line) => number_line(b"line ", line, b": not a history"),
+    }
+}
+
+/// The exit status of a report that stopped.
+fn savings_status_of(error: SavingsError) -> u8
+    ensures { result ≡ savings_status error }
+{
+    match error {
+        SavingsError::Replay(error) => status_of(error),
+        SavingsError::NotAHistory(_) => FAILED,
+    }
+}
