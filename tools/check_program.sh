@@ -512,6 +512,76 @@ fault=
 [ "$programs" -ge 2 ] || fault=" $programs;"
 tell "record: two programs or more" "$fault"
 
+# what meshing would save: the files that another engine wrote, then histories that it reads beside the program
+savings=$histories/savings
+for args in $savings/*.args; do
+    golden=${args%.args}
+    status=0 output=$golden.out errors=$golden.err
+    [ -f "$output" ] || output=$room/nothing
+    if [ -f "$errors" ]; then status=1; else errors=$room/nothing; fi
+    # shellcheck disable=SC2046
+    check "savings: $golden" $status "$output" "$errors" savings "${args%%.*}.history" $(cat "$args")
+done
+g++ -O2 -std=c++17 -Wall -Wextra -Werror -o "$room/reference" tools/savings/reference.cpp >"$room/output" 2>"$room/errors"
+ended "savings: another engine" $? 0 "$room/nothing" "$room/nothing"
+
+# beside NAME FILE WORD..: the program and the other engine end alike on a history, with these options.
+beside() {
+    name=$1 history=$2
+    shift 2
+    "$room/reference" "$history" "$@" >"$room/wanted" 2>"$room/wanted.errors"
+    check "savings: $name, $*" $? "$room/wanted" "$room/wanted.errors" savings "$history" "$@"
+}
+for row in python3 python3_killed perl cc1; do
+    if [ -f "$room/$row.history" ]; then
+        beside "$row" "$room/$row.history" --every 1000
+        beside "$row" "$room/$row.history" --every 50 --seed 18446744073709551615 --from 1000 --to 3000
+        beside "$row" "$room/$row.history" --every 200 --first-fit --probe 3
+    fi
+done
+awk 'BEGIN {
+    print "history 1"
+    for (i = 0; i < 131100; i++) printf "0 new %d 2048 0 -> object %d at %x\n", i, i, 4096 + 2048 * i
+}' >"$room/used_up.history"
+beside "no addresses left" "$room/used_up.history"
+beside "no addresses left" "$room/used_up.history" --from 131071 --to 131080
+for fault in 'history 2' 'history 1\n0 new 0 16 0 -> object 0 at 1000' 'history 1\n0 free 0 -> done\nfree'; do
+    printf "$fault" >"$room/fault.history"
+    beside "a fault" "$room/fault.history"
+done
+
+cat $savings/tar.history | "$program" savings - --every 100 >"$room/output" 2>"$room/errors"
+status=$?
+"$room/reference" $savings/tar.history --every 100 >"$room/wanted"
+ended "savings: standard input" $status 0 "$room/wanted" "$room/nothing"
+: >"$room/output"
+"$program" savings $savings/tar.history >/dev/full 2>"$room/errors" </dev/null
+ended "savings: a full device as standard output" $? 1 "$room/nothing" "$(line 'write fault')"
+check "savings: an endless file" 2 "$room/nothing" "$(line 'line 1: LONG_LINE')" savings /dev/zero
+check "savings: a missing file" 1 "$room/nothing" "$(line 'read fault')" savings "$room/missing.history"
+check "savings: a directory" 1 "$room/nothing" "$(line 'read fault')" savings jobs
+check "savings: no file" 2 "$room/nothing" any savings
+check "savings: help" 0 any "$room/nothing" savings --help
+for option in '--every 0' '--every 4294967296' '--probe 65' '--seed 18446744073709551616' '--from 0' '--from 2 --to 1' '--seed 1 --first-fit' \
+    '--every 1 --every 1' '--meshers 1'; do
+    # shellcheck disable=SC2086
+    check "savings: $option" 2 "$room/nothing" any savings $savings/tar.history $option
+done
+
+# plots of it: well-formed SVG, and the same figures whatever the device
+for history in $savings/*.history "$room/used_up.history"; do
+    "$program" savings "$history" >"$room/table" 2>"$room/wanted.errors" </dev/null
+    status=$?
+    "$program" savings "$history" --svg >"$room/output" 2>"$room/errors" </dev/null
+    if [ -s "$room/table" ]; then picture=any; else picture=$room/nothing; fi
+    ended "savings: a plot of $history" $? $status $picture "$room/wanted.errors"
+    if [ -s "$room/output" ]; then
+        cp "$room/output" "$room/plot.svg"
+        python3 -c 'import sys, xml.dom.minidom; xml.dom.minidom.parse(sys.argv[1])' "$room/plot.svg" >"$room/output" 2>"$room/errors"
+        ended "savings: a plot of $history is well-formed" $? 0 "$room/nothing" "$room/nothing"
+    fi
+done
+
 # the worked rows
 for job in jobs/rows/*/*.job; do
     row=${job%.job}

@@ -10,7 +10,7 @@
 // FILE is a recorded history (docs/FORMAT.md); `-` is standard input. A call is a `new` that was answered by an object,
 // or a `free` or `alias` that was answered by `done`; all other entries are skipped. Both heaps make each call. They
 // follow the rules of this heap, with unlimited physical pages. Objects above 2,048 bytes are in neither of them; an
-// object of 0 bytes takes a slot of 16.
+// object of 0 bytes is made as one of 1 byte.
 //
 //     --every F        a round follows every F-th `free` of an object up to 2,048 bytes; 1 to 4294967295, default 10000
 //     --probe T        a search makes at most T rounds of tries; 0 to 64, default 64
@@ -214,7 +214,8 @@ public:
 
 private:
     // Makes an object of this length. Returns false, and changes nothing, if a heap has no room for it.
-    bool add(uint32_t length) {
+    bool add(uint32_t asked) {
+        const uint32_t length = std::max<uint32_t>(asked, 1);
         Object object{length, true, {}, {}};
         if (length > LONGEST) {
             large_objects++;

@@ -10,10 +10,10 @@
 #   Meshing saves pages.
 # - tar: GNU tar, recorded while it archives a folder of some 30 files. Meshing saves nothing.
 # - aliases: printed by write_trace.py; has aliases, refused entries, loads, stores and objects above 2,048 bytes.
-# - more_with_meshing, large, empty, freed_again: by hand. In the first, the meshing heap ends with more pages.
+# - more_with_meshing, large, empty, no_bytes, freed_again: by hand. In the first, the meshing heap ends with more pages.
 #
-# In the recorded histories cells and addresses are renumbered to shorten the lines. All but freed_again are legal for
-# `meshrun check`. The status is 1 if a run ends with a status other than 0 or 1.
+# In the recorded histories cells and addresses are renumbered to shorten the lines. All but no_bytes and freed_again are
+# legal for `meshrun check`. The status is 1 if a run ends with a status other than 0 or 1.
 
 cd "$(dirname "$0")/../.." || exit 2
 room=$(mktemp -d) || exit 2
