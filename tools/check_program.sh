@@ -568,13 +568,14 @@ for option in '--every 0' '--every 4294967296' '--probe 65' '--seed 184467440737
     check "savings: $option" 2 "$room/nothing" any savings $savings/tar.history $option
 done
 
-# plots of it: well-formed SVG, and the same figures whatever the device
+# plots of it: well-formed SVG, with the status and the errors of the table
 for history in $savings/*.history "$room/used_up.history"; do
     "$program" savings "$history" >"$room/table" 2>"$room/wanted.errors" </dev/null
-    status=$?
+    wanted=$?
     "$program" savings "$history" --svg >"$room/output" 2>"$room/errors" </dev/null
+    status=$?
     if [ -s "$room/table" ]; then picture=any; else picture=$room/nothing; fi
-    ended "savings: a plot of $history" $? $status $picture "$room/wanted.errors"
+    ended "savings: a plot of $history" $status $wanted "$picture" "$room/wanted.errors"
     if [ -s "$room/output" ]; then
         cp "$room/output" "$room/plot.svg"
         python3 -c 'import sys, xml.dom.minidom; xml.dom.minidom.parse(sys.argv[1])' "$room/plot.svg" >"$room/output" 2>"$room/errors"
