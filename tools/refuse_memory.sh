@@ -94,7 +94,7 @@ case_fault() {
     esac
 }
 
-# How a run of the replay, of a picture or of an exploration may end, whose whole output is the file $wanted.
+# How a run of the replay, of a report, of a picture or of an exploration may end, whose whole output is the file $wanted.
 replay_fault() {
     if [ "$status" -eq 0 ]; then
         cmp -s "$room/output" "$wanted" && [ ! -s "$room/errors" ] || echo " another output"
@@ -214,6 +214,15 @@ echo 'legal 33 entries' >"$room/legal.out"
 wanted=$room/legal.out
 spare "$meshrun" check "$room/no file"
 refuse_each "meshrun check" replay_fault "$meshrun" check jobs/histories/each_command.history
+savings=jobs/histories/savings/more_with_meshing
+wanted=$savings.out
+spare "$meshrun" savings "$room/no file"
+# shellcheck disable=SC2046 # the words of the options
+refuse_each "meshrun savings" replay_fault "$meshrun" savings $savings.history $(cat $savings.args)
+"$meshrun" savings $savings.history --svg >"$room/savings.svg"
+wanted=$room/savings.svg
+spare "$meshrun" savings "$room/no file" --svg
+refuse_each "meshrun savings --svg" replay_fault "$meshrun" savings $savings.history --svg
 "$meshrun" draw jobs/hello.job >"$room/hello.svg"
 wanted=$room/hello.svg
 spare "$meshrun" draw "$room/no file"

@@ -6,6 +6,7 @@ use std::process::Abort;
 
 mod checks;
 mod replays;
+mod savings;
 
 /// Asserts that the run of a case went so.
 fn check<N: Display + Drop>(rt: &(impl Abort + AllocGlobal), goes: bool, run: &Ran, case: N) {
