@@ -75,6 +75,8 @@ check "the version" 0 "$(line 'meshrun 0.1.0')" "$room/nothing" --version
 
 cat "$hello" | "$program" replay /dev/stdin >"$room/output" 2>"$room/errors"
 ended "a pipe as the file" $? 0 "$answers" "$room/nothing"
+"$program" replay - <"$hello" >"$room/output" 2>"$room/errors"
+ended "standard input as the file" $? 0 "$answers" "$room/nothing"
 
 : >"$room/output"
 "$program" replay "$hello" >/dev/full 2>"$room/errors" </dev/null
@@ -215,8 +217,8 @@ for job in $explorations/*.job; do
 done
 store=$explorations/store_and_copy
 check "explore: as many states as are kept" 0 $store.out "$room/nothing" explore $store.job --mesh 1:0 --states 64
-check "explore: one state more" 1 "$room/nothing" "$(line 'too many states')" explore $store.job --mesh 1:0 --states 63
-check "explore: one state more, and an outcome" 1 "$room/nothing" "$(line 'too many states')" explore $store.job --mesh 1:0 --states 63 --witness 0
+check "explore: one state more" 1 "$room/nothing" "$(line 'too many states: more than 63; --states raises the limit')" explore $store.job --mesh 1:0 --states 63
+check "explore: one state more, and an outcome" 1 "$room/nothing" "$(line 'too many states: more than 63; --states raises the limit')" explore $store.job --mesh 1:0 --states 63 --witness 0
 check "explore: no such outcome" 2 "$room/nothing" "$(line 'no such outcome')" explore $store.job --mesh 1:0 --witness 2
 check "explore: help" 0 any "$room/nothing" explore --help
 check "explore: a missing file" 1 "$room/nothing" "$(line 'read fault')" explore "$room/missing.job" --mesh 1:0
@@ -229,7 +231,7 @@ for mesh in '' 1 : 1: :0 1:0:2 01:0 1:00 +1:0 1:65536 65536:0 1-0 'a:0' '1: 0'; 
 done
 # shellcheck disable=SC2046
 check "explore: eleven meshes" 2 "$room/nothing" any explore $store.job $(yes -- '--mesh 1:0' | head -n 11)
-for option in '--cancel 1001' '--states 0' '--states 10000001' '--witness 1000001' '--cancel 1 --cancel 1' '--seed 1'; do
+for option in '--cancel 1001' '--states 0' '--states 10000001' '--witness 4294967296' '--cancel 1 --cancel 1' '--seed 1'; do
     # shellcheck disable=SC2086
     check "explore: $option" 2 "$room/nothing" any explore $store.job --mesh 1:0 $option
 done
@@ -240,6 +242,8 @@ done
 
 cat $store.job | "$program" explore /dev/stdin --mesh 1:0 >"$room/output" 2>"$room/errors"
 ended "explore: a pipe as the file" $? 0 $store.out "$room/nothing"
+"$program" explore - --mesh 1:0 <$store.job >"$room/output" 2>"$room/errors"
+ended "explore: standard input as the file" $? 0 $store.out "$room/nothing"
 "$program" replay /dev/stdin >"$room/output" 2>"$room/closed" <&-
 status=$?
 "$program" explore /dev/stdin --mesh 1:0 >"$room/output" 2>"$room/errors" <&-

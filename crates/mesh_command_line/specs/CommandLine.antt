@@ -75,7 +75,7 @@ live_app = with_rule (with_rule (with_rule (new_app (codes "live")) (number_or (
 -- `explore FILE --mesh SRC:DST [--mesh ..] [--cancel AFTER] [--states N] [--witness K]`
 abbrev pub explore_app : App
 explore_app = with_rule (with_rule (with_rule (with_rule (with_rule (new_app (codes "explore")) file_rule) mesh_rule)
-    (number_rule (codes "cancel") 0 1000)) (number_or (codes "states") 1 10000000 (codes "100000"))) (number_rule (codes "witness") 0 1000000)
+    (number_rule (codes "cancel") 0 1000)) (number_or (codes "states") 1 10000000 (codes "100000"))) (number_rule (codes "witness") 0 4294967295)
 
 -- `check FILE`
 abbrev pub check_app : App
@@ -227,7 +227,7 @@ abbrev pub explored_in : List Row → Option Explored
 explored_in rows =
     option_and_then (λ meshes. option_and_then (λ cancel. option_and_then (λ states.
     option_map (λ witness. record { meshes = meshes; cancel = cancel; states = states; witness = witness })
-    (given_in (codes "witness") 0 1000000 rows)) (number_in (codes "states") 1 10000000 rows)) (given_in (codes "cancel") 0 1000 rows)) (meshes_in rows)
+    (given_in (codes "witness") 0 4294967295 rows)) (number_in (codes "states") 1 10000000 rows)) (given_in (codes "cancel") 0 1000 rows)) (meshes_in rows)
 
 -- the seed that the matches have for `savings`: 1 where neither it nor `--first-fit` is given, and none with `--first-fit`, beside which it may not stand
 abbrev pub seed_by : Bool → List Row → Option (Option ℕ)

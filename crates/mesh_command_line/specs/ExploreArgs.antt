@@ -10,4 +10,4 @@ pub record AreInRange (meshes : Meshes) (cancel : Option ℕ) (states : ℕ) (wi
   pub cancel_most : ForSome cancel (λ steps. steps ≤ 1000)
   pub states_least : 1 ≤ states
   pub states_most : states ≤ 10000000
-  pub witness_most : ForSome witness (λ number. number ≤ 1000000)
+  pub witness_most : ForSome witness (λ number. number ≤ 4294967295)

@@ -172,8 +172,8 @@ const WITNESS: NumberOption = NumberOption {
     name: "witness",
     value: "K",
     least: 0,
-    most: 1000000,
-    help: "Print a job file that leads to outcome K, 0 to 1000000, in place of what is told of all",
+    most: 4294967295,
+    help: "Print a job file that leads to outcome K, 0 to 4294967295, in place of what is told of all",
 };
 
 const EVERY: NumberOption = NumberOption {
@@ -245,7 +245,7 @@ const SUBCOMMANDS: &[Subcommand] = &[
         name: "replay",
         about: "Run a job file's plan and print one answer a line",
         arguments: &[
-            Argument::File("The job file to replay"),
+            Argument::File("The job file to replay; - is standard input"),
             Argument::Flag(
                 RECORDED,
                 "Print the journal as a recorded history in place of the answers",
@@ -256,7 +256,7 @@ const SUBCOMMANDS: &[Subcommand] = &[
         name: "threads",
         about: "Run a job file's scripts, a thread each, while others mesh, and print their answers",
         arguments: &[
-            Argument::File("The job file; its plan is not used"),
+            Argument::File("The job file, whose plan is not used; - is standard input"),
             Argument::Required(PROBE),
             Argument::Required(ROUNDS),
             Argument::Required(WORKERS),
@@ -272,7 +272,7 @@ const SUBCOMMANDS: &[Subcommand] = &[
         name: "draw",
         about: "Draw a job file's plan as an SVG picture and print it",
         arguments: &[
-            Argument::File("The job file to draw"),
+            Argument::File("The job file to draw; - is standard input"),
             Argument::Default(FROM, "1"),
             Argument::Default(TO, "1048576"),
             Argument::Default(COLUMNS, "0"),
@@ -291,7 +291,7 @@ const SUBCOMMANDS: &[Subcommand] = &[
         name: "explore",
         about: "Run what a job file's plan leaves of its scripts in every interleaving with meshes, and print all answers",
         arguments: &[
-            Argument::File("The job file; its plan is the setting"),
+            Argument::File("The job file, whose plan is the setting; - is standard input"),
             Argument::Meshes,
             Argument::Optional(CANCEL),
             Argument::Default(STATES, "100000"),

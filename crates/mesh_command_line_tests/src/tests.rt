@@ -67,7 +67,7 @@ meshrun explore a.job --mesh 1:0|explore a.job 1:0 - 100000 -#\
 meshrun explore --mesh=1:0 a.job --mesh=3:2|explore a.job 1:0 3:2 - 100000 -#\
 meshrun explore a.job --mesh 3:2 --cancel 4 --mesh 1:0 --states 5 --witness 6|explore a.job 3:2 1:0 4 5 6#\
 meshrun explore a.job --mesh 0:65535 --cancel 0 --states 1 --witness 0|explore a.job 0:65535 0 1 0#\
-meshrun explore a.job --mesh 65535:0 --cancel 1000 --states 10000000 --witness 1000000|explore a.job 65535:0 1000 10000000 1000000#\
+meshrun explore a.job --mesh 65535:0 --cancel 1000 --states 10000000 --witness 4294967295|explore a.job 65535:0 1000 10000000 4294967295#\
 meshrun explore a.job --mesh 1:1 --mesh 1:1|explore a.job 1:1 1:1 - 100000 -#\
 meshrun explore a.job --witness +3 --states 0012 --mesh 1:0|explore a.job 1:0 - 12 3#\
 meshrun explore a.job --mesh 1:0 --witness 3|explore a.job 1:0 - 100000 3#\
@@ -154,7 +154,7 @@ meshrun explore a.job --mesh 1:0 --cancel -1\n\
 meshrun explore a.job --mesh 1:0 --cancel 1 --cancel 2\n\
 meshrun explore a.job --mesh 1:0 --states 0\n\
 meshrun explore a.job --mesh 1:0 --states 10000001\n\
-meshrun explore a.job --mesh 1:0 --witness 1000001\n\
+meshrun explore a.job --mesh 1:0 --witness 4294967296\n\
 meshrun explore a.job --mesh 1:0 --witness 18446744073709551616\n\
 meshrun explore a.job --mesh 1:0 --witness\n\
 meshrun explore a.job b.job --mesh 1:0\n\

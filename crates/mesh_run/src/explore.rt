@@ -5,7 +5,7 @@ ghost use Rattle.mesh_explore_text.specs.declared.errors.ExploreError.{ExploreEr
 ghost use Rattle.mesh_run.specs.Explores.{EndsExplore, explore_status, explore_text};
 ghost use Rattle.mesh_run.specs.Runs.{IsSound};
 
-use crate::fault_line::{Line, line_of, line_with};
+use crate::fault_line::{Line, line_of, line_with, number_line};
 use crate::runs::{status_of, tell};
 use crate::{Devices, ExploreArgs};
 use mesh_command_line::status::{DONE, FAILED, FAULTY};
@@ -31,8 +31,8 @@ fn options_of(args: &ExploreArgs) -> ExploreOptions<'_>
 /// Explores what the plan of the job that the input gives leaves of its scripts, writes what is told to the output or a fault to `errors`, and gives
 /// the exit status.
 ///
-/// The status is 0 where everything was written. It is 1 with the line `read fault`, `write fault`, `out of memory` or `too many states`, and 2 with
-/// the line `line N: KIND` where the job's text has a fault or with `no such outcome` where the outcome that is asked for is none. Nothing is
+/// The status is 0 where everything was written. It is 1 with the line `read fault`, `write fault`, `out of memory` or `too many states: more than N;
+/// --states raises the limit`, and 2 with the line `line N: KIND` where the job's text has a fault or with `no such outcome` where the outcome that is asked for is none. Nothing is
 /// written to the output but where writing to it failed. Where that line can't be written the status stays.
 pub fn explore_run<I: Source, O: Sink, E: Sink>(
     alloc: Global,
@@ -46,19 +46,26 @@ pub fn explore_run<I: Source, O: Sink, E: Sink>(
     match explore(alloc, &mut devices.input, &mut devices.output, &options) {
         Ok(()) => DONE,
         Err(error) => {
-            tell(&mut devices.errors, explore_line_of(error).as_slice());
+            tell(
+                &mut devices.errors,
+                explore_line_of(error, args.states).as_slice(),
+            );
             explore_status_of(error)
         }
     }
 }
 
-/// The line of an error, with its end.
-fn explore_line_of(error: ExploreError) -> Line
-    ensures { result.items ≡ ended (explore_text error) }
+/// The line of an error of an exploration of so many states at most, with its end.
+fn explore_line_of(error: ExploreError, states: u32) -> Line
+    ensures { result.items ≡ ended (explore_text states error) }
 {
     match error {
         ExploreError::Replay(error) => line_of(error),
-        ExploreError::TooManyStates => line_with(b"too many states"),
+        ExploreError::TooManyStates => number_line(
+            b"too many states: more than ",
+            states,
+            b"; --states raises the limit",
+        ),
         ExploreError::NoOutcome => line_with(b"no such outcome"),
     }
 }

@@ -10,8 +10,9 @@ use itoa::Buffer;
 use mesh_devices::ReplayError;
 use mesh_text::TextFault;
 
-/// The bytes of a line, with room for the longest: `addresses used up at call 4294967295` and its end.
-pub(crate) type Line = ArrayVec<u8, 48>;
+/// The bytes of a line, with room for the longest: `too many states: more than 4294967295; --states raises the limit`
+/// and its end.
+pub(crate) type Line = ArrayVec<u8, 72>;
 
 /// The line of an error, with its end.
 pub(crate) fn line_of(error: ReplayError) -> Line
@@ -42,7 +43,7 @@ pub(crate) fn threads_line_of(error: ThreadsError) -> Line
 
 /// A line of these bytes and its end.
 pub(crate) fn line_with(bytes: &[u8]) -> Line
-    requires { length bytes.now ≤ 47 }
+    requires { length bytes.now ≤ 71 }
     ensures { result.items ≡ ended bytes.now }
 {
     let mut line = Line::new();
@@ -53,7 +54,7 @@ pub(crate) fn line_with(bytes: &[u8]) -> Line
 
 /// A line of a number between these bytes, and its end.
 pub(crate) fn number_line(before: &[u8], number: u32, behind: &[u8]) -> Line
-    requires { length before.now + length behind.now ≤ 37 }
+    requires { length before.now + length behind.now ≤ 61 }
     ensures { result.items ≡ ended (before.now ++ decimal number ++ behind.now) }
 {
     let mut digits = Buffer::new();
@@ -69,7 +70,7 @@ pub(crate) fn number_line(before: &[u8], number: u32, behind: &[u8]) -> Line
 fn add_fault(line: &mut Line, fault: TextFault)
     requires { line.old.items ≡ [] }
     ensures text { line.new.items ≡ fault_text fault }
-    ensures short { length line.new.items ≤ 47 }
+    ensures short { length line.new.items ≤ 71 }
 {
     let mut digits = Buffer::new();
     add(line, b"line ");
@@ -80,7 +81,7 @@ fn add_fault(line: &mut Line, fault: TextFault)
 
 /// Adds bytes for which there is room.
 fn add(line: &mut Line, bytes: &[u8])
-    requires { length line.old.items + length bytes.now ≤ 48 }
+    requires { length line.old.items + length bytes.now ≤ 72 }
     ensures { line.new.items ≡ line.old.items ++ bytes.now }
 {
     let _ = line.try_extend_from_slice(bytes);

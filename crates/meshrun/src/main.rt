@@ -59,9 +59,8 @@ fn run<R: Threads + Wait + Sync, O: Sink + Drop, E: Sink + Drop>(
 
 /// The path of the file that is read, or none where standard input is.
 fn path_of<'a>(args: &Args<'a>) -> Option<&'a str> {
-    match *args {
-        Args::Live(_) => None,
-        Args::Check(path) | Args::Savings(path, _) if path == STANDARD_INPUT => None,
+    let path = match *args {
+        Args::Live(_) => return None,
         Args::Replay(path)
         | Args::ReplayHistory(path)
         | Args::Threads(path, _)
@@ -69,7 +68,12 @@ fn path_of<'a>(args: &Args<'a>) -> Option<&'a str> {
         | Args::Draw(path, _)
         | Args::Explore(path, _)
         | Args::Check(path)
-        | Args::Savings(path, _) => Some(path),
+        | Args::Savings(path, _) => path,
+    };
+    if path == STANDARD_INPUT {
+        None
+    } else {
+        Some(path)
     }
 }
 

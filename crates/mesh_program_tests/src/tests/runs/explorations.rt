@@ -19,15 +19,23 @@ const SECOND: &str =
 
 /// Words behind those, and the line and the status that such a run ends with.
 static STOPS: [(&[&str], &str, u8); 5] = [
-    (&["--states", "63"], "too many states\n", 1),
     (
-        &["--states", "63", "--witness", "9"],
-        "too many states\n",
+        &["--states", "63"],
+        "too many states: more than 63; --states raises the limit\n",
         1,
     ),
-    (&["--states", "1"], "too many states\n", 1),
+    (
+        &["--states", "63", "--witness", "9"],
+        "too many states: more than 63; --states raises the limit\n",
+        1,
+    ),
+    (
+        &["--states", "1"],
+        "too many states: more than 1; --states raises the limit\n",
+        1,
+    ),
     (&["--witness", "2"], "no such outcome\n", 2),
-    (&["--witness", "1000000"], "no such outcome\n", 2),
+    (&["--witness", "4294967295"], "no such outcome\n", 2),
 ];
 
 /// Runs an exploration with these words.
