@@ -1,0 +1,48 @@
+"""Runs explorations by the program and by the plain engine, for tools/explore_times.sh."""
+import os
+import subprocess
+import sys
+
+program, room = sys.argv[1:]
+reference = f"{room}/reference"
+MOST = ["--states", "10000000"]
+SMALLEST = ("jobs/explore/store_and_copy.job", ["--mesh", "1:0"])
+JOBS = [
+    ("three_pages", "jobs/explore/three_pages.job", open("jobs/explore/three_pages.args").read().split()),
+    ("six_and_six", "jobs/explore/six_and_six.job", open("jobs/explore/six_and_six.args").read().split()),
+    ("3 workers, 4 racing commands", f"{room}/racing.job", ["--mesh", "1:0"]),
+    ("12 workers, a command each", f"{room}/workers.job", ["--mesh", "1:0"]),
+    ("a setting of 65,534 lines", f"{room}/setting.job", ["--mesh", "1:0"]),
+]
+
+
+def run(words):
+    """What a command prints, its processor seconds and its peak of memory in bytes."""
+    with open(f"{room}/output", "wb+") as output:
+        process = subprocess.Popen(words, stdout=output, stderr=subprocess.DEVNULL)
+        _, status, used = os.wait4(process.pid, 0)
+        output.seek(0)
+        text = output.read()
+    return (text if status == 0 else None), used.ru_utime + used.ru_stime, used.ru_maxrss * 1024
+
+
+def main():
+    """Prints a line a job. Returns whether both engines print the same."""
+    job, words = SMALLEST
+    least = run([program, "explore", job, *words])[2]
+    alike = True
+    print(f"{'job':30} {'states':>8} {'seconds':>8} {'states/s':>9} {'bytes/state':>11} {'ratio':>6}")
+    for name, job, words in JOBS:
+        ours, seconds, peak = run([program, "explore", job, *words, *MOST])
+        theirs, plain, _ = run([reference, job, *words, *MOST])
+        if ours is None or ours != theirs:
+            print(f"{name:30} differs")
+            alike = False
+            continue
+        states = int(ours.split(b"\n")[0].split()[-1])
+        bytes_each = max(peak - least, 0) / states
+        print(f"{name:30} {states:8} {seconds:8.2f} {states / seconds:9.0f} {bytes_each:11.0f} {seconds / plain:6.1f}")
+    return alike
+
+
+sys.exit(0 if main() else 1)
