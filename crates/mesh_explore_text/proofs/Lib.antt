@@ -1,6 +1,7 @@
 pub mod Attempts
 pub mod Combinations
 pub mod Endings
+pub mod FoundOutcomes
 pub mod Kept
 pub mod NotedAnswers
 pub mod Paths

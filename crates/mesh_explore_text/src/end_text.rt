@@ -5,45 +5,40 @@ use crate::job_lines::command_line;
 use crate::outcome_text::add_numbered;
 use crate::phase_at;
 use crate::ranges::{add_phase, phase_place};
-use mesh_explore::{Attempted, ExploreState, Setting, attempt_at};
+use crate::settings::{meshers_of, pair_of, workers_of};
+use mesh_explore::{Attempted, StateAt, attempt_at};
 use mesh_job::Job;
 use mesh_text::add_decimal;
 use std::alloc::{AllocError, Global};
 
-/// Adds the line of a state at which no move is left: where each mesh stands, and why each worker with commands left does not go on. An error is an
-/// allocation failure, here and below.
+/// Adds the line of a state at which no move is left: where each mesh stands, and why each worker with commands left
+/// does not go on. An error is an allocation failure, here and below.
 pub(crate) fn add_end(
     alloc: Global,
     text: &mut Vec<u8>,
-    setting: &Setting<'_>,
-    state: &ExploreState,
+    state: &StateAt<'_>,
 ) -> Result<(), AllocError> {
     text.extend_from_slice(b"  end:")?;
-    for mesher in 0..setting.pairs.len() {
+    for mesher in 0..meshers_of(state) {
         text.extend_from_slice(if mesher == 0 { b" " } else { b", " })?;
-        add_mesh(text, setting, state, mesher)?;
+        add_mesh(text, state, mesher)?;
     }
-    for worker in 0..setting.workers() {
-        add_worker(alloc, text, setting, state, worker as u32)?;
+    for worker in 0..workers_of(state) {
+        add_worker(alloc, text, state, worker as u32)?;
     }
     text.extend_from_slice(b"\n")
 }
 
 /// Adds where a mesh stands.
-fn add_mesh(
-    text: &mut Vec<u8>,
-    setting: &Setting<'_>,
-    state: &ExploreState,
-    mesher: usize,
-) -> Result<(), AllocError> {
-    let Some(pair) = setting.pairs.get(mesher) else {
+fn add_mesh(text: &mut Vec<u8>, state: &StateAt<'_>, mesher: usize) -> Result<(), AllocError> {
+    let Some(pair) = pair_of(state, mesher) else {
         return Ok(());
     };
     add_numbered(text, b"mesh", u64::from(pair.source))?;
     text.push(b':')?;
     add_decimal(text, u64::from(pair.destination))?;
     text.push(b' ')?;
-    match phase_at(setting, state, mesher) {
+    match phase_at(state, mesher) {
         Some(phase) => add_phase(text, phase_place(phase)),
         None => Ok(()),
     }
@@ -53,18 +48,17 @@ fn add_mesh(
 fn add_worker(
     alloc: Global,
     text: &mut Vec<u8>,
-    setting: &Setting<'_>,
-    state: &ExploreState,
+    state: &StateAt<'_>,
     worker: u32,
 ) -> Result<(), AllocError>
-    requires { worker < length setting.now.job.now.scripts }
+    requires { worker < length state.now.setting.job.scripts }
 {
-    let why: &[u8] = match attempt_at(alloc, setting, state, worker)? {
+    let why: &[u8] = match attempt_at(alloc, state, worker)? {
         Attempted::Full => b" history full",
         Attempted::Blocked => b" blocked",
         Attempted::Over | Attempted::Replied(_) => return Ok(()),
     };
-    let job: &Job = setting.job;
+    let job: &Job = state.setting().job;
     let line = command_line(job, worker, state.place_of(worker));
     add_numbered(text, b", worker", u64::from(worker))?;
     add_numbered(text, b" line", line)?;

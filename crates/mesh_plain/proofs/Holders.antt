@@ -47,7 +47,7 @@ some_from f k (suc n) (suc j) address below is h =
     passed k (f k) (values_from f (suc k) n) address (h k (omega arith) (omega arith)) ∙ rw (one, more) rest
 
 -- a key at or below `j`, where all keys are above it, is not there
-absent : (j k : ℕ) (entries : List (ℕ × Object)) → AllByRecursion (λ y. nat_cmp j y ≡ Less) (keys_of entries) → k ≤ j → lookup (is_at (nat_cmp k)) entries ≡ None
+pub absent : {X : Type 0} (j k : ℕ) (entries : List (ℕ × X)) → AllByRecursion (λ y. nat_cmp j y ≡ Less) (keys_of entries) → k ≤ j → lookup (is_at (nat_cmp k)) entries ≡ None
 absent j k [] above below = refl
 absent j k (entry ∷ entries) above below =
     rw (other_key k entry.0 (λ same. absurd (omega (arith, same, ranked j entry.0 Less (sym above.0), below)))) (absent j k entries above.1 below)

@@ -2,5 +2,6 @@ mod Ties
 mod Holders
 mod Stores
 mod Serials
-pub mod Sameness
+mod Prints
+mod Sameness
 mod Answered

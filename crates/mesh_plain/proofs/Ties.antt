@@ -23,7 +23,7 @@ values_same f g k zero h = refl
 values_same f g k (suc n) h = rw (h k, values_same f g (suc k) n h) refl
 
 -- from here on both give the same
-values_same_from : {X : Type 0} (f g : ℕ → X) (k n : ℕ) → ((q : ℕ) → k ≤ q → g q ≡ f q) → values_from g k n ≡ values_from f k n
+pub values_same_from : {X : Type 0} (f g : ℕ → X) (k n : ℕ) → ((q : ℕ) → k ≤ q → g q ≡ f q) → values_from g k n ≡ values_from f k n
 values_same_from f g k zero h = refl
 values_same_from f g k (suc n) h = let here = h k (omega arith) in let rest = values_same_from f g (suc k) n (λ q above. h q (omega (arith, above))) in rw (here, rest) refl
 
@@ -61,18 +61,22 @@ pub updated : {X : Type 0} (m n : BTreeMap ℕ X) (k : ℕ) (v : Option X) → U
 updated m n k v u = (u.1, λ q h. u.2 q (other_key k q h))
 
 -- nothing is there from the end on
-none_past : (f : ℕ → Option Object) (n serial : ℕ) (x : Option Object) → AreBelow f n → n ≤ serial → f serial ≡ x → x ≡ None
-none_past f n serial None below past h = refl
-none_past f n serial (Some x) below past h = let there = below serial x h in absurd (omega (arith, there, past))
+none_past : {X : Type 0} (f : ℕ → Option X) (n k : ℕ) (x : Option X) → AreBelow f n → n ≤ k → f k ≡ x → x ≡ None
+none_past f n k None below past h = refl
+none_past f n k (Some x) below past h = let there = below k x h in absurd (omega (arith, there, past))
+
+-- what a function gives is the value at the place, or it gives nothing, past the end
+pub value_of : {X : Type 0} (f : ℕ → Option X) (n k : ℕ) → AreBelow f n → slice_index_or (values_from f 0 n) k None ≡ f k
+value_of f n k below = elim (leb_tells (suc k) n) [
+  | inl inside ↦ value_at f 0 n k None inside.1 ∙ ap f (omega arith)
+  | inr outside ↦
+      let past : n ≤ k = (let o = outside.1 in omega (arith, o)) in
+      get_or_past (values_from f 0 n) k None (let l = values_length f 0 n in omega (arith, l, past)) ∙ sym (none_past f n k (f k) below past refl)
+]
 
 -- the object of a serial
 pub object_at : (f : ℕ → Option Object) (n : ℕ) (g : ℕ → Option ℕ) (serial : ℕ) → AreBelow f n → object_of (memory_of_maps f n g) serial ≡ f serial
-object_at f n g serial below = elim (leb_tells (suc serial) n) [
-  | inl inside ↦ value_at f 0 n serial None inside.1 ∙ ap f (omega arith)
-  | inr outside ↦
-      let past : n ≤ serial = (let o = outside.1 in omega (arith, o)) in
-      get_or_past (values_from f 0 n) serial None (let l = values_length f 0 n in omega (arith, l, past)) ∙ sym (none_past f n serial (f serial) below past refl)
-]
+object_at f n g serial below = value_of f n serial below
 
 pub root_at : (f : ℕ → Option Object) (n : ℕ) (g : ℕ → Option ℕ) (cell : ℕ) → cell < 256 → root_of (memory_of_maps f n g) cell ≡ g cell
 root_at f n g cell below = value_at g 0 256 cell None below ∙ ap g (omega arith)
@@ -131,6 +135,22 @@ memory_same old new roots roots' n same same' =
 pub on_err : {A E P : Type 0} (r : Result A E) → P → OnErr r P
 on_err (Ok x) p = tt
 on_err (Err e) p = p
+
+-- no cell past the last one
+pub cells_below : (old new : BTreeMap ℕ ℕ) (cell : ℕ) (v : Option ℕ) → cell < 256 → AreBelow (get nat_cmp old) 256 → Updates nat_cmp old new cell v
+    → AreBelow (get nat_cmp new) 256
+cells_below old new cell v small below u k x h = elim (eqb_tells k cell) [
+  | inl same ↦ (let s = same.1 in omega (arith, s, small))
+  | inr other ↦ below k x (sym ((updated old new cell v u).1 k other.1) ∙ h)
+]
+
+-- an object less
+pub below_without : (old new : BTreeMap ℕ Object) (n serial : ℕ) → AreBelow (get nat_cmp old) n → Updates nat_cmp old new serial None
+    → AreBelow (get nat_cmp new) n
+below_without old new n serial below u k x h = elim (eqb_tells k serial) [
+  | inl same ↦ (let none : None ≡ Some x = sym u.1 ∙ ap (get nat_cmp new) (sym same.1) ∙ h in absurd (cc none))
+  | inr other ↦ below k x (sym ((updated old new serial None u).1 k other.1) ∙ h)
+]
 
 -- one serial more
 pub below_more : (old new : BTreeMap ℕ Object) (n : ℕ) (v : Option Object) → AreBelow (get nat_cmp old) n → Updates nat_cmp old new n v

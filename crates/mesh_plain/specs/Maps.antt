@@ -24,12 +24,8 @@ memory_code = code_by (List (Option Object) × List (Option ℕ)) (coded× (code
     (λ m. (m.objects, m.roots)) (λ p. record { objects = p.0; roots = p.1 }) (λ _. refl)
 
 -- what the function gives is given below the number
-abbrev pub AreBelow : (ℕ → Option Object) → ℕ → Type 0
-AreBelow object next = (k : ℕ) (x : Object) → object k ≡ Some x → k < next
-
--- both give the same below a number
-abbrev pub AgreeBelow : {X : Type 0} → ℕ → (ℕ → Option X) → (ℕ → Option X) → Type 0
-AgreeBelow next f g = (k : ℕ) → k < next → f k ≡ g k
+abbrev pub AreBelow : {X : Type 0} → (ℕ → Option X) → ℕ → Type 0
+AreBelow {X} f next = (k : ℕ) (x : X) → f k ≡ Some x → k < next
 
 -- both give the same
 abbrev pub IsSameAt : {X : Type 0} → (ℕ → Option X) → (ℕ → Option X) → Type 0

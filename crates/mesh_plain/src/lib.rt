@@ -8,6 +8,7 @@ mod bytes;
 mod commands;
 mod copies;
 mod faults;
+mod fingerprints;
 mod maps;
 mod plain;
 mod stored;

@@ -1,0 +1,41 @@
+//! What the setting of a state has.
+ghost use Rattle.std.specs.Prelude.{◌≡◌, ◌≤◌, length, slice_get};
+
+use mesh_explore::{MeshPair, StateAt};
+use model_words::Version;
+
+/// How many workers there are.
+pub(crate) fn workers_of(state: &StateAt<'_>) -> usize
+    ensures value { result ≡ length state.now.setting.job.scripts }
+    ensures few { result ≤ 64 }
+{
+    state.setting().workers()
+}
+
+/// How many meshers there are.
+pub(crate) fn meshers_of(state: &StateAt<'_>) -> usize
+    ensures { result ≡ length state.now.setting.pairs }
+{
+    state.setting().pairs.len()
+}
+
+/// The groups that a mesher meshes. None only where there is no such mesher.
+pub(crate) fn pair_of(state: &StateAt<'_>, mesher: usize) -> Option<MeshPair>
+    ensures { result ≡ slice_get state.now.setting.pairs mesher }
+{
+    state.setting().pairs.get(mesher).copied()
+}
+
+/// The version of the job's file.
+pub(crate) fn version_of(state: &StateAt<'_>) -> Version
+    ensures { result ≡ state.now.setting.job.version }
+{
+    state.setting().version()
+}
+
+/// After how many steps each mesh is cancelled, if it is.
+pub(crate) fn cancel_of(state: &StateAt<'_>) -> Option<u32>
+    ensures { result ≡ state.now.setting.cancel }
+{
+    state.setting().cancel
+}
