@@ -226,11 +226,30 @@ check "explore: a directory" 1 "$room/nothing" "$(line 'read fault')" explore jo
 check "explore: an endless file" 2 "$room/nothing" "$(line 'line 0: TOO_LONG')" explore /dev/zero --mesh 1:0
 check "explore: no file" 2 "$room/nothing" any explore --mesh 1:0
 check "explore: no mesh" 2 "$room/nothing" any explore $store.job
-for mesh in '' 1 : 1: :0 1:0:2 01:0 1:00 +1:0 1:65536 65536:0 1-0 'a:0' '1: 0'; do
-    check "explore: the mesh '$mesh'" 2 "$room/nothing" any explore $store.job --mesh "$mesh"
+# mesh_fault TEXT: a file of this fault of `explore`, with its usage.
+mesh_fault() {
+    {
+        printf 'error: %s\n\n' "$1"
+        printf 'Usage: %s explore [OPTIONS] --mesh <SRC:DST> <FILE>\n\n' "$(basename "$program")"
+        echo "For more information, try '--help'."
+    } >"$room/fault"
+    echo "$room/fault"
+}
+# no_mesh WORD: a file of the fault of a word that is no mesh.
+no_mesh() {
+    mesh_fault "invalid value '$1' for '--mesh <SRC:DST>': two group numbers from 0 to 65535 with a colon between them"
+}
+for mesh in +1:0 01:0 1:+0 1:00 +0001:+000; do
+    check "explore: the mesh '$mesh'" 0 $store.out "$room/nothing" explore $store.job --mesh "$mesh"
 done
+for mesh in '' 1 : 1: :0 1:0:2 ++1:0 +:0 1:65536 65536:0 1-0 'a:0' '1: 0' 99999999999999999999:0; do
+    check "explore: the mesh '$mesh'" 2 "$room/nothing" "$(no_mesh "$mesh")" explore $store.job --mesh "$mesh"
+done
+check "explore: the mesh '-1:0'" 2 "$room/nothing" any explore $store.job --mesh -1:0
+check "explore: the second of three meshes" 2 "$room/nothing" "$(no_mesh 1-0)" explore $store.job --mesh 1:0 --mesh=1-0 --mesh 1
 # shellcheck disable=SC2046
-check "explore: eleven meshes" 2 "$room/nothing" any explore $store.job $(yes -- '--mesh 1:0' | head -n 11)
+check "explore: eleven meshes" 2 "$room/nothing" "$(mesh_fault "the argument '--mesh <SRC:DST>' cannot be used more than 10 times")" \
+    explore $store.job $(yes -- '--mesh 1:0' | head -n 11)
 for option in '--cancel 1001' '--states 0' '--states 10000001' '--witness 4294967296' '--cancel 1 --cancel 1' '--seed 1'; do
     # shellcheck disable=SC2086
     check "explore: $option" 2 "$room/nothing" any explore $store.job --mesh 1:0 $option

@@ -1,7 +1,6 @@
 -- What `clap`'s contracts say of the program's command line.
 use Rattle.std.proofs.Common.{◌≡◌, true, false, List, [], ◌∷◌, ◌++◌, Option, None, Some, Result, Ok, Err, IfErr, option_map, ap, refl, subst, sym, ◌∙◌, inl, inr}
 use Rattle.std.specs.Box.{box_value}
-use Rattle.std.specs.Fmt.{digits}
 use Rattle.std.specs.List.{slice_split}
 use Rattle.std.specs.Prelude.{codes, nat_eq, option_and_then}
 use Rattle.clap.specs.Words.{App, FailsBy, HasKind, IsAmong, Row, Text, fault_of, first_of, first_value, is_simple, is_simple_and_free, kind_of, found_of, rows_of, subcommand_name_of, subcommand_of, subcommand_rows_of, takes}
@@ -120,18 +119,19 @@ judgements_are_asked : Asks (codes "check a.history") (check_of (codes "a.histor
 unfolding clap_on_literals asked is_taken
 judgements_are_asked = ((refl, refl), (refl, refl))
 
--- one mesh is never cancelled, and explored for all outcomes, of at most 100,000 states; two meshes come in their order, between other options
+-- one mesh is never cancelled, and explored for all outcomes, of at most 100,000 states; two meshes come in their order,
+-- between other options, and their numbers may have a plus and leading zeros
 explorations_are_asked :
     Asks (codes "explore a.job --mesh 1:0")
     (explore_of (codes "a.job") (record { meshes = record { source = 1; destination = 0 } ∷ []; cancel = None; states = 100000; witness = None }))
-    × Asks (codes "explore --mesh=65535:0 --states 1 --cancel=1000 a.job --mesh 3:2 --witness=0")
+    × Asks (codes "explore --mesh=+65535:00 --states 1 --cancel=1000 a.job --mesh 3:2 --witness=0")
     (explore_of (codes "a.job") (record {
       meshes = record { source = 65535; destination = 0 } ∷ record { source = 3; destination = 2 } ∷ [];
       cancel = Some 1000;
       states = 1;
       witness = Some 0;
     }))
-unfolding clap_on_literals asked is_taken digits
+unfolding clap_on_literals asked is_taken
 explorations_are_asked = ((refl, refl), (refl, refl))
 
 -- a history is followed with a round behind every 10,000 frees, 64 rounds of tries, words of the seed 1, and figures of all calls; or with what is given
@@ -164,11 +164,11 @@ are_refused :
 unfolding clap_on_literals is_taken
 are_refused = (refl, refl, refl, refl, refl, refl, refl)
 
--- a group has one spelling, and none is above 65,535: such words ask for nothing
+-- no group is above 65,535, and there are just two, which are numbers: other words ask for nothing
 abbrev AsksNothing : Text → Type 0
 AsksNothing pair = asked (spoken (codes "explore a.job --mesh " ++ pair)) ≡ None
 
-misspelt_asks_nothing : AsksNothing (codes "01:0") × AsksNothing (codes "1:+0") × AsksNothing (codes "65536:0") × AsksNothing (codes "1")
+misspelt_asks_nothing : AsksNothing (codes "++1:0") × AsksNothing (codes "1:") × AsksNothing (codes "65536:0") × AsksNothing (codes "1")
     × AsksNothing (codes "1:0:2")
-unfolding clap_on_literals asked digits
+unfolding clap_on_literals asked
 misspelt_asks_nothing = (refl, refl, refl, refl, refl)

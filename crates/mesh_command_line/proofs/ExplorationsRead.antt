@@ -1,17 +1,16 @@
 -- What the command line's words say of an exploration.
-use Rattle.std.proofs.Common.{◌≡◌, ◌∙◌, ◌+◌, ◌<◌, ◌≤◌, ◌&&◌, ◌==◌, ℕ, zero, suc, Bool, true, false, List, [], ◌∷◌, Option, None, Some, IfSome, ap, arith, codes, inl, inr, is_some, length, nat_eq, nat_le, option_map, refl, sym, if◌then◌else◌}
+use Rattle.std.proofs.Common.{◌≡◌, ◌∙◌, ◌+◌, ◌<◌, ◌≤◌, ◌&&◌, ◌==◌, ℕ, zero, suc, Bool, true, false, List, [], Option, None, Some, ap, ap₂, arith, codes, inl, inr, is_some, length, nat_le, option_map, refl, sym, if◌then◌else◌}
 use Rattle.std.proofs.Math.Bool.{and-false}
 use Rattle.std.proofs.lemmas.Bool.{eqb-true, le-leb}
 use Rattle.std.proofs.lemmas.Bool.Decides.{leb_tells}
-use Rattle.std.proofs.lemmas.List.Splits.{length-slice_split}
-use Rattle.std.specs.Borrow.{Bor}
-use Rattle.std.specs.List.{slice_split}
+use Rattle.std.proofs.lemmas.List.{drop_all}
+use Rattle.std.specs.List.{after_first, before_first, position_or_len}
 use Rattle.std.specs.Prelude.{option_and_then}
 use Rattle.clap.specs.Words.{Text, first_value, matched_of, raw_values, rows_of}
 use Rattle.clap.specs.declared.parser.matches.Found.{Found}
 use Rattle.clap.proofs.WalkLemmas.{first_value-rows, raw_values-rows}
 use Rattle.mesh_explore.specs.declared.pair.MeshPair.{MeshPair}
-use Rattle.mesh_command_line.specs.CommandLine.{given_in, meshes_in, number_in, pair_in, pair_of, pairs_in}
+use Rattle.mesh_command_line.specs.CommandLine.{given_in, group_of, is_colon, meshes_in, number_in, pair_from, pair_of, pairs_in}
 
 -- a number that was given
 pub given_one : (name : Text) (least most : ℕ) (found : Found) (value : Text) (read : Option ℕ) → Some value ≡ first_value found name
@@ -25,21 +24,21 @@ pub given_none : (name : Text) (least most : ℕ) (found : Found) → None ≡ f
 given_none name least most found is =
     ap (λ (o : Option Text). if is_some o then option_map Some (number_in name least most (rows_of found)) else Some None) (is ∙ first_value-rows found name)
 
--- the parts of a text between its colons
-abbrev parts : Text → List Text
-parts text = slice_split (λ b. nat_eq b 58) text
+-- no pair is without a second group
+no_second : (source : Option ℕ) → None ≡ pair_from source None
+no_second None = refl
+no_second (Some source) = refl
 
--- three parts or more are no pair
-more_parts : (a b : Text) (rest : List Text) (n : ℕ) → length rest ≡ n + 1 → None ≡ pair_in (a ∷ b ∷ rest)
-more_parts a b [] n long = let bad : 0 ≡ n + 1 = long in absurd (omega (arith, bad))
-more_parts a b (c ∷ rest) n long = refl
+-- a text without a colon is no pair
+pub uncut : (text : Text) → position_or_len is_colon text ≡ length text → None ≡ pair_of text
+uncut text whole =
+    let behind : after_first is_colon text ≡ [] = drop_all (position_or_len is_colon text + 1) text (omega (arith, whole)) in
+    no_second (group_of (before_first is_colon text)) ∙ ap (λ part. pair_from (group_of (before_first is_colon text)) (group_of part)) (sym behind)
 
--- neither is a text that is cut twice
-pub cut_twice : (text first behind : Text) (next : Option (Bor Text × Bor Text)) → parts text ≡ first ∷ parts behind
-    → IfSome next (λ pieces. parts behind ≡ pieces.0.now ∷ parts pieces.1.now) → is_some next ≡ true → None ≡ pair_of text
-cut_twice text first behind None once again there = absurd (cc there)
-cut_twice text first behind (Some pieces) once again there =
-    more_parts first pieces.0.now (parts pieces.1.now) _ (length-slice_split _ pieces.1.now) ∙ sym (ap pair_in (once ∙ ap (λ rest. first ∷ rest) again))
+-- the groups before and behind the first colon of a text
+pub cut_at : (text source behind : Text) → source ≡ before_first is_colon text → behind ≡ after_first is_colon text
+    → pair_from (group_of source) (group_of behind) ≡ pair_of text
+cut_at text source behind before after = ap₂ (λ s b. pair_from (group_of s) (group_of b)) before after
 
 -- so many meshes may be given
 abbrev may_be_given : ℕ → Bool

@@ -1,6 +1,7 @@
 -- Numbers as `clap` reads them.
-use Rattle.std.proofs.Common.{◌≡◌, ◌∙◌, ◌≤◌, ℕ, Bool, true, false, List, Option, None, Some, Result, ap, refl, sym, subst}
+use Rattle.std.proofs.Common.{◌≡◌, ◌∙◌, ◌<◌, ◌≤◌, ℕ, Bool, true, false, List, Option, None, Some, Result, Ok, Err, ap, arith, refl, sym, subst}
 use Rattle.std.specs.Prelude.{option_and_then}
+use Rattle.std.specs.Result.{result_ok}
 use Rattle.std.specs.Str.Parse.{ExplainsUnsignedError, HasUnsignedDigitsIfOk, ParsesUnsigned}
 use Rattle.std.specs.declared.num.ParseIntError.{ParseIntError}
 use Rattle.clap.specs.ValueTests.{is_unsigned_in}
@@ -9,7 +10,7 @@ use Rattle.clap.specs.declared.builder.value_parser.ValueParser.TheVariants.{Uns
 use Rattle.clap.specs.declared.parser.matches.Found.{Found}
 use Rattle.clap.proofs.ValueTestLemmas.{Accepts-accepts, accepts-Accepts}
 use Rattle.clap.proofs.WalkLemmas.{one_text-rows}
-use Rattle.mesh_command_line.specs.CommandLine.{number_in, number_of}
+use Rattle.mesh_command_line.specs.CommandLine.{group_of, number_in, number_of}
 
 -- what `u64` reads from a text
 abbrev Gives : List ℕ → Result ℕ ParseIntError → Type 0
@@ -68,3 +69,24 @@ module _ (least most : ℕ) where
         go : (o : Option Text) → one_text found name ≡ o → None ≡ option_and_then (number_of least most) o
         go None e = refl
         go (Some t) e = unread t (subst (λ r. ReadsOne Gives t r) is (value t e))
+
+-- a text that is read as no number is no group
+pub no_group : (t : Text) (read : Result ℕ ParseIntError) → Gives t read → result_ok read ≡ None → None ≡ group_of t
+no_group t (Ok n) gives is = let bad : Some n ≡ None = is in absurd (cc bad)
+no_group t (Err e) gives is = unread 0 65535 t (e, gives)
+
+-- a number up to 65,535 is the group of the text
+pub group_taken : (t : Text) (read : Result ℕ ParseIntError) (n : ℕ) → Gives t read → result_ok read ≡ Some n → n ≤ 65535 → Some n ≡ group_of t
+group_taken t (Ok m) n gives is high =
+    let same : Some m ≡ Some n = is in
+    let number : m ≡ n = cc same in
+    taken 0 65535 n t (subst (λ k. Gives t (Ok k)) number gives) (omega arith) high
+group_taken t (Err e) n gives is high = let bad : None ≡ Some n = is in absurd (cc bad)
+
+-- one above isn't
+pub group_above : (t : Text) (read : Result ℕ ParseIntError) (n : ℕ) → Gives t read → result_ok read ≡ Some n → 65535 < n → None ≡ group_of t
+group_above t (Ok m) n gives is above =
+    let same : Some m ≡ Some n = is in
+    let number : m ≡ n = cc same in
+    outside 0 65535 n t (subst (λ k. Gives t (Ok k)) number gives) (λ low high. omega (arith, above, high))
+group_above t (Err e) n gives is above = let bad : None ≡ Some n = is in absurd (cc bad)

@@ -1,7 +1,7 @@
 -- The command line as `clap` reads it, and how the program stops where it asks for no run.
-use Rattle.std.specs.Prelude.{◌≡◌, ◌⊎◌, ◌&&◌, ℕ, Bool, true, List, [], ◌∷◌, Option, Some, None, Result, Ok, Err, codes, if◌then◌else◌, is_some, length, nat_eq, nat_le, option_and_then, option_map}
+use Rattle.std.specs.Prelude.{◌≡◌, ◌⊎◌, ◌&&◌, ◌==◌, ℕ, Bool, true, List, [], ◌∷◌, Option, Some, None, codes, if◌then◌else◌, is_none, is_some, length, nat_le, option_and_then, option_map}
 use Rattle.std.specs.Cow.{cow_str_bytes}
-use Rattle.std.specs.List.{slice_split}
+use Rattle.std.specs.List.{after_first, before_first}
 use Rattle.std.specs.Str.{bytes_eq}
 use Rattle.std.specs.Str.Parse.{digits_value, without_leading_plus}
 use Rattle.clap.specs.ValueTests.{is_unsigned_in}
@@ -10,10 +10,8 @@ use Rattle.clap.specs.declared.builder.action.ArgAction.TheVariants.{Append, Set
 use Rattle.clap.specs.declared.builder.value_parser.ValueParser.TheVariants.{Unsigned}
 use Rattle.clap.specs.declared.error.kind.ErrorKind.{ErrorKind}
 use Rattle.clap.specs.declared.error.kind.ErrorKind.TheVariants.{DisplayHelp, DisplayVersion, OutOfMemory, ValueValidation}
-use Rattle.model_jobs.specs.JobFiles.{short_in}
 use Rattle.model_jobs.specs.Texts.{ended}
 use Rattle.mesh_command_line.specs.Meshes.{pairs_of}
-use Rattle.model_words.specs.declared.faults.FaultKind.{FaultKind}
 use Rattle.mesh_command_line.specs.declared.command_line.Args.{Args}
 use Rattle.mesh_command_line.specs.declared.command_line.Args.TheVariants.{Check, Draw, Explore, Live, Replay, ReplayHistory, Savings, Threads, ThreadsHistory}
 use Rattle.mesh_command_line.specs.declared.command_line.Stop.{Stop}
@@ -197,20 +195,26 @@ shown_in rows =
 abbrev pub given_in : Text → ℕ → ℕ → List Row → Option (Option ℕ)
 given_in name least most rows = if is_some (first_of name rows) then option_map Some (number_in name least most rows) else Some None
 
--- two groups, each in the one spelling of its number
-abbrev pub pair_from : Result ℕ FaultKind → Result ℕ FaultKind → Option MeshPair
-pair_from (Ok source) (Ok destination) = Some (record { source = source; destination = destination })
-pair_from (Ok source) (Err kind) = None
-pair_from (Err kind) destination = None
+-- the group of this text: a number spelt as that of any option
+abbrev pub group_of : Text → Option ℕ
+group_of text = number_of 0 65535 text
 
--- the pair of groups that two parts are
-abbrev pub pair_in : List Text → Option MeshPair
-pair_in (source ∷ destination ∷ []) = pair_from (short_in source) (short_in destination)
-pair_in parts = None
+-- a pair, where both of its groups are there
+abbrev pub pair_from : Option ℕ → Option ℕ → Option MeshPair
+pair_from source destination = option_and_then (λ s. option_map (λ d. record { source = s; destination = d }) destination) source
 
--- the pair of groups that a text is, with a colon between them
+-- a colon
+abbrev pub is_colon : ℕ → Bool
+is_colon b = b == 58
+
+-- the pair of groups that a text is: the one before its first colon, and the one behind it. No number has a colon or is
+-- empty, so the text has just one colon
 abbrev pub pair_of : Text → Option MeshPair
-pair_of text = pair_in (slice_split (λ b. nat_eq b 58) text)
+pair_of text = pair_from (group_of (before_first is_colon text)) (group_of (after_first is_colon text))
+
+-- a text that is no pair of groups
+abbrev pub is_no_pair : Text → Bool
+is_no_pair text = is_none (pair_of text)
 
 -- the pairs that texts are
 abbrev pub pairs_in : List Text → Option (List MeshPair)

@@ -1,5 +1,5 @@
 -- The table of the subcommands, as `clap` is told it.
-use Rattle.std.specs.Prelude.{List, [], ◌∷◌, codes}
+use Rattle.std.specs.Prelude.{List, [], ◌∷◌}
 use Rattle.clap.specs.Words.{App, Rule, new_app, with_rule, with_subcommand}
 use Rattle.mesh_command_line.specs.CommandLine.{file_rule, flag_rule, mesh_rule, number_or, number_rule, required_number}
 use Rattle.mesh_command_line.specs.declared.command_line.Argument.{Argument}

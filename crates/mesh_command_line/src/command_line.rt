@@ -1,11 +1,11 @@
 //! The command line.
-ghost use Rattle.std.specs.Prelude.{◌≡◌, ◌≢◌, ◌⊎◌, ◌≤◌, ◌<◌, ◌^◌, None, Some, true, IfErr, IfOk, IfSome, codes, length, map, option_and_then, option_map};
+ghost use Rattle.std.specs.Prelude.{◌≡◌, ◌≢◌, ◌⊎◌, ◌≤◌, ◌<◌, ◌^◌, None, Some, true, IfErr, IfOk, IfSome, codes, find, length, map, option_and_then, option_map};
 ghost use Rattle.std.specs.IoError.{error_kind};
 ghost use Rattle.std.specs.declared.io.ErrorKind.TheVariants.{OutOfMemory as IoOutOfMemory};
 ghost use Rattle.clap.specs.Words.{app_of, first_of, found_of, kind_of, rows_of, rule_of, subcommand_rows_of};
 ghost use Rattle.mesh_command_line.specs.Meshes.{pairs_of};
 ghost use Rattle.mesh_command_line.specs.Subcommands.{argument_rule, subcommand_app, with_subcommands};
-ghost use Rattle.mesh_command_line.specs.CommandLine.{IsAllowedOf, IsAsked, IsNoText, IsOutOfMemory, IsSaidOf, IsStopAt, asked, asked_in, asked_of, asking, bare_app, compared_in, compared_of, explored_in, explored_of, flag_in, flag_rule, given_in, is_recorded_in, is_taken, mesh_rule, meshes_in, meshrun_app, number_in, number_rule, numbers_in, numbers_of, pair_of, pairs_in, replay_by, seed_in, shown_in, shown_of, sizes_in, sizes_of, status_of_kind, threads_by};
+ghost use Rattle.mesh_command_line.specs.CommandLine.{IsAllowedOf, IsAsked, IsNoText, IsOutOfMemory, IsSaidOf, IsStopAt, asked, asked_in, asked_of, asking, bare_app, compared_in, compared_of, explored_in, explored_of, flag_in, flag_rule, given_in, group_of, is_no_pair, is_recorded_in, is_taken, mesh_rule, meshes_in, meshrun_app, number_in, number_rule, numbers_in, numbers_of, pair_of, pairs_in, replay_by, seed_in, shown_in, shown_of, sizes_in, sizes_of, status_of_kind, threads_by};
 
 use crate::meshes::MOST_MESHES;
 use crate::status::{DONE, FAILED, FAULTY};
@@ -14,12 +14,13 @@ use clap::builder::ValueParser;
 use clap::error::ErrorKind;
 use clap::{Arg, ArgAction, ArgMatches, Command, Error};
 use mesh_explore::MeshPair;
-use mesh_fields::lines::cut;
-use mesh_fields::numbers::number32;
 use std::alloc::{AllocError, Global};
 use std::borrow::CowStr;
 use std::convert::AsStr;
 use std::io;
+
+/// The program, where no word tells how it is called.
+const PROGRAM: &str = "meshrun";
 
 /// The file, as the command line and the help call it.
 const FILE: &str = "FILE";
@@ -39,19 +40,18 @@ const MESH: &str = "mesh";
 /// What help calls the two groups of a mesh.
 const GROUPS: &str = "SRC:DST";
 
-/// What is said of meshes that can't be read: `clap` has refused all else that asks for nothing.
-const UNREAD_MESHES: &str =
-    "--mesh wants SRC:DST, two group numbers from 0 to 65535, and is given 1 to 10 times\n";
+/// The fault of more than ten meshes.
+const MANY_MESHES: &str = "the argument '--mesh <SRC:DST>' cannot be used more than 10 times";
 
-/// What is said of options of `savings` that don't go together.
+/// The fault of options of `savings` that don't go together.
 const UNREAD_SAVINGS: &str =
-    "--seed and --first-fit exclude each other, and --from is at most --to\n";
+    "--seed and --first-fit exclude each other, and --from is at most --to";
 
 /// What stands between the two groups.
-const BETWEEN: u8 = b':';
+const BETWEEN: char = ':';
 
 /// The greatest number of a group.
-const LAST_GROUP: u32 = 65535;
+const LAST_GROUP: u64 = 65535;
 
 /// An option with a number.
 #[derive(Clone, Copy)]
@@ -239,6 +239,38 @@ struct Subcommand {
 /// What help says of the file of a subcommand that reads a recorded history.
 const HISTORY_FILE: &str = "The recorded history, or - for standard input";
 
+/// The subcommand that explores.
+const EXPLORE: Subcommand = Subcommand {
+    name: "explore",
+    about: "Run what a job file's plan leaves of its scripts in every interleaving with meshes, and print all answers",
+    arguments: &[
+        Argument::File("The job file, whose plan is the setting; - is standard input"),
+        Argument::Meshes,
+        Argument::Optional(CANCEL),
+        Argument::Default(STATES, "100000"),
+        Argument::Optional(WITNESS),
+    ],
+};
+
+/// The subcommand that compares two heaps.
+const SAVINGS: Subcommand = Subcommand {
+    name: "savings",
+    about: "Follow a recorded history on a heap that meshes and on one that doesn't, and compare their pages",
+    arguments: &[
+        Argument::File(HISTORY_FILE),
+        Argument::Default(EVERY, "10000"),
+        Argument::Default(PROBE, "64"),
+        Argument::Optional(OBJECT_SEED),
+        Argument::Flag(
+            FIRST_FIT,
+            "Put each object into the first free slot of its group, in place of a random one",
+        ),
+        Argument::Default(FIRST_CALL, "1"),
+        Argument::Default(LAST_CALL, "4294967295"),
+        Argument::Flag(SVG, "Print a plot as an SVG picture in place of the table"),
+    ],
+};
+
 /// The subcommands, in the order in which help shows them.
 const SUBCOMMANDS: &[Subcommand] = &[
     Subcommand {
@@ -287,39 +319,13 @@ const SUBCOMMANDS: &[Subcommand] = &[
             Argument::Default(SESSION_WORKERS, "64"),
         ],
     },
-    Subcommand {
-        name: "explore",
-        about: "Run what a job file's plan leaves of its scripts in every interleaving with meshes, and print all answers",
-        arguments: &[
-            Argument::File("The job file, whose plan is the setting; - is standard input"),
-            Argument::Meshes,
-            Argument::Optional(CANCEL),
-            Argument::Default(STATES, "100000"),
-            Argument::Optional(WITNESS),
-        ],
-    },
+    EXPLORE,
     Subcommand {
         name: "check",
         about: "Judge a recorded history by the plain memory and say whether it is legal",
         arguments: &[Argument::File(HISTORY_FILE)],
     },
-    Subcommand {
-        name: "savings",
-        about: "Follow a recorded history on a heap that meshes and on one that doesn't, and compare their pages",
-        arguments: &[
-            Argument::File(HISTORY_FILE),
-            Argument::Default(EVERY, "10000"),
-            Argument::Default(PROBE, "64"),
-            Argument::Optional(OBJECT_SEED),
-            Argument::Flag(
-                FIRST_FIT,
-                "Put each object into the first free slot of its group, in place of a random one",
-            ),
-            Argument::Default(FIRST_CALL, "1"),
-            Argument::Default(LAST_CALL, "4294967295"),
-            Argument::Flag(SVG, "Print a plot as an SVG picture in place of the table"),
-        ],
-    },
+    SAVINGS,
 ];
 
 /// The version that `--version` tells.
@@ -360,8 +366,8 @@ pub struct Stop {
 /// What the words of a command line ask for, the program's name first.
 ///
 /// The words are read by `clap`, which words the texts of help, version and faults. The file is the word as it was given, a
-/// number is what `clap` reads as a `u64`: decimal digits, perhaps after a plus; and a mesh is two group numbers with a colon between them, each
-/// in its one spelling.
+/// number is what `clap` reads as a `u64`: decimal digits, perhaps after a plus; and a mesh is two such numbers with a
+/// colon between them.
 pub fn arguments<'a, S: AsStr>(alloc: Global, words: &'a [S]) -> Result<Args<'a>, Stop>
     ensures asked { IfOk result (IsAsked (map S.text words.now)) }
     ensures stop { IfErr result (IsStopAt (map S.text words.now)) }
@@ -381,11 +387,15 @@ fn read_words<'a, S: AsStr>(alloc: Global, words: &'a [S]) -> Result<Args<'a>, E
     ensures passes { IfErr result (λ error. IsAllowedOf (map S.text words.now) (kind_of error)) }
 {
     let mut command = meshrun_command(alloc)?;
-    read_by(&mut command, words)
+    read_by(alloc, &mut command, words)
 }
 
 /// The same, by the program's command.
-fn read_by<'a, S: AsStr>(command: &mut Command<'a>, words: &'a [S]) -> Result<Args<'a>, Error>
+fn read_by<'a, S: AsStr>(
+    alloc: Global,
+    command: &mut Command<'a>,
+    words: &'a [S],
+) -> Result<Args<'a>, Error>
     requires { app_of command.old ≡ meshrun_app }
     ensures asked { IfOk result (IsAsked (map S.text words.now)) }
     ensures kinds { IfErr result (λ error. IsSaidOf (map S.text words.now) (kind_of error)) }
@@ -394,15 +404,62 @@ fn read_by<'a, S: AsStr>(command: &mut Command<'a>, words: &'a [S]) -> Result<Ar
     let matches = matches_of(command, words)?;
     match asked_for(&matches) {
         Some(args) => Ok(args),
-        None => Err(command.error(ErrorKind::ValueValidation, unread(&matches))?),
+        None => Err(unread(alloc, program_name(words), &matches)?),
     }
 }
 
-/// What is said of matches that ask for nothing.
-fn unread<'a>(matches: &ArgMatches<'a>) -> &'static str {
+/// What usage calls the program, as that of `clap` does: the last part of the path that is the first word.
+fn program_name<'a, S: AsStr>(words: &'a [S]) -> &'a str {
+    let Some(word) = words.first() else {
+        return PROGRAM;
+    };
+    let path = word.as_str();
+    match path.rsplit_once('/') {
+        Some((_, name)) => name,
+        None => path,
+    }
+}
+
+/// The fault of matches that ask for nothing: meshes of `explore`, or options of `savings`, that `clap` takes and the
+/// program doesn't.
+fn unread<'a>(alloc: Global, program: &str, matches: &ArgMatches<'a>) -> Result<Error, AllocError>
+    ensures { IfOk result (λ error. kind_of error ≡ ErrorKind.ValueValidation) }
+{
     match matches.subcommand() {
-        Some(("savings", _)) => UNREAD_SAVINGS,
-        _ => UNREAD_MESHES,
+        Some(("explore", matches)) => {
+            let message = mesh_fault(alloc, matches)?;
+            fault_of(alloc, program, &EXPLORE, message.as_str())
+        }
+        _ => fault_of(alloc, program, &SAVINGS, UNREAD_SAVINGS),
+    }
+}
+
+/// A fault of a subcommand, in the form of those of `clap`: the message, and the subcommand's usage.
+fn fault_of(
+    alloc: Global,
+    program: &str,
+    subcommand: &Subcommand,
+    message: &str,
+) -> Result<Error, AllocError>
+    ensures { IfOk result (λ error. kind_of error ≡ ErrorKind.ValueValidation) }
+{
+    let name = format!(in alloc; "{program} {}", subcommand.name)?;
+    let mut command = subcommand_of(alloc, subcommand)?.bin_name(name.as_str())?;
+    command.error(ErrorKind::ValueValidation, message)
+}
+
+/// The fault of meshes that can't be read: it names the first word that is no pair of groups, or else says that they are
+/// too many.
+fn mesh_fault<'a>(alloc: Global, matches: &ArgMatches<'a>) -> Result<String, AllocError> {
+    let unread = match matches.get_strs(MESH) {
+        Some(texts) => first_unread(texts),
+        None => None,
+    };
+    match unread {
+        Some(text) => format!(in alloc;
+            "invalid value '{text}' for '--mesh <SRC:DST>': two group numbers from 0 to 65535 with a colon between them"
+        ),
+        None => String::from_str(alloc, MANY_MESHES),
     }
 }
 
@@ -582,18 +639,41 @@ fn pairs(texts: &[&str]) -> Option<Meshes>
     Some(meshes)
 }
 
-/// The pair of groups that a text is: two numbers, each in its one spelling, with a colon between them.
+/// The first of these texts that is no pair of groups.
+fn first_unread<'t>(texts: &[&'t str]) -> Option<&'t str>
+    ensures { option_map (λ text. text.now) result ≡ find is_no_pair (map (λ text. text.now) texts.now) }
+{
+    let mut rest = texts;
+    while let [text, behind @ ..] = rest {
+        if pair(text).is_none() {
+            return Some(text);
+        }
+        rest = behind;
+    }
+    None
+}
+
+/// The pair of groups that a text is: two numbers with a colon between them.
 fn pair(text: &str) -> Option<MeshPair>
     ensures { result ≡ pair_of text.now }
 {
-    let (source, behind) = cut(text.as_bytes(), BETWEEN)?;
-    if cut(behind, BETWEEN).is_some() {
-        return None;
-    }
+    let (source, behind) = text.split_once(BETWEEN)?;
     Some(MeshPair {
-        source: number32(source, 0, LAST_GROUP).ok()?,
-        destination: number32(behind, 0, LAST_GROUP).ok()?,
+        source: group(source)?,
+        destination: group(behind)?,
     })
+}
+
+/// The number of a group, 0 to 65535, spelt as `clap` takes that of an option.
+fn group(text: &str) -> Option<u32>
+    ensures { result ≡ group_of text.now }
+{
+    let number = text.parse::<u64>().ok()?;
+    if number <= LAST_GROUP {
+        Some(number as u32)
+    } else {
+        None
+    }
 }
 
 /// The sizes of the session that is asked for.
@@ -643,7 +723,7 @@ fn meshrun_command<'a>(alloc: Global) -> Result<Command<'a>, AllocError>
 fn bare_command<'a>(alloc: Global) -> Command<'a>
     ensures { app_of result ≡ bare_app }
 {
-    Command::new(alloc, "meshrun")
+    Command::new(alloc, PROGRAM)
         .about("A modelled heap that is compacted by meshing")
         .version(VERSION)
         .subcommand_required(true)

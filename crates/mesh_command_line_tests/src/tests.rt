@@ -69,6 +69,13 @@ meshrun explore a.job --mesh 3:2 --cancel 4 --mesh 1:0 --states 5 --witness 6|ex
 meshrun explore a.job --mesh 0:65535 --cancel 0 --states 1 --witness 0|explore a.job 0:65535 0 1 0#\
 meshrun explore a.job --mesh 65535:0 --cancel 1000 --states 10000000 --witness 4294967295|explore a.job 65535:0 1000 10000000 4294967295#\
 meshrun explore a.job --mesh 1:1 --mesh 1:1|explore a.job 1:1 1:1 - 100000 -#\
+meshrun explore a.job --mesh 65535:65535|explore a.job 65535:65535 - 100000 -#\
+meshrun explore a.job --mesh +1:0|explore a.job 1:0 - 100000 -#\
+meshrun explore a.job --mesh 01:0|explore a.job 1:0 - 100000 -#\
+meshrun explore a.job --mesh 1:+0|explore a.job 1:0 - 100000 -#\
+meshrun explore a.job --mesh 1:00|explore a.job 1:0 - 100000 -#\
+meshrun explore a.job --mesh=+1:00 --mesh 00065535:0|explore a.job 1:0 65535:0 - 100000 -#\
+meshrun explore a.job --mesh 2:+00065535|explore a.job 2:65535 - 100000 -#\
 meshrun explore a.job --witness +3 --states 0012 --mesh 1:0|explore a.job 1:0 - 12 3#\
 meshrun explore a.job --mesh 1:0 --witness 3|explore a.job 1:0 - 100000 3#\
 meshrun explore a.job --mesh 9:0 --mesh 8:1 --mesh 7:2 --mesh 6:3 --mesh 5:4 --mesh 4:5 --mesh 3:6 --mesh 2:7 --mesh 1:8 --mesh 0:9|explore a.job 9:0 8:1 7:2 6:3 5:4 4:5 3:6 2:7 1:8 0:9 - 100000 -";
@@ -138,9 +145,8 @@ meshrun explore a.job --mesh 1:\n\
 meshrun explore a.job --mesh :0\n\
 meshrun explore a.job --mesh 1:0:2\n\
 meshrun explore a.job --mesh 1:0:\n\
-meshrun explore a.job --mesh 01:0\n\
-meshrun explore a.job --mesh 1:00\n\
-meshrun explore a.job --mesh +1:0\n\
+meshrun explore a.job --mesh -1:0\n\
+meshrun explore a.job --mesh 1:-0\n\
 meshrun explore a.job --mesh 65536:0\n\
 meshrun explore a.job --mesh 1:65536\n\
 meshrun explore a.job --mesh 0x1:0\n\
@@ -185,6 +191,36 @@ meshrun savings a.history --svg --svg\n\
 meshrun savings a.history --svg=true\n\
 meshrun savings a.history --history\n\
 meshrun savings a.history --version";
+
+/// Words that are no meshes, with `|` between them.
+static NO_MESHES: &str =
+    "|1|:|1:|:1|:0|1:2:3|1:0:|::|1::0|1 :0|1: 0| 1:0|+:1|1:+|++1:0|1:++0|+-1:0|1:-0|65536:0|1:65536|+65536:0|\
+99999999999999999999:0|0:18446744073709551616|0x1:0|1,0|1-0|a:0|1:0.0";
+
+/// How a fault of `explore` ends.
+static USAGE: &str =
+    "\n\nUsage: meshrun explore [OPTIONS] --mesh <SRC:DST> <FILE>\n\nFor more information, try '--help'.\n";
+
+/// Command lines of `explore` with meshes that aren't read, and the first word of each that is no mesh, if there is one:
+/// where there is none, the meshes are too many.
+static MESH_FAULTS: &str = "\
+meshrun explore a.job --mesh 1-0|1-0#\
+meshrun explore a.job --mesh=-1:0|-1:0#\
+meshrun explore --mesh 1:0 --mesh 2 a.job --mesh 3 --mesh 1:0|2#\
+meshrun explore a.job --mesh 3 --mesh 2|3#\
+bin/meshrun explore a.job --mesh 1:0 --mesh 1:0:2|1:0:2#\
+meshrun explore a.job --mesh 1:0 --mesh 1:0 --mesh 1:0 --mesh 1:0 --mesh 1:0 --mesh 1:0 --mesh 1:0 --mesh 1:0 --mesh 1:0 --mesh 1:0 --mesh 1:x|1:x#\
+meshrun explore a.job --mesh 1:0 --mesh 1:0 --mesh 1:0 --mesh 1:0 --mesh 1:0 --mesh 1:0 --mesh 1:0 --mesh 1:0 --mesh 1:0 --mesh 1:0 --mesh 1:0|";
+
+/// Command lines of `savings` with options that exclude each other.
+static APART: &str = "\
+meshrun savings a.history --seed 5 --first-fit\n\
+meshrun savings a.history --from 3 --to 2";
+
+/// What is said of those.
+static APART_FAULT: &str =
+    "error: --seed and --first-fit exclude each other, and --from is at most --to\n\n\
+Usage: meshrun savings [OPTIONS] <FILE>\n\nFor more information, try '--help'.\n";
 
 /// What a command line asks for, as the tables write it.
 fn asked(rt: &(impl Abort + AllocGlobal), line: &str) -> String {
@@ -305,5 +341,63 @@ fn check_refused(rt: &(impl Abort + AllocGlobal), line: &str) {
 fn refuses_faulty_numbers(rt: HostRuntime) {
     for line in FAULTY.split('\n') {
         check_refused(&rt, line);
+    }
+}
+
+/// What is said of meshes of which this word is the first that is none; or else of too many.
+fn fault_of_meshes(alloc: Global, unread: Option<&str>) -> Result<String, AllocError> {
+    match unread {
+        Some(word) => format!(in alloc;
+            "error: invalid value '{word}' for '--mesh <SRC:DST>': two group numbers from 0 to 65535 with a colon between them{USAGE}"
+        ),
+        None => format!(in alloc;
+            "error: the argument '--mesh <SRC:DST>' cannot be used more than 10 times{USAGE}"
+        ),
+    }
+}
+
+/// Asserts that words are refused, and that this is said of them.
+fn check_fault(rt: &(impl Abort + AllocGlobal), words: &[&str], fault: &str) {
+    match arguments(rt.alloc(), words) {
+        Ok(_) => panic!(rt; "no fault: {fault}"),
+        Err(stop) => {
+            let is_told = stop.status == 2 && stop.text.as_str() == fault;
+            assert!(rt; is_told, "{}", stop.text);
+        }
+    }
+}
+
+/// Asserts that words are refused for their meshes, of which this is the first that is none; or else for too many.
+fn check_mesh_fault(rt: &(impl Abort + AllocGlobal), words: &[&str], unread: Option<&str>) {
+    let fault = fault_of_meshes(rt.alloc(), unread).expect(rt, "memory");
+    check_fault(rt, words, fault.as_str());
+}
+
+#[test]
+fn tells_which_word_is_no_mesh(rt: HostRuntime) {
+    for word in NO_MESHES.split('|') {
+        check_mesh_fault(
+            &rt,
+            &["meshrun", "explore", "a.job", "--mesh", word],
+            Some(word),
+        );
+    }
+}
+
+#[test]
+fn tells_first_word_that_is_no_mesh(rt: HostRuntime) {
+    for row in MESH_FAULTS.split(ROW_END) {
+        let (line, word) = row.split_once('|').expect(&rt, "two fields");
+        let words: Vec<&str> = line.split(' ').collect(rt.alloc()).expect(&rt, "memory");
+        let unread = if word.is_empty() { None } else { Some(word) };
+        check_mesh_fault(&rt, words.as_slice(), unread);
+    }
+}
+
+#[test]
+fn tells_which_options_exclude_each_other(rt: HostRuntime) {
+    for line in APART.split('\n') {
+        let words: Vec<&str> = line.split(' ').collect(rt.alloc()).expect(&rt, "memory");
+        check_fault(&rt, words.as_slice(), APART_FAULT);
     }
 }

@@ -1,9 +1,13 @@
-use Rattle.std.proofs.Common.{◌∙◌, ap, rules}
-use Rattle.mesh_command_line.specs.CommandLine.{pair_of}
-use Rattle.mesh_command_line.proofs.ExplorationsRead.{cut_twice}
+use Rattle.std.proofs.Common.{◌∙◌, ap₂, arith}
+use Rattle.mesh_command_line.specs.CommandLine.{pair_from}
+use Rattle.mesh_command_line.proofs.ExplorationsRead.{cut_at, uncut}
 use Rattle.mesh_command_line.proofs.command_line.pair.Goals as goal
 
-pub returns-then-is_some : goal.returns-then-is_some
-returns-then-is_some c =
-    cut_twice c.as_bytes.result.now c.in_ok-source.source.now c.in_ok-source.behind.now c.cut-2.result c.in_ok-source.ensures.some c.cut-2.ensures.some (search rules)
-    ∙ ap pair_of c.as_bytes.ensures.value
+pub returns-in_err-source : goal.returns-in_err-source
+returns-in_err-source c = c.from_residual.ensures ∙ uncut c.args.text.now (c.in_err-source.ensures.byte (omega arith) (λ w o finds. finds))
+
+pub returns : goal.returns
+returns c =
+    let around = c.in_ok-source.ensures.byte (omega arith) (λ w o finds. finds) in
+    ap₂ pair_from c.in_ok-group.ensures c.in_ok-group-2.ensures
+    ∙ cut_at c.args.text.now c.in_ok-source.source.now c.in_ok-source.behind.now around.0 around.1

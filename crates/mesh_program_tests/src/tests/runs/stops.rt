@@ -23,7 +23,7 @@ meshrun replay|error: #\
 meshrun draw|error: #\
 meshrun check|error: #\
 meshrun explore a.job|error: #\
-meshrun explore a.job --mesh 1|error: --mesh wants SRC:DST#\
+meshrun explore a.job --mesh 1|error: invalid value '1' for '--mesh <SRC:DST>': two group numbers#\
 meshrun replay a b|error: #\
 meshrun replay --version|error: #\
 meshrun report|error: ";
