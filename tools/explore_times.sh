@@ -6,7 +6,7 @@
 # PROGRAM is crates/meshrun/out/meshrun where none is given. The engine is tools/explore/reference.cpp. A line has the job,
 # its states, and for the program its processor seconds, states a second, bytes a state, and the ratio of the seconds to
 # the engine's. The bytes are the peak of the process above that of the smallest job. The status is 1 where the two print
-# different texts.
+# different texts. It wants GNU time.
 
 . "$(dirname "$0")/program.sh"
 find_program "$1"

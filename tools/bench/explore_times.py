@@ -1,5 +1,4 @@
 """Runs explorations by the program and by the plain engine, for tools/explore_times.sh."""
-import os
 import subprocess
 import sys
 
@@ -17,13 +16,18 @@ JOBS = [
 
 
 def run(words):
-    """What a command prints, its processor seconds and its peak of memory in bytes."""
+    """What a command prints, its processor seconds and its peak of memory in bytes.
+
+    GNU time starts it: the peak of a process that is started from here would be this interpreter's at least.
+    """
+    used = f"{room}/used"
     with open(f"{room}/output", "wb+") as output:
-        process = subprocess.Popen(words, stdout=output, stderr=subprocess.DEVNULL)
-        _, status, used = os.wait4(process.pid, 0)
+        timed = ["/usr/bin/time", "-q", "-f", "%U %S %M", "-o", used, *words]
+        status = subprocess.call(timed, stdout=output, stderr=subprocess.DEVNULL)
         output.seek(0)
         text = output.read()
-    return (text if status == 0 else None), used.ru_utime + used.ru_stime, used.ru_maxrss * 1024
+    user, system, kilobytes = open(used).read().split()
+    return (text if status == 0 else None), float(user) + float(system), int(kilobytes) * 1024
 
 
 def main():
@@ -41,7 +45,7 @@ def main():
             continue
         states = int(ours.split(b"\n")[0].split()[-1])
         bytes_each = max(peak - least, 0) / states
-        print(f"{name:30} {states:8} {seconds:8.2f} {states / seconds:9.0f} {bytes_each:11.0f} {seconds / plain:6.1f}")
+        print(f"{name:30} {states:8} {seconds:8.2f} {states / max(seconds, 0.01):9.0f} {bytes_each:11.0f} {seconds / max(plain, 0.01):6.1f}")
     return alike
 
 
