@@ -6,5 +6,7 @@ pub mod Kept
 pub mod NotedAnswers
 pub mod Paths
 pub mod Phases
+pub mod ShownAnswers
+pub mod ToldTexts
 pub mod WholeListings
 pub mod Witnesses

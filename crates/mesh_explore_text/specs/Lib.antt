@@ -5,3 +5,5 @@ pub mod FoundOutcomes
 pub mod Listings
 pub mod Paths
 pub mod Phases
+pub mod Shown
+pub mod ToldTexts

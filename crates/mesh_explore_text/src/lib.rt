@@ -3,9 +3,10 @@
 //! What was reached is gathered into a listing, which is proved to have all of that and nothing else (`listing`, of
 //! `notes`, `outcomes` and `ends`; `phase` is the phase of a mesh). `explore` reads a job, explores what its plan
 //! leaves and writes that listing, and `summary` is the text of one: of each command its answers, and of each answer
-//! the phases of the meshes in which it comes (`answer_text`, `ranges`); and of all workers together the outcomes, each
-//! with the moves that lead to it (`outcome_text`) and how these end (`end_text`). A job file that leads to an outcome
-//! is the job with the lines of `lines` behind its plan.
+//! the phases of the meshes in which it comes (`answer_text`, `ranges`); and of all workers together the outcomes
+//! (`told_text`), each with the moves that lead to it (`outcome_text`) and how these end (`end_text`). A job file that
+//! leads to an outcome is the job with the lines of `lines` behind its plan, and one that ends with an answer in a phase
+//! of a mesh has the line of that command's worker behind these (`shown`). `wanted` says which of these is told.
 #![tactic(auto)]
 
 mod answer_text;
@@ -22,10 +23,16 @@ mod phase;
 mod ranges;
 mod run;
 mod settings;
+mod shown;
+mod told_text;
+mod wanted;
 
 pub use errors::ExploreError;
 pub use listing::{Exploration, Listing, explored_and_listed, listed};
 pub use notes::{Note, PhaseAt};
+pub use outcome_text::add_plan;
 pub use outcomes::Outcome;
 pub use phase::{LastStep, phase_at};
 pub use run::{ExploreOptions, explore, summary};
+pub use told_text::add_told;
+pub use wanted::{Shown, Wanted};

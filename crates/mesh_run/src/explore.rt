@@ -2,7 +2,7 @@
 ghost use Rattle.std.specs.Prelude.{◌≡◌, take};
 ghost use Rattle.model_jobs.specs.Texts.{ended};
 ghost use Rattle.mesh_explore_text.specs.declared.errors.ExploreError.{ExploreError};
-ghost use Rattle.mesh_run.specs.Explores.{EndsExplore, explore_status, explore_text};
+ghost use Rattle.mesh_run.specs.Explores.{EndsExplore, explore_status, explore_text, wanted_of};
 ghost use Rattle.mesh_run.specs.Runs.{IsSound};
 
 use crate::fault_line::{Line, line_of, line_with, number_line};
@@ -10,7 +10,7 @@ use crate::runs::{status_of, tell};
 use crate::{Devices, ExploreArgs};
 use mesh_command_line::status::{DONE, FAILED, FAULTY};
 use mesh_devices::{Sink, Source};
-use mesh_explore_text::{ExploreError, ExploreOptions, explore};
+use mesh_explore_text::{ExploreError, ExploreOptions, Wanted, explore};
 use std::alloc::Global;
 
 /// What is explored, and what is told of it.
@@ -18,13 +18,23 @@ fn options_of(args: &ExploreArgs) -> ExploreOptions<'_>
     ensures meshes { result.meshes.now ≡ take args.now.meshes.count args.now.meshes.pairs }
     ensures cancel { result.cancel ≡ args.now.cancel }
     ensures states { result.states ≡ args.now.states }
-    ensures witness { result.witness ≡ args.now.witness }
+    ensures wanted { result.wanted ≡ wanted_of args.now.witness }
 {
     ExploreOptions {
         meshes: args.meshes.as_slice(),
         cancel: args.cancel,
         states: args.states,
-        witness: args.witness,
+        wanted: wanted(args.witness),
+    }
+}
+
+/// What is told: all, or the outcome that is asked for.
+fn wanted<'a>(witness: Option<u32>) -> Wanted<'a>
+    ensures { result ≡ wanted_of witness }
+{
+    match witness {
+        Some(number) => Wanted::Outcome(number),
+        None => Wanted::All,
     }
 }
 
@@ -67,6 +77,7 @@ fn explore_line_of(error: ExploreError, states: u32) -> Line
             b"; --states raises the limit",
         ),
         ExploreError::NoOutcome => line_with(b"no such outcome"),
+        ExploreError::NotShown => line_with(b"no such answer in that phase"),
     }
 }
 
@@ -77,6 +88,6 @@ fn explore_status_of(error: ExploreError) -> u8
     match error {
         ExploreError::Replay(error) => status_of(error),
         ExploreError::TooManyStates => FAILED,
-        ExploreError::NoOutcome => FAULTY,
+        ExploreError::NoOutcome | ExploreError::NotShown => FAULTY,
     }
 }
