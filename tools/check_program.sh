@@ -207,6 +207,7 @@ for job in $explorations/*.job; do
     set -- $(cat "$row.args")
     check "explore: $row" 0 "$row.out" "$room/nothing" explore "$job" "$@"
     last=$(($(grep -c '^outcome ' "$row.out") - 1))
+    check "explore: $row, as expected" 0 "$(line "as expected: $((last + 1)) outcomes")" "$room/nothing" explore "$job" "$@" --expect "$row.out"
     case $row in
         */three_pages | */more_than_counted) shown=$last ;;
         *) shown=$(seq 0 $last) ;;
@@ -220,6 +221,84 @@ check "explore: as many states as are kept" 0 $store.out "$room/nothing" explore
 check "explore: one state more" 1 "$room/nothing" "$(line 'too many states: more than 63; --states raises the limit')" explore $store.job --mesh 1:0 --states 63
 check "explore: one state more, and an outcome" 1 "$room/nothing" "$(line 'too many states: more than 63; --states raises the limit')" explore $store.job --mesh 1:0 --states 63 --witness 0
 check "explore: no such outcome" 2 "$room/nothing" "$(line 'no such outcome')" explore $store.job --mesh 1:0 --witness 2
+# shown LINE:ANSWER:PHASE PLAN ANSWERS: the job file of the first example that ends with an answer in a phase has these lines of a plan, by spaces
+# and `;` for their ends, behind its own, and a replay answers them so.
+shown() {
+    {
+        sed '$d' $store.job
+        echo "$2" | sed 's/; /\n/g'
+        echo end
+    } >"$room/wanted"
+    check "explore: the answer $1" 0 "$room/wanted" "$room/nothing" explore $store.job --mesh 1:0 --show "$1"
+    "$program" replay "$room/wanted" >"$room/answers" 2>"$room/errors" </dev/null
+    status=$?
+    tail -n "$(echo "$2" | sed 's/; /\n/g' | wc -l)" "$room/answers" >"$room/output"
+    echo "$3" | sed 's/; /\n/g' >"$room/wanted"
+    ended "explore: the answer $1, replayed" $status 0 "$room/wanted" "$room/nothing"
+}
+shown '12:done:before' 'run 0' 'done'
+shown '12:done:unprotect 1' 'begin 1 0; step; step; step; step; step; run 0' \
+    'left 6; protect left 5; copy left 4; copy left 3; remap left 2; unprotect left 1; done'
+shown '12:blocked:copy 2' 'begin 1 0; step; step; step; run 0' 'left 6; protect left 5; copy left 4; copy left 3; blocked'
+shown '15:bytes aa:mesh 0: begun' 'run 0; begin 1 0; run 1' 'done; left 6; bytes aa'
+for answer in 12:done:remap 12:bytes:before 12:blocked:before 11:done:before 16:done:before 4294967295:done:before '15:bytes aa:mesh 1: begun'; do
+    check "explore: no answer $answer" 2 "$room/nothing" "$(line 'no such answer in that phase')" explore $store.job --mesh 1:0 --show "$answer"
+done
+
+# verdicts: the lines of outcomes are the other engine's
+outcome 0 $store.out >"$room/first"
+outcome 1 $store.out >"$room/second"
+{ cat "$room/second" && echo && cat "$room/first"; } >"$room/both"
+well=$(line 'as expected: 2 outcomes') && cp "$well" "$room/well"
+check "explore: bare outcomes in another order" 0 "$room/well" "$room/nothing" explore $store.job --mesh 1:0 --expect "$room/both"
+head -c -1 "$room/both" >"$room/unended"
+check "explore: outcomes without the last end" 0 "$room/well" "$room/nothing" explore $store.job --mesh 1:0 --expect "$room/unended"
+"$program" explore $store.job --mesh 1:0 --expect - <"$room/both" >"$room/output" 2>"$room/errors"
+ended "explore: outcomes from standard input" $? 0 "$room/well" "$room/nothing"
+# told WORD K: the block of an outcome that is told by this word, with its plan.
+told() {
+    echo "$1:"
+    awk -v k="$2" '/^outcome /{ here = $2 == k } here && (/^  worker / || /^  plan: /)' $store.out
+}
+{ echo 'missing:' && sed 's/bytes 00/bytes bb/' "$room/second" && told unexpected 1; } >"$room/wanted"
+{ cat "$room/first" && echo outcome && sed 's/bytes 00/bytes bb/' "$room/second"; } >"$room/other"
+check "explore: another outcome" 1 "$room/wanted" "$room/nothing" explore $store.job --mesh 1:0 --expect "$room/other"
+{ told unexpected 0 && told unexpected 1; } >"$room/wanted"
+check "explore: no outcome expected" 1 "$room/wanted" "$room/nothing" explore $store.job --mesh 1:0 --expect "$room/nothing"
+told never 1 >"$room/wanted"
+for pattern in 'worker 1: bytes 00' 'worker 0: nothing'; do
+    case $pattern in
+        *00) check "explore: never $pattern" 1 "$room/wanted" "$room/nothing" explore $store.job --mesh 1:0 --never "$pattern" ;;
+        *) check "explore: never $pattern" 0 "$(line 'never: none of 2 outcomes')" "$room/nothing" explore $store.job --mesh 1:0 --never "$pattern" ;;
+    esac
+done
+{ told unexpected 1 && told never 0; } >"$room/wanted"
+check "explore: both at once" 1 "$room/wanted" "$room/nothing" \
+    explore $store.job --mesh 1:0 --expect "$room/first" --never 'worker 9: *' --never 'worker 0: * | bytes aa'
+check "explore: another pattern" 2 "$room/nothing" "$(line "--never 2: no pattern 'worker W: ANSWER | ..'")" \
+    explore $store.job --mesh 1:0 --never 'worker 1: bytes 00' --never 'worker 1 bytes 00'
+check "explore: no file of outcomes" 1 "$room/nothing" "$(line 'read fault')" explore $store.job --mesh 1:0 --expect "$room/missing"
+check "explore: a verdict and too many states" 1 "$room/nothing" "$(line 'too many states: more than 63; --states raises the limit')" \
+    explore $store.job --mesh 1:0 --states 63 --expect $store.out
+check "explore: progress of less than a second" 0 $store.out "$room/nothing" explore $store.job --mesh 1:0 --progress
+# four workers of three racing commands, behind the setting of the first example
+{
+    printf 'mesh 1\npages 16\nhistory 64\nworkers 4\n'
+    for worker in 0 1 2 3; do
+        echo "worker $worker"
+        [ $worker -gt 0 ] || grep -E '^(new|free) ' $store.job
+        printf 'put 2 %s %s1\nget 2 0 4\nput 2 %s %s3\n' $worker $worker $worker $worker
+    done
+    echo plan
+    yes 'run 0' | head -n 6
+    echo end
+} >"$room/four.job"
+"$program" explore "$room/four.job" --mesh 1:0 --states 500000 --progress >"$room/output" 2>"$room/errors" </dev/null
+status=$?
+[ "$(head -n 1 "$room/output")" = 'interleavings 604607040 states 473472' ] || status=3
+grep -qE '^states [0-9]+, [0-9]+ a second$' "$room/errors" || status=4
+grep -vqE '^states [0-9]+, [0-9]+ a second$' "$room/errors" && status=5
+ended "explore: progress of some seconds" $status 0 any any
 check "explore: help" 0 any "$room/nothing" explore --help
 check "explore: a missing file" 1 "$room/nothing" "$(line 'read fault')" explore "$room/missing.job" --mesh 1:0
 check "explore: a directory" 1 "$room/nothing" "$(line 'read fault')" explore jobs --mesh 1:0
@@ -250,7 +329,8 @@ check "explore: the second of three meshes" 2 "$room/nothing" "$(no_mesh 1-0)" e
 # shellcheck disable=SC2046
 check "explore: eleven meshes" 2 "$room/nothing" "$(mesh_fault "the argument '--mesh <SRC:DST>' cannot be used more than 10 times")" \
     explore $store.job $(yes -- '--mesh 1:0' | head -n 11)
-for option in '--cancel 1001' '--states 0' '--states 10000001' '--witness 4294967296' '--cancel 1 --cancel 1' '--seed 1'; do
+for option in '--cancel 1001' '--states 0' '--states 10000001' '--witness 4294967296' '--cancel 1 --cancel 1' '--seed 1' '--show 12:done' \
+    '--show 12:done:over --witness 0' '--never x --witness 0' '--expect x --expect x' '--progress=1'; do
     # shellcheck disable=SC2086
     check "explore: $option" 2 "$room/nothing" any explore $store.job --mesh 1:0 $option
 done
@@ -267,7 +347,7 @@ ended "explore: standard input as the file" $? 0 $store.out "$room/nothing"
 status=$?
 "$program" explore /dev/stdin --mesh 1:0 >"$room/output" 2>"$room/errors" <&-
 ended "explore: a closed input, as a replay tells it" $? $status "$room/nothing" "$room/closed"
-for words in "--mesh 1:0" "--mesh 1:0 --witness 0"; do
+for words in "--mesh 1:0" "--mesh 1:0 --witness 0" "--mesh 1:0 --show 12:done:over" "--mesh 1:0 --expect $store.out"; do
     # shellcheck disable=SC2086
     "$program" explore $store.job $words >/dev/full 2>"$room/errors" </dev/null
     status=$?

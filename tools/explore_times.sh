@@ -13,18 +13,27 @@ find_program "$1"
 make_room
 "${CXX:-g++}" -O2 -std=c++17 -o "$room/reference" tools/explore/reference.cpp || exit 2
 
-# three workers that store to one object and load it, twelve workers with a command each, and a setting that leaves nothing
+# workers that store to one object and load it, also beside 1,024 other objects, twelve workers with a command each, and a
+# setting that leaves nothing
 python3 - "$room" <<'END'
 import sys
 room = sys.argv[1]
 def job(name, lines):
     with open(f'{room}/{name}.job', 'w') as file:
         file.write('\n'.join(lines) + '\n')
-racing = [f'worker {worker}\n' + '\n'.join(f'put 2 {worker} {worker}{k}\nget 2 0 3' for k in (1, 3)) for worker in range(3)]
 filled = [*(f'new {cell} 2048 0' for cell in range(4)), 'free 0', 'free 3', *(f'new {cell} 1024 0' for cell in range(4, 12)),
           *(f'free {cell}' for cell in (4, 9, 10, 11))]
-racing[0] = '\n'.join(['worker 0', *filled, *racing[0].split('\n')[1:]])
-job('racing', ['mesh 2', 'pages 64', 'history 400', 'workers 3', *racing, 'plan', *['run 0'] * len(filled), 'end'])
+others = [f'new {20 + k % 200} 16 0' for k in range(1024)]
+def racing(name, workers, each, setting):
+    lines = []
+    for worker in range(workers):
+        commands = [line for k in (1, 3) for line in (f'put 2 {worker} {worker}{k}', f'get 2 0 {max(workers, 3)}')]
+        lines += [f'worker {worker}', *(setting if worker == 0 else []), *commands[:each]]
+    job(name, ['mesh 2', 'pages 64', 'history 2000', f'workers {workers}', *lines, 'plan', *['run 0'] * len(setting), 'end'])
+racing('three_of_two', 3, 2, filled + others)
+racing('three_of_three', 3, 3, filled)
+racing('three_of_four', 3, 4, filled)
+racing('four_of_three', 4, 3, filled)
 two = ['new 0 2048 0', 'new 1 2048 0', 'new 2 2048 0', 'new 3 2048 0', 'free 0', 'free 3']
 workers = [line for worker in range(1, 12) for line in (f'worker {worker}', f'put 2 {worker} {worker:02x}')]
 job('workers', ['mesh 2', 'pages 64', 'history 400', 'workers 12', 'worker 0', *two, 'put 2 0 aa', *workers, 'plan', *['run 0'] * 6, 'end'])

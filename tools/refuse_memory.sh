@@ -230,6 +230,12 @@ refuse_each "meshrun draw" replay_fault "$meshrun" draw jobs/hello.job
 wanted=jobs/explore/cancelled_at_once.out
 spare "$meshrun" explore "$room/no file" --mesh 1:0 --cancel 0
 refuse_each "meshrun explore" replay_fault "$meshrun" explore jobs/explore/cancelled_at_once.job --mesh 1:0 --cancel 0
+outcomes=$wanted
+echo "as expected: $(grep -c '^outcome ' "$outcomes") outcomes" >"$room/verdict"
+wanted=$room/verdict
+set -- --mesh 1:0 --cancel 0 --expect "$outcomes" --never 'worker 9: *'
+spare "$meshrun" explore "$room/no file" "$@"
+refuse_each "meshrun explore --expect" replay_fault "$meshrun" explore jobs/explore/cancelled_at_once.job "$@"
 numbers="--probe 8 --rounds 3 --workers 2 --seed 1 --meshers 2"
 spare "$meshrun" threads "$room/no file" $numbers
 refuse_each "meshrun threads" threads_fault "$meshrun" threads jobs/threads.job $numbers

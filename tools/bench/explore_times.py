@@ -9,7 +9,10 @@ SMALLEST = ("jobs/explore/store_and_copy.job", ["--mesh", "1:0"])
 JOBS = [
     ("three_pages", "jobs/explore/three_pages.job", open("jobs/explore/three_pages.args").read().split()),
     ("six_and_six", "jobs/explore/six_and_six.job", open("jobs/explore/six_and_six.args").read().split()),
-    ("3 workers, 4 racing commands", f"{room}/racing.job", ["--mesh", "1:0"]),
+    ("3 workers, 3 racing commands", f"{room}/three_of_three.job", ["--mesh", "1:0"]),
+    ("3 workers, 4 racing commands", f"{room}/three_of_four.job", ["--mesh", "1:0"]),
+    ("4 workers, 3 racing commands", f"{room}/four_of_three.job", ["--mesh", "1:0"]),
+    ("3 of 2 beside 1,024 objects", f"{room}/three_of_two.job", ["--mesh", "1:0"]),
     ("12 workers, a command each", f"{room}/workers.job", ["--mesh", "1:0"]),
     ("a setting of 65,534 lines", f"{room}/setting.job", ["--mesh", "1:0"]),
 ]

@@ -10,7 +10,7 @@ use Rattle.clap.specs.declared.parser.matches.ArgMatches.TheViews.{out-ArgMatche
 use Rattle.clap.specs.declared.parser.matches.Found.{Found}
 use Rattle.clap.proofs.OnLiterals.{clap_on_literals}
 use Rattle.clap.proofs.WalkLemmas.{first_value-rows}
-use Rattle.mesh_command_line.specs.CommandLine.{Asked, IsSaidOf, asked, asked_by, asked_in, asked_of, is_taken, kinds_of, check_of, draw_of, explore_of, live_of, meshrun_app, replay_history_of, replay_of, savings_of, threads_history_of, threads_of}
+use Rattle.mesh_command_line.specs.CommandLine.{Asked, IsSaidOf, asked, asked_by, asked_in, asked_of, is_taken, kinds_of, check_of, draw_of, explore_of, live_of, meshrun_app, replay_history_of, replay_of, savings_of, tells_all, tells_answer, tells_outcome, tells_verdict, threads_history_of, threads_of}
 
 -- the command line is one whose matches and faults `clap` tells
 pub is_told : is_simple_and_free meshrun_app ≡ true
@@ -66,15 +66,15 @@ pub asked_by_matches : (matches : ArgMatches) (name : Text) (found : Found) → 
 asked_by_matches matches name found named has = sym (met (subcommand_rows_of matches) name (rows_of found) (name_of_rows matches name named) has)
 
 -- what it asks for with the file that its matches have
-pub asked_of_file : (name : Text) (found : Found) (file : Option Text) → file ≡ first_value found (codes "FILE")
-    → option_and_then (asked_of name (rows_of found)) file ≡ option_and_then (asked_of name (rows_of found)) (first_of (codes "FILE") (rows_of found))
-asked_of_file name found file is = ap (option_and_then (asked_of name (rows_of found))) (is ∙ first_value-rows found (codes "FILE"))
+pub asked_of_file : (never : List Text) (name : Text) (found : Found) (file : Option Text) → file ≡ first_value found (codes "FILE")
+    → option_and_then (asked_of never name (rows_of found)) file ≡ option_and_then (asked_of never name (rows_of found)) (first_of (codes "FILE") (rows_of found))
+asked_of_file never name found file is = ap (option_and_then (asked_of never name (rows_of found))) (is ∙ first_value-rows found (codes "FILE"))
 
 -- where the command's name is a known one, and this is what that one asks for
-pub asked_of_known : (name known : Text) (found : Found) (file : Text) (asked : Option Asked) → name ≡ known → Some file ≡ first_value found (codes "FILE")
-    → asked ≡ asked_of known (rows_of found) file → asked ≡ option_and_then (asked_of name (rows_of found)) (first_of (codes "FILE") (rows_of found))
-asked_of_known name known found file asked is has asks =
-    asks ∙ sym (ap (λ text. asked_of text (rows_of found) file) is) ∙ asked_of_file name found (Some file) has
+pub asked_of_known : (never : List Text) (name known : Text) (found : Found) (file : Text) (asked : Option Asked) → name ≡ known → Some file ≡ first_value found (codes "FILE")
+    → asked ≡ asked_of never known (rows_of found) file → asked ≡ option_and_then (asked_of never name (rows_of found)) (first_of (codes "FILE") (rows_of found))
+asked_of_known never name known found file asked is has asks =
+    asks ∙ sym (ap (λ text. asked_of never text (rows_of found) file) is) ∙ asked_of_file never name found (Some file) has
 
 -- the words of a command line: behind the program's name those of a text, with a space between two
 abbrev spoken : Text → List Text
@@ -123,16 +123,46 @@ judgements_are_asked = ((refl, refl), (refl, refl))
 -- between other options, and their numbers may have a plus and leading zeros
 explorations_are_asked :
     Asks (codes "explore a.job --mesh 1:0")
-    (explore_of (codes "a.job") (record { meshes = record { source = 1; destination = 0 } ∷ []; cancel = None; states = 100000; witness = None }))
+    (explore_of (codes "a.job") (record { meshes = record { source = 1; destination = 0 } ∷ []; cancel = None; states = 100000; told = tells_all; is_watched = false }))
     × Asks (codes "explore --mesh=+65535:00 --states 1 --cancel=1000 a.job --mesh 3:2 --witness=0")
     (explore_of (codes "a.job") (record {
       meshes = record { source = 65535; destination = 0 } ∷ record { source = 3; destination = 2 } ∷ [];
       cancel = Some 1000;
       states = 1;
-      witness = Some 0;
+      told = tells_outcome 0;
+      is_watched = false;
     }))
 unfolding clap_on_literals asked is_taken
 explorations_are_asked = ((refl, refl), (refl, refl))
+
+-- an answer in a phase, or a verdict, in place of all outcomes
+tellings_are_asked :
+    Asks (codes "explore a.job --mesh 1:0 --show 12:done:mesh --progress")
+    (explore_of (codes "a.job") (record {
+      meshes = record { source = 1; destination = 0 } ∷ [];
+      cancel = None;
+      states = 100000;
+      told = tells_answer (record { line = 12; answer = codes "done"; phase = codes "mesh" });
+      is_watched = true;
+    }))
+    × Asks (codes "explore a.job --mesh 1:0 --never=one --expect a.out --never two")
+    (explore_of (codes "a.job") (record {
+      meshes = record { source = 1; destination = 0 } ∷ [];
+      cancel = None;
+      states = 100000;
+      told = tells_verdict (record { expect = Some (codes "a.out"); never = codes "one" ∷ codes "two" ∷ [] });
+      is_watched = false;
+    }))
+unfolding clap_on_literals asked is_taken
+tellings_are_asked = ((refl, refl), (refl, refl))
+
+-- two things are not told at once, and an answer needs a line, a text and a phase
+two_tellings_ask_nothing :
+    (asked (spoken (codes "explore a.job --mesh 1:0 --witness 3 --never one")) ≡ None)
+    × (asked (spoken (codes "explore a.job --mesh 1:0 --show 12:done")) ≡ None)
+    × (asked (spoken (codes "explore a.job --mesh 1:0 --show 0:done:over")) ≡ None)
+unfolding clap_on_literals asked
+two_tellings_ask_nothing = (refl, refl, refl)
 
 -- a history is followed with a round behind every 10,000 frees, 64 rounds of tries, words of the seed 1, and figures of all calls; or with what is given
 savings_are_asked :

@@ -4,3 +4,4 @@ pub mod ExplorationsRead
 pub mod NumbersRead
 pub mod SeedsRead
 pub mod Subcommands
+pub mod ToldRead

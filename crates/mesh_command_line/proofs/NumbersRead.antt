@@ -10,7 +10,7 @@ use Rattle.clap.specs.declared.builder.value_parser.ValueParser.TheVariants.{Uns
 use Rattle.clap.specs.declared.parser.matches.Found.{Found}
 use Rattle.clap.proofs.ValueTestLemmas.{Accepts-accepts, accepts-Accepts}
 use Rattle.clap.proofs.WalkLemmas.{one_text-rows}
-use Rattle.mesh_command_line.specs.CommandLine.{group_of, number_in, number_of}
+use Rattle.mesh_command_line.specs.CommandLine.{number_in, number_of}
 
 -- what `u64` reads from a text
 abbrev Gives : List ℕ → Result ℕ ParseIntError → Type 0
@@ -70,23 +70,25 @@ module _ (least most : ℕ) where
         go None e = refl
         go (Some t) e = unread t (subst (λ r. ReadsOne Gives t r) is (value t e))
 
--- a text that is read as no number is no group
-pub no_group : (t : Text) (read : Result ℕ ParseIntError) → Gives t read → result_ok read ≡ None → None ≡ group_of t
-no_group t (Ok n) gives is = let bad : Some n ≡ None = is in absurd (cc bad)
-no_group t (Err e) gives is = unread 0 65535 t (e, gives)
+-- a text that is read as no number has none
+pub not_spelt : (least most : ℕ) (t : Text) (read : Result ℕ ParseIntError) → Gives t read → result_ok read ≡ None → None ≡ number_of least most t
+not_spelt least most t (Ok n) gives is = let bad : Some n ≡ None = is in absurd (cc bad)
+not_spelt least most t (Err e) gives is = unread least most t (e, gives)
 
--- a number up to 65,535 is the group of the text
-pub group_taken : (t : Text) (read : Result ℕ ParseIntError) (n : ℕ) → Gives t read → result_ok read ≡ Some n → n ≤ 65535 → Some n ≡ group_of t
-group_taken t (Ok m) n gives is high =
+-- a number in the range is that of the text
+pub spelt_taken : (least most : ℕ) (t : Text) (read : Result ℕ ParseIntError) (n : ℕ) → Gives t read → result_ok read ≡ Some n → least ≤ n → n ≤ most
+    → Some n ≡ number_of least most t
+spelt_taken least most t (Ok m) n gives is low high =
     let same : Some m ≡ Some n = is in
     let number : m ≡ n = cc same in
-    taken 0 65535 n t (subst (λ k. Gives t (Ok k)) number gives) (omega arith) high
-group_taken t (Err e) n gives is high = let bad : None ≡ Some n = is in absurd (cc bad)
+    taken least most n t (subst (λ k. Gives t (Ok k)) number gives) low high
+spelt_taken least most t (Err e) n gives is low high = let bad : None ≡ Some n = is in absurd (cc bad)
 
--- one above isn't
-pub group_above : (t : Text) (read : Result ℕ ParseIntError) (n : ℕ) → Gives t read → result_ok read ≡ Some n → 65535 < n → None ≡ group_of t
-group_above t (Ok m) n gives is above =
+-- one outside isn't
+pub spelt_outside : (least most : ℕ) (t : Text) (read : Result ℕ ParseIntError) (n : ℕ) → Gives t read → result_ok read ≡ Some n → (least ≤ n → n ≤ most → ⊥)
+    → None ≡ number_of least most t
+spelt_outside least most t (Ok m) n gives is apart =
     let same : Some m ≡ Some n = is in
     let number : m ≡ n = cc same in
-    outside 0 65535 n t (subst (λ k. Gives t (Ok k)) number gives) (λ low high. omega (arith, above, high))
-group_above t (Err e) n gives is above = let bad : None ≡ Some n = is in absurd (cc bad)
+    outside least most n t (subst (λ k. Gives t (Ok k)) number gives) apart
+spelt_outside least most t (Err e) n gives is apart = let bad : None ≡ Some n = is in absurd (cc bad)

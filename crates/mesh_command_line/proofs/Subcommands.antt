@@ -6,7 +6,7 @@ use Rattle.clap.specs.declared.builder.arg.Arg.{Arg}
 use Rattle.clap.specs.declared.builder.command.Command.{Command}
 use Rattle.mesh_command_line.specs.Subcommands.{argument_rule, subcommand_app, with_arguments, with_subcommands}
 use Rattle.mesh_command_line.specs.declared.command_line.Argument.{Argument}
-use Rattle.mesh_command_line.specs.declared.command_line.Argument.TheVariants.{Default, File, Flag, Meshes, Optional, Required}
+use Rattle.mesh_command_line.specs.declared.command_line.Argument.TheVariants.{Default, File, Flag, Meshes, Optional, Required, Text, Texts}
 use Rattle.mesh_command_line.specs.declared.command_line.Subcommand.{Subcommand}
 use Rattle.mesh_command_line.proofs.CommandsBuilt.{with_argument, with_command}
 
@@ -23,6 +23,8 @@ simple_rule (Required option) = refl
 simple_rule (Default option default) = refl
 simple_rule (Optional option) = refl
 simple_rule (Flag name help) = refl
+simple_rule (Text option) = refl
+simple_rule (Texts option) = refl
 
 -- a command with the first of the arguments that are left
 pub first_argument : (old new : Command) (a : Arg) (app : App) (arguments : List Argument) (none : Argument) → 1 ≤ length arguments → AddsArg old a new

@@ -1,5 +1,5 @@
 -- The command line as `clap` reads it, and how the program stops where it asks for no run.
-use Rattle.std.specs.Prelude.{◌≡◌, ◌⊎◌, ◌&&◌, ◌==◌, ℕ, Bool, true, List, [], ◌∷◌, Option, Some, None, codes, if◌then◌else◌, is_none, is_some, length, nat_le, option_and_then, option_map}
+use Rattle.std.specs.Prelude.{◌≡◌, ◌⊎◌, ◌&&◌, ◌||◌, ◌==◌, ℕ, Bool, true, false, not, List, [], ◌∷◌, Option, Some, None, codes, if◌then◌else◌, is_none, is_some, length, nat_eq, nat_le, option_and_then, option_map}
 use Rattle.std.specs.Cow.{cow_str_bytes}
 use Rattle.std.specs.List.{after_first, before_first}
 use Rattle.std.specs.Str.{bytes_eq}
@@ -12,11 +12,16 @@ use Rattle.clap.specs.declared.error.kind.ErrorKind.{ErrorKind}
 use Rattle.clap.specs.declared.error.kind.ErrorKind.TheVariants.{DisplayHelp, DisplayVersion, OutOfMemory, ValueValidation}
 use Rattle.model_jobs.specs.Texts.{ended}
 use Rattle.mesh_command_line.specs.Meshes.{pairs_of}
+use Rattle.mesh_command_line.specs.Patterns.{texts_of}
 use Rattle.mesh_command_line.specs.declared.command_line.Args.{Args}
 use Rattle.mesh_command_line.specs.declared.command_line.Args.TheVariants.{Check, Draw, Explore, Live, Replay, ReplayHistory, Savings, Threads, ThreadsHistory}
+use Rattle.mesh_command_line.specs.declared.command_line.Parsed.{Parsed}
 use Rattle.mesh_command_line.specs.declared.command_line.Stop.{Stop}
 use Rattle.mesh_command_line.specs.declared.draw_args.DrawArgs.{DrawArgs}
 use Rattle.mesh_command_line.specs.declared.explore_args.ExploreArgs.{ExploreArgs}
+use Rattle.mesh_command_line.specs.declared.explore_args.ShownArgs.{ShownArgs}
+use Rattle.mesh_command_line.specs.declared.explore_args.Told.{Told}
+use Rattle.mesh_command_line.specs.declared.explore_args.Told.TheVariants.{All, Answer, Outcome, Verdict}
 use Rattle.mesh_explore.specs.declared.pair.MeshPair.{MeshPair}
 use Rattle.mesh_command_line.specs.declared.live_args.LiveArgs.{LiveArgs}
 use Rattle.mesh_command_line.specs.declared.savings_args.SavingsArgs.{SavingsArgs}
@@ -44,6 +49,14 @@ number_or name least most default = record (number_rule name least most) { defau
 abbrev pub flag_rule : Text → Rule
 flag_rule name = record (new_rule name) { long = Some name; action = Some SetTrue }
 
+-- an option of this name with a text, one value as help shows it
+abbrev pub text_rule : Text → Rule
+text_rule name = record (new_rule name) { long = Some name; value_names = 1 }
+
+-- one that adds a text each time it is given
+abbrev pub texts_rule : Text → Rule
+texts_rule name = record (text_rule name) { action = Some Append }
+
 -- the option that asks for a mesh: it has to be given, and each time it is given adds a value, one as help shows it
 abbrev pub mesh_rule : Rule
 mesh_rule = record (new_rule (codes "mesh")) { long = Some (codes "mesh"); action = Some Append; required = true; value_names = 1 }
@@ -70,10 +83,11 @@ abbrev pub live_app : App
 live_app = with_rule (with_rule (with_rule (new_app (codes "live")) (number_or (codes "pages") 1 4096 (codes "4096")))
     (number_or (codes "history") 0 65536 (codes "65536"))) (number_or (codes "workers") 1 64 (codes "64"))
 
--- `explore FILE --mesh SRC:DST [--mesh ..] [--cancel AFTER] [--states N] [--witness K]`
+-- `explore FILE --mesh SRC:DST [--mesh ..] [--cancel AFTER] [--states N] [--witness K | --show LINE:ANSWER:PHASE | [--expect FILE] [--never PATTERN ..]] [--progress]`
 abbrev pub explore_app : App
-explore_app = with_rule (with_rule (with_rule (with_rule (with_rule (new_app (codes "explore")) file_rule) mesh_rule)
-    (number_rule (codes "cancel") 0 1000)) (number_or (codes "states") 1 10000000 (codes "100000"))) (number_rule (codes "witness") 0 4294967295)
+explore_app = with_rule (with_rule (with_rule (with_rule (with_rule (with_rule (with_rule (with_rule (with_rule (new_app (codes "explore")) file_rule) mesh_rule)
+    (number_rule (codes "cancel") 0 1000)) (number_or (codes "states") 1 10000000 (codes "100000"))) (number_rule (codes "witness") 0 4294967295))
+    (text_rule (codes "show"))) (text_rule (codes "expect"))) (texts_rule (codes "never"))) (flag_rule (codes "progress"))
 
 -- `check FILE`
 abbrev pub check_app : App
@@ -121,12 +135,32 @@ pub record SessionSizes : Type 0 where
   pub history : ℕ
   pub workers : ℕ
 
--- the meshes that are to be explored, after how many steps each is cancelled, how many states are kept at most, and the outcome that is printed as a job file
+-- an answer, by the line of its command, its text and the text of a phase
+pub record ShownAnswer : Type 0 where
+  pub line : ℕ
+  pub answer : Text
+  pub phase : Text
+
+-- which outcomes are wanted: all that the file at a path lists, if one does, and none that a pattern matches
+pub record Judged : Type 0 where
+  pub expect : Option Text
+  pub never : List Text
+
+-- what is told of an exploration: all, an outcome or an answer as a job file, or a verdict
+pub data ToldOf : Type 0 where
+  tells_all : ToldOf
+  tells_outcome : ℕ → ToldOf
+  tells_answer : ShownAnswer → ToldOf
+  tells_verdict : Judged → ToldOf
+
+-- the meshes that are to be explored, after how many steps each is cancelled, how many states are kept at most, what is told, and whether how many states
+-- were found is
 pub record Explored : Type 0 where
   pub meshes : List MeshPair
   pub cancel : Option ℕ
   pub states : ℕ
-  pub witness : Option ℕ
+  pub told : ToldOf
+  pub is_watched : Bool
 
 -- how a recorded history is followed on two heaps, and what is printed of it: how many objects are freed between two rounds of meshing, how many rounds of
 -- tries a search makes at most, what the words of the objects are made from, 0 being each of them without it, the first and the last call of the figures,
@@ -226,12 +260,64 @@ abbrev pub meshes_in : List Row → Option (List MeshPair)
 meshes_in rows =
     option_and_then (λ texts. if nat_le 1 (length texts) && nat_le (length texts) 10 then pairs_in texts else None) (all_of (codes "mesh") rows)
 
--- what the matches have for `explore`
-abbrev pub explored_in : List Row → Option Explored
-explored_in rows =
-    option_and_then (λ meshes. option_and_then (λ cancel. option_and_then (λ states.
-    option_map (λ witness. record { meshes = meshes; cancel = cancel; states = states; witness = witness })
-    (given_in (codes "witness") 0 4294967295 rows)) (number_in (codes "states") 1 10000000 rows)) (given_in (codes "cancel") 0 1000 rows)) (meshes_in rows)
+-- the answer and the phase of a text, between which is its first colon: a phase has a byte
+abbrev pub shown_behind : ℕ → Text → Option ShownAnswer
+shown_behind line text =
+    if nat_eq (length (after_first is_colon text)) 0 then None
+    else Some (record { line = line; answer = before_first is_colon text; phase = after_first is_colon text })
+
+-- the answer that a text names: a line, an answer and a phase, with colons between them
+abbrev pub shown_of_text : Text → Option ShownAnswer
+shown_of_text text = option_and_then (λ line. shown_behind line (after_first is_colon text)) (number_of 1 4294967295 (before_first is_colon text))
+
+-- what a text of an option is, where it is given
+abbrev pub of_given : {A : Type 0} → (Text → Option A) → Option Text → Option (Option A)
+of_given read None = Some None
+of_given read (Some text) = option_map Some (read text)
+
+-- the answer that the matches have, where they have one
+abbrev pub shown_given_in : List Row → Option (Option ShownAnswer)
+shown_given_in rows = of_given shown_of_text (first_of (codes "show") rows)
+
+-- the texts that an option has, at most ten; none where it isn't given
+abbrev pub few_texts : Option (List Text) → Option (List Text)
+few_texts None = Some []
+few_texts (Some texts) = if nat_le (length texts) 10 then Some texts else None
+
+-- the patterns that the matches have
+abbrev pub never_in : List Row → Option (List Text)
+never_in rows = few_texts (all_of (codes "never") rows)
+
+-- whether a verdict is asked for: outcomes are expected, or there are patterns
+abbrev pub asks_verdict : Option Text → List Text → Bool
+asks_verdict expect never = is_some expect || not (length never == 0)
+
+-- what is told: one of these at most
+abbrev pub told_by : Option ℕ → Option ShownAnswer → Bool → Judged → Option ToldOf
+told_by None None true judged = Some (tells_verdict judged)
+told_by None None false judged = Some tells_all
+told_by (Some number) None false judged = Some (tells_outcome number)
+told_by None (Some shown) false judged = Some (tells_answer shown)
+told_by (Some number) None true judged = None
+told_by None (Some shown) true judged = None
+told_by (Some number) (Some shown) is_verdict judged = None
+
+-- what is told where these outcomes may be expected, and there are these patterns
+abbrev pub told_where : Option Text → List Text → Option ℕ → Option ShownAnswer → Option ToldOf
+told_where expect never witness shown = told_by witness shown (asks_verdict expect never) (record { expect = expect; never = never })
+
+-- what the matches have of what is told, where they have these patterns
+abbrev pub told_in : List Text → List Row → Option ToldOf
+told_in never rows =
+    option_and_then (λ witness. option_and_then (told_where (first_of (codes "expect") rows) never witness) (shown_given_in rows))
+    (given_in (codes "witness") 0 4294967295 rows)
+
+-- what the matches have for `explore`, where they have these patterns
+abbrev pub explored_in : List Text → List Row → Option Explored
+explored_in never rows =
+    option_and_then (λ meshes. option_and_then (λ cancel. option_and_then (λ states. option_and_then (λ told.
+    option_map (λ is_watched. record { meshes = meshes; cancel = cancel; states = states; told = told; is_watched = is_watched })
+    (flag_in (codes "progress") rows)) (told_in never rows)) (number_in (codes "states") 1 10000000 rows)) (given_in (codes "cancel") 0 1000 rows)) (meshes_in rows)
 
 -- the seed that the matches have for `savings`: 1 where neither it nor `--first-fit` is given, and none with `--first-fit`, beside which it may not stand
 abbrev pub seed_by : Bool → List Row → Option (Option ℕ)
@@ -262,20 +348,24 @@ sizes_in rows =
     option_and_then (λ pages. option_and_then (λ history. option_map (λ workers. record { pages = pages; history = history; workers = workers })
     (number_in (codes "workers") 1 64 rows)) (number_in (codes "history") 0 65536 rows)) (number_in (codes "pages") 1 4096 rows)
 
--- what a subcommand of this name with these matches asks for, on the file
-abbrev pub asked_of : Text → List Row → Text → Option Asked
-asked_of name rows file =
+-- what a subcommand of this name with these patterns and matches asks for, on the file
+abbrev pub asked_of : List Text → Text → List Row → Text → Option Asked
+asked_of never name rows file =
     if bytes_eq name (codes "replay") then option_map (replay_by file) (is_recorded_in rows)
     else (if bytes_eq name (codes "threads") then option_and_then (λ numbers. option_map (threads_by file numbers) (is_recorded_in rows)) (numbers_in rows)
     else (if bytes_eq name (codes "draw") then option_map (draw_of file) (shown_in rows)
-    else (if bytes_eq name (codes "explore") then option_map (explore_of file) (explored_in rows)
+    else (if bytes_eq name (codes "explore") then option_map (explore_of file) (explored_in never rows)
     else (if bytes_eq name (codes "check") then Some (check_of file)
     else (if bytes_eq name (codes "savings") then option_map (savings_of file) (compared_in rows) else None)))))
 
--- what a subcommand of this name with these matches asks for: a session needs no file
+-- what a subcommand of this name with these patterns and matches asks for: a session needs no file
+abbrev pub asked_with : List Text → Text → List Row → Option Asked
+asked_with never name rows =
+    if bytes_eq name (codes "live") then option_map live_of (sizes_in rows) else option_and_then (asked_of never name rows) (first_of (codes "FILE") rows)
+
+-- what a subcommand of this name with these matches asks for: only an exploration has patterns
 abbrev pub asked_by : Text → List Row → Option Asked
-asked_by name rows =
-    if bytes_eq name (codes "live") then option_map live_of (sizes_in rows) else option_and_then (asked_of name rows) (first_of (codes "FILE") rows)
+asked_by name rows = option_and_then (λ never. asked_with never name rows) (never_in rows)
 
 -- what a subcommand's name and matches ask for
 abbrev pub asked_in : Option (Text × List Row) → Option Asked
@@ -302,9 +392,21 @@ numbers_of args = record { probe = args.probe; rounds = args.rounds; workers = a
 abbrev pub shown_of : DrawArgs → Shown
 shown_of args = record { from = args.from; to = args.to; columns = args.columns }
 
--- what was read of what is to be explored
-abbrev pub explored_of : ExploreArgs → Explored
-explored_of args = record { meshes = pairs_of args.meshes; cancel = args.cancel; states = args.states; witness = args.witness }
+-- the answer that was read
+abbrev pub shown_answer_of : ShownArgs → ShownAnswer
+shown_answer_of args = record { line = args.line; answer = args.answer.now; phase = args.phase.now }
+
+-- what was read of what is told, beside these patterns
+abbrev pub told_of : List Text → Told → ToldOf
+told_of never All = tells_all
+told_of never (Outcome number) = tells_outcome number
+told_of never (Answer shown) = tells_answer (shown_answer_of shown)
+told_of never (Verdict expect) = tells_verdict (record { expect = option_map (λ path. path.now) expect; never = never })
+
+-- what was read of what is to be explored, beside these patterns
+abbrev pub explored_of : List Text → ExploreArgs → Explored
+explored_of never args =
+    record { meshes = pairs_of args.meshes; cancel = args.cancel; states = args.states; told = told_of never args.told; is_watched = args.is_watched }
 
 -- what was read of how a history is followed
 abbrev pub compared_of : SavingsArgs → Compared
@@ -314,21 +416,25 @@ compared_of args = record { every = args.every; probe = args.probe; seed = args.
 abbrev pub sizes_of : LiveArgs → SessionSizes
 sizes_of args = record { pages = args.pages; history = args.history; workers = args.workers }
 
+-- what the program was told to do, with these patterns
+abbrev pub asking : List Text → Args → Asked
+asking never (Replay path) = replay_of path.now
+asking never (ReplayHistory path) = replay_history_of path.now
+asking never (Threads path args) = threads_of path.now (numbers_of args)
+asking never (ThreadsHistory path args) = threads_history_of path.now (numbers_of args)
+asking never (Draw path args) = draw_of path.now (shown_of args)
+asking never (Explore path args) = explore_of path.now (explored_of never args)
+asking never (Live args) = live_of (sizes_of args)
+asking never (Check path) = check_of path.now
+asking never (Savings path args) = savings_of path.now (compared_of args)
+
 -- what the program was told to do
-abbrev pub asking : Args → Asked
-asking (Replay path) = replay_of path.now
-asking (ReplayHistory path) = replay_history_of path.now
-asking (Threads path args) = threads_of path.now (numbers_of args)
-asking (ThreadsHistory path args) = threads_history_of path.now (numbers_of args)
-asking (Draw path args) = draw_of path.now (shown_of args)
-asking (Explore path args) = explore_of path.now (explored_of args)
-asking (Live args) = live_of (sizes_of args)
-asking (Check path) = check_of path.now
-asking (Savings path args) = savings_of path.now (compared_of args)
+abbrev pub asking_of : Parsed → Asked
+asking_of parsed = asking (texts_of parsed.never) parsed.args
 
 -- the words ask for this
-abbrev pub IsAsked : List Text → Args → Type 0
-IsAsked words args = asked words ≡ Some (asking args)
+abbrev pub IsAsked : List Text → Parsed → Type 0
+IsAsked words parsed = asked words ≡ Some (asking_of parsed)
 
 -- what may be said of the words: want of memory, a fault of theirs or a call for help, or, where they ask for nothing, that a value can't be read
 abbrev pub IsSaidOf : List Text → ErrorKind → Type 0

@@ -3,6 +3,7 @@ pub mod DrawArgs
 pub mod ExploreArgs
 pub mod LiveArgs
 pub mod Meshes
+pub mod Patterns
 pub mod SavingsArgs
 pub mod Subcommands
 pub mod ThreadsArgs

@@ -1,9 +1,9 @@
 -- The table of the subcommands, as `clap` is told it.
 use Rattle.std.specs.Prelude.{List, [], ◌∷◌}
 use Rattle.clap.specs.Words.{App, Rule, new_app, with_rule, with_subcommand}
-use Rattle.mesh_command_line.specs.CommandLine.{file_rule, flag_rule, mesh_rule, number_or, number_rule, required_number}
+use Rattle.mesh_command_line.specs.CommandLine.{file_rule, flag_rule, mesh_rule, number_or, number_rule, required_number, text_rule, texts_rule}
 use Rattle.mesh_command_line.specs.declared.command_line.Argument.{Argument}
-use Rattle.mesh_command_line.specs.declared.command_line.Argument.TheVariants.{Default, File, Flag, Meshes, Optional, Required}
+use Rattle.mesh_command_line.specs.declared.command_line.Argument.TheVariants.{Default, File, Flag, Meshes, Optional, Required, Text, Texts}
 use Rattle.mesh_command_line.specs.declared.command_line.Subcommand.{Subcommand}
 
 -- what `clap` is told of what may stand behind a subcommand's name
@@ -14,6 +14,8 @@ argument_rule (Required option) = required_number option.name.now option.least o
 argument_rule (Default option default) = number_or option.name.now option.least option.most default.now
 argument_rule (Optional option) = number_rule option.name.now option.least option.most
 argument_rule (Flag name help) = flag_rule name.now
+argument_rule (Text option) = text_rule option.name.now
+argument_rule (Texts option) = texts_rule option.name.now
 
 -- a command with these arguments behind those that it has
 abbrev pub with_arguments : App → List Argument → App

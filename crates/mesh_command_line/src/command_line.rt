@@ -1,15 +1,19 @@
 //! The command line.
-ghost use Rattle.std.specs.Prelude.{◌≡◌, ◌≢◌, ◌⊎◌, ◌≤◌, ◌<◌, ◌^◌, None, Some, true, IfErr, IfOk, IfSome, codes, find, length, map, option_and_then, option_map};
+ghost use Rattle.std.specs.Prelude.{◌≡◌, ◌≢◌, ◌⊎◌, ◌≤◌, ◌<◌, ◌^◌, ℕ, List, None, Some, true, IfErr, IfOk, IfSome, codes, find, length, map, option_and_then, option_map};
 ghost use Rattle.std.specs.IoError.{error_kind};
 ghost use Rattle.std.specs.declared.io.ErrorKind.TheVariants.{OutOfMemory as IoOutOfMemory};
 ghost use Rattle.clap.specs.Words.{app_of, first_of, found_of, kind_of, rows_of, rule_of, subcommand_rows_of};
 ghost use Rattle.mesh_command_line.specs.Meshes.{pairs_of};
+ghost use Rattle.mesh_command_line.specs.Patterns.{texts_of};
 ghost use Rattle.mesh_command_line.specs.Subcommands.{argument_rule, subcommand_app, with_subcommands};
-ghost use Rattle.mesh_command_line.specs.CommandLine.{IsAllowedOf, IsAsked, IsNoText, IsOutOfMemory, IsSaidOf, IsStopAt, asked, asked_in, asked_of, asking, bare_app, compared_in, compared_of, explored_in, explored_of, flag_in, flag_rule, given_in, group_of, is_no_pair, is_recorded_in, is_taken, mesh_rule, meshes_in, meshrun_app, number_in, number_rule, numbers_in, numbers_of, pair_of, pairs_in, replay_by, seed_in, shown_in, shown_of, sizes_in, sizes_of, status_of_kind, threads_by};
+ghost use Rattle.mesh_command_line.specs.CommandLine.{IsAllowedOf, IsAsked, IsNoText, IsOutOfMemory, IsSaidOf, IsStopAt, asked, asked_in, asked_of, asked_with, asking, asking_of, asks_verdict, bare_app, compared_in, compared_of, explored_in, explored_of, flag_in, flag_rule, given_in, group_of, is_no_pair, is_recorded_in, is_taken, mesh_rule, meshes_in, meshrun_app, never_in, number_in, number_of, number_rule, numbers_in, numbers_of, pair_of, pairs_in, replay_by, seed_in, shown_answer_of, shown_given_in, shown_in, shown_of, shown_of_text, sizes_in, sizes_of, status_of_kind, text_rule, threads_by, told_by, told_in, told_of};
 
 use crate::meshes::MOST_MESHES;
+use crate::patterns::MOST_PATTERNS;
 use crate::status::{DONE, FAILED, FAULTY};
-use crate::{DrawArgs, ExploreArgs, LiveArgs, Meshes, SavingsArgs, ThreadsArgs};
+use crate::{
+    DrawArgs, ExploreArgs, LiveArgs, Meshes, Patterns, SavingsArgs, ShownArgs, ThreadsArgs, Told,
+};
 use clap::builder::ValueParser;
 use clap::error::ErrorKind;
 use clap::{Arg, ArgAction, ArgMatches, Command, Error};
@@ -40,6 +44,15 @@ const MESH: &str = "mesh";
 /// What help calls the two groups of a mesh.
 const GROUPS: &str = "SRC:DST";
 
+/// The flag that asks for how many states were found.
+const PROGRESS: &str = "progress";
+
+/// The fault of what is told twice.
+const TOLD_TWICE: &str = "--witness, --show and a verdict (--expect, --never) exclude each other";
+
+/// The fault of more than ten patterns.
+const MANY_PATTERNS: &str = "the argument '--never <PATTERN>' cannot be used more than 10 times";
+
 /// The fault of more than ten meshes.
 const MANY_MESHES: &str = "the argument '--mesh <SRC:DST>' cannot be used more than 10 times";
 
@@ -47,11 +60,14 @@ const MANY_MESHES: &str = "the argument '--mesh <SRC:DST>' cannot be used more t
 const UNREAD_SAVINGS: &str =
     "--seed and --first-fit exclude each other, and --from is at most --to";
 
-/// What stands between the two groups.
+/// What stands between the two groups of a mesh, and around an answer.
 const BETWEEN: char = ':';
 
 /// The greatest number of a group.
 const LAST_GROUP: u64 = 65535;
+
+/// The greatest number of a line.
+const LAST_LINE: u64 = 4294967295;
 
 /// An option with a number.
 #[derive(Clone, Copy)]
@@ -176,6 +192,33 @@ const WITNESS: NumberOption = NumberOption {
     help: "Print a job file that leads to outcome K, 0 to 4294967295, in place of what is told of all",
 };
 
+/// An option with a text.
+#[derive(Clone, Copy)]
+struct TextOption {
+    name: &'static str,
+    // What help calls the text.
+    value: &'static str,
+    help: &'static str,
+}
+
+const SHOW: TextOption = TextOption {
+    name: "show",
+    value: "LINE:ANSWER:PHASE",
+    help: "Print a job file that ends with an answer to the command at a line of FILE in a phase of a mesh, as 12:done:unprotect 1",
+};
+
+const EXPECT: TextOption = TextOption {
+    name: "expect",
+    value: "OUTCOMES",
+    help: "Compare the outcomes with those that a file lists, as a listing does, and say whether they are the same",
+};
+
+const NEVER: TextOption = TextOption {
+    name: "never",
+    value: "PATTERN",
+    help: "Say whether an outcome matches 'worker W: ANSWER | ANSWER ..', where * is any answer; up to 10 times",
+};
+
 const EVERY: NumberOption = NumberOption {
     name: "every",
     value: "F",
@@ -226,6 +269,10 @@ enum Argument {
     Optional(NumberOption),
     /// The flag of this name, with what help says of it.
     Flag(&'static str, &'static str),
+    /// An option with a text, that may be left out.
+    Text(TextOption),
+    /// The same, that may be given several times.
+    Texts(TextOption),
 }
 
 /// A subcommand: its name, what help says of it, and what may stand behind it.
@@ -242,13 +289,20 @@ const HISTORY_FILE: &str = "The recorded history, or - for standard input";
 /// The subcommand that explores.
 const EXPLORE: Subcommand = Subcommand {
     name: "explore",
-    about: "Run what a job file's plan leaves of its scripts in every interleaving with meshes, and print all answers",
+    about: "Run what a job file's plan leaves of its scripts in every interleaving with meshes, and print all answers, or a verdict over them",
     arguments: &[
         Argument::File("The job file, whose plan is the setting; - is standard input"),
         Argument::Meshes,
         Argument::Optional(CANCEL),
         Argument::Default(STATES, "100000"),
         Argument::Optional(WITNESS),
+        Argument::Text(SHOW),
+        Argument::Text(EXPECT),
+        Argument::Texts(NEVER),
+        Argument::Flag(
+            PROGRESS,
+            "Print how many states were found on standard error, once a second, also where that is no terminal",
+        ),
     ],
 };
 
@@ -347,7 +401,7 @@ pub enum Args<'a> {
     /// `live ..`: answer the lines of standard input, on a heap of these sizes.
     Live(LiveArgs),
     /// `explore FILE --mesh SRC:DST ..`: explore what is left of the scripts of the job file at this path, with these meshes and numbers.
-    Explore(&'a str, ExploreArgs),
+    Explore(&'a str, ExploreArgs<'a>),
     /// `check FILE`: judge the recorded history at this path, or at `-` that of standard input.
     Check(&'a str),
     /// `savings FILE ..`: follow the recorded history at this path, or at `-` that of standard input, and print what meshing saves.
@@ -363,12 +417,21 @@ pub struct Stop {
     pub text: CowStr<'static, Global>,
 }
 
+/// What a command line asks for, and the patterns of a verdict. These stand beside the rest since no variant of an enum may
+/// hold them.
+#[derive(Clone, Copy)]
+pub struct Parsed<'a> {
+    pub args: Args<'a>,
+    /// The patterns that no outcome of an exploration is to match: none where no verdict is asked for.
+    pub never: Patterns<'a>,
+}
+
 /// What the words of a command line ask for, the program's name first.
 ///
 /// The words are read by `clap`, which words the texts of help, version and faults. The file is the word as it was given, a
 /// number is what `clap` reads as a `u64`: decimal digits, perhaps after a plus; and a mesh is two such numbers with a
 /// colon between them.
-pub fn arguments<'a, S: AsStr>(alloc: Global, words: &'a [S]) -> Result<Args<'a>, Stop>
+pub fn arguments<'a, S: AsStr>(alloc: Global, words: &'a [S]) -> Result<Parsed<'a>, Stop>
     ensures asked { IfOk result (IsAsked (map S.text words.now)) }
     ensures stop { IfErr result (IsStopAt (map S.text words.now)) }
     ensures passes { IfErr result (λ stop. is_taken (map S.text words.now) ≡ true → IsOutOfMemory stop ⊎ (asked (map S.text words.now) ≡ None)) }
@@ -381,7 +444,7 @@ pub fn arguments<'a, S: AsStr>(alloc: Global, words: &'a [S]) -> Result<Args<'a>
 }
 
 /// What the words ask for, or what `clap` says of them.
-fn read_words<'a, S: AsStr>(alloc: Global, words: &'a [S]) -> Result<Args<'a>, Error>
+fn read_words<'a, S: AsStr>(alloc: Global, words: &'a [S]) -> Result<Parsed<'a>, Error>
     ensures asked { IfOk result (IsAsked (map S.text words.now)) }
     ensures kinds { IfErr result (λ error. IsSaidOf (map S.text words.now) (kind_of error)) }
     ensures passes { IfErr result (λ error. IsAllowedOf (map S.text words.now) (kind_of error)) }
@@ -395,7 +458,7 @@ fn read_by<'a, S: AsStr>(
     alloc: Global,
     command: &mut Command<'a>,
     words: &'a [S],
-) -> Result<Args<'a>, Error>
+) -> Result<Parsed<'a>, Error>
     requires { app_of command.old ≡ meshrun_app }
     ensures asked { IfOk result (IsAsked (map S.text words.now)) }
     ensures kinds { IfErr result (λ error. IsSaidOf (map S.text words.now) (kind_of error)) }
@@ -420,14 +483,14 @@ fn program_name<'a, S: AsStr>(words: &'a [S]) -> &'a str {
     }
 }
 
-/// The fault of matches that ask for nothing: meshes of `explore`, or options of `savings`, that `clap` takes and the
-/// program doesn't.
+/// The fault of matches that ask for nothing: options of `explore` or `savings` that `clap` takes and the program
+/// doesn't.
 fn unread<'a>(alloc: Global, program: &str, matches: &ArgMatches<'a>) -> Result<Error, AllocError>
     ensures { IfOk result (λ error. kind_of error ≡ ErrorKind.ValueValidation) }
 {
     match matches.subcommand() {
         Some(("explore", matches)) => {
-            let message = mesh_fault(alloc, matches)?;
+            let message = explore_fault(alloc, matches)?;
             fault_of(alloc, program, &EXPLORE, message.as_str())
         }
         _ => fault_of(alloc, program, &SAVINGS, UNREAD_SAVINGS),
@@ -446,6 +509,23 @@ fn fault_of(
     let name = format!(in alloc; "{program} {}", subcommand.name)?;
     let mut command = subcommand_of(alloc, subcommand)?.bin_name(name.as_str())?;
     command.error(ErrorKind::ValueValidation, message)
+}
+
+/// The fault of matches of `explore` that ask for nothing: meshes, an answer or patterns that can't be read, or things
+/// that are told together.
+fn explore_fault<'a>(alloc: Global, matches: &ArgMatches<'a>) -> Result<String, AllocError> {
+    if meshes(matches).is_none() {
+        return mesh_fault(alloc, matches);
+    }
+    if never(matches).is_none() {
+        return String::from_str(alloc, MANY_PATTERNS);
+    }
+    match matches.get_str(SHOW.name) {
+        Some(text) if shown_answer(text).is_none() => format!(in alloc;
+            "invalid value '{text}' for '--show <LINE:ANSWER:PHASE>': the number of a line, an answer and a phase with colons between them"
+        ),
+        _ => String::from_str(alloc, TOLD_TWICE),
+    }
 }
 
 /// The fault of meshes that can't be read: it names the first word that is no pair of groups, or else says that they are
@@ -476,27 +556,37 @@ fn matches_of<'a, S: AsStr>(
     command.try_get_matches_from_mut(words)
 }
 
-/// The command that the matches name, with its file and its numbers.
-fn asked_for<'a>(matches: &ArgMatches<'a>) -> Option<Args<'a>>
-    ensures { option_map asking result ≡ asked_in (subcommand_rows_of matches.now) }
+/// The command that the matches name, and its patterns.
+fn asked_for<'a>(matches: &ArgMatches<'a>) -> Option<Parsed<'a>>
+    ensures { option_map asking_of result ≡ asked_in (subcommand_rows_of matches.now) }
 {
     let (name, matches) = matches.subcommand()?;
+    let never = never(matches)?;
+    let args = asked_by(name, matches, &never)?;
+    Some(Parsed { args, never })
+}
+
+/// The command of this name with its file and its numbers. A session has no file.
+fn asked_by<'a>(name: &str, matches: &ArgMatches<'a>, never: &Patterns<'a>) -> Option<Args<'a>>
+    ensures { option_map (asking (texts_of never.now)) result ≡ asked_with (texts_of never.now) name.now (rows_of (found_of matches.now)) }
+{
     match name {
         "live" => Some(Args::Live(sizes(matches)?)),
-        _ => asked_of(name, matches),
+        _ => asked_of(name, matches, never),
     }
 }
 
 /// The command of this name with the file that its matches have, its numbers and its flag.
-fn asked_of<'a>(name: &str, matches: &ArgMatches<'a>) -> Option<Args<'a>>
-    ensures { option_map asking result ≡ option_and_then (asked_of name.now (rows_of (found_of matches.now))) (first_of (codes "FILE") (rows_of (found_of matches.now))) }
+fn asked_of<'a>(name: &str, matches: &ArgMatches<'a>, never: &Patterns<'a>) -> Option<Args<'a>>
+    ensures { option_map (asking (texts_of never.now)) result
+        ≡ option_and_then (asked_of (texts_of never.now) name.now (rows_of (found_of matches.now))) (first_of (codes "FILE") (rows_of (found_of matches.now))) }
 {
     let file = matches.get_str(FILE)?;
     match name {
         "replay" => Some(replay_of(file, is_recorded(matches)?)),
         "threads" => Some(threads_of(file, numbers(matches)?, is_recorded(matches)?)),
         "draw" => Some(Args::Draw(file, shown(matches)?)),
-        "explore" => Some(Args::Explore(file, explored(matches)?)),
+        "explore" => Some(Args::Explore(file, explored(matches, never)?)),
         "check" => Some(Args::Check(file)),
         "savings" => Some(Args::Savings(file, compared(matches)?)),
         _ => None,
@@ -520,7 +610,7 @@ fn is_given<'a>(matches: &ArgMatches<'a>, flag: &str) -> Option<bool>
 
 /// A replay of a file, whose recorded history or answers are printed.
 fn replay_of(file: &str, is_recorded: bool) -> Args<'_>
-    ensures { asking result ≡ replay_by file.now is_recorded }
+    ensures { (never : List (List ℕ)) → asking never result ≡ replay_by file.now is_recorded }
 {
     if is_recorded {
         Args::ReplayHistory(file)
@@ -531,7 +621,7 @@ fn replay_of(file: &str, is_recorded: bool) -> Args<'_>
 
 /// A run of a file's scripts in threads, whose recorded history or answers are printed.
 fn threads_of(file: &str, args: ThreadsArgs, is_recorded: bool) -> Args<'_>
-    ensures { asking result ≡ threads_by file.now (numbers_of args) is_recorded }
+    ensures { (never : List (List ℕ)) → asking never result ≡ threads_by file.now (numbers_of args) is_recorded }
 {
     if is_recorded {
         Args::ThreadsHistory(file, args)
@@ -564,16 +654,107 @@ fn shown<'a>(matches: &ArgMatches<'a>) -> Option<DrawArgs>
     })
 }
 
-/// The meshes that are to be explored, and with what numbers.
-fn explored<'a>(matches: &ArgMatches<'a>) -> Option<ExploreArgs>
-    ensures { option_map explored_of result ≡ explored_in (rows_of (found_of matches.now)) }
+/// The meshes that are to be explored, with what numbers, and what is told.
+fn explored<'a>(matches: &ArgMatches<'a>, never: &Patterns<'a>) -> Option<ExploreArgs<'a>>
+    ensures { option_map (explored_of (texts_of never.now)) result ≡ explored_in (texts_of never.now) (rows_of (found_of matches.now)) }
 {
     Some(ExploreArgs {
         meshes: meshes(matches)?,
         cancel: number_if_given(matches, CANCEL)?,
         states: number(matches, STATES)? as u32,
-        witness: number_if_given(matches, WITNESS)?,
+        told: told(matches, never)?,
+        is_watched: is_given(matches, PROGRESS)?,
     })
+}
+
+/// What is told of an exploration: one thing at most of an outcome, an answer and a verdict.
+fn told<'a>(matches: &ArgMatches<'a>, never: &Patterns<'a>) -> Option<Told<'a>>
+    ensures { option_map (told_of (texts_of never.now)) result ≡ told_in (texts_of never.now) (rows_of (found_of matches.now)) }
+{
+    let witness = number_if_given(matches, WITNESS)?;
+    let shown = shown_if_given(matches)?;
+    let expect = matches.get_str(EXPECT.name);
+    told_by(witness, shown, is_verdict(expect, never), expect)
+}
+
+/// Whether a verdict is asked for.
+fn is_verdict<'a>(expect: Option<&'a str>, never: &Patterns<'a>) -> bool
+    ensures { result ≡ asks_verdict (option_map (λ path. path.now) expect.entry) (texts_of never.now) }
+{
+    expect.is_some() || !never.as_slice().is_empty()
+}
+
+/// What is told where these are asked for.
+fn told_by<'a>(
+    witness: Option<u32>,
+    shown: Option<ShownArgs<'a>>,
+    is_verdict: bool,
+    expect: Option<&'a str>,
+) -> Option<Told<'a>>
+    ensures { (never : List (List ℕ)) → option_map (told_of never) result
+        ≡ told_by witness (option_map shown_answer_of shown.entry) is_verdict (record { expect = option_map (λ path. path.now) expect.entry; never = never }) }
+{
+    match (witness, shown, is_verdict) {
+        (None, None, true) => Some(Told::Verdict(expect)),
+        (None, None, false) => Some(Told::All),
+        (Some(number), None, false) => Some(Told::Outcome(number)),
+        (None, Some(shown), false) => Some(Told::Answer(shown)),
+        (Some(_), None, true) | (None, Some(_), true) | (Some(_), Some(_), _) => None,
+    }
+}
+
+/// The answer that is to be shown, where one is named. None where it can't be read.
+fn shown_if_given<'a>(matches: &ArgMatches<'a>) -> Option<Option<ShownArgs<'a>>>
+    ensures { option_map (option_map shown_answer_of) result ≡ shown_given_in (rows_of (found_of matches.now)) }
+{
+    match matches.get_str(SHOW.name) {
+        Some(text) => Some(Some(shown_answer(text)?)),
+        None => Some(None),
+    }
+}
+
+/// The answer that a text names: a line, an answer and a phase, with colons between them.
+fn shown_answer(text: &str) -> Option<ShownArgs<'_>>
+    ensures { option_map shown_answer_of result ≡ shown_of_text text.now }
+{
+    let (line, behind) = text.split_once(BETWEEN)?;
+    let line = line_number(line)?;
+    let (answer, phase) = behind.split_once(BETWEEN)?;
+    if phase.is_empty() {
+        return None;
+    }
+    Some(ShownArgs {
+        line,
+        answer,
+        phase,
+    })
+}
+
+/// The patterns that are given: at most ten.
+fn never<'a>(matches: &ArgMatches<'a>) -> Option<Patterns<'a>>
+    ensures { option_map texts_of result ≡ never_in (rows_of (found_of matches.now)) }
+{
+    let Some(texts) = matches.get_strs(NEVER.name) else {
+        return Some(Patterns::none());
+    };
+    if MOST_PATTERNS < texts.len() {
+        return None;
+    }
+    Some(patterns(texts))
+}
+
+/// These patterns.
+fn patterns<'a>(texts: &[&'a str]) -> Patterns<'a>
+    requires { length texts.now ≤ 10 }
+    ensures { texts_of result ≡ map (λ text. text.now) texts.now }
+{
+    let mut patterns = Patterns::none();
+    let mut rest = texts;
+    while let [text, behind @ ..] = rest {
+        patterns.add(text);
+        rest = behind;
+    }
+    patterns
 }
 
 /// How a history is to be followed, and what is to be printed.
@@ -668,8 +849,23 @@ fn pair(text: &str) -> Option<MeshPair>
 fn group(text: &str) -> Option<u32>
     ensures { result ≡ group_of text.now }
 {
+    spelt_number(text, 0, LAST_GROUP)
+}
+
+/// The number of a line, 1 to 4294967295, spelt in the same way.
+fn line_number(text: &str) -> Option<u32>
+    ensures { result ≡ number_of 1 4294967295 text.now }
+{
+    spelt_number(text, 1, LAST_LINE)
+}
+
+/// The number of a text, spelt as `clap` takes that of an option, where it is in a range.
+fn spelt_number(text: &str, least: u64, most: u64) -> Option<u32>
+    requires { most < 2 ^ 32 }
+    ensures { result ≡ number_of least most text.now }
+{
     let number = text.parse::<u64>().ok()?;
-    if number <= LAST_GROUP {
+    if least <= number && number <= most {
         Some(number as u32)
     } else {
         None
@@ -771,6 +967,8 @@ fn argument_of<'a>(alloc: Global, argument: &Argument) -> Arg<'a>
         Argument::Default(option, default) => number_option(alloc, option).default_value(default),
         Argument::Optional(option) => number_option(alloc, option),
         Argument::Flag(name, help) => flag(alloc, name).help(help),
+        Argument::Text(option) => text_option(alloc, option),
+        Argument::Texts(option) => text_option(alloc, option).action(ArgAction::Append),
     }
 }
 
@@ -791,6 +989,16 @@ fn mesh<'a>(alloc: Global) -> Arg<'a>
         .action(ArgAction::Append)
         .required(true)
         .help("A mesh of group SRC into group DST, each 0 to 65535; 1 to 10 times")
+}
+
+/// An option with a text.
+fn text_option<'a>(alloc: Global, option: TextOption) -> Arg<'a>
+    ensures { rule_of result ≡ text_rule option.name.now }
+{
+    Arg::new(alloc, option.name)
+        .long(option.name)
+        .value_name(option.value)
+        .help(option.help)
 }
 
 /// An option with a number.

@@ -1,7 +1,7 @@
 //! Command lines, and what they ask for. Each expected text was worked out by hand from the rules, and none was copied from a run.
 
 use mesh_command_line::{
-    Args, DrawArgs, ExploreArgs, LiveArgs, SavingsArgs, ThreadsArgs, arguments,
+    Args, DrawArgs, ExploreArgs, LiveArgs, Parsed, SavingsArgs, ThreadsArgs, Told, arguments,
 };
 use std::alloc::{AllocError, Global};
 use std::process::Abort;
@@ -78,6 +78,16 @@ meshrun explore a.job --mesh=+1:00 --mesh 00065535:0|explore a.job 1:0 65535:0 -
 meshrun explore a.job --mesh 2:+00065535|explore a.job 2:65535 - 100000 -#\
 meshrun explore a.job --witness +3 --states 0012 --mesh 1:0|explore a.job 1:0 - 12 3#\
 meshrun explore a.job --mesh 1:0 --witness 3|explore a.job 1:0 - 100000 3#\
+meshrun explore a.job --mesh 1:0 --show 12:done:over|explore a.job 1:0 - 100000 12 done over#\
+meshrun explore a.job --show=+0012:done:mesh:over --mesh 1:0|explore a.job 1:0 - 100000 12 done mesh:over#\
+meshrun explore a.job --mesh 1:0 --show 4294967295::x|explore a.job 1:0 - 100000 4294967295  x#\
+meshrun explore a.job --mesh 1:0 --expect a.out|explore a.job 1:0 - 100000 a.out#\
+meshrun explore a.job --mesh 1:0 --expect -|explore a.job 1:0 - 100000 -#\
+meshrun explore a.job --mesh 1:0 --never one|explore a.job 1:0 - 100000 - never one#\
+meshrun explore --never=one a.job --mesh 1:0 --expect=a.out --never two|explore a.job 1:0 - 100000 a.out never one never two#\
+meshrun explore a.job --mesh 1:0 --never 1 --never 2 --never 3 --never 4 --never 5 --never 6 --never 7 --never 8 --never 9 --never 9|explore a.job 1:0 - 100000 - never 1 never 2 never 3 never 4 never 5 never 6 never 7 never 8 never 9 never 9#\
+meshrun explore a.job --mesh 1:0 --progress|explore a.job 1:0 - 100000 - watched#\
+meshrun explore a.job --mesh 1:0 --progress --witness 3|explore a.job 1:0 - 100000 3 watched#\
 meshrun explore a.job --mesh 9:0 --mesh 8:1 --mesh 7:2 --mesh 6:3 --mesh 5:4 --mesh 4:5 --mesh 3:6 --mesh 2:7 --mesh 1:8 --mesh 0:9|explore a.job 9:0 8:1 7:2 6:3 5:4 4:5 3:6 2:7 1:8 0:9 - 100000 -";
 
 /// Command lines that follow `a.history` on two heaps, and what each asks for: frees between two rounds, tries of a search, the seed, `-` where all
@@ -163,6 +173,24 @@ meshrun explore a.job --mesh 1:0 --states 10000001\n\
 meshrun explore a.job --mesh 1:0 --witness 4294967296\n\
 meshrun explore a.job --mesh 1:0 --witness 18446744073709551616\n\
 meshrun explore a.job --mesh 1:0 --witness\n\
+meshrun explore a.job --mesh 1:0 --show 12\n\
+meshrun explore a.job --mesh 1:0 --show 12:done\n\
+meshrun explore a.job --mesh 1:0 --show 12:done:\n\
+meshrun explore a.job --mesh 1:0 --show 0:done:over\n\
+meshrun explore a.job --mesh 1:0 --show 4294967296:done:over\n\
+meshrun explore a.job --mesh 1:0 --show :done:over\n\
+meshrun explore a.job --mesh 1:0 --show 12:done:over --show 12:done:over\n\
+meshrun explore a.job --mesh 1:0 --show 12:done:over --witness 3\n\
+meshrun explore a.job --mesh 1:0 --show 12:done:over --expect a.out\n\
+meshrun explore a.job --mesh 1:0 --show 12:done:over --never one\n\
+meshrun explore a.job --mesh 1:0 --witness 3 --expect a.out\n\
+meshrun explore a.job --mesh 1:0 --witness 3 --never one\n\
+meshrun explore a.job --mesh 1:0 --expect a.out --expect b.out\n\
+meshrun explore a.job --mesh 1:0 --expect\n\
+meshrun explore a.job --mesh 1:0 --never\n\
+meshrun explore a.job --mesh 1:0 --never 1 --never 2 --never 3 --never 4 --never 5 --never 6 --never 7 --never 8 --never 9 --never 9 --never 9\n\
+meshrun explore a.job --mesh 1:0 --progress=1\n\
+meshrun explore a.job --expect a.out\n\
 meshrun explore a.job b.job --mesh 1:0\n\
 meshrun explore a.job --mesh 1:0 --history\n\
 meshrun explore a.job --mesh 1:0 --version\n\
@@ -212,6 +240,34 @@ bin/meshrun explore a.job --mesh 1:0 --mesh 1:0:2|1:0:2#\
 meshrun explore a.job --mesh 1:0 --mesh 1:0 --mesh 1:0 --mesh 1:0 --mesh 1:0 --mesh 1:0 --mesh 1:0 --mesh 1:0 --mesh 1:0 --mesh 1:0 --mesh 1:x|1:x#\
 meshrun explore a.job --mesh 1:0 --mesh 1:0 --mesh 1:0 --mesh 1:0 --mesh 1:0 --mesh 1:0 --mesh 1:0 --mesh 1:0 --mesh 1:0 --mesh 1:0 --mesh 1:0|";
 
+/// Command lines of `explore` whose meshes are read, and what isn't, and what is said of each.
+static EXPLORE_FAULTS: [(&str, &str); 6] = [
+    (
+        "meshrun explore a.job --mesh 1:0 --show 12",
+        "invalid value '12' for '--show <LINE:ANSWER:PHASE>': the number of a line, an answer and a phase with colons between them",
+    ),
+    (
+        "meshrun explore a.job --mesh 1:0 --show 0:done:over --never one",
+        "invalid value '0:done:over' for '--show <LINE:ANSWER:PHASE>': the number of a line, an answer and a phase with colons between them",
+    ),
+    (
+        "meshrun explore a.job --mesh 1:0 --witness 3 --never one",
+        "--witness, --show and a verdict (--expect, --never) exclude each other",
+    ),
+    (
+        "meshrun explore a.job --mesh 1:0 --show 12:done:over --expect a.out",
+        "--witness, --show and a verdict (--expect, --never) exclude each other",
+    ),
+    (
+        "meshrun explore a.job --mesh 1:0 --never 1 --never 2 --never 3 --never 4 --never 5 --never 6 --never 7 --never 8 --never 9 --never 9 --never 9",
+        "the argument '--never <PATTERN>' cannot be used more than 10 times",
+    ),
+    (
+        "meshrun explore a.job --mesh 1 --show 12",
+        "invalid value '1' for '--mesh <SRC:DST>': two group numbers from 0 to 65535 with a colon between them",
+    ),
+];
+
 /// Command lines of `savings` with options that exclude each other.
 static APART: &str = "\
 meshrun savings a.history --seed 5 --first-fit\n\
@@ -226,15 +282,15 @@ Usage: meshrun savings [OPTIONS] <FILE>\n\nFor more information, try '--help'.\n
 fn asked(rt: &(impl Abort + AllocGlobal), line: &str) -> String {
     let words: Vec<&str> = line.split(' ').collect(rt.alloc()).expect(rt, "memory");
     match arguments(rt.alloc(), words.as_slice()) {
-        Ok(args) => written(rt.alloc(), &args).expect(rt, "memory"),
+        Ok(parsed) => written(rt.alloc(), &parsed).expect(rt, "memory"),
         Err(stop) => panic!(rt; "{line}: {}", stop.text),
     }
 }
 
 /// What is asked for, written so.
-fn written(alloc: Global, args: &Args<'_>) -> Result<String, AllocError> {
+fn written(alloc: Global, parsed: &Parsed<'_>) -> Result<String, AllocError> {
     let mut text = String::new(alloc);
-    match *args {
+    match parsed.args {
         Args::Replay(path) => write!(text, "replay {path} answers")?,
         Args::ReplayHistory(path) => write!(text, "replay {path} history")?,
         Args::Threads(path, args) => add_threads(&mut text, path, &args, "answers")?,
@@ -244,6 +300,9 @@ fn written(alloc: Global, args: &Args<'_>) -> Result<String, AllocError> {
         Args::Explore(path, args) => add_exploration(&mut text, path, &args)?,
         Args::Check(path) => write!(text, "check {path}")?,
         Args::Savings(path, args) => add_savings(&mut text, path, &args)?,
+    }
+    for pattern in parsed.never.as_slice() {
+        write!(text, " never {pattern}")?;
     }
     Ok(text)
 }
@@ -282,14 +341,32 @@ fn add_session(text: &mut String, args: &LiveArgs) -> Result<(), AllocError> {
 }
 
 /// Writes an exploration of a file.
-fn add_exploration(text: &mut String, path: &str, args: &ExploreArgs) -> Result<(), AllocError> {
+fn add_exploration(
+    text: &mut String,
+    path: &str,
+    args: &ExploreArgs<'_>,
+) -> Result<(), AllocError> {
     write!(text, "explore {path}")?;
     for pair in args.meshes.as_slice() {
         write!(text, " {}:{}", pair.source, pair.destination)?;
     }
     add_if_given(text, args.cancel)?;
     write!(text, " {}", args.states)?;
-    add_if_given(text, args.witness)
+    add_told(text, &args.told)?;
+    if args.is_watched {
+        text.push_str(" watched")?;
+    }
+    Ok(())
+}
+
+/// Writes what is told of an exploration.
+fn add_told(text: &mut String, told: &Told<'_>) -> Result<(), AllocError> {
+    match told {
+        Told::All => text.push_str(" -"),
+        Told::Outcome(number) => write!(text, " {number}"),
+        Told::Answer(shown) => { write!(text, " {} {} {}", shown.line, shown.answer, shown.phase) }
+        Told::Verdict(expect) => write!(text, " {}", expect.unwrap_or("-")),
+    }
 }
 
 /// Writes how a history is followed.
@@ -391,6 +468,15 @@ fn tells_first_word_that_is_no_mesh(rt: HostRuntime) {
         let words: Vec<&str> = line.split(' ').collect(rt.alloc()).expect(&rt, "memory");
         let unread = if word.is_empty() { None } else { Some(word) };
         check_mesh_fault(&rt, words.as_slice(), unread);
+    }
+}
+
+#[test]
+fn tells_what_an_exploration_is_refused_for(rt: HostRuntime) {
+    for (line, message) in EXPLORE_FAULTS.iter() {
+        let words: Vec<&str> = line.split(' ').collect(rt.alloc()).expect(&rt, "memory");
+        let fault = format!(in rt.alloc(); "error: {message}{USAGE}").expect(&rt, "memory");
+        check_fault(&rt, words.as_slice(), fault.as_str());
     }
 }
 

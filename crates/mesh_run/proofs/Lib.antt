@@ -1,5 +1,7 @@
+pub mod ExploreEnds
 pub mod FirstWords
 pub mod Messages
+pub mod PatternsSpelt
 pub mod SavingsEnds
 pub mod ThreadEnds
 pub mod WordCounts

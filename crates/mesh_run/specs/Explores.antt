@@ -1,14 +1,26 @@
 -- What an exploration tells where it stops, and which device has failed.
-use Rattle.std.specs.Prelude.{ℕ, Bool, List, ◌++◌, Option, Some, None, codes, decimal, take}
+use Rattle.std.specs.Prelude.{◌≡◌, ◌<◌, ◌≤◌, ◌⊎◌, ℕ, ◌+◌, Bool, true, false, List, ◌++◌, Option, Some, None, codes, decimal, map, slice_get, take}
+use Rattle.std.specs.Option.{option_copied}
 use Rattle.mesh_command_line.specs.declared.explore_args.ExploreArgs.{ExploreArgs}
-use Rattle.mesh_explore_text.specs.Explorations.{HasExplored}
+use Rattle.mesh_command_line.specs.declared.explore_args.ShownArgs.{ShownArgs}
+use Rattle.mesh_command_line.specs.declared.explore_args.Told.{Told}
+use Rattle.mesh_command_line.specs.declared.explore_args.Told.TheVariants as told
+use Rattle.mesh_explore.specs.declared.pair.MeshPair.{MeshPair}
+use Rattle.mesh_explore_text.specs.Errors.{refused}
+use Rattle.mesh_explore_text.specs.Explorations.{HasExplored, HasTooMany}
 use Rattle.mesh_explore_text.specs.declared.errors.ExploreError.{ExploreError}
 use Rattle.mesh_explore_text.specs.declared.errors.ExploreError.TheVariants.{Replay, TooManyStates, NoOutcome, NotShown}
+use Rattle.mesh_explore_text.specs.declared.wanted.Shown.{Shown}
 use Rattle.mesh_explore_text.specs.declared.wanted.Wanted.{Wanted}
 use Rattle.mesh_explore_text.specs.declared.wanted.Wanted.TheVariants as wanted
-use Rattle.mesh_run.specs.Runs.{EndsBy, HasFailed, Moves, error_text}
+use Rattle.mesh_run.specs.Runs.{EndsBy, HasFailed, IsDone, IsStoppedFor, MovesBy, Moves, error_text}
 use Rattle.mesh_run.specs.Seen.{Seen}
+use Rattle.mesh_run.specs.declared.criteria.Criteria.{Criteria}
 use Rattle.mesh_run.specs.Status.{status_of_error}
+use Rattle.mesh_run.specs.declared.verdict_error.VerdictError.{VerdictError}
+use Rattle.mesh_run.specs.declared.verdict_error.VerdictError.TheVariants.{Explore, NoPattern}
+use Rattle.mesh_verdict.specs.Patterns.{pattern_of, Wanted as Pattern}
+use Rattle.mesh_verdict.specs.Runs.{HasJudged}
 
 -- an error's line, without its end, and the status: 2 where the file is at fault, or has no outcome of the number that was asked for; else 1
 abbrev explore_told : ℕ → ExploreError → List ℕ × ℕ
@@ -31,16 +43,101 @@ HasFailedExplore input output TooManyStates = Unit {0}
 HasFailedExplore input output NoOutcome = Unit {0}
 HasFailedExplore input output NotShown = Unit {0}
 
--- what is told of it: all, or the outcome of this number
-abbrev pub wanted_of : Option ℕ → Wanted
-wanted_of None = wanted.All
-wanted_of (Some number) = wanted.Outcome number
+-- the meshes that are made
+abbrev pub meshes_of : ExploreArgs → List MeshPair
+meshes_of args = take args.meshes.count args.meshes.pairs
 
--- what an exploration reads and writes that these words ask for
-abbrev pub HasExploredBy : ExploreArgs → Moves
-HasExploredBy args = HasExplored (take args.meshes.count args.meshes.pairs) args.cancel args.states (wanted_of args.witness)
+-- what was read where an exploration stops: with too many states, a job of which there are
+abbrev pub HasStoppedExplore : List MeshPair → Option ℕ → ℕ → MovesBy ExploreError
+HasStoppedExplore pairs cancel most left left' written written' TooManyStates = HasTooMany pairs cancel most left left'
+HasStoppedExplore pairs cancel most left left' written written' (Replay error) = Unit {0}
+HasStoppedExplore pairs cancel most left left' written written' NoOutcome = Unit {0}
+HasStoppedExplore pairs cancel most left left' written written' NotShown = Unit {0}
 
--- an exploration ends: with status 0 a listing of this job, these meshes and this cancel was written
-abbrev pub EndsExplore : ExploreArgs → Seen → Seen → ℕ → Type 0
-EndsExplore args before after status =
-    EndsBy explore_status (explore_text args.states) HasFailedExplore (HasExploredBy args) (λ left left' written written' error. Unit {0}) before after status
+-- an exploration that gives no verdict ends: with status 0 what is wanted of this job, these meshes and this cancel was written
+abbrev pub EndsListing : ExploreArgs → Wanted → Seen → Seen → ℕ → Type 0
+EndsListing args wanted before after status =
+    EndsBy explore_status (explore_text args.states) HasFailedExplore (HasExplored (meshes_of args) args.cancel args.states wanted)
+    (HasStoppedExplore (meshes_of args) args.cancel args.states) before after status
+
+-- the answer that is asked for
+pub record IsShownOf (args : ShownArgs) (shown : Shown) : Type 0 where
+  pub line : shown.line ≡ args.line
+  pub answer : shown.answer.now ≡ args.answer.now
+  pub phase : shown.phase.now ≡ args.phase.now
+
+-- ---- verdicts
+
+-- the texts of the patterns that no outcome is to match
+abbrev pub never_of : Criteria → List (List ℕ)
+never_of criteria = map (λ text. text.now) criteria.never.now
+
+-- the patterns that texts spell
+abbrev pub AreSpelt : List (List ℕ) → List Pattern → Type 0
+AreSpelt texts patterns = map pattern_of texts ≡ map Some patterns
+
+-- the job was read, and the verdict over its outcomes written
+abbrev pub HasJudgedBy : ExploreArgs → Criteria → Bool → Moves
+HasJudgedBy args criteria well left left' written written' =
+    (never : List Pattern) × AreSpelt (never_of criteria) never
+    × HasJudged (meshes_of args) args.cancel args.states never (option_copied criteria.expected) left left' written written' well
+
+-- an error's line, without its end
+abbrev pub verdict_text : ℕ → VerdictError → List ℕ
+verdict_text states (Explore error) = explore_text states error
+verdict_text states (NoPattern number) = codes "--never " ++ decimal number ++ codes ": no pattern 'worker W: ANSWER | ..'"
+
+-- the status of a verdict that isn't given: 2 where the file or a pattern is at fault, else 1
+abbrev pub verdict_status : VerdictError → ℕ
+verdict_status (Explore error) = explore_status error
+verdict_status (NoPattern number) = 2
+
+-- the device that an error tells of has failed
+abbrev pub HasFailedVerdict : Bool → Bool → VerdictError → Type 0
+HasFailedVerdict input output (Explore error) = HasFailedExplore input output error
+HasFailedVerdict input output (NoPattern number) = Unit {0}
+
+-- the text of this number, counted from 1, spells no pattern
+pub record SpellsNone (texts : List (List ℕ)) (number : ℕ) : Type 0 where
+  pub place : ℕ
+  pub text : List ℕ
+  pub counted : number ≡ place + 1
+  pub there : slice_get texts place ≡ Some text
+  pub none : pattern_of text ≡ None
+
+-- what is known of texts that aren't all patterns
+abbrev pub IsUnread : List (List ℕ) → VerdictError → Type 0
+IsUnread texts (Explore error) = error ≡ refused
+IsUnread texts (NoPattern number) = SpellsNone texts number
+
+-- what was read where a verdict isn't given
+abbrev pub HasStoppedVerdict : ExploreArgs → Criteria → MovesBy VerdictError
+HasStoppedVerdict args criteria left left' written written' (Explore error) =
+    HasStoppedExplore (meshes_of args) args.cancel args.states left left' written written' error
+HasStoppedVerdict args criteria left left' written written' (NoPattern number) = SpellsNone (never_of criteria) number
+
+-- a verdict was written, and nothing was told
+abbrev pub IsJudged : ExploreArgs → Criteria → Bool → Seen → Seen → Type 0
+IsJudged args criteria well before after = IsDone (HasJudgedBy args criteria well) before after
+
+-- a verdict ends: with status 0 the outcomes meet the criteria, and with status 1 they don't, or else it stopped for an error of that status
+pub record EndsVerdict (args : ExploreArgs) (criteria : Criteria) (before after : Seen) (status : ℕ) : Type 0 where
+  pub done : status ≡ 0 → IsJudged args criteria true before after
+  pub found : 0 < status → ((status ≡ 1) × IsJudged args criteria false before after)
+      ⊎ ((error : VerdictError) × (status ≡ verdict_status error)
+      × IsStoppedFor (verdict_text args.states) HasFailedVerdict (HasStoppedVerdict args criteria) before after error)
+  pub small : status ≤ 2
+
+-- ---- explorations
+
+-- an exploration of which this is told ends
+abbrev pub EndsTold : ExploreArgs → Told → Criteria → Seen → Seen → ℕ → Type 0
+EndsTold args told.All criteria before after status = EndsListing args wanted.All before after status
+EndsTold args (told.Outcome number) criteria before after status = EndsListing args (wanted.Outcome number) before after status
+EndsTold args (told.Answer shown) criteria before after status =
+    (asked : Shown) × IsShownOf shown asked × EndsListing args (wanted.Answer asked) before after status
+EndsTold args (told.Verdict expect) criteria before after status = EndsVerdict args criteria before after status
+
+-- an exploration ends
+abbrev pub EndsExplore : ExploreArgs → Criteria → Seen → Seen → ℕ → Type 0
+EndsExplore args criteria before after status = EndsTold args args.told criteria before after status

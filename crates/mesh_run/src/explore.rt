@@ -1,59 +1,84 @@
 //! The program's exploration of what a plan leaves.
-ghost use Rattle.std.specs.Prelude.{◌≡◌, take};
+ghost use Rattle.std.specs.Prelude.{◌≡◌, ◌≤◌, false, IfErr, OnOk, length};
 ghost use Rattle.model_jobs.specs.Texts.{ended};
+ghost use Rattle.mesh_explore_text.specs.Explorations.{HasExplored};
 ghost use Rattle.mesh_explore_text.specs.declared.errors.ExploreError.{ExploreError};
-ghost use Rattle.mesh_run.specs.Explores.{EndsExplore, explore_status, explore_text, wanted_of};
+ghost use Rattle.mesh_run.specs.Explores.{EndsExplore, EndsListing, HasFailedExplore, HasStoppedExplore, IsShownOf, explore_status, explore_text, meshes_of};
 ghost use Rattle.mesh_run.specs.Runs.{IsSound};
 
 use crate::fault_line::{Line, line_of, line_with, number_line};
 use crate::runs::{status_of, tell};
-use crate::{Devices, ExploreArgs};
+use crate::verdict::verdict_run;
+use crate::{Criteria, Devices, ExploreArgs, ShownArgs, Told};
 use mesh_command_line::status::{DONE, FAILED, FAULTY};
 use mesh_devices::{Sink, Source};
-use mesh_explore_text::{ExploreError, ExploreOptions, Wanted, explore};
+use mesh_explore_text::{ExploreError, ExploreOptions, Shown, Wanted, explore};
+use mesh_reach::Watch;
 use std::alloc::Global;
 
-/// What is explored, and what is told of it.
-fn options_of(args: &ExploreArgs) -> ExploreOptions<'_>
-    ensures meshes { result.meshes.now ≡ take args.now.meshes.count args.now.meshes.pairs }
-    ensures cancel { result.cancel ≡ args.now.cancel }
-    ensures states { result.states ≡ args.now.states }
-    ensures wanted { result.wanted ≡ wanted_of args.now.witness }
-{
-    ExploreOptions {
-        meshes: args.meshes.as_slice(),
-        cancel: args.cancel,
-        states: args.states,
-        wanted: wanted(args.witness),
-    }
-}
-
-/// What is told: all, or the outcome that is asked for.
-fn wanted<'a>(witness: Option<u32>) -> Wanted<'a>
-    ensures { result ≡ wanted_of witness }
-{
-    match witness {
-        Some(number) => Wanted::Outcome(number),
-        None => Wanted::All,
-    }
-}
-
-/// Explores what the plan of the job that the input gives leaves of its scripts, writes what is told to the output or a fault to `errors`, and gives
-/// the exit status.
+/// Explores what the plan of the job that the input gives leaves of its scripts, writes what is told to the output or a
+/// fault to `errors`, and gives the exit status. A verdict is by these criteria. `watch` is told how many states
+/// were found.
 ///
-/// The status is 0 where everything was written. It is 1 with the line `read fault`, `write fault`, `out of memory` or `too many states: more than N;
-/// --states raises the limit`, and 2 with the line `line N: KIND` where the job's text has a fault or with `no such outcome` where the outcome that is asked for is none. Nothing is
-/// written to the output but where writing to it failed. Where that line can't be written the status stays.
-pub fn explore_run<I: Source, O: Sink, E: Sink>(
+/// The status is 0 where everything was written; of a verdict, where all is well, and 1 where it isn't. It is 1 with the
+/// line `read fault`, `write fault`, `out of memory` or `too many states: more than N; --states raises the limit`, and 2
+/// with the line `line N: KIND` where the job's text has a fault, with `no such outcome` or `no such answer in that phase`
+/// where there is none of what was asked for, or with `--never K: no pattern 'worker W: ANSWER | ..'`. Nothing is written
+/// to the output then but where writing to it failed. Where that line can't be written the status stays.
+pub fn explore_run<I: Source, O: Sink, E: Sink, W: Watch>(
     alloc: Global,
-    args: &ExploreArgs,
+    args: &ExploreArgs<'_>,
+    criteria: &Criteria<'_>,
     devices: &mut Devices<I, O, E>,
+    watch: &mut W,
+) -> u8
+    requires sound { IsSound devices.old }
+    requires few { length criteria.now.never.now ≤ 10 }
+    ensures { EndsExplore args.now criteria.now devices.old devices.new result }
+{
+    match args.told {
+        Told::All => listing_run(alloc, args, &Wanted::All, devices, watch),
+        Told::Outcome(number) => {
+            listing_run(alloc, args, &Wanted::Outcome(number), devices, watch)
+        }
+        Told::Answer(shown) => {
+            let shown = shown_of(&shown);
+            listing_run(alloc, args, &Wanted::Answer(shown), devices, watch)
+        }
+        Told::Verdict(_) => verdict_run(alloc, args, criteria, devices, watch),
+    }
+}
+
+/// The answer that is asked for.
+fn shown_of<'a>(shown: &ShownArgs<'a>) -> Shown<'a>
+    ensures { IsShownOf shown.now result }
+{
+    Shown {
+        line: shown.line,
+        answer: shown.answer.as_bytes(),
+        phase: shown.phase.as_bytes(),
+    }
+}
+
+/// The same where no verdict is asked for.
+fn listing_run<I: Source, O: Sink, E: Sink, W: Watch>(
+    alloc: Global,
+    args: &ExploreArgs<'_>,
+    wanted: &Wanted<'_>,
+    devices: &mut Devices<I, O, E>,
+    watch: &mut W,
 ) -> u8
     requires { IsSound devices.old }
-    ensures { EndsExplore args.now devices.old devices.new result }
+    ensures { EndsListing args.now wanted.now devices.old devices.new result }
 {
-    let options = options_of(args);
-    match explore(alloc, &mut devices.input, &mut devices.output, &options) {
+    match write_listing(
+        alloc,
+        args,
+        wanted,
+        &mut devices.input,
+        &mut devices.output,
+        watch,
+    ) {
         Ok(()) => DONE,
         Err(error) => {
             tell(
@@ -65,8 +90,35 @@ pub fn explore_run<I: Source, O: Sink, E: Sink>(
     }
 }
 
+/// Writes what is wanted of an exploration.
+fn write_listing<I: Source, O: Sink, W: Watch>(
+    alloc: Global,
+    args: &ExploreArgs<'_>,
+    wanted: &Wanted<'_>,
+    input: &mut I,
+    output: &mut O,
+    watch: &mut W,
+) -> Result<(), ExploreError>
+    requires input { I.has_failed input.old ≡ false }
+    requires output { O.has_failed output.old ≡ false }
+    ensures ok { OnOk result ((I.has_failed input.new ≡ false) × (O.has_failed output.new ≡ false)) }
+    ensures explored { OnOk result (HasExplored (meshes_of args.now) args.now.cancel args.now.states wanted.now
+        (I.remaining input.old) (I.remaining input.new) (O.written output.old) (O.written output.new)) }
+    ensures stopped { IfErr result (HasStoppedExplore (meshes_of args.now) args.now.cancel args.now.states
+        (I.remaining input.old) (I.remaining input.new) (O.written output.old) (O.written output.new)) }
+    ensures failed { IfErr result (HasFailedExplore (I.has_failed input.new) (O.has_failed output.new)) }
+{
+    let options = ExploreOptions {
+        meshes: args.meshes.as_slice(),
+        cancel: args.cancel,
+        states: args.states,
+        wanted: *wanted,
+    };
+    explore(alloc, input, output, &options, watch)
+}
+
 /// The line of an error of an exploration of so many states at most, with its end.
-fn explore_line_of(error: ExploreError, states: u32) -> Line
+pub(crate) fn explore_line_of(error: ExploreError, states: u32) -> Line
     ensures { result.items ≡ ended (explore_text states error) }
 {
     match error {
@@ -82,7 +134,7 @@ fn explore_line_of(error: ExploreError, states: u32) -> Line
 }
 
 /// The exit status of an exploration that stopped.
-fn explore_status_of(error: ExploreError) -> u8
+pub(crate) fn explore_status_of(error: ExploreError) -> u8
     ensures { result ≡ explore_status error }
 {
     match error {

@@ -80,7 +80,7 @@ fn add_fault(line: &mut Line, fault: TextFault)
 }
 
 /// Adds bytes for which there is room.
-fn add(line: &mut Line, bytes: &[u8])
+pub(crate) fn add(line: &mut Line, bytes: &[u8])
     requires { length line.old.items + length bytes.now ≤ 72 }
     ensures { line.new.items ≡ line.old.items ++ bytes.now }
 {

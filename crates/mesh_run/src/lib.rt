@@ -5,32 +5,41 @@
 #![tactic(auto)]
 
 mod check;
+mod criteria;
 mod devices;
 mod draw;
 mod explore;
 mod fault_line;
 mod live;
 mod printed;
+mod progress;
 mod runs;
 mod savings;
 mod shuffle_words;
 pub mod status_laws;
 mod threads;
 mod threads_error;
+mod verdict;
+mod verdict_error;
 pub mod word_laws;
 
 pub use check::check_run;
+pub use criteria::Criteria;
 pub use devices::Devices;
 pub use draw::draw_run;
 pub use explore::explore_run;
 pub use live::live_run;
 pub use mesh_command_line::{
-    Args, DrawArgs, ExploreArgs, LiveArgs, MeshPair, Meshes, SavingsArgs, Stop, ThreadsArgs,
-    arguments, unread_words,
+    Args, DrawArgs, ExploreArgs, LiveArgs, MeshPair, Meshes, Parsed, Patterns, SavingsArgs,
+    ShownArgs, Stop, ThreadsArgs, Told, arguments, unread_words,
 };
 pub use mesh_devices::{DeviceFault, Input, Output, Sink, Source};
+pub use mesh_reach::{Unwatched, Watch};
+pub use progress::Progress;
 pub use runs::{replay_history_run, replay_run, stop_run, unopened_run};
 pub use savings::savings_run;
 pub use shuffle_words::words;
 pub use threads::{threads_history_run, threads_run, threads_stopped};
 pub use threads_error::ThreadsError;
+pub use verdict::expected_run;
+pub use verdict_error::VerdictError;

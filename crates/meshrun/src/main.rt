@@ -3,19 +3,21 @@
 //! `meshrun replay FILE` runs the plan of a job file and prints one answer line for each of its lines. `meshrun threads FILE ..` runs its
 //! scripts, each on a thread of its own, while other threads search and mesh, and prints each worker's answers. With `--history` both print the
 //! journal, as a recorded history. `meshrun draw FILE ..` prints a picture of the plan. `meshrun explore FILE ..` runs what the plan leaves of the
-//! scripts in every interleaving with meshes, and prints all answers. `meshrun live ..` answers the lines of standard input one by one.
+//! scripts in every interleaving with meshes, and prints all answers or a verdict. `meshrun live ..` answers the lines of standard input one by one.
 //! `meshrun check FILE` judges a recorded history, and `meshrun savings FILE ..` tells what meshing would save for it.
 #![tactic(auto)]
 
 ghost use Rattle.std.specs.Prelude.{◌≡◌, false};
+ghost use Rattle.mesh_run.specs.Runs.{IsSound};
 
 use mesh_run::{
-    Args, Devices, Input, Output, Sink, Source, arguments, check_run, draw_run, explore_run,
-    live_run, replay_history_run, replay_run, savings_run, stop_run, threads_history_run,
-    threads_run, unopened_run, unread_words,
+    Args, Criteria, Devices, ExploreArgs, Input, Output, Parsed, Patterns, Progress, Sink, Source,
+    Told, arguments, check_run, draw_run, expected_run, explore_run, live_run, replay_history_run,
+    replay_run, savings_run, stop_run, threads_history_run, threads_run, unopened_run,
+    unread_words,
 };
-use std::alloc::Global;
 use std::fs::File;
+use std::io::IsTerminal;
 use std::process::ExitCode;
 use std::sync::Wait;
 use std::thread::Threads;
@@ -29,7 +31,7 @@ fn main(rt: HostRuntime) -> ExitCode {
     let mut errors = Output::new(rt.stderr());
     let status = match words(&rt) {
         Ok(words) => match arguments(rt.alloc(), words.as_slice()) {
-            Ok(args) => run(&rt, &rt, &args, output, errors),
+            Ok(parsed) => run(&rt, &rt, &parsed, output, errors),
             Err(stop) => stop_run(&stop, &mut output, &mut errors),
         },
         Err(error) => stop_run(&unread_words(&error), &mut output, &mut errors),
@@ -41,18 +43,17 @@ fn main(rt: HostRuntime) -> ExitCode {
 fn run<R: Threads + Wait + Sync, O: Sink + Drop, E: Sink + Drop>(
     rt: &HostRuntime,
     threads: &R,
-    args: &Args<'_>,
+    parsed: &Parsed<'_>,
     output: O,
     mut errors: E,
 ) -> u8
     requires { O.has_failed output ≡ false }
 {
-    let alloc = rt.alloc();
-    let Some(path) = path_of(args) else {
-        return run_on(threads, alloc, args, Input::new(rt.stdin()), output, errors);
+    let Some(path) = path_of(&parsed.args) else {
+        return run_on(rt, threads, parsed, Input::new(rt.stdin()), output, errors);
     };
     match File::open(rt, path) {
-        Ok(file) => run_on(threads, alloc, args, Input::new(file), output, errors),
+        Ok(file) => run_on(rt, threads, parsed, Input::new(file), output, errors),
         Err(_) => unopened_run(&mut errors),
     }
 }
@@ -79,9 +80,9 @@ fn path_of<'a>(args: &Args<'a>) -> Option<&'a str> {
 
 /// Makes the run that is asked for, from this input to this output and these errors, and gives the exit status.
 fn run_on<R: Threads + Wait + Sync, I: Source + Drop, O: Sink + Drop, E: Sink + Drop>(
+    rt: &HostRuntime,
     threads: &R,
-    alloc: Global,
-    args: &Args<'_>,
+    parsed: &Parsed<'_>,
     mut input: I,
     mut output: O,
     mut errors: E,
@@ -89,7 +90,8 @@ fn run_on<R: Threads + Wait + Sync, I: Source + Drop, O: Sink + Drop, E: Sink + 
     requires input { I.has_failed input ≡ false }
     requires output { O.has_failed output ≡ false }
 {
-    match args {
+    let alloc = rt.alloc();
+    match &parsed.args {
         Args::Replay(_) => replay_run(alloc, &mut input, &mut output, &mut errors),
         Args::ReplayHistory(_) => {
             replay_history_run(alloc, &mut Devices::new(input, output, errors))
@@ -104,14 +106,69 @@ fn run_on<R: Threads + Wait + Sync, I: Source + Drop, O: Sink + Drop, E: Sink + 
         Args::Draw(path, args) => {
             draw_run(alloc, path, args, &mut Devices::new(input, output, errors))
         }
-        Args::Explore(_, args) => {
-            explore_run(alloc, args, &mut Devices::new(input, output, errors))
-        }
+        Args::Explore(_, args) => explore(
+            rt,
+            args,
+            &parsed.never,
+            &mut Devices::new(input, output, errors),
+        ),
         Args::Live(args) => live_run(alloc, args, &mut Devices::new(input, output, errors)),
         Args::Check(_) => check_run(alloc, &mut Devices::new(input, output, errors)),
         Args::Savings(_, args) => {
             savings_run(alloc, args, &mut Devices::new(input, output, errors))
         }
+    }
+}
+
+/// Explores, and tells on standard error how many states were found, where that is a terminal or it is asked for. Gives the
+/// exit status.
+fn explore<I: Source, O: Sink, E: Sink>(
+    rt: &HostRuntime,
+    args: &ExploreArgs<'_>,
+    never: &Patterns<'_>,
+    devices: &mut Devices<I, O, E>,
+) -> u8
+    requires { IsSound devices.old }
+{
+    let stderr = rt.stderr();
+    let is_watched = args.is_watched || stderr.is_terminal();
+    let mut watch = Progress::new(rt, Output::new(stderr), is_watched);
+    match expected(rt, args) {
+        Ok(Some(text)) => {
+            let criteria = criteria(Some(text.as_slice()), never.as_slice());
+            explore_run(rt.alloc(), args, &criteria, devices, &mut watch)
+        }
+        Ok(None) => {
+            let criteria = criteria(None, never.as_slice());
+            explore_run(rt.alloc(), args, &criteria, devices, &mut watch)
+        }
+        Err(status) => status,
+    }
+}
+
+/// What the outcomes are to be.
+fn criteria<'a>(expected: Option<&'a [u8]>, never: &'a [&'a str]) -> Criteria<'a>
+    ensures { result.never.now ≡ never.now }
+{
+    Criteria { expected, never }
+}
+
+/// The text of the outcomes that are expected, if they are given, or the exit status if they can't be read.
+fn expected(rt: &HostRuntime, args: &ExploreArgs<'_>) -> Result<Option<Vec<u8>>, u8> {
+    let Told::Verdict(Some(path)) = args.told else {
+        return Ok(None);
+    };
+    let mut errors = Output::new(rt.stderr());
+    if path == STANDARD_INPUT {
+        let text = expected_run(rt.alloc(), &mut Input::new(rt.stdin()), &mut errors)?;
+        return Ok(Some(text));
+    }
+    match File::open(rt, path) {
+        Ok(file) => {
+            let text = expected_run(rt.alloc(), &mut Input::new(file), &mut errors)?;
+            Ok(Some(text))
+        }
+        Err(_) => Err(unopened_run(&mut errors)),
     }
 }
 

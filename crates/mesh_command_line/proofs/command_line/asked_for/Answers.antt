@@ -1,12 +1,28 @@
-use Rattle.std.proofs.Common.{◌∙◌, option_map, ap, sym}
-use Rattle.clap.specs.Words.{found_of, rows_of}
-use Rattle.mesh_command_line.specs.CommandLine.{asked_by, live_of}
+use Rattle.std.proofs.Common.{◌∙◌, List, Some, option_map, ap}
+use Rattle.std.specs.Prelude.{option_and_then}
+use Rattle.clap.specs.Words.{Text, found_of, rows_of}
+use Rattle.mesh_command_line.specs.CommandLine.{asked_with, asking_of}
 use Rattle.mesh_command_line.proofs.CommandLines.{asked_by_matches}
 use Rattle.mesh_command_line.proofs.command_line.asked_for.Goals as goal
 
-pub returns-in_ok-sizes-in-live : goal.returns-in_ok-sizes-in-live
-returns-in_ok-sizes-in-live c =
+pub returns-in_err-never : goal.returns-in_err-never
+returns-in_err-never c =
     let found = found_of c.in_ok-name.matches.now in
-    ap (option_map live_of) c.in_ok-sizes-in-live.ensures
-    ∙ sym (ap (λ text. asked_by text (rows_of found)) c.in-live.is)
+    ap (option_map asking_of) c.from_residual-in_err-never.ensures
+    ∙ ap (option_and_then (λ (never : List Text). asked_with never c.in_ok-name.name.now (rows_of found))) c.in_err-never.ensures
+    ∙ asked_by_matches c.args.matches.now c.in_ok-name.name.now found c.in_ok-name.ensures.name c.in_ok-name.ensures.rows
+
+pub returns-in_err-args : goal.returns-in_err-args
+returns-in_err-args c =
+    let found = found_of c.in_ok-name.matches.now in
+    ap (option_map asking_of) c.from_residual-in_err-args.ensures
+    ∙ c.in_err-args.ensures
+    ∙ ap (option_and_then (λ (never : List Text). asked_with never c.in_ok-name.name.now (rows_of found))) c.in_ok-never.ensures
+    ∙ asked_by_matches c.args.matches.now c.in_ok-name.name.now found c.in_ok-name.ensures.name c.in_ok-name.ensures.rows
+
+pub returns : goal.returns
+returns c =
+    let found = found_of c.in_ok-name.matches.now in
+    c.in_ok-args.ensures
+    ∙ ap (option_and_then (λ (never : List Text). asked_with never c.in_ok-name.name.now (rows_of found))) c.in_ok-never.ensures
     ∙ asked_by_matches c.args.matches.now c.in_ok-name.name.now found c.in_ok-name.ensures.name c.in_ok-name.ensures.rows

@@ -3,7 +3,7 @@ ghost use Rattle.std.specs.Prelude.{◌≡◌, false};
 
 use crate::memory::{Ran, SlowSource, in_memory};
 use crate::tests::check;
-use mesh_run::{Args, ExploreArgs, Input, Source, arguments, explore_run};
+use mesh_run::{Args, Criteria, Input, Source, Unwatched, arguments, explore_run};
 use std::process::Abort;
 
 /// The words of a small exploration, of 64 states and two outcomes.
@@ -17,8 +17,16 @@ const STORE_FILE: &str =
 const SECOND: &str =
     "mesh 1\npages 16\nhistory 64\nworkers 2\nworker 0\nnew 0 2048 0\nnew 1 2048 0\nnew 2 2048 0\nnew 3 2048 0\nfree 0\nfree 3\nput 2 0 aa\nget 2 0 1\nworker 1\nget 2 0 1\nplan\nrun 0\nrun 0\nrun 0\nrun 0\nrun 0\nrun 0\nrun 1\nrun 0\nrun 0\nbegin 1 0\nstep\nstep\nstep\nstep\nstep\nstep\nend\n";
 
+/// The outcomes that are expected of it where a verdict is asked for: its own.
+const LISTED: &str =
+    "  worker 0: done | bytes aa\n  worker 1: bytes aa\n\n  worker 0: done | bytes aa\n  worker 1: bytes 00\n";
+
+/// What a verdict over it says where its second outcome is not to be had.
+const FORBIDDEN: &str =
+    "never:\n  worker 0: done | bytes aa\n  worker 1: bytes 00\n  plan: run 1, run 0, run 0, begin 1 0, step, step, step, step, step, step\n";
+
 /// Words behind those, and the line and the status that such a run ends with.
-static STOPS: [(&[&str], &str, u8); 5] = [
+static STOPS: [(&[&str], &str, u8); 8] = [
     (
         &["--states", "63"],
         "too many states: more than 63; --states raises the limit\n",
@@ -34,6 +42,21 @@ static STOPS: [(&[&str], &str, u8); 5] = [
         "too many states: more than 1; --states raises the limit\n",
         1,
     ),
+    (
+        &["--states", "63", "--never", "worker 1: *"],
+        "too many states: more than 63; --states raises the limit\n",
+        1,
+    ),
+    (
+        &["--never", "worker 1: *", "--never", "worker 1"],
+        "--never 2: no pattern 'worker W: ANSWER | ..'\n",
+        2,
+    ),
+    (
+        &["--show", "12:done:unprotect 2"],
+        "no such answer in that phase\n",
+        2,
+    ),
     (&["--witness", "2"], "no such outcome\n", 2),
     (&["--witness", "4294967295"], "no such outcome\n", 2),
 ];
@@ -42,18 +65,19 @@ static STOPS: [(&[&str], &str, u8); 5] = [
 fn explored<I: Source + Drop>(rt: &(impl Abort + AllocGlobal), words: &[&str], input: I) -> Ran
     requires { I.has_failed input ≡ false }
 {
-    let args = asked(rt, words);
+    let Ok(parsed) = arguments(rt.alloc(), words) else {
+        panic!(rt; "words that are refused");
+    };
+    let Args::Explore(_, args) = parsed.args else {
+        panic!(rt; "nothing explored");
+    };
     let mut devices = in_memory(rt.alloc(), input);
-    let status = explore_run(rt.alloc(), &args, &mut devices);
+    let criteria = Criteria {
+        expected: Some(LISTED.as_bytes()),
+        never: parsed.never.as_slice(),
+    };
+    let status = explore_run(rt.alloc(), &args, &criteria, &mut devices, &mut Unwatched);
     Ran::of(status, devices)
-}
-
-/// The exploration that these words ask for.
-fn asked(rt: &(impl Abort + AllocGlobal), words: &[&str]) -> ExploreArgs {
-    match arguments(rt.alloc(), words) {
-        Ok(Args::Explore(_, args)) => args,
-        _ => panic!(rt; "nothing explored"),
-    }
 }
 
 #[test]
@@ -63,6 +87,25 @@ fn prints_an_outcome_as_a_job(rt: HostRuntime) {
     let run = explored(&rt, words.as_slice(), input);
     let goes = run.wrote(SECOND.as_bytes(), "", 0);
     check(&rt, goes, &run, "the second outcome");
+}
+
+#[test]
+fn says_whether_the_outcomes_are_wanted(rt: HostRuntime) {
+    let wanted: [(&[&str], &str, u8); 3] = [
+        (&["--expect", "a.out"], "as expected: 2 outcomes\n", 0),
+        (
+            &["--never", "worker 1: bytes 01", "--expect", "-"],
+            "as expected: 2 outcomes\n",
+            0,
+        ),
+        (&["--never", "worker 1: bytes 00"], FORBIDDEN, 1),
+    ];
+    for (more, text, status) in wanted.iter() {
+        let words = with(&rt, more);
+        let input = Input::new(STORE_FILE.as_bytes());
+        let run = explored(&rt, words.as_slice(), input);
+        check(&rt, run.wrote(text.as_bytes(), "", *status), &run, text);
+    }
 }
 
 #[test]

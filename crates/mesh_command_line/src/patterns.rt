@@ -1,0 +1,45 @@
+//! The patterns that no outcome is to match.
+ghost use Rattle.std.specs.Prelude.{◌≡◌, ◌<◌, ◌≤◌, ◌+◌, [], ◌∷◌, ◌++◌, length, map, take};
+
+/// The most patterns of a verdict.
+pub(crate) const MOST_PATTERNS: usize = 10;
+
+/// Up to ten patterns, as texts, in the order in which they were given.
+#[derive(Clone, Copy)]
+pub struct Patterns<'a> {
+    // Those behind the count are empty.
+    texts: [&'a str; MOST_PATTERNS],
+    count: usize,
+    pub ghost fits: { count ≤ 10 },
+}
+
+impl<'a> Patterns<'a> {
+    /// No pattern.
+    pub(crate) fn none() -> Patterns<'a>
+        ensures texts { take result.count result.texts ≡ [] }
+        ensures count { result.count ≡ 0 }
+    {
+        Patterns {
+            texts: [""; MOST_PATTERNS],
+            count: 0,
+        }
+    }
+
+    /// The texts.
+    pub fn as_slice(&self) -> &[&'a str]
+        ensures texts { result.now ≡ take self.now.count self.now.texts }
+        ensures few { length result.now ≤ 10 }
+    {
+        &self.texts[..self.count]
+    }
+
+    /// Adds a pattern behind the others.
+    pub(crate) fn add(&mut self, text: &'a str)
+        requires { self.old.count < 10 }
+        ensures texts { take self.new.count self.new.texts ≡ take self.old.count self.old.texts ++ text.entry ∷ [] }
+        ensures count { self.new.count ≡ self.old.count + 1 }
+    {
+        self.texts[self.count] = text;
+        self.count += 1;
+    }
+}

@@ -1,0 +1,94 @@
+//! How many states an exploration has found, for a person who waits.
+use crate::fault_line::{Line, add};
+use crate::runs::tell;
+use itoa::Buffer;
+use mesh_devices::Sink;
+use mesh_reach::Watch;
+use std::time::{Clock, Duration, Instant};
+
+/// After how many states the clock is read.
+const STATES_BETWEEN: u32 = 256;
+
+/// How many seconds are between two lines.
+const SECONDS_BETWEEN: u64 = 1;
+
+/// Writes once a second how many states were found, and how many a second.
+#[derive(Drop)]
+pub struct Progress<'a, C: Clock, S: Sink> {
+    clock: &'a C,
+    sink: S,
+    // When it began, and when the last line was written; without a clock there is no progress.
+    times: Option<Times>,
+    // How many states the clock wasn't read for.
+    unread: u32,
+}
+
+/// When something began, and when it was last told of.
+#[derive(Clone, Copy)]
+struct Times {
+    begun: Instant,
+    told: Instant,
+}
+
+impl<'a, C: Clock, S: Sink> Progress<'a, C, S> {
+    /// Begins now. Nothing is written where it isn't wanted, or the clock can't be read.
+    pub fn new(clock: &'a C, sink: S, is_wanted: bool) -> Progress<'a, C, S> {
+        let times = match Instant::now(clock) {
+            Ok(now) if is_wanted => Some(Times {
+                begun: now,
+                told: now,
+            }),
+            _ => None,
+        };
+        Progress {
+            clock,
+            sink,
+            times,
+            unread: 0,
+        }
+    }
+}
+
+impl<'a, C: Clock, S: Sink> Watch for Progress<'a, C, S> {
+    fn tell(&mut self, states: usize) {
+        let Some(times) = self.times else {
+            return;
+        };
+        if self.unread < STATES_BETWEEN {
+            self.unread += 1;
+            return;
+        }
+        self.unread = 0;
+        let Ok(now) = Instant::now(self.clock) else {
+            return;
+        };
+        if now.duration_since(times.told).as_secs() < SECONDS_BETWEEN {
+            return;
+        }
+        self.times = Some(Times {
+            begun: times.begun,
+            told: now,
+        });
+        let line = progress_line(states, now.duration_since(times.begun));
+        tell(&mut self.sink, line.as_slice());
+    }
+}
+
+/// The line of so many states after so long, with its end.
+fn progress_line(states: usize, passed: Duration) -> Line {
+    let millis = passed.as_millis().max(1);
+    let a_second = (states as u128).saturating_mul(1000) / millis;
+    let mut digits = Buffer::new();
+    let mut line = Line::new();
+    add(&mut line, b"states ");
+    add(&mut line, digits.format(narrow(states as u128)).as_bytes());
+    add(&mut line, b", ");
+    add(&mut line, digits.format(narrow(a_second)).as_bytes());
+    add(&mut line, b" a second\n");
+    line
+}
+
+/// A number in 32 bits, or their greatest.
+fn narrow(number: u128) -> u32 {
+    u32::try_from(number).unwrap_or(u32::MAX)
+}

@@ -1,0 +1,38 @@
+//! Why a verdict isn't given.
+use mesh_explore_text::ExploreError;
+use std::alloc::AllocError;
+use thiserror::Error;
+
+/// Why a verdict isn't given.
+#[derive(Clone, Copy, Debug, PartialEq, Eq, Error)]
+pub enum VerdictError {
+    /// The text of this `--never`, counted from 1, spells no pattern.
+    #[error("--never {0}: no pattern 'worker W: ANSWER | ..'")]
+    NoPattern(u32),
+    /// The exploration stopped.
+    #[error("{0}")]
+    Explore(ExploreError),
+}
+
+impl From<ExploreError> for VerdictError {
+    ghost use Rattle.std.specs.Prelude.{◌≡◌};
+    ghost use Rattle.mesh_run.specs.declared.verdict_error.VerdictError.TheVariants.{Explore};
+
+    ghost from_gives = { λ error fault. fault ≡ Explore error };
+
+    fn from(error: ExploreError) -> VerdictError {
+        VerdictError::Explore(error)
+    }
+}
+
+impl From<AllocError> for VerdictError {
+    ghost use Rattle.std.specs.Prelude.{◌≡◌};
+    ghost use Rattle.mesh_explore_text.specs.Errors.{refused};
+    ghost use Rattle.mesh_run.specs.declared.verdict_error.VerdictError.TheVariants.{Explore};
+
+    ghost from_gives = { λ _ fault. fault ≡ Explore refused };
+
+    fn from(error: AllocError) -> VerdictError {
+        VerdictError::Explore(ExploreError::from(error))
+    }
+}

@@ -1,0 +1,6 @@
+pub mod Blocks
+pub mod Colons
+pub mod Runs
+pub mod Sets
+pub mod Texts
+pub mod Verdicts

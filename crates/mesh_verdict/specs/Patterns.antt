@@ -1,0 +1,73 @@
+-- Patterns of what a worker is told, and the outcomes that match them. This project's own choice.
+use Rattle.std.specs.Prelude.{ℕ, Bool, true, false, ◌&&◌, ◌||◌, if◌then◌else◌, nat_eq, nat_le, List, [], ◌∷◌, ◌++◌, Option, Some, None, option_and_then, Result, Ok, Err, codes, drop, length, slice_index_or, take}
+use Rattle.std.specs.List.{ends_with, list_all, list_any, slice_split, starts_with}
+use Rattle.std.specs.Cmp.Lexicographic.{pointwise}
+use Rattle.model_jobs.specs.JobFiles.{are_same, number_in}
+use Rattle.model_jobs.specs.Texts.{reply_text}
+use Rattle.model_words.specs.declared.commands.Reply.{Reply}
+use Rattle.model_words.specs.declared.faults.FaultKind.{FaultKind}
+
+-- a worker, and what each of its replies is to be: a piece is the reply's text between two spaces, or ` * ` for any reply
+pub record Wanted : Type 0 where
+  pub worker : ℕ
+  pub pieces : List (List ℕ)
+
+-- ---- which outcomes match
+
+-- a reply as a piece
+abbrev pub piece_of : Reply → List ℕ
+piece_of reply = codes " " ++ reply_text reply ++ codes " "
+
+-- the reply has the piece's text, or any will do
+abbrev pub is_met : List ℕ → Reply → Bool
+is_met piece reply = are_same piece (codes " * ") || are_same piece (piece_of reply)
+
+-- the replies are as many as the pieces, and each is its piece's
+abbrev pub are_met : List (List ℕ) → List Reply → Bool
+are_met [] [] = true
+are_met [] (reply ∷ replies) = false
+are_met (piece ∷ pieces) [] = false
+are_met (piece ∷ pieces) (reply ∷ replies) = is_met piece reply && are_met pieces replies
+
+-- the worker was told what the pattern wants
+abbrev pub is_match : Wanted → List (List Reply) → Bool
+is_match wanted told = are_met wanted.pieces (slice_index_or told wanted.worker [])
+
+-- what the workers were told matches one of the patterns
+abbrev pub any_match : List Wanted → List (List Reply) → Bool
+any_match patterns told = list_any (λ wanted. is_match wanted told) patterns
+
+-- ---- how a pattern is spelt: `worker W: ANSWER | ANSWER ..`
+
+-- the text behind its front, where it has that front
+abbrev pub behind : List ℕ → List ℕ → Option (List ℕ)
+behind front text = if pointwise nat_eq (take (length front) text) front then Some (drop (length front) text) else None
+
+-- something between two spaces
+abbrev pub is_piece : List ℕ → Bool
+is_piece piece = starts_with nat_eq piece (codes " ") && ends_with nat_eq piece (codes " ") && nat_le 3 (length piece)
+
+-- the pieces of the answers, which have a space at their end
+abbrev pub pieces_of : List ℕ → List (List ℕ)
+pieces_of answers = slice_split (λ b. nat_eq b 124) answers
+
+abbrev pub of_pieces : ℕ → List (List ℕ) → Option Wanted
+of_pieces worker pieces = if list_all is_piece pieces then Some (record { worker = worker; pieces = pieces }) else None
+
+abbrev pub of_number : Result ℕ FaultKind → List ℕ → Option Wanted
+of_number (Err fault) answers = None
+of_number (Ok worker) answers = of_pieces worker (pieces_of (answers ++ codes " "))
+
+-- the number and the answers, between which is the one colon
+abbrev pub of_sides : List (List ℕ) → Option Wanted
+of_sides [] = None
+of_sides (number ∷ []) = None
+of_sides (number ∷ answers ∷ []) = of_number (number_in 0 63 number) answers
+of_sides (number ∷ answers ∷ more ∷ sides) = None
+
+abbrev pub sides_of : List ℕ → Option Wanted
+sides_of text = of_sides (slice_split (λ b. nat_eq b 58) text)
+
+-- the pattern that a text spells
+abbrev pub pattern_of : List ℕ → Option Wanted
+pattern_of text = option_and_then sides_of (behind (codes "worker ") text)

@@ -1,0 +1,77 @@
+//! `Block`, the text of an outcome.
+ghost use Rattle.std.specs.Prelude.{◌≡◌, ◌++◌, [], IfOk, OnOk};
+ghost use Rattle.model_jobs.specs.Texts.{ended};
+
+use mesh_pool::{Value, with_bytes};
+use std::alloc::{AllocError, Global};
+use std::marker::Model;
+
+/// The text of an outcome: a line, with its end, for each worker that was told something.
+#[derive(Drop)]
+pub struct Block {
+    bytes: Vec<u8>,
+}
+
+impl Model for Block {
+    ghost use Rattle.std.specs.Prelude.{ℕ, List};
+
+    ghost Value = { List ℕ };
+
+    ghost view = { λ b. b.bytes.items };
+}
+
+impl Block {
+    /// A block without lines. It allocates nothing.
+    pub(crate) fn new(alloc: Global) -> Block
+        ensures { result ≡ [] }
+    {
+        Block {
+            bytes: Vec::new(alloc),
+        }
+    }
+
+    /// The block of these bytes.
+    pub(crate) fn of(bytes: Vec<u8>) -> Block
+        ensures { result ≡ bytes.items }
+    {
+        Block { bytes }
+    }
+
+    /// Adds a line, and its end. An error is an allocation failure, here and below.
+    pub(crate) fn add_line(&mut self, line: &[u8]) -> Result<(), AllocError>
+        ensures { OnOk result (self.new ≡ self.old ++ ended line.now) }
+    {
+        self.bytes.extend_from_slice(line)?;
+        self.bytes.push(b'\n')?;
+        Ok(())
+    }
+
+    /// A copy.
+    pub(crate) fn copied(&self) -> Result<Block, AllocError>
+        ensures { IfOk result (λ copy. copy ≡ self.now) }
+    {
+        let bytes = self.bytes.clone()?;
+        Ok(Block { bytes })
+    }
+
+    /// The bytes.
+    pub fn as_slice(&self) -> &[u8]
+        ensures { result.now ≡ self.now }
+    {
+        self.bytes.as_slice()
+    }
+}
+
+impl Value for Block {
+    ghost use Rattle.mesh_pool.specs.Words.{bytes_mixed};
+
+    ghost print = { bytes_mixed 0 };
+
+    fn is_same(&self, other: &Block) -> bool {
+        self.bytes.as_slice() == other.bytes.as_slice()
+    }
+
+    fn fingerprint(&self) -> u64 {
+        with_bytes(0, self.bytes.as_slice())
+    }
+}

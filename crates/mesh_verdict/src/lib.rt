@@ -1,0 +1,22 @@
+//! A verdict over the outcomes of an exploration.
+#![tactic(auto)]
+
+mod block;
+mod compared;
+mod expected;
+mod judging;
+mod never;
+mod pattern;
+mod reading;
+mod report;
+mod run;
+
+pub use block::Block;
+pub use judging::{Verdict, judged};
+pub use never::first_match;
+pub use pattern::Pattern;
+pub use reading::read_expected;
+pub use run::{VerdictOptions, verdict};
+
+#[cfg(test)]
+mod tests;
