@@ -281,21 +281,21 @@ check "explore: no file of outcomes" 1 "$room/nothing" "$(line 'read fault')" ex
 check "explore: a verdict and too many states" 1 "$room/nothing" "$(line 'too many states: more than 63; --states raises the limit')" \
     explore $store.job --mesh 1:0 --states 63 --expect $store.out
 check "explore: progress of less than a second" 0 $store.out "$room/nothing" explore $store.job --mesh 1:0 --progress
-# four workers of three racing commands, behind the setting of the first example
+# fourteen workers with a store each, behind the setting of the first example
 {
-    printf 'mesh 1\npages 16\nhistory 64\nworkers 4\n'
-    for worker in 0 1 2 3; do
+    printf 'mesh 1\npages 16\nhistory 64\nworkers 14\n'
+    for worker in $(seq 0 13); do
         echo "worker $worker"
-        [ $worker -gt 0 ] || grep -E '^(new|free) ' $store.job
-        printf 'put 2 %s %s1\nget 2 0 4\nput 2 %s %s3\n' $worker $worker $worker $worker
+        [ "$worker" -gt 0 ] || grep -E '^(new|free) ' $store.job
+        printf 'put 2 %s %02x\n' "$worker" "$worker"
     done
     echo plan
     yes 'run 0' | head -n 6
     echo end
-} >"$room/four.job"
-"$program" explore "$room/four.job" --mesh 1:0 --states 500000 --progress >"$room/output" 2>"$room/errors" </dev/null
+} >"$room/fourteen.job"
+"$program" explore "$room/fourteen.job" --mesh 1:0 --states 131072 --progress >"$room/output" 2>"$room/errors" </dev/null
 status=$?
-[ "$(head -n 1 "$room/output")" = 'interleavings 604607040 states 473472' ] || status=3
+[ "$(head -n 1 "$room/output")" = 'interleavings 59281238016000 states 131072' ] || status=3
 grep -qE '^states [0-9]+, [0-9]+ a second$' "$room/errors" || status=4
 grep -vqE '^states [0-9]+, [0-9]+ a second$' "$room/errors" && status=5
 ended "explore: progress of some seconds" $status 0 any any
