@@ -1,0 +1,15 @@
+pub mod Lists
+pub mod Reachable
+pub mod Growth
+pub mod Beyond
+pub mod Found
+pub mod Left
+pub mod Passing
+pub mod MarkedStates
+pub mod InTime
+pub mod Tell
+pub mod Dropping
+pub mod Taking
+pub mod Placing
+pub mod Pairs
+pub mod Pairwise

@@ -1,0 +1,6 @@
+pub mod Carried
+pub mod Growing
+pub mod Marks
+pub mod Orders
+pub mod Placed
+pub mod Standings

@@ -1,0 +1,70 @@
+-- Histories of overlapping calls by their numbers, and the orders of effects that explain them.
+use Rattle.std.specs.Prelude.{◌≡◌, ◌↔◌, ℕ, suc, ◌<◌, ◌≤◌, ◌⊎◌, List, [], ◌∷◌, Option, Some}
+use Rattle.std.specs.List.{AllPairs}
+use Rattle.mesh_configurations.specs.Carried.{AreBelow, after_all}
+
+-- the next call begins, or the call of this number ends. Calls are numbered in the order of their begins, from 0
+pub data NumberedEvent : Type 0 where
+  CallBegins : NumberedEvent
+  CallEnds : ℕ → NumberedEvent
+
+-- the call stands in the order, and it and all in front of it had begun
+abbrev pub HasItBegun : ℕ → ℕ → List ℕ → Type 0
+HasItBegun calls i [] = ⊥
+HasItBegun calls i (n ∷ order) = (n < calls) × ((n ≡ i) ⊎ HasItBegun calls i order)
+
+-- an order respects time: it is of calls that have begun, and each call that ended stands in it, behind none that had not begun when it ended
+abbrev pub RespectsTime : ℕ → List NumberedEvent → List ℕ → Type 0
+RespectsTime calls [] order = AreBelow calls order
+RespectsTime calls (CallBegins ∷ events) order = RespectsTime (suc calls) events order
+RespectsTime calls (CallEnds i ∷ events) order = HasItBegun calls i order × RespectsTime calls events order
+
+-- the call is one of these
+abbrev pub IsIn : ℕ → List ℕ → Type 0
+IsIn i [] = ⊥
+IsIn i (n ∷ order) = (n ≡ i) ⊎ IsIn i order
+
+-- each call stands there once
+abbrev pub IsEachOnce : List ℕ → Type 0
+IsEachOnce [] = Unit {0}
+IsEachOnce (n ∷ order) = (IsIn n order → ⊥) × IsEachOnce order
+
+-- an order of effects that explains a history: each call at most once, in an order that respects time, and each answers as was recorded
+abbrev pub Explains : {S : Type 0} → (S → ℕ → Option S) → S → List NumberedEvent → List ℕ → Type 0
+Explains {S} effect start events order = IsEachOnce order × RespectsTime 0 events order × ((last : S) × (after_all effect order start ≡ Some last))
+
+-- how many calls have begun behind these events
+abbrev pub begun_behind : ℕ → List NumberedEvent → ℕ
+begun_behind calls [] = calls
+begun_behind calls (CallBegins ∷ events) = begun_behind (suc calls) events
+begun_behind calls (CallEnds i ∷ events) = begun_behind calls events
+
+-- the call ended
+abbrev pub HasEnded : List NumberedEvent → ℕ → Type 0
+HasEnded [] i = ⊥
+HasEnded (CallBegins ∷ events) i = HasEnded events i
+HasEnded (CallEnds k ∷ events) i = (k ≡ i) ⊎ HasEnded events i
+
+-- the one call ended before the other began: at its end fewer had begun than the other's number and one
+abbrev pub EndsBefore : ℕ → List NumberedEvent → ℕ → ℕ → Type 0
+EndsBefore calls [] i other = ⊥
+EndsBefore calls (CallBegins ∷ events) i other = EndsBefore (suc calls) events i other
+EndsBefore calls (CallEnds k ∷ events) i other = ((k ≡ i) × (calls ≤ other)) ⊎ EndsBefore calls events i other
+
+-- no call ended before it began
+abbrev pub TakeTime : List NumberedEvent → Type 0
+TakeTime events = (i : ℕ) → EndsBefore 0 events i i → ⊥
+
+-- no call stands behind one that began after it ended
+abbrev pub NoneIsBehindLater : List NumberedEvent → List ℕ → Type 0
+NoneIsBehindLater events order = AllPairs (λ front back. EndsBefore 0 events back front → ⊥) order
+
+-- each call that ended stands in the order
+abbrev pub HasAllEnded : List NumberedEvent → List ℕ → Type 0
+HasAllEnded events order = (i : ℕ) → HasEnded events i → IsIn i order
+
+-- where no call ended before it began: an order in which each call stands once respects time just where it is of calls that have begun, has each that
+-- ended, and has none behind one that began after it ended
+abbrev pub TimeIsPairwise : Type 0
+TimeIsPairwise = (events : List NumberedEvent) (order : List ℕ) → TakeTime events → IsEachOnce order
+    → RespectsTime 0 events order ↔ (AreBelow (begun_behind 0 events) order × HasAllEnded events order × NoneIsBehindLater events order)

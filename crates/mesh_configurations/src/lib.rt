@@ -1,0 +1,22 @@
+//! A judge of the overlapping calls of one object, which takes their begins and ends one at a time.
+//!
+//! It says whether some order of effects explains them. A configuration is a state of the object, and which of the
+//! pending calls had their effect in it already. A judge keeps the configurations that the events so far allow, and
+//! forgets a call at its end.
+#![tactic(auto)]
+
+mod calls;
+mod configuration;
+mod ends;
+mod faults;
+mod judge;
+pub mod laws;
+mod met;
+
+pub use calls::Calls;
+pub use configuration::Configuration;
+pub use faults::JudgeFault;
+pub use judge::{Judge, MOST_PENDING};
+
+#[cfg(test)]
+mod tests;
