@@ -1,0 +1,5 @@
+pub mod Places
+pub mod Events
+pub mod Begin
+pub mod End
+pub mod Followed

@@ -1,0 +1,77 @@
+-- What a timed judge knows, and which calls it has followed.
+use Rattle.std.specs.Prelude.{◌≡◌, ◌≢◌, ◌↔◌, ℕ, suc, ◌<◌, ◌≤◌, List, [], ◌∷◌, Option, Some, None, length, map, slice_get, slice_set}
+use Rattle.mesh_configurations.specs.Carried.{HasMore, carry}
+use Rattle.mesh_configurations.specs.Orders.{EndsBefore, HasEnded, NumberedEvent, begun_behind}
+use Rattle.mesh_configurations.specs.Placed.{ArePlaced, HavePassed, none_taken}
+use Rattle.mesh_configurations.specs.Standings.{Begins, CanGoOn, Ends, Event, Standing, effect_at, first_standing, had_effect}
+use Rattle.mesh_timed_judge.specs.TimedCalls.{Timed}
+
+-- what a timed judge knows: what its judge knows, and the number of the call that is pending at each place
+pub record TimedStanding (S C : Type 0) : Type 0 where
+  pub standing : Standing S C
+  pub numbers : List (Option ℕ)
+
+-- the call of a number is pending
+abbrev pub IsOpen : {S C : Type 0} → TimedStanding S C → ℕ → Type 0
+IsOpen judge number = (place : ℕ) × (slice_get judge.numbers place ≡ Some (Some number))
+
+-- some configuration is left
+abbrev pub HasSome : {S C : Type 0} → (S → C → Option S) → TimedStanding S C → Type 0
+HasSome effect judge = CanGoOn effect judge.standing []
+
+-- more than this number of configurations can be made up to the end of the call of a number
+abbrev pub HasMoreAtEnd : {S C : Type 0} → (S → C → Option S) → TimedStanding S C → ℕ → ℕ → Type 0
+HasMoreAtEnd effect judge number most = (place : ℕ) × (slice_get judge.numbers place ≡ Some (Some number))
+    × HasMore (carry (effect_at effect judge.standing.pending) had_effect place) (length judge.standing.pending) judge.standing.kept most
+
+-- a number is at a place exactly where a call is pending there; both lists are equally long
+abbrev pub IsNumbered : {C : Type 0} → Option (Option C) → Option (Option ℕ) → Type 0
+IsNumbered None None = Unit {0}
+IsNumbered (Some None) (Some None) = Unit {0}
+IsNumbered (Some (Some call)) (Some (Some number)) = Unit {0}
+IsNumbered call number = ⊥
+
+-- the numbers of the pending calls stand at the places of these calls, no number twice
+pub record AreNumbered {C : Type 0} (pending : List (Option C)) (numbers : List (Option ℕ)) : Type 0 where
+  pub all : length numbers ≡ 64
+  pub each : (place : ℕ) → IsNumbered (slice_get pending place) (slice_get numbers place)
+  pub once : (p q number : ℕ) → slice_get numbers p ≡ Some (Some number) → slice_get numbers q ≡ Some (Some number) → p ≡ q
+
+-- a call may begin now, behind calls of which those that aren't pending have ended
+pub record CanBegin {S C : Type 0} (calls : List (Timed C)) (judge : TimedStanding S C) (timed : Timed C) : Type 0 where
+  pub own : (i : ℕ) (other : Timed C) → slice_get calls i ≡ Some other → other.number ≢ timed.number
+  pub takes_time : timed.begin ≤ timed.end
+  pub in_order : (i : ℕ) (other : Timed C) → slice_get calls i ≡ Some other → other.begin ≤ timed.begin
+  pub after_ended : (i : ℕ) (other : Timed C) → slice_get calls i ≡ Some other → (IsOpen judge other.number → ⊥) → other.end < timed.begin
+  pub before_ends : (i : ℕ) (other : Timed C) → slice_get calls i ≡ Some other → IsOpen judge other.number → timed.begin ≤ other.end
+
+-- which call has each place behind events by places: the calls are numbered in the order of their begins
+abbrev pub taken_behind : {C : Type 0} → ℕ → List (Option ℕ) → List (Event C) → List (Option ℕ)
+taken_behind begun taken [] = taken
+taken_behind begun taken (Begins place call ∷ placed) = taken_behind (suc begun) (slice_set taken place (Some begun)) placed
+taken_behind begun taken (Ends place ∷ placed) = taken_behind begun (slice_set taken place None) placed
+
+-- the call that has a place, by where it is in the list of calls, has the number that is at the place
+abbrev pub IsNumberOf : {C : Type 0} → List (Timed C) → Option (Option ℕ) → Option (Option ℕ) → Type 0
+IsNumberOf calls None None = Unit {0}
+IsNumberOf calls (Some None) (Some None) = Unit {0}
+IsNumberOf {C} calls (Some (Some i)) (Some (Some number)) = (timed : Timed C) × (slice_get calls i ≡ Some timed) × (timed.number ≡ number)
+IsNumberOf calls call number = ⊥
+
+-- the judge follows these calls from a state on, in the order of their begins: it has taken their begins, and the ends of those that aren't pending.
+-- These are events of the calls by their places in the list, and the events at places of the judge; a call ended in the events before another began exactly
+-- where it isn't pending and its moments say so
+pub record IsJudgeOf {S C : Type 0} (effect : S → C → Option S) (start : S) (calls : List (Timed C)) (judge : TimedStanding S C) : Type 0 where
+  pub events : List NumberedEvent
+  pub placed : List (Event C)
+  pub are_placed : ArePlaced (map (λ timed. timed.call) calls) 0 none_taken events placed
+  pub have_passed : HavePassed effect placed (first_standing start) judge.standing
+  pub all_begun : begun_behind 0 events ≡ length calls
+  pub have_begun : (i : ℕ) → HasEnded events i → i < length calls
+  pub numbered : (place : ℕ) → IsNumberOf calls (slice_get (taken_behind 0 none_taken placed) place) (slice_get judge.numbers place)
+  pub own : (i j : ℕ) (a b : Timed C) → slice_get calls i ≡ Some a → slice_get calls j ≡ Some b → a.number ≡ b.number → i ≡ j
+  pub take_time : (i : ℕ) (timed : Timed C) → slice_get calls i ≡ Some timed → timed.begin ≤ timed.end
+  pub overlap : (i j : ℕ) (a b : Timed C) → slice_get calls i ≡ Some a → slice_get calls j ≡ Some b → IsOpen judge a.number → b.begin ≤ a.end
+  pub ended : (i : ℕ) (timed : Timed C) → slice_get calls i ≡ Some timed → HasEnded events i ↔ (IsOpen judge timed.number → ⊥)
+  pub before : (i j : ℕ) (a b : Timed C) → slice_get calls i ≡ Some a → slice_get calls j ≡ Some b
+      → EndsBefore 0 events i j ↔ ((IsOpen judge a.number → ⊥) × (a.end < b.begin))

@@ -1,0 +1,19 @@
+//! Lemmas about timed judges. Each is the contract of a function that does nothing.
+ghost use Rattle.mesh_timed_judge.specs.TimedLaws.{AllAreExplained, NoneExplains, OpenCallsAreCalls};
+
+use mesh_configurations::Calls;
+
+/// Each call that is pending is one of the calls that a judge has followed.
+pub fn open_calls_are_calls<O: Calls>()
+    ensures { OpenCallsAreCalls O.effect }
+{}
+
+/// If some configuration is left and no call is pending, some order of effects explains the calls.
+pub fn all_are_explained<O: Calls>()
+    ensures { AllAreExplained O.effect }
+{}
+
+/// If no configuration is left, no order of effects explains the calls, whatever calls begin later.
+pub fn none_explains<O: Calls>()
+    ensures { NoneExplains O.effect }
+{}
