@@ -6,3 +6,6 @@ pub mod Followed
 pub mod NumberLists
 pub mod Listed
 pub mod Explained
+pub mod Moved
+pub mod Fronts
+pub mod Unexplained
