@@ -1,0 +1,6 @@
+pub mod Accessed
+mod Compared
+pub mod Kept
+pub mod Offsets
+mod Overwritten
+pub mod Stored
