@@ -1,14 +1,11 @@
 -- What an access does to the state of an object is what it does to the bytes.
-use Rattle.std.proofs.Common.{◌≡◌, ℕ, ◌+◌, ◌≤◌, Bool, true, false, not, ◌&&◌, nat_lt, if◌then◌else◌, List, Option, Some, None, length, refl, ap, sym, ◌∙◌, arith, suc, inl, inr}
+use Rattle.std.proofs.Common.{◌≡◌, ℕ, ◌+◌, ◌≤◌, Bool, true, false, not, ◌&&◌, if◌then◌else◌, List, Some, None, length, refl, ap, arith, suc, inl, inr}
 use Rattle.std.specs.Prelude.{option_map, slice_range}
 use Rattle.std.specs.Str.{bytes_eq}
 use Rattle.std.proofs.lemmas.Bool.Decides.{leb_tells}
-use Rattle.model_memory.specs.Memory.{overwritten}
 use Rattle.model_intervals.specs.Objects.{ends_past}
-use Rattle.mesh_object_bytes.specs.declared.access.Access.{Access}
 use Rattle.mesh_object_bytes.specs.declared.access.Access.TheVariants.{Store, Load, Nothing, Never}
-use Rattle.mesh_object_bytes.specs.Chunks.{stored}
-use Rattle.mesh_object_bytes.specs.ObjectBytes.{EffectIsAccess, State, accessed_by, bytes_of, effect}
+use Rattle.mesh_object_bytes.specs.ObjectBytes.{EffectIsAccess, State, bytes_of}
 use Rattle.mesh_object_bytes.proofs.Offsets.{bytes_of-length}
 use Rattle.mesh_object_bytes.proofs.Stored.{stored_is_overwritten}
 

@@ -1,10 +1,10 @@
 -- Which bytes are kept under a number, where a chunk takes its place.
-use Rattle.std.proofs.Common.{◌≡◌, ◌≢◌, ℕ, zero, suc, ◌+◌, ◌<◌, ◌≤◌, true, false, nat_eq, nat_lt, if◌then◌else◌, List, [], ◌∷◌, ◌++◌, length, replicate, get_or, set, take, drop, refl, sym, ap, ◌∙◌, arith}
+use Rattle.std.proofs.Common.{◌≡◌, ◌≢◌, ℕ, zero, ◌<◌, true, false, nat_eq, nat_lt, List, [], ◌∷◌, ◌++◌, length, replicate, get_or, set, take, refl, sym, ap, ◌∙◌, arith}
 use Rattle.std.specs.List.{insert}
-use Rattle.std.proofs.lemmas.List.{append-nil, length-append, length-replicate, length-take-le, take_at}
+use Rattle.std.proofs.lemmas.List.{length-append, length-replicate, length-take-le, take_at}
 use Rattle.mesh_object_bytes.specs.declared.chunk.Chunk.{Chunk}
 use Rattle.mesh_object_bytes.specs.Chunks.{chunk_bytes, index_of, kept_bytes, with_chunk, zeros}
-use Rattle.mesh_object_bytes.proofs.Compared.{Compared, compared, less, same, more}
+use Rattle.mesh_object_bytes.proofs.Compared.{compared, less, same, more}
 
 lt_self : (n : ℕ) → nat_lt n n ≡ false
 lt_self n = elim (compared n n) [ less t b ↦ absurd (omega (arith, b)) | same f t e ↦ f | more f t b ↦ f ]

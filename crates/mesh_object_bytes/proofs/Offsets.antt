@@ -32,7 +32,7 @@ pub bytes_of-first : (len : ℕ) → bytes_of (first_state len) ≡ replicate le
 bytes_of-first len =
     ext_get_or 0 (bytes_of (first_state len)) (replicate len 0) (bytes_of-length (first_state len) ∙ sym (length-replicate len 0))
     (λ i below. let within : i < len = (let l = bytes_of-length (first_state len) in omega (arith, l, below)) in
-      bytes_of-at (first_state len) i within ∙ none_kept i ∙ sym (get_or-zeros len i))
+    bytes_of-at (first_state len) i within ∙ none_kept i ∙ sym (get_or-zeros len i))
 
 -- a byte by its chunk and its place there
 byte_by_place : (chunks : List Chunk) (i number place : ℕ) → i / 64 ≡ number → i % 64 ≡ place → byte_at chunks i ≡ get_or (chunk_bytes number chunks) place 0

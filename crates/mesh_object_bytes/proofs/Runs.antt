@@ -15,7 +15,7 @@ read_kept chunks n i x is there read number long =
     let P : ℕ → Type 0 = λ j. (j < length chunks) × (x ≡ get_or chunks j x) in
     let at = subst P is (there, read) in
     let kept : kept_bytes n chunks ≡ x.bytes =
-      kept_at_index n chunks x at.0 (ap (λ (c : Chunk). c.number) (sym at.1) ∙ number) ∙ ap (λ (c : Chunk). c.bytes) (sym at.1) in
+    kept_at_index n chunks x at.0 (ap (λ (c : Chunk). c.number) (sym at.1) ∙ number) ∙ ap (λ (c : Chunk). c.bytes) (sym at.1) in
     whole_chunk n chunks (ap (λ (xs : List ℕ). length xs) kept ∙ long) ∙ kept
 
 -- those of one that isn't

@@ -45,6 +45,13 @@ impl ObjectBytes {
         }
     }
 
+    /// How many bytes there are.
+    pub fn len(&self) -> u32
+        ensures { result ≡ length (bytes_of self.now) }
+    {
+        self.len
+    }
+
     /// The bytes from an offset on.
     pub fn load(&self, off: u32, len: u32) -> ArrayVec<u8, MAX_BYTES>
         requires fits { off + len ≤ length (bytes_of self.now) }

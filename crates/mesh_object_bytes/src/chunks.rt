@@ -60,7 +60,13 @@ pub(crate) fn store_run(
     }
     let mut fresh = ZEROS;
     write(&mut fresh, place, bytes);
-    chunks.insert(index, Chunk { number, bytes: fresh })?;
+    chunks.insert(
+        index,
+        Chunk {
+            number,
+            bytes: fresh,
+        },
+    )?;
     Ok(())
 }
 

@@ -1,4 +1,4 @@
-//! The bytes of one object as a state of a judge of overlapping calls: a chunk takes memory once a byte is stored in it.
+//! The bytes of one object as the state of a judge of overlapping calls; only chunks with stored bytes take memory.
 //!
 //! An access of the object is recorded as an [`Access`]. [`ObjectAccesses`] says what accesses do to [`ObjectBytes`].
 #![tactic(auto)]

@@ -15,7 +15,7 @@ returns-then-chunks-index-clause-bytes c =
     let found : Chunk = get_or c.args.chunks.now i past in
     c.all_bytes.ensures.same
     ∙ sym (read_kept c.args.chunks.now c.args.number i found c.index_of-index.ensures.is c.if-index-chunks.true
-        (get_or_default c.args.chunks.now i past found c.if-index-chunks.true) c.if-chunks-index.true c.all_bytes.ensures.sized)
+    (get_or_default c.args.chunks.now i past found c.if-index-chunks.true) c.if-chunks-index.true c.all_bytes.ensures.sized)
 
 pub returns-clause-bytes : goal.returns-clause-bytes
 returns-clause-bytes c =

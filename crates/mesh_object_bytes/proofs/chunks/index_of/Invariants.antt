@@ -1,4 +1,4 @@
-use Rattle.std.proofs.Common.{◌≡◌, ◌+◌, ◌≤◌, length, drop}
+use Rattle.std.proofs.Common.{◌≡◌, ◌+◌, drop}
 use Rattle.mesh_object_bytes.specs.Chunks.{index_of}
 use Rattle.mesh_object_bytes.proofs.chunks.index_of.Given as goal
 

@@ -1,6 +1,6 @@
 use Rattle.std.proofs.Common.{◌∙◌, ap, List}
 use Rattle.mesh_object_bytes.specs.declared.chunk.Chunk.{Chunk}
-use Rattle.mesh_object_bytes.specs.ObjectBytes.{State, bytes_of}
+use Rattle.mesh_object_bytes.specs.ObjectBytes.{bytes_of}
 use Rattle.mesh_object_bytes.proofs.Offsets.{bytes_of-first}
 use Rattle.mesh_object_bytes.proofs.bytes.ObjectBytes.new.Goals as goal
 
