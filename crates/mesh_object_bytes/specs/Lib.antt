@@ -1,0 +1,3 @@
+pub mod Chunks
+pub mod ObjectBytes
+pub mod Prints

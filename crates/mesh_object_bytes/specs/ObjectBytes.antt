@@ -1,0 +1,45 @@
+-- The bytes of an object as what accesses find and change, and as the chunks that are kept.
+use Rattle.std.specs.Prelude.{◌≡◌, ℕ, ◌+◌, not, ◌&&◌, if◌then◌else◌, List, [], Option, Some, None, length, map, option_map, slice_range}
+use Rattle.std.specs.List.{range_with_len}
+use Rattle.std.specs.Str.{bytes_eq}
+use Rattle.model_memory.specs.Memory.{overwritten}
+use Rattle.model_intervals.specs.Objects.{ends_past}
+use Rattle.mesh_object_bytes.specs.declared.access.Access.{Access}
+use Rattle.mesh_object_bytes.specs.declared.access.Access.TheVariants.{Store, Load, Nothing, Never}
+use Rattle.mesh_object_bytes.specs.declared.chunk.Chunk.{Chunk}
+use Rattle.mesh_object_bytes.specs.Chunks.{byte_at, stored}
+
+-- how many bytes an object has, and the chunks in which a byte was stored
+pub record State : Type 0 where
+  pub len : ℕ
+  pub chunks : List Chunk
+
+-- so many zeros: no chunk is kept
+abbrev pub first_state : ℕ → State
+first_state len = record { len = len; chunks = [] }
+
+-- all bytes of an object
+unfoldable pub bytes_of : State → List ℕ
+bytes_of state = map (byte_at state.chunks) (range_with_len 0 state.len)
+
+-- the bytes behind an access, if it answers as it was recorded
+abbrev pub accessed_by : Access → List ℕ → Option (List ℕ)
+accessed_by (Store off new) bytes = if ends_past bytes off (length new.items) then None else Some (overwritten bytes off new.items)
+accessed_by (Load off told) bytes =
+    if not (ends_past bytes off (length told.items)) && bytes_eq told.items (slice_range bytes off (off + length told.items)) then Some bytes else None
+accessed_by Nothing bytes = Some bytes
+accessed_by Never bytes = None
+
+-- the state behind an access, if it answers as it was recorded
+abbrev pub effect : State → Access → Option State
+effect state (Store off new) =
+    if ends_past (bytes_of state) off (length new.items) then None else Some (record { len = state.len; chunks = stored state.chunks off new.items })
+effect state (Load off told) =
+    if not (ends_past (bytes_of state) off (length told.items)) && bytes_eq told.items (slice_range (bytes_of state) off (off + length told.items))
+    then Some state else None
+effect state Nothing = Some state
+effect state Never = None
+
+-- what an access does to the state is what it does to the bytes
+abbrev pub EffectIsAccess : Type 0
+EffectIsAccess = (state : State) (access : Access) → option_map bytes_of (effect state access) ≡ accessed_by access (bytes_of state)

@@ -1,0 +1,45 @@
+//! `ObjectAccesses`, what accesses do to the bytes of an object.
+use crate::access::Access;
+use crate::bytes::ObjectBytes;
+use mesh_configurations::Calls;
+use std::alloc::{AllocError, Global};
+
+/// The bytes of an object as what a judge follows.
+pub struct ObjectAccesses;
+
+impl Calls for ObjectAccesses {
+    ghost use Rattle.mesh_object_bytes.specs.ObjectBytes.{effect};
+
+    type State = ObjectBytes;
+
+    type Call = Access;
+
+    ghost effect = { effect };
+
+    fn effect(
+        alloc: Global,
+        state: &ObjectBytes,
+        access: &Access,
+    ) -> Result<Option<ObjectBytes>, AllocError> {
+        match access {
+            Access::Store(off, bytes) => {
+                if state.ends_past(*off, bytes.len()) {
+                    return Ok(None);
+                }
+                Ok(Some(state.stored(alloc, *off, bytes.as_slice())?))
+            }
+            Access::Load(off, told) => {
+                if !state.has(*off, told.as_slice()) {
+                    return Ok(None);
+                }
+                Ok(Some(state.copied(alloc)?))
+            }
+            Access::Nothing => Ok(Some(state.copied(alloc)?)),
+            Access::Never => Ok(None),
+        }
+    }
+
+    fn copied(alloc: Global, state: &ObjectBytes) -> Result<ObjectBytes, AllocError> {
+        state.copied(alloc)
+    }
+}

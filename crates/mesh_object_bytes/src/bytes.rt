@@ -1,0 +1,175 @@
+//! `ObjectBytes`, the bytes of one object.
+ghost use Rattle.std.specs.Prelude.{◌≡◌, ◌+◌, ◌*◌, ◌^◌, ◌≤◌, ◌<◌, ◌&&◌, IfOk, OnOk, length, not, replicate, slice_range};
+ghost use Rattle.std.specs.Str.{bytes_eq};
+ghost use Rattle.model_intervals.specs.Objects.{ends_past};
+ghost use Rattle.mesh_object_bytes.specs.Chunks.{stored};
+ghost use Rattle.mesh_object_bytes.specs.ObjectBytes.{bytes_of, first_state};
+
+use crate::chunk::{CHUNK_BYTES, Chunk};
+use crate::chunks::{chunk, store_run};
+use arrayvec::ArrayVec;
+use model_words::MAX_BYTES;
+use std::alloc::{AllocError, Global};
+use std::marker::Model;
+
+mod prints;
+
+/// The bytes of one object. Bytes that were never stored are 0, and take no memory but for those of a chunk of 64 in
+/// which a byte was stored.
+///
+/// Which chunks are kept depends only on which stores had their effect. So two configurations of a judge in which the
+/// same calls had their effect, and whose bytes are the same, keep the same chunks: they are one and not two.
+#[derive(Drop)]
+pub struct ObjectBytes {
+    len: u32,
+    chunks: Vec<Chunk>,
+}
+
+impl Model for ObjectBytes {
+    ghost use Rattle.mesh_object_bytes.specs.ObjectBytes.{State};
+
+    ghost Value = { State };
+
+    ghost view = { λ s. record { len = s.len; chunks = s.chunks.items } };
+}
+
+impl ObjectBytes {
+    /// So many zeros. It allocates nothing.
+    pub fn new(alloc: Global, len: u32) -> ObjectBytes
+        ensures first { result ≡ first_state len }
+        ensures zeros { bytes_of result ≡ replicate len 0 }
+    {
+        ObjectBytes {
+            len,
+            chunks: Vec::new(alloc),
+        }
+    }
+
+    /// How many bytes there are.
+    pub fn len(&self) -> u32
+        ensures { result ≡ length (bytes_of self.now) }
+    {
+        self.len
+    }
+
+    /// The bytes from an offset on.
+    pub fn load(&self, off: u32, len: u32) -> ArrayVec<u8, MAX_BYTES>
+        requires fits { off + len ≤ length (bytes_of self.now) }
+        requires few { len ≤ 32 }
+        ensures { result.items ≡ slice_range (bytes_of self.now) off (off + len) }
+    {
+        let mut bytes = ArrayVec::from([0; MAX_BYTES]);
+        bytes.truncate(len as usize);
+        self.read(off, &mut bytes);
+        bytes
+    }
+
+    /// Copies the bytes from an offset on, as many as `out` has.
+    fn read(&self, off: u32, out: &mut [u8])
+        requires fits { off + length out.old ≤ length (bytes_of self.now) }
+        requires few { length out.old ≤ 32 }
+        ensures { out.new ≡ slice_range (bytes_of self.now) off (off + length out.old) }
+    {
+        let (number, place) = chunk_and_place(off);
+        let (first, rest) = out.split_at_mut(first_run(place, out.len()));
+        first.copy_from_slice(self.run(number, place, first.len()));
+        if !rest.is_empty() {
+            rest.copy_from_slice(self.run(number + 1, 0, rest.len()));
+        }
+    }
+
+    /// A run of one chunk's bytes, from a place in it on.
+    fn run(&self, number: u32, place: usize, len: usize) -> &[u8]
+        requires one_chunk { place + len ≤ 64 }
+        requires fits { number * 64 + place + len ≤ length (bytes_of self.now) }
+        ensures { result.now ≡ slice_range (bytes_of self.now) (number * 64 + place) (number * 64 + place + len) }
+    {
+        &chunk(self.chunks.as_slice(), number)[place..place + len]
+    }
+
+    /// Whether a range ends past the bytes.
+    pub(crate) fn ends_past(&self, off: u32, len: usize) -> bool
+        requires { len ≤ 32 }
+        ensures { result ≡ ends_past (bytes_of self.now) off len }
+    {
+        u64::from(self.len) < u64::from(off) + len as u64
+    }
+
+    /// Whether these bytes are there from an offset on.
+    pub(crate) fn has(&self, off: u32, told: &[u8]) -> bool
+        requires { length told.now ≤ 32 }
+        ensures { result ≡ (not (ends_past (bytes_of self.now) off (length told.now)) && bytes_eq told.now (slice_range (bytes_of self.now) off (off + length told.now))) }
+    {
+        if self.ends_past(off, told.len()) {
+            return false;
+        }
+        told == self.load(off, told.len() as u32).as_slice()
+    }
+
+    /// The bytes with others stored from an offset on. An error is an allocation failure, here and below.
+    pub(crate) fn stored(
+        &self,
+        alloc: Global,
+        off: u32,
+        bytes: &[u8],
+    ) -> Result<ObjectBytes, AllocError>
+        requires { length bytes.now ≤ 32 }
+        ensures { IfOk result (λ next. next ≡ record { len = self.now.len; chunks = stored self.now.chunks off bytes.now }) }
+    {
+        let mut chunks = self.chunks.as_slice().to_vec(alloc)?;
+        store_in(&mut chunks, off, bytes)?;
+        Ok(ObjectBytes {
+            len: self.len,
+            chunks,
+        })
+    }
+
+    /// A copy.
+    pub(crate) fn copied(&self, alloc: Global) -> Result<ObjectBytes, AllocError>
+        ensures { IfOk result (λ copy. copy ≡ self.now) }
+    {
+        let chunks = self.chunks.as_slice().to_vec(alloc)?;
+        Ok(ObjectBytes {
+            len: self.len,
+            chunks,
+        })
+    }
+}
+
+/// Stores bytes in the chunks from an offset on.
+fn store_in(chunks: &mut Vec<Chunk>, off: u32, bytes: &[u8]) -> Result<(), AllocError>
+    requires { length bytes.now ≤ 32 }
+    ensures { OnOk result (chunks.new.items ≡ stored chunks.old.items off bytes.now) }
+{
+    if bytes.is_empty() {
+        return Ok(());
+    }
+    let (number, place) = chunk_and_place(off);
+    let (first, rest) = bytes.split_at(first_run(place, bytes.len()));
+    store_run(chunks, number, place, first)?;
+    if rest.is_empty() {
+        return Ok(());
+    }
+    store_run(chunks, number + 1, 0, rest)
+}
+
+/// The chunk in which an offset lies, and the place in that chunk.
+fn chunk_and_place(offset: u32) -> (u32, usize)
+    ensures offset { result.0 * 64 + result.1 ≡ offset }
+    ensures place { result.1 < 64 }
+    ensures few { result.0 < 2 ^ 26 }
+{
+    let offset = offset as usize;
+    ((offset / CHUNK_BYTES) as u32, offset % CHUNK_BYTES)
+}
+
+/// How many of so many bytes from a place on lie in that place's chunk.
+fn first_run(place: usize, len: usize) -> usize
+    requires { place < 64 }
+    ensures within { result ≤ len }
+    ensures one_chunk { place + result ≤ 64 }
+    ensures rest { result < len → place + result ≡ 64 }
+    ensures some { 0 < len → 0 < result }
+{
+    len.min(CHUNK_BYTES - place)
+}

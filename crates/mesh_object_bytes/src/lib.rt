@@ -1,0 +1,18 @@
+//! The bytes of one object as the state of a judge of overlapping calls; only chunks with stored bytes take memory.
+//!
+//! An access of the object is recorded as an [`Access`]. [`ObjectAccesses`] says what accesses do to [`ObjectBytes`].
+#![tactic(auto)]
+
+mod access;
+mod accesses;
+mod bytes;
+mod chunk;
+mod chunks;
+pub mod laws;
+
+pub use access::Access;
+pub use accesses::ObjectAccesses;
+pub use bytes::ObjectBytes;
+
+#[cfg(test)]
+mod tests;
