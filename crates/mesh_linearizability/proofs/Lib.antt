@@ -1,0 +1,14 @@
+mod AccessBytes
+mod AccessOrders
+mod BegunSteps
+mod BegunWrong
+mod CallPlaces
+mod Finish
+mod Follows
+mod JudgesBegin
+mod JudgesEnd
+mod LivesBegin
+mod LivesEnd
+mod LivesWrong
+mod Mapped
+mod QueueSteps

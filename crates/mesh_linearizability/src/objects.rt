@@ -1,0 +1,14 @@
+//! `NewObject`, what a `new` made.
+
+/// What a `new` made.
+#[derive(Clone, Copy)]
+pub struct NewObject {
+    /// The cell that names it.
+    pub cell: u32,
+    /// How many bytes it has.
+    pub len: u32,
+    /// The serial that it was given.
+    pub serial: u32,
+    /// Its address.
+    pub address: u64,
+}

@@ -1,0 +1,19 @@
+//! `Pending`, what is to be done at the end of a call.
+use crate::flaws::Flaw;
+use crate::objects::NewObject;
+use model_words::Refusal;
+
+/// What is to be done at the end of a call that has begun.
+#[derive(Clone, Copy)]
+pub enum Pending {
+    /// An object is made.
+    Made(NewObject),
+    /// A `new` of this cell and this length was refused.
+    Refused(u32, u32, Refusal),
+    /// The object of this cell was freed.
+    Free(u32),
+    /// The object of this cell was accessed.
+    Access(u32),
+    /// The call had a flaw when it began.
+    Wrong(Flaw),
+}
