@@ -8,10 +8,11 @@ use Rattle.std.proofs.lemmas.Option.{slice_get-map}
 use Rattle.model_intervals.specs.Intervals.{Call, RespectsTime}
 use Rattle.model_intervals.specs.Objects.{ExplainsAccesses, accesses_of, bytes_behind, effect_on}
 use Rattle.mesh_object_bytes.specs.declared.access.Access.{Access}
-use Rattle.mesh_object_bytes.specs.ObjectBytes.{EffectIsAccess, State, accessed_by, bytes_of, effect, first_state}
+use Rattle.mesh_object_bytes.specs.ObjectBytes.{State, accessed_by, bytes_of, effect, first_state}
+use Rattle.mesh_object_bytes.proofs.Accessed.{effect_is_access}
+use Rattle.mesh_object_bytes.proofs.Offsets.{bytes_of-first}
 use Rattle.mesh_timed_judge.specs.TimedCalls.{ExplainsTimed, Timed, RespectsTime as TimedRespectsTime, state_behind}
 use Rattle.mesh_linearizability.specs.Accesses.{PlacedCall, access_of, is_access_of, placed_from, timed_accesses, timed_of}
-use Rattle.mesh_linearizability.specs.Bytes.{FirstIsZeros}
 use Rattle.mesh_linearizability.proofs.AccessBytes.{same_access}
 use Rattle.mesh_linearizability.proofs.Mapped.{all_pairs_mapped, all_pairs_unmapped, lifted}
 
@@ -87,14 +88,14 @@ placed_at place cell (call ∷ calls) (suc k) placed is = elim (tells (is_access
 
 -- ---- one order for another
 
-module _ (exact : EffectIsAccess) (zeros : FirstIsZeros) (address : ℕ) where
+module _ (address : ℕ) where
   -- the bytes behind the calls of a judge are those behind the accesses
   same_bytes : (order : List PlacedCall) (state : State)
       → option_map bytes_of (state_behind effect state (map (timed_of address) order)) ≡ bytes_behind address (bytes_of state) (map call_at order)
   same_bytes [] state = refl
   same_bytes (placed ∷ order) state =
       let access = access_of address placed.call.entry.command placed.call.entry.reply in
-      let does = exact state access ∙ same_access address placed.call.entry.command placed.call.entry.reply (bytes_of state) in
+      let does = effect_is_access state access ∙ same_access address placed.call.entry.command placed.call.entry.reply (bytes_of state) in
       chained (effect state access) (effect_on address (bytes_of state) placed.call) does
           (λ n. state_behind effect n (map (timed_of address) order)) (λ bytes. bytes_behind address bytes (map call_at order)) (λ next. same_bytes order next)
     where
@@ -118,7 +119,7 @@ module _ (exact : EffectIsAccess) (zeros : FirstIsZeros) (address : ℕ) where
           in_time = all_pairs_mapped call_at (λ front back. back.end < front.begin → ⊥) l.0
               (all_pairs_unmapped (timed_of address) (λ front back. back.end < front.begin → ⊥) l.0 (subst (λ xs. TimedRespectsTime xs) (sym l.2) h.in_time));
           last = bytes_of h.last;
-          answers = subst (λ (bytes : List ℕ). bytes_behind address bytes (map call_at l.0) ≡ Some (bytes_of h.last)) (zeros len)
+          answers = subst (λ (bytes : List ℕ). bytes_behind address bytes (map call_at l.0) ≡ Some (bytes_of h.last)) (bytes_of-first len)
               (sym (same_bytes l.0 (first_state len)) ∙ ap (λ s. option_map bytes_of s) behind);
         },
       )
@@ -131,7 +132,7 @@ module _ (exact : EffectIsAccess) (zeros : FirstIsZeros) (address : ℕ) where
       let l = lifted call_at placed own (subst (λ xs. IsPermutation xs own) (sym (accesses_are 0 cell calls)) (IsPermutation-sym own (accesses_of cell calls) h.same)) in
       let behind = subst (λ xs. bytes_behind address (replicate len 0) xs ≡ Some h.last) (sym l.2) h.answers in
       let state = some_state (state_behind effect (first_state len) (map (timed_of address) l.0)) h.last
-          (same_bytes l.0 (first_state len) ∙ ap (λ (bytes : List ℕ). bytes_behind address bytes (map call_at l.0)) (zeros len) ∙ behind) in
+          (same_bytes l.0 (first_state len) ∙ ap (λ (bytes : List ℕ). bytes_behind address bytes (map call_at l.0)) (bytes_of-first len) ∙ behind) in
       (
         map (timed_of address) l.0,
         record {

@@ -7,12 +7,14 @@ use Rattle.model_intervals.specs.Intervals.{Call}
 use Rattle.model_intervals.specs.Objects.{ExplainsAccesses}
 use Rattle.model_intervals.specs.OverlappingCalls.{IsAt}
 use Rattle.mesh_object_bytes.specs.declared.access.Access.{Access}
-use Rattle.mesh_object_bytes.specs.ObjectBytes.{EffectIsAccess, State, effect, first_state}
+use Rattle.mesh_object_bytes.specs.ObjectBytes.{effect, first_state}
 use Rattle.mesh_timed_judge.specs.Following.{CanBegin, HasSome, IsJudgeOf, IsOpen, TimedStanding}
 use Rattle.mesh_timed_judge.specs.TimedCalls.{ExplainsTimed, Timed}
-use Rattle.mesh_timed_judge.specs.TimedLaws.{AllAreExplained, AreLater, NoneExplains, OpenCallsAreCalls}
+use Rattle.mesh_timed_judge.specs.TimedLaws.{AreLater}
+use Rattle.mesh_timed_judge.proofs.End.{open_is_call}
+use Rattle.mesh_timed_judge.proofs.Explained.{explained}
+use Rattle.mesh_timed_judge.proofs.Unexplained.{some_is_left}
 use Rattle.mesh_linearizability.specs.Accesses.{PlacedCall, access_of, is_access_of, placed_from, timed_accesses, timed_of}
-use Rattle.mesh_linearizability.specs.Bytes.{FirstIsZeros}
 use Rattle.mesh_linearizability.specs.Judges.{AccessJudge, IsFollowed}
 use Rattle.mesh_linearizability.specs.Lives.{BeginFrom}
 use Rattle.mesh_linearizability.specs.Queues.{HasEnded, IsWaiting, MayBegin, key_of}
@@ -198,35 +200,34 @@ module _ (calls : List Call) (waits waits' : ℕ → Option Pending) (p : ℕ) (
 -- ---- what the judge tells
 
 -- where no access waits, some order explains the accesses
-pub idle_explained : EffectIsAccess → FirstIsZeros → AllAreExplained effect → OpenCallsAreCalls effect
-    → (calls : List Call) (waits : ℕ → Option Pending) (object : NewObject) (judge : AccessJudge)
+pub idle_explained : (calls : List Call) (waits : ℕ → Option Pending) (object : NewObject) (judge : AccessJudge)
     → IsFollowed calls waits object judge
     → ((i : ℕ) (a : Call) → IsAt calls i a → is_access_of object.cell a ≡ true → IsWaiting waits a i → ⊥)
     → (own : List Call) × ExplainsAccesses calls object.cell object.len object.address own
-idle_explained exact zeros all open_calls calls waits object judge h idle =
+idle_explained calls waits object judge h idle =
     let timed = timed_accesses object.cell object.address calls in
     let none : (n : ℕ) → IsOpen judge n → ⊥ = (λ n opened.
-        let found = open_calls (first_state object.len) timed judge h.follows n opened in
+        let found = open_is_call effect (first_state object.len) timed judge h.follows n opened in
         let t = timed_at object.cell object.address calls found.0 found.1 found.2 in
         let number : n ≡ t.0 = sym found.3 ∙ ap (λ (x : Timed Access). x.number) t.4 in
         idle t.0 t.1 t.2 t.3 ((h.is_open t.0 t.1 t.2 t.3).0 (subst (λ (m : ℕ). IsOpen judge m) number opened))) in
-    let order = all (first_state object.len) timed judge h.follows h.some none in
-    accesses_explained exact zeros object.address object.cell object.len calls order.0 order.1
+    let order = explained effect (first_state object.len) timed judge h.follows h.some none in
+    accesses_explained object.address object.cell object.len calls order.0 order.1
 
 -- where no configuration is left, no order explains them, whatever calls begin later
-pub none_explained : EffectIsAccess → FirstIsZeros → NoneExplains effect → (calls more : List Call) (waits : ℕ → Option Pending) (object : NewObject) (judge : AccessJudge)
+pub none_explained : (calls more : List Call) (waits : ℕ → Option Pending) (object : NewObject) (judge : AccessJudge)
     → IsJudgeOf effect (first_state object.len) (timed_accesses object.cell object.address calls) judge
     → (HasSome effect judge → ⊥)
     → ((i : ℕ) (a : Call) → IsAt calls i a → is_access_of object.cell a ≡ true → (IsOpen judge i → ⊥) → HasEnded calls waits i)
     → (moment : ℕ) → ((i : ℕ) (a : Call) → HasEnded calls waits i → IsAt calls i a → a.end < moment) → BeginFrom moment more
     → (own : List Call) → ExplainsAccesses (calls ++ more) object.cell object.len object.address own → ⊥
-none_explained exact zeros none calls more waits object judge follows gone over moment past later own explains =
+none_explained calls more waits object judge follows gone over moment past later own explains =
     let timed = timed_accesses object.cell object.address calls in
-    let order = timed_explained exact zeros object.address object.cell object.len (calls ++ more) own explains in
+    let order = timed_explained object.address object.cell object.len (calls ++ more) own explains in
     let split : timed_accesses object.cell object.address (calls ++ more) ≡ timed ++ map (timed_of object.address) (placed_from (0 + length calls) object.cell more)
         = ap (λ xs. map (timed_of object.address) xs) (placed_append 0 object.cell calls more)
         ∙ map-append (timed_of object.address) (placed_from 0 object.cell calls) (placed_from (0 + length calls) object.cell more) in
-    none (first_state object.len) timed (map (timed_of object.address) (placed_from (0 + length calls) object.cell more)) judge follows gone
+    gone (some_is_left effect (first_state object.len) timed (map (timed_of object.address) (placed_from (0 + length calls) object.cell more)) judge follows
         (λ i j call behind at closed at_more.
             let t = timed_at object.cell object.address calls i call at in
             let ended = over t.0 t.1 t.2 t.3 (subst (λ (x : Timed Access). IsOpen judge x.number → ⊥) t.4 closed) in
@@ -236,4 +237,4 @@ none_explained exact zeros none calls more waits object judge follows gone over 
             let from = later placed.at found.0.call placed.there in
             let late : moment ≤ behind.begin = subst (λ (x : Timed Access). moment ≤ x.begin) found.2 from in
             omega (arith, early, late))
-        order.0 (subst (λ xs. ExplainsTimed effect (first_state object.len) xs order.0) split order.1)
+        order.0 (subst (λ xs. ExplainsTimed effect (first_state object.len) xs order.0) split order.1))

@@ -9,7 +9,8 @@ use Rattle.model_intervals.specs.Intervals.{Call}
 use Rattle.model_intervals.specs.Objects.{Object as AnObject, ExplainsAccesses, IsMadeAt, accesses_of, is_access}
 use Rattle.model_intervals.specs.OverlappingCalls.{IsAt, IsFree, cell_at}
 use Rattle.mesh_linearizability.specs.Accesses.{is_access_of, placed_from}
-use Rattle.mesh_linearizability.specs.Judges.{AccessJudge, IsExplained, IsJudged, Judges, Life}
+use Rattle.mesh_linearizability.specs.Judges.{AccessJudge, IsExplained, IsJudged, Judges}
+use Rattle.mesh_linearizability.specs.declared.life.Life.{Life}
 use Rattle.mesh_linearizability.specs.Lives.{IsFreed, NoneFrees}
 use Rattle.mesh_linearizability.specs.Queues.{HasEnded, IsWaiting, MayBegin, Queue, key_of}
 use Rattle.mesh_linearizability.specs.declared.objects.NewObject.{NewObject}

@@ -8,7 +8,8 @@ use Rattle.model_words.specs.declared.commands.Reply.{Reply}
 use Rattle.model_intervals.specs.Objects.{Object as AnObject, IsMadeAt, is_access, object_made}
 use Rattle.model_intervals.specs.OverlappingCalls.{IsAt, cell_at}
 use Rattle.mesh_linearizability.specs.Accesses.{is_access_of, placed_from}
-use Rattle.mesh_linearizability.specs.Judges.{AccessJudge, IsExplained, IsJudged, Judges, Life}
+use Rattle.mesh_linearizability.specs.Judges.{AccessJudge, IsExplained, IsJudged, Judges}
+use Rattle.mesh_linearizability.specs.declared.life.Life.{Life}
 use Rattle.mesh_linearizability.specs.Lives.{IsFreed}
 use Rattle.mesh_linearizability.specs.Queues.{HasEnded, IsWaiting, Queue, WaitsAt, key_of}
 use Rattle.mesh_linearizability.specs.declared.objects.NewObject.{NewObject}

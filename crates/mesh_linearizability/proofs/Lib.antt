@@ -3,12 +3,17 @@ mod AccessOrders
 mod BegunSteps
 mod BegunWrong
 mod CallPlaces
+mod Fair
 mod Finish
 mod Follows
 mod JudgesBegin
 mod JudgesEnd
+mod LifeSteps
 mod LivesBegin
 mod LivesEnd
 mod LivesWrong
 mod Mapped
 mod QueueSteps
+mod StateAccess
+mod StateBegin
+mod StateEnd

@@ -9,6 +9,7 @@ use Rattle.mesh_timed_judge.specs.Following.{HasSome, IsJudgeOf, IsOpen, TimedSt
 use Rattle.mesh_linearizability.specs.Accesses.{is_access_of, placed_from, timed_accesses}
 use Rattle.mesh_linearizability.specs.Lives.{IsFreed}
 use Rattle.mesh_linearizability.specs.Queues.{HasEnded, IsWaiting, object_of}
+use Rattle.mesh_linearizability.specs.declared.life.Life.{Life}
 use Rattle.mesh_linearizability.specs.declared.objects.NewObject.{NewObject}
 use Rattle.mesh_linearizability.specs.declared.pending.Pending.{Pending}
 use Rattle.mesh_linearizability.specs.declared.pending.Pending.TheVariants.{Access}
@@ -16,11 +17,6 @@ use Rattle.mesh_linearizability.specs.declared.pending.Pending.TheVariants.{Acce
 -- what a judge of accesses knows
 abbrev pub AccessJudge : Type 0
 AccessJudge = TimedStanding State AnAccess
-
--- a live object, and the judge of its accesses if there were some
-pub record Life : Type 0 where
-  pub object : NewObject
-  pub judge : Option AccessJudge
 
 -- the live objects by their cells
 abbrev pub live_of : (ℕ → Option Life) → ℕ → Option Object

@@ -1,6 +1,6 @@
 pub mod Accesses
-pub mod Bytes
 pub mod Judges
+pub mod LifeSteps
 pub mod Lives
 pub mod Queues
 pub mod Timelines

@@ -1,10 +1,11 @@
 -- What the parts of a timeline know of the calls that have begun.
-use Rattle.std.specs.Prelude.{◌≡◌, ◌⊎◌, ℕ, ◌<◌, List, Option, Some, None}
+use Rattle.std.specs.Prelude.{◌≡◌, ◌≢◌, ◌⊎◌, ◌↔◌, ℕ, ◌+◌, ◌*◌, ◌<◌, ◌≤◌, List, Option, Some, None, length}
 use Rattle.model_intervals.specs.Intervals.{Call}
 use Rattle.mesh_timed_judge.specs.Following.{IsOpen}
-use Rattle.mesh_linearizability.specs.Judges.{AccessJudge, Judges, Life, live_of}
+use Rattle.mesh_linearizability.specs.Judges.{AccessJudge, Judges, live_of}
+use Rattle.mesh_linearizability.specs.declared.life.Life.{Life}
 use Rattle.mesh_linearizability.specs.Lives.{Lives}
-use Rattle.mesh_linearizability.specs.Queues.{Begun, CannotGoOn, HasEnded, Queue}
+use Rattle.mesh_linearizability.specs.Queues.{Begun, CannotGoOn, HasEnded, Queue, key_of}
 use Rattle.mesh_linearizability.specs.declared.flaws.Flaw.{Flaw}
 use Rattle.mesh_linearizability.specs.declared.pending.Pending.{Pending}
 use Rattle.mesh_linearizability.specs.declared.pending.Pending.TheVariants.{Access, Wrong}
@@ -19,15 +20,25 @@ pub record Holds (calls : List Call) (waits : ℕ → Option Pending) (lives : �
   pub starts_of : (address c : ℕ) → starts address ≡ Some c → (life : Life) × (lives c ≡ Some life) × (life.object.address ≡ address)
   pub none_twice : (c : ℕ) → twice c → ⊥
 
--- a call waits of which a flaw will be told at its end: it had one when it began, or the object that it accesses was freed
-abbrev pub IsDue : (ℕ → Option Pending) → (ℕ → Option Life) → (ℕ → Type 0) → Type 0
-IsDue waits lives cells = (key : ℕ)
-    × (((flaw : Flaw) × (waits key ≡ Some (Wrong flaw))) ⊎ ((c : ℕ) × (waits key ≡ Some (Access c)) × (lives c ≡ None) × cells c))
+-- a flaw is told at the end of such a call: it had one when it began, or the object that it accesses was freed
+abbrev pub HasFlaw : (ℕ → Option Life) → (ℕ → Type 0) → Pending → Type 0
+HasFlaw lives cells (Wrong flaw) = Unit {0}
+HasFlaw lives cells (Access c) = (lives c ≡ None) × cells c
+HasFlaw lives cells _ = ⊥
+
+-- a call waits of which a flaw will be told
+pub record IsDue (calls : List Call) (waits : ℕ → Option Pending) (lives : ℕ → Option Life) (cells : ℕ → Type 0) : Type 0 where
+  pub end : ℕ
+  pub place : ℕ
+  pub begun : place < length calls
+  pub pending : Pending
+  pub waiting : waits (end * 4294967296 + place) ≡ Some pending
+  pub has_flaw : HasFlaw lives cells pending
 
 -- no history begins with these calls, and a flaw will be told
 pub record Doomed (calls : List Call) (waits : ℕ → Option Pending) (lives : ℕ → Option Life) (cells : ℕ → Type 0) : Type 0 where
   pub cannot : CannotGoOn calls
-  pub due : IsDue waits lives cells
+  pub due : IsDue calls waits lives cells
 
 -- the calls may be a history that is explained, or they are none and this will be told
 abbrev pub IsState : List Call → (ℕ → Option Pending) → (ℕ → Option Life) → (ℕ → Option ℕ) → (ℕ → Type 0) → (ℕ → Type 0) → (ℕ → Type 0) → Type 0
@@ -36,3 +47,15 @@ IsState calls waits lives starts cells serials twice = Holds calls waits lives s
 -- what is open at the judges are calls of numbers below this one
 abbrev pub FewOpen : (ℕ → Option Life) → ℕ → Type 0
 FewOpen lives count = (c : ℕ) (life : Life) (judge : AccessJudge) (number : ℕ) → lives c ≡ Some life → life.judge ≡ Some judge → IsOpen judge number → number < count
+
+-- a call begins, and waits for its end
+pub record StartsWaiting (calls : List Call) (call : Call) (waits waits' : ℕ → Option Pending) (pending : Pending) : Type 0 where
+  pub now : waits' (key_of call (length calls)) ≡ Some pending
+  pub others : (key : ℕ) → key ≢ key_of call (length calls) → waits' key ≡ waits key
+
+-- the first of those that wait waits no more
+pub record StopsWaiting (waits waits' : ℕ → Option Pending) (key : ℕ) (pending : Pending) : Type 0 where
+  pub was : waits key ≡ Some pending
+  pub gone : waits' key ≡ None
+  pub others : (q : ℕ) → q ≢ key → waits' q ≡ waits q
+  pub least : (q : ℕ) (r : Pending) → waits q ≡ Some r → key ≤ q

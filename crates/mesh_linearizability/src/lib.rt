@@ -2,6 +2,7 @@
 #![tactic(auto)]
 
 mod flaws;
+mod life;
 mod objects;
 mod pending;
 

@@ -1,6 +1,6 @@
 mod AccessKeys
 mod AfterStep
-mod ByObject
+pub mod ByObject
 mod CellKeys
 mod CellOrders
 mod CellParts
@@ -19,7 +19,7 @@ mod MemoryChanges
 mod Merged
 mod MiddleForm
 mod NoOrder
-mod OneOrder
+pub mod OneOrder
 mod Permuted
 mod Picks
 mod Places

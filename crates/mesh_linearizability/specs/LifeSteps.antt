@@ -1,0 +1,46 @@
+-- Accesses to a live object begin and end.
+use Rattle.std.specs.Prelude.{◌≡◌, ◌≢◌, ◌⊎◌, ◌↔◌, ℕ, Bool, List, [], ◌∷◌, ◌++◌, Option, Some, None, IsTrue}
+use Rattle.mesh_object_bytes.specs.ObjectBytes.{effect, first_state}
+use Rattle.mesh_object_bytes.specs.declared.access.Access.{Access as AnAccess}
+use Rattle.mesh_timed_judge.specs.Following.{CanBegin, HasSome, IsJudgeOf, IsOpen}
+use Rattle.mesh_timed_judge.specs.TimedCalls.{Timed}
+use Rattle.mesh_linearizability.specs.Judges.{AccessJudge}
+use Rattle.mesh_linearizability.specs.declared.life.Life.{Life}
+
+-- a judge that has followed nothing
+pub record IsNewJudge (len : ℕ) (judge : AccessJudge) : Type 0 where
+  pub follows : IsJudgeOf effect (first_state len) [] judge
+  pub some : HasSome effect judge
+  pub none_open : (number : ℕ) → IsOpen judge number → ⊥
+
+-- an object's own judge, or a new one where it had none
+abbrev pub IsFirst : Life → AccessJudge → Type 0
+IsFirst old first = (old.judge ≡ Some first) ⊎ ((old.judge ≡ None) × IsNewJudge old.object.len first)
+
+-- the object has a judge now
+abbrev pub HasJudge : Life → Life → Type 0
+HasJudge old new = (judge : AccessJudge) × (new.judge ≡ Some judge) × IsFirst old judge
+
+-- the judge has taken the begin of the access of a number: the object's own, or a new one where it had none
+pub record HasBegun (old new : Life) (number : ℕ) (access : AnAccess) : Type 0 where
+  pub first : AccessJudge
+  pub is_first : IsFirst old first
+  pub judge : AccessJudge
+  pub now : new.judge ≡ Some judge
+  pub follows : (calls : List (Timed AnAccess)) (begin end : ℕ) → IsJudgeOf effect (first_state old.object.len) calls first
+      → CanBegin calls first (record { number = number; begin = begin; end = end; call = access })
+      → IsJudgeOf effect (first_state old.object.len) (calls ++ record { number = number; begin = begin; end = end; call = access } ∷ []) judge
+  pub is_open : (n : ℕ) → IsOpen judge n ↔ ((n ≡ number) ⊎ IsOpen first n)
+  pub some : HasSome effect first → HasSome effect judge
+
+-- the judge has taken the end of the access of a number, and this is whether some configuration is left
+pub record HasEndedAt (old new : Life) (number : ℕ) (left : Bool) : Type 0 where
+  pub first : AccessJudge
+  pub is_first : old.judge ≡ Some first
+  pub was_open : IsOpen first number
+  pub judge : AccessJudge
+  pub now : new.judge ≡ Some judge
+  pub follows : (calls : List (Timed AnAccess)) → IsJudgeOf effect (first_state old.object.len) calls first
+      → IsJudgeOf effect (first_state old.object.len) calls judge
+  pub is_open : (n : ℕ) → IsOpen judge n ↔ (IsOpen first n × (n ≢ number))
+  pub some : IsTrue left ↔ HasSome effect judge
