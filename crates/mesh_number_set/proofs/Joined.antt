@@ -2,7 +2,7 @@
 use Rattle.std.proofs.Common.{◌≡◌, ◌≢◌, ◌↔◌, ◌⊎◌, ℕ, ◌+◌, ◌<◌, ◌≤◌, Option, Some, None, sym, subst, ◌∙◌, arith, inl, inr}
 use Rattle.std.proofs.lemmas.Bool.Decides.{eqb_tells, leb_tells}
 use Rattle.mesh_number_set.specs.Ranges.{AreApart, HasIn, IsFirst, IsJoined, IsLast}
-use Rattle.mesh_number_set.proofs.Apart.{one_last}
+use Rattle.mesh_number_set.proofs.Keys.{one_last}
 
 -- a range that begins with this number is one that begins with that
 moved : (f : ℕ → Option ℕ) (a b k : ℕ) → a ≡ b → f a ≡ Some k → f b ≡ Some k

@@ -1,6 +1,6 @@
 use Rattle.std.proofs.Common.{ℕ, Option, refl, subst, sym}
 use Rattle.std.specs.Prelude.{IsSome}
-use Rattle.mesh_number_set.proofs.Apart.{at_most, not_greater, not_less}
+use Rattle.mesh_number_set.proofs.Keys.{at_most, not_greater, not_less}
 use Rattle.mesh_number_set.proofs.ranges.nearest.Goals as goal
 
 pub returns : goal.returns
