@@ -1,7 +1,7 @@
 //! `Chunk`, 64 bytes of an object.
 
 /// How many bytes a chunk has. This project's own choice.
-pub const CHUNK_BYTES: usize = 64;
+pub(crate) const CHUNK_BYTES: usize = 64;
 
 /// Contracts name the number.
 const _: () = prove!(CHUNK_BYTES == 64);

@@ -1,0 +1,88 @@
+//! The ranges of a set, in a map from the first number of each to its last.
+ghost use Rattle.std.specs.Prelude.{◌≡◌, ◌↔◌, ◌+◌, ◌≤◌, ◌<◌, ℕ, IsTrue, OnErr, OnOk};
+ghost use Rattle.std.specs.Ordering.{nat_cmp};
+ghost use Rattle.std.specs.BTreeMap.{IsUnchanged, get};
+ghost use Rattle.mesh_number_set.specs.Ranges.{AreApart, HasIn, IsFirst, IsJoined, IsLast, IsNearest, IsNext};
+
+use std::alloc::AllocError;
+use std::collections::BTreeMap;
+
+/// The first and the last number of the range that begins last among those that begin at most at this number.
+fn nearest(ranges: &BTreeMap<u32, u32>, number: u32) -> Option<(u32, u32)>
+    ensures { IsNearest (get nat_cmp ranges.now) number result }
+{
+    let (first, last) = ranges.range(..=number).next_back()?;
+    Some((*first, *last))
+}
+
+/// The first and the last number of the range that begins first among those that begin at least at this number.
+fn next(ranges: &BTreeMap<u32, u32>, number: u32) -> Option<(u32, u32)>
+    ensures { IsNext (get nat_cmp ranges.now) number result }
+{
+    let (first, last) = ranges.range(number..).next()?;
+    Some((*first, *last))
+}
+
+/// Whether one of the ranges has a number.
+pub(crate) fn has(ranges: &BTreeMap<u32, u32>, number: u32) -> bool
+    requires { AreApart (get nat_cmp ranges.now) }
+    ensures { IsTrue result ↔ HasIn (get nat_cmp ranges.now) number }
+{
+    match nearest(ranges, number) {
+        Some((_, last)) => number <= last,
+        None => false,
+    }
+}
+
+/// The first of the numbers that end with this one, where all of them but this one are in the ranges.
+pub(crate) fn first_with(ranges: &BTreeMap<u32, u32>, number: u32) -> u32
+    requires apart { AreApart (get nat_cmp ranges.now) }
+    requires new { HasIn (get nat_cmp ranges.now) number → ⊥ }
+    ensures { IsFirst (get nat_cmp ranges.now) number result }
+{
+    match nearest(ranges, number) {
+        Some((first, last)) => {
+            if last + 1 == number {
+                return first;
+            }
+            number
+        }
+        None => number,
+    }
+}
+
+/// The last of the numbers that begin with this one, where all of them but this one are in the ranges.
+pub(crate) fn last_with(ranges: &BTreeMap<u32, u32>, number: u32) -> u32
+    requires apart { AreApart (get nat_cmp ranges.now) }
+    requires new { HasIn (get nat_cmp ranges.now) number → ⊥ }
+    ensures { IsLast (get nat_cmp ranges.now) number result }
+{
+    match next(ranges, number) {
+        Some((first, last)) => {
+            if first - number == 1 {
+                return last;
+            }
+            number
+        }
+        None => number,
+    }
+}
+
+/// Adds a number, as a range with those that it joins. An error is an allocation failure.
+pub(crate) fn join(
+    ranges: &mut BTreeMap<u32, u32>,
+    number: u32,
+    first: u32,
+    last: u32,
+) -> Result<(), AllocError>
+    requires first { first ≤ number }
+    requires last { IsLast (get nat_cmp ranges.old) number last }
+    ensures joined { OnOk result (IsJoined (get nat_cmp ranges.old) (get nat_cmp ranges.new) number first last) }
+    ensures unchanged { OnErr result (IsUnchanged ranges.old ranges.new) }
+{
+    ranges.insert(first, last)?;
+    if number < last {
+        let _behind = ranges.remove(&(number + 1));
+    }
+    Ok(())
+}

@@ -1,0 +1,65 @@
+//! `NumberSet`, a set of numbers.
+ghost use Rattle.std.specs.Prelude.{◌≡◌, ◌↔◌, ◌⊎◌, ℕ, IsTrue, OnErr, OnOk, length};
+ghost use Rattle.mesh_number_set.specs.Ranges.{AreApart, Has, last_in};
+
+use crate::ranges::{first_with, has, join, last_with};
+use std::alloc::{AllocError, Global};
+use std::collections::BTreeMap;
+use std::marker::Model;
+
+/// A set of numbers, kept as ranges of which no two touch.
+///
+/// What it takes in memory depends on how many ranges there are, and not on how many numbers.
+#[derive(Drop)]
+pub struct NumberSet {
+    // The last number of each range, by its first.
+    ranges: BTreeMap<u32, u32>,
+}
+
+impl Model for NumberSet {
+    ghost use Rattle.std.specs.Prelude.{ℕ, List};
+    ghost use Rattle.mesh_number_set.specs.Ranges.{AreApart, last_in};
+
+    ghost Value = { List (ℕ × ℕ) };
+
+    ghost view = { λ s. s.ranges.entries };
+
+    ghost invariant = { λ s. AreApart (last_in s.ranges.entries) };
+}
+
+impl NumberSet {
+    /// A set without numbers. It allocates nothing.
+    pub fn new(alloc: Global) -> NumberSet
+        ensures { (n : ℕ) → Has result n → ⊥ }
+    {
+        NumberSet {
+            ranges: BTreeMap::new(alloc),
+        }
+    }
+
+    /// Whether a number is in the set.
+    pub fn contains(&self, number: u32) -> bool
+        ensures { IsTrue result ↔ Has self.now number }
+    {
+        has(&self.ranges, number)
+    }
+
+    /// How many ranges the set is kept as. No two of them touch, so there are as few as can be.
+    pub fn ranges(&self) -> usize
+        ensures many { result ≡ length self.now }
+        ensures apart { AreApart (last_in self.now) }
+    {
+        self.ranges.len()
+    }
+
+    /// Adds a number that isn't in the set. An error is an allocation failure; then the set is unchanged.
+    pub fn add(&mut self, number: u32) -> Result<(), AllocError>
+        requires { Has self.old number → ⊥ }
+        ensures added { OnOk result ((n : ℕ) → Has self.new n ↔ ((n ≡ number) ⊎ Has self.old n)) }
+        ensures unchanged { OnErr result ((n : ℕ) → Has self.new n ↔ Has self.old n) }
+    {
+        let first = first_with(&self.ranges, number);
+        let last = last_with(&self.ranges, number);
+        join(&mut self.ranges, number, first, last)
+    }
+}
