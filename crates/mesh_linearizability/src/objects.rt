@@ -3,6 +3,8 @@
 /// What a `new` made.
 #[derive(Clone, Copy)]
 pub struct NewObject {
+    /// The number of the call.
+    pub number: u32,
     /// The cell that names it.
     pub cell: u32,
     /// How many bytes it has.

@@ -1,0 +1,58 @@
+-- A timeline, and what it knows of the calls that have begun.
+use Rattle.std.specs.Prelude.{◌≡◌, ◌≢◌, ℕ, ◌*◌, ◌%◌, ◌<◌, ◌≤◌, List, [], ◌∷◌, ◌++◌, Option, Some, None, length}
+use Rattle.std.specs.Ordering.{nat_cmp}
+use Rattle.std.specs.BTreeMap.{get}
+use Rattle.model_memory.specs.Plain.{Entry}
+use Rattle.model_intervals.specs.Intervals.{Call}
+use Rattle.model_intervals.specs.Objects.{Meet, is_access}
+use Rattle.model_intervals.specs.OverlappingCalls.{IsAt, cell_of}
+use Rattle.mesh_number_set.specs.Ranges.{Has}
+use Rattle.mesh_linearizability.specs.Accesses.{access_of}
+use Rattle.mesh_linearizability.specs.LifeSteps.{HasBegun, HasEndedAt}
+use Rattle.mesh_linearizability.specs.Lives.{CannotBe}
+use Rattle.mesh_linearizability.specs.Queues.{HasEnded, MayBegin, object_of}
+use Rattle.mesh_linearizability.specs.Timelines.{IsState, StartsWaiting, StopsWaiting}
+use Rattle.mesh_linearizability.specs.declared.life.Life.{Life}
+use Rattle.mesh_linearizability.specs.declared.pending.Pending.{Pending}
+use Rattle.mesh_linearizability.specs.declared.timeline.Timeline.{Timeline}
+
+abbrev pub waits_of : Timeline → ℕ → Option Pending
+waits_of t = get nat_cmp t.waiting
+
+abbrev pub lives_of : Timeline → ℕ → Option Life
+lives_of t = get nat_cmp t.lives
+
+abbrev pub starts_of : Timeline → ℕ → Option ℕ
+starts_of t = get nat_cmp t.starts
+
+-- what the parts of a timeline know, with these calls in wait
+abbrev pub StandsWith : List Call → (ℕ → Option Pending) → Timeline → Type 0
+StandsWith calls waits t = IsState calls waits (lives_of t) (starts_of t) (Has t.cells) (Has t.serials) (Has t.freed_twice)
+
+-- the timeline knows these calls
+abbrev pub Stands : List Call → Timeline → Type 0
+Stands calls t = StandsWith calls (waits_of t) t
+
+-- `g` gives this at `k`, and at each other number what `f` gives
+abbrev pub IsSetAt : {X : Type 0} → (ℕ → Option X) → (ℕ → Option X) → ℕ → Option X → Type 0
+IsSetAt f g k v = (g k ≡ v) × ((q : ℕ) → q ≢ k → g q ≡ f q)
+
+-- a call of this number and this entry has begun, and this is to be done at its end
+abbrev pub HasBegunSo : Timeline → Timeline → ℕ → Entry → Pending → Type 0
+HasBegunSo old new number entry pending = (calls : List Call) (call : Call) (waits' : ℕ → Option Pending) → length calls ≡ number → call.entry ≡ entry
+    → Stands calls old → MayBegin calls (waits_of old) call → StartsWaiting calls call (waits_of old) waits' pending → StandsWith (calls ++ call ∷ []) waits' new
+
+-- the access of a number has begun at the live object of a cell
+abbrev pub HasBegunIn : (ℕ → Option Life) → (ℕ → Option Life) → ℕ → ℕ → Entry → Type 0
+HasBegunIn lives lives' cell number entry = (old new : Life) × (lives cell ≡ Some old) × IsSetAt lives lives' cell (Some new) × (new.object ≡ old.object)
+    × HasBegun old new number (access_of old.object.address entry.command entry.reply)
+
+-- the call at a key has ended, and no flaw is told
+abbrev pub HasEndedSo : Timeline → Timeline → ℕ → Pending → Type 0
+HasEndedSo old new number pending = (calls : List Call) (waits : ℕ → Option Pending) (key : ℕ) → key % 4294967296 ≡ number → StopsWaiting waits (waits_of old) key pending
+    → StandsWith calls waits old → StandsWith calls (waits_of old) new
+
+-- at the end of the call at a key a flaw is told: no history goes on so from a moment behind that end on
+abbrev pub IsFlawed : Timeline → ℕ → Pending → Type 0
+IsFlawed old number pending = (calls : List Call) (waits : ℕ → Option Pending) (key moment : ℕ) → key % 4294967296 ≡ number → StopsWaiting waits (waits_of old) key pending
+    → StandsWith calls waits old → key < moment * 4294967296 → ((i : ℕ) (a : Call) → IsAt calls i a → a.begin ≤ moment) → CannotBe calls moment

@@ -1,0 +1,88 @@
+//! `Timeline`, which takes calls in the order of their begins and ends.
+ghost use Rattle.std.specs.Prelude.{◌≡◌, ◌⊎◌, ◌↔◌, ◌+◌, ◌*◌, ◌++◌, ◌∷◌, [], ℕ, List, OnOk, Some, length};
+ghost use Rattle.model_intervals.specs.Intervals.{Call};
+ghost use Rattle.model_intervals.specs.OverlappingCalls.{HasEffect};
+ghost use Rattle.mesh_fields.specs.Commands.{plain_command};
+ghost use Rattle.mesh_history.specs.RecordedWords.{plain_entry, plain_reply};
+ghost use Rattle.mesh_number_set.specs.Ranges.{Has};
+ghost use Rattle.mesh_linearizability.specs.Queues.{MayBegin};
+ghost use Rattle.mesh_linearizability.specs.Standing.{Stands, lives_of, waits_of};
+ghost use Rattle.mesh_linearizability.specs.Timelines.{FewOpen};
+
+use crate::life::Life;
+use crate::pending::Pending;
+use mesh_configurations::JudgeFault;
+use mesh_history::RecordedEntry;
+use mesh_number_set::NumberSet;
+use std::alloc::{AllocError, Global};
+use std::collections::BTreeMap;
+
+/// How many numbers of calls there are: a key of a call that waits is its end times this, and its number.
+pub(crate) const NUMBERS: u128 = 4_294_967_296;
+
+/// The calls that have begun and not ended, and the live objects.
+#[derive(Drop)]
+pub struct Timeline {
+    /// The calls that wait for their ends, by their ends, at equal ends by their numbers.
+    pub(crate) waiting: BTreeMap<u128, Pending>,
+    /// The live objects by their cells.
+    pub(crate) lives: BTreeMap<u32, Life>,
+    /// The cells of the live objects by their addresses.
+    pub(crate) starts: BTreeMap<u128, u32>,
+    /// The cells of each `new` that has ended.
+    pub(crate) cells: NumberSet,
+    /// The serials that were given.
+    pub(crate) serials: NumberSet,
+    /// The cells of the objects that were freed.
+    pub(crate) freed: NumberSet,
+    /// The cells of those of which a second `free` has begun.
+    pub(crate) freed_twice: NumberSet,
+    pub(crate) alloc: Global,
+}
+
+impl Timeline {
+    /// A timeline of no call. It allocates nothing.
+    pub fn new(alloc: Global) -> Timeline
+        ensures stands { Stands [] result }
+        ensures few { FewOpen (lives_of result) 0 }
+    {
+        Timeline {
+            waiting: BTreeMap::new(alloc),
+            lives: BTreeMap::new(alloc),
+            starts: BTreeMap::new(alloc),
+            cells: NumberSet::new(alloc),
+            serials: NumberSet::new(alloc),
+            freed: NumberSet::new(alloc),
+            freed_twice: NumberSet::new(alloc),
+            alloc,
+        }
+    }
+
+    /// Takes the begin of the next call: its number, which is how many have begun before it, its end, and what it did.
+    ///
+    /// The error is `TooManyPending` if 64 accesses to its object are pending, and `Memory` if an allocation fails. The
+    /// timeline is of no use behind an error.
+    pub fn begin(&mut self, number: u32, end: u64, entry: &RecordedEntry) -> Result<(), JudgeFault>
+        requires effect { HasEffect (plain_command entry.now.command) (plain_reply entry.now.reply) }
+        requires few { FewOpen (lives_of self.old) number }
+        ensures stands { OnOk result ((calls : List Call) (begin : ℕ) → length calls ≡ number → Stands calls self.old
+            → MayBegin calls (waits_of self.old) (record { begin = begin; end = end; entry = plain_entry entry.now })
+            → Stands (calls ++ record { begin = begin; end = end; entry = plain_entry entry.now } ∷ []) self.new) }
+        ensures few { OnOk result (FewOpen (lives_of self.new) (number + 1)) }
+    {
+        let pending = self.begun(number, entry)?;
+        let key = u128::from(end) * NUMBERS + u128::from(number);
+        self.waiting.insert(key, pending)?;
+        Ok(())
+    }
+}
+
+/// Adds a number to a set if it isn't in it. An error is an allocation failure.
+pub(crate) fn add(set: &mut NumberSet, number: u32) -> Result<(), AllocError>
+    ensures { OnOk result ((n : ℕ) → Has set.new n ↔ ((n ≡ number) ⊎ Has set.old n)) }
+{
+    if set.contains(number) {
+        return Ok(());
+    }
+    set.add(number)
+}
