@@ -15,6 +15,10 @@ pub record TimedStanding (S C : Type 0) : Type 0 where
 abbrev pub IsOpen : {S C : Type 0} → TimedStanding S C → ℕ → Type 0
 IsOpen judge number = (place : ℕ) × (slice_get judge.numbers place ≡ Some (Some number))
 
+-- a call is pending at each of the 64 places
+abbrev pub IsFull : {S C : Type 0} → TimedStanding S C → Type 0
+IsFull judge = (place : ℕ) → place < 64 → (number : ℕ) × (slice_get judge.numbers place ≡ Some (Some number))
+
 -- some configuration is left
 abbrev pub HasSome : {S C : Type 0} → (S → C → Option S) → TimedStanding S C → Type 0
 HasSome effect judge = CanGoOn effect judge.standing []
