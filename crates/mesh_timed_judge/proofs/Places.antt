@@ -1,4 +1,4 @@
--- What is at the places of lists where one was set, and the numbers of pending calls at their places.
+-- Elements of a list after one was set, and the numbers of pending calls by their places.
 use Rattle.std.proofs.Common.{◌≡◌, ◌≢◌, ◌↔◌, ◌⊎◌, inl, inr, ℕ, zero, suc, ◌<◌, ◌≤◌, true, false, IsTrue, MatchOption, List, [], ◌∷◌, Option, Some, None, length, get_or, slice_get, slice_set, ap, subst, refl, sym, ◌∙◌, arith}
 use Rattle.std.proofs.lemmas.Bool.Decides.{eqb_tells}
 use Rattle.std.proofs.lemmas.List.{length-set}
@@ -32,7 +32,7 @@ get_set_cases xs p q v x lt h = elim (eqb_tells p q) [
 abbrev pub HasPlace : List (Option ℕ) → ℕ → Type 0
 HasPlace numbers number = (place : ℕ) × (slice_get numbers place ≡ Some (Some number))
 
--- behind a begin these numbers have places
+-- the numbers that have places after a begin
 pub places_begun : (numbers : List (Option ℕ)) (p number n : ℕ) → slice_get numbers p ≡ Some None
     → HasPlace (slice_set numbers p (Some number)) n ↔ ((n ≡ number) ⊎ HasPlace numbers n)
 places_begun numbers p number n free =
@@ -49,7 +49,7 @@ places_begun numbers p number n free =
       ],
     )
 
--- and behind an end these
+-- and after an end
 pub places_ended : (numbers : List (Option ℕ)) (p number n : ℕ) → slice_get numbers p ≡ Some (Some number)
     → ((q : ℕ) → slice_get numbers q ≡ Some (Some number) → p ≡ q)
     → HasPlace (slice_set numbers p None) n ↔ (HasPlace numbers n × (n ≢ number))
@@ -60,11 +60,11 @@ places_ended numbers p number n here once =
         | inr was ↦ ((at.0, was.1), λ same. was.0 (once at.0 (was.1 ∙ ap (λ k. Some (Some k)) same)))
       ],
       λ both. (
-        let at = both.0 in
-        let other : p ≢ at.0 = λ e. (
+          let at = both.0 in
+          let other : p ≢ at.0 = λ e. (
           let two : Some (Some number) ≡ Some (Some n) = sym here ∙ (ap (λ k. slice_get numbers k) e ∙ at.1) in
           let same : n ≡ number = cc (two) in both.1 same) in
-        (at.0, get_set_other numbers p at.0 None other ∙ at.1)),
+          (at.0, get_set_other numbers p at.0 None other ∙ at.1)),
     )
 
 -- a place is free for both, or for none
@@ -161,7 +161,7 @@ pub found_is_open : (numbers : List (Option ℕ)) (number : ℕ) (found : Option
 found_is_open numbers number None never = (λ t. (let ne : ⊥ = cc (t) in absurd ne), λ at. absurd (never at.0 at.1))
 found_is_open numbers number (Some p) here = (λ t. (p, here), λ at. refl)
 
--- a number that is read at a place, and that none is
+-- a place that has a number, and one that has none
 pub some_there : (numbers : List (Option ℕ)) (k : ℕ) → k < length numbers → is_some (get_or numbers k None) ≡ true
     → (number : ℕ) × (slice_get numbers k ≡ Some (Some number))
 some_there numbers k lt some = read (get_or numbers k None) (slice_get-get_or numbers k None lt) some
