@@ -1,5 +1,5 @@
 -- A judge follows a call that begins.
-use Rattle.std.proofs.Common.{◌≡◌, ◌≢◌, ◌↔◌, ◌⊎◌, inl, inr, ℕ, suc, ◌+◌, ◌<◌, ◌≤◌, List, [], ◌∷◌, ◌++◌, Option, Some, None, length, map, slice_get, slice_set, ap, subst, refl, sym, ◌∙◌, arith, length-append}
+use Rattle.std.proofs.Common.{◌≡◌, ◌↔◌, ◌⊎◌, inl, inr, ℕ, suc, ◌<◌, ◌≤◌, List, [], ◌∷◌, ◌++◌, Option, Some, None, length, map, slice_get, slice_set, ap, subst, refl, sym, ◌∙◌, arith, length-append}
 use Rattle.std.proofs.lemmas.Bool.Decides.{eqb_tells}
 use Rattle.std.proofs.lemmas.List.{length-map, map-append}
 use Rattle.std.proofs.lemmas.Option.{slice_get_within}
@@ -12,7 +12,7 @@ use Rattle.mesh_timed_judge.specs.Following.{CanBegin, IsJudgeOf, IsNumberOf, Is
 use Rattle.mesh_timed_judge.proofs.Events.{before_begin, before_is_ended, before_stays, begun_begin, ended_before_begin, ended_is_before, ended_stays, passed_more, placed_begin, placed_more, taken_begin}
 use Rattle.mesh_timed_judge.proofs.Places.{get_set_here, get_set_other}
 
--- the numbers of calls stay theirs where calls are added
+-- a place keeps the number of its call where calls are added
 pub number_stays : {C : Type 0} → (calls more : List (Timed C)) (x y : Option (Option ℕ)) → IsNumberOf calls x y → IsNumberOf (calls ++ more) x y
 number_stays calls more None None is = tt
 number_stays calls more None (Some y) is = absurd is
@@ -23,7 +23,7 @@ number_stays calls more (Some (Some i)) None is = absurd is
 number_stays calls more (Some (Some i)) (Some None) is = absurd is
 number_stays calls more (Some (Some i)) (Some (Some y)) is = (is.0, get_front calls more i is.0 is.1, is.2)
 
--- a free place is one that no call has taken
+-- where a place has no number, no call has it
 pub free_taken : {C : Type 0} → (calls : List (Timed C)) (x y : Option (Option ℕ)) → IsNumberOf calls x y → y ≡ Some None → x ≡ Some None
 free_taken calls None None is free = cc
 free_taken calls None (Some y) is free = absurd is
@@ -44,7 +44,7 @@ number_set calls taken numbers p q v w lt lt' new was = elim (eqb_tells p q) [
       (subst (λ y. IsNumberOf calls (slice_get taken q) y) (sym (get_set_other numbers p q w is.1)) was)
 ]
 
--- what a judge and the judge behind a begin have to do with each other
+-- what a judge before a begin and the one after it have to do with each other
 pub record HasBegun {S C : Type 0} (effect : S → C → Option S) (timed : Timed C) (judge judge' : TimedStanding S C) : Type 0 where
   pub place : ℕ
   pub free : slice_get judge.numbers place ≡ Some None
@@ -124,9 +124,9 @@ module _ {S C : Type 0} (effect : S → C → Option S) (start : S) (calls : Lis
       | inr new' ↦ subst (λ y. y.begin ≤ a.end) (sym new'.1) (can.before_ends i a old (still_open i a old open'))
     ]
     | inr new ↦ subst (λ y. b.begin ≤ y.end) (sym new.1) (elim (is_old_or_new calls timed b j at_j) [
-        | inl old' ↦ (let earlier = can.in_order j b old' in let time = can.takes_time in omega (arith, earlier, time))
-        | inr new' ↦ subst (λ y. y.begin ≤ timed.end) (sym new'.1) can.takes_time
-      ])
+      | inl old' ↦ (let earlier = can.in_order j b old' in let time = can.takes_time in omega (arith, earlier, time))
+      | inr new' ↦ subst (λ y. y.begin ≤ timed.end) (sym new'.1) can.takes_time
+    ])
   ]
 
   ended_now : (i : ℕ) (x : Timed C) → slice_get (calls ++ timed ∷ []) i ≡ Some x → HasEnded (is.events ++ CallBegins ∷ []) i ↔ (IsOpen judge' x.number → ⊥)
@@ -151,12 +151,12 @@ module _ {S C : Type 0} (effect : S → C → Option S) (start : S) (calls : Lis
       )
       | inr new' ↦ (
         λ ends. (
-          let closed = (is.ended i a old).0 (before_is_ended 0 is.events i j (before_begin 0 is.events i j ends)) in
-          ((λ open'. closed (still_open i a old open')), subst (λ y. a.end < y.begin) (sym new'.1) (can.after_ended i a old closed))),
+            let closed = (is.ended i a old).0 (before_is_ended 0 is.events i j (before_begin 0 is.events i j ends)) in
+            ((λ open'. closed (still_open i a old open')), subst (λ y. a.end < y.begin) (sym new'.1) (can.after_ended i a old closed))),
         λ told. (
-          let ended = (is.ended i a old).1 (λ was. told.0 ((has.open_now a.number).1 (inr was))) in
-          let all = is.all_begun in
-          before_stays 0 is.events (CallBegins ∷ []) i j (ended_is_before 0 is.events i j ended (omega (arith, all, new'.0)))),
+            let ended = (is.ended i a old).1 (λ was. told.0 ((has.open_now a.number).1 (inr was))) in
+            let all = is.all_begun in
+            before_stays 0 is.events (CallBegins ∷ []) i j (ended_is_before 0 is.events i j ended (omega (arith, all, new'.0)))),
       )
     ]
     | inr new ↦ (

@@ -1,5 +1,5 @@
 -- A judge follows a call to its end.
-use Rattle.std.proofs.Common.{◌≡◌, ◌≢◌, ◌↔◌, ◌⊎◌, inl, inr, ℕ, suc, ◌<◌, ◌≤◌, List, [], ◌∷◌, ◌++◌, Option, Some, None, length, slice_get, slice_set, ap, subst, refl, sym, ◌∙◌, arith}
+use Rattle.std.proofs.Common.{◌≡◌, ◌≢◌, ◌↔◌, inl, inr, ℕ, ◌<◌, List, [], ◌∷◌, ◌++◌, Option, Some, None, slice_get, slice_set, ap, subst, refl, sym, ◌∙◌, arith}
 use Rattle.std.proofs.lemmas.Bool.Decides.{eqb_tells}
 use Rattle.std.proofs.lemmas.Option.{slice_get_within}
 use Rattle.mesh_configurations.specs.Orders.{CallEnds, EndsBefore, HasEnded}
@@ -8,7 +8,7 @@ use Rattle.mesh_configurations.specs.Standings.{Ends, HasPassed}
 use Rattle.mesh_timed_judge.specs.TimedCalls.{Timed}
 use Rattle.mesh_timed_judge.specs.Following.{IsJudgeOf, IsNumberOf, IsOpen, TimedStanding, taken_behind}
 use Rattle.mesh_timed_judge.proofs.Begin.{number_set}
-use Rattle.mesh_timed_judge.proofs.Events.{before_end, before_is_ended, before_stays, begun_end, ended_before_end, ended_last, ended_stays, passed_more, placed_end, taken_end}
+use Rattle.mesh_timed_judge.proofs.Events.{before_end, before_stays, begun_end, ended_before_end, ended_last, ended_stays, passed_more, placed_end, taken_end}
 
 -- the call that has a place where a number is
 abbrev pub HasCall : {C : Type 0} → List (Timed C) → Option (Option ℕ) → ℕ → Type 0
@@ -31,7 +31,7 @@ open_is_call effect start calls judge is number at =
     let found = call_of_number calls (slice_get (taken_behind 0 none_taken is.placed) at.0) (slice_get judge.numbers at.0) number (is.numbered at.0) at.1 in
     (found.0, found.1, found.3, found.4)
 
--- what a judge and the judge behind an end have to do with each other
+-- what a judge before an end and the one after it have to do with each other
 pub record HasFinished {S C : Type 0} (effect : S → C → Option S) (number : ℕ) (judge judge' : TimedStanding S C) : Type 0 where
   pub place : ℕ
   pub here : slice_get judge.numbers place ≡ Some (Some number)

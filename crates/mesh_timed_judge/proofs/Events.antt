@@ -1,5 +1,5 @@
 -- One event more, behind others: what has begun and ended, and the places of calls.
-use Rattle.std.proofs.Common.{◌≡◌, ◌⊎◌, inl, inr, ℕ, suc, ◌<◌, ◌≤◌, List, [], ◌∷◌, ◌++◌, Option, Some, None, slice_get, slice_set, ap, subst, refl, sym, ◌∙◌, arith}
+use Rattle.std.proofs.Common.{◌≡◌, ◌⊎◌, inl, inr, ℕ, suc, ◌≤◌, List, [], ◌∷◌, ◌++◌, Option, Some, None, slice_get, slice_set, subst, refl, sym, arith}
 use Rattle.mesh_configurations.specs.Orders.{CallBegins, CallEnds, EndsBefore, HasEnded, NumberedEvent, begun_behind}
 use Rattle.mesh_configurations.specs.Placed.{ArePlaced, HavePassed}
 use Rattle.mesh_configurations.specs.Standings.{Begins, Ends, Event, HasPassed, Standing}

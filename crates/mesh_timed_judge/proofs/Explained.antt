@@ -58,8 +58,9 @@ module _ {S C : Type 0} (effect : S → C → Option S) (start : S) (calls : Lis
       let order = elements_at calls numbers.0 below in
       let all : (i : ℕ) → i < length calls → IsIn i numbers.0 =
       λ i lt. (let call = get_within calls i lt in pairwise.1 i ((is.ended i call.0 call.1).1 (none call.0.number))) in
-      let listed_calls = listed_at (λ n. n) calls calls 0 (λ i j e. (let same : i ≡ j = omega (arith, e) in ap (λ k. slice_get calls k) same)) in
-      (order.0, record {
+      let listed_calls = listed_at (λ n. n) calls calls 0 (λ i j e. (let same : i ≡ j = omega (arith, e) in ap (λ k. slice_get calls k) same)) in (
+        order.0,
+        record {
           same = orders_at calls numbers.0 (listed (λ n. n) 0 calls) order.0 calls
               (same_numbers numbers.0 (listed (λ n. n) 0 calls) once (listed_once (λ n. n) calls 0 (λ i j e. e))
               (λ i at. in_listed (λ n. n) calls 0 i (omega arith) (let lt = in_below (length calls) numbers.0 i below at in omega (arith, lt)))
@@ -71,4 +72,5 @@ module _ {S C : Type 0} (effect : S → C → Option S) (start : S) (calls : Lis
               (pairs_from (λ front back. EndsBefore 0 is.events back front → ⊥) numbers.0 pairwise.2));
           last = numbers.1.2.0;
           answers = sym (same_states effect calls numbers.0 order.0 start order.1) ∙ numbers.1.2.1;
-        })
+        },
+      )

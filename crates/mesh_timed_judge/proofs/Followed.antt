@@ -1,14 +1,14 @@
--- What a begin and an end of a timed judge do to it: in front it has this standing and these numbers, behind it others.
+-- A timed judge before and after a begin and an end, by its standing and its numbers.
 use Rattle.std.proofs.Common.{◌≡◌, ℕ, zero, suc, List, [], ◌∷◌, ◌++◌, Option, Some, None, replicate, slice_get, slice_set, subst, refl, sym}
 use Rattle.mesh_configurations.specs.Placed.{none_taken}
 use Rattle.mesh_configurations.specs.Standings.{Begins, Ends, HasPassed, Standing, first_standing, none_pending}
 use Rattle.mesh_timed_judge.specs.TimedCalls.{Timed}
 use Rattle.mesh_timed_judge.specs.Following.{AreNumbered, CanBegin, IsJudgeOf, IsNumberOf, IsNumbered, TimedStanding}
-use Rattle.mesh_timed_judge.proofs.Begin.{HasBegun, follows_begin}
-use Rattle.mesh_timed_judge.proofs.End.{HasFinished, follows_end}
+use Rattle.mesh_timed_judge.proofs.Begin.{follows_begin}
+use Rattle.mesh_timed_judge.proofs.End.{follows_end}
 use Rattle.mesh_timed_judge.proofs.Places.{places_begun, places_ended}
 
--- the judge of calls is one of these and the call that begins
+-- a judge that follows calls becomes one that follows these and the call that begins
 abbrev pub IsFollowedOn : {S C : Type 0} → (S → C → Option S) → ℕ → C → TimedStanding S C → TimedStanding S C → Type 0
 IsFollowedOn {S} {C} effect number call judge judge' = (start : S) (calls : List (Timed C)) (begin end : ℕ) → IsJudgeOf effect start calls judge
     → CanBegin calls judge (record { number = number; begin = begin; end = end; call = call })
@@ -22,7 +22,7 @@ begin_is_followed effect standing standing' numbers p number call free passed st
     (record { standing = standing'; numbers = slice_set numbers p (Some number) }) is can
     (record { place = p; free = free; numbers = refl; passed = passed; open_now = λ n. places_begun numbers p number n free })
 
--- the judge of calls stays theirs
+-- a judge that follows calls stays one of these
 abbrev pub IsFollowedToEnd : {S C : Type 0} → (S → C → Option S) → TimedStanding S C → TimedStanding S C → Type 0
 IsFollowedToEnd {S} {C} effect judge judge' = (start : S) (calls : List (Timed C)) → IsJudgeOf effect start calls judge → IsJudgeOf effect start calls judge'
 
@@ -55,7 +55,7 @@ numbered_first {C} pending numbers is are =
     record { all = refl; each = λ k. none_numbered C 64 k; once = λ p q number h k. absurd (no_number 64 p number h) } in
     subst (λ xs. AreNumbered xs numbers) (sym is) (subst (λ ys. AreNumbered {C = C} none_pending ys) (sym are) first)
 
--- the first judge is that of no calls
+-- the first judge follows no calls
 pub first_is_followed : {S C : Type 0} → (effect : S → C → Option S) (start : S) → IsJudgeOf effect start [] (record { standing = first_standing start; numbers = none_taken })
 first_is_followed effect start = record {
   events = [];

@@ -22,12 +22,12 @@ pub has_front : (kind : ℕ → Type 0) → ((n : ℕ) → kind n ⊎ (kind n �
 has_front kind test [] = record { front = []; back = []; is = refl; leads = tt; none = tt }
 has_front kind test (n ∷ ns) = elim (test n) [
   | inl has ↦ (let rest = has_front kind test ns in record {
-      front = n ∷ rest.front;
-      back = rest.back;
-      is = ap (λ (ks : List ℕ). n ∷ ks) rest.is;
-      leads = (inl has, rest.leads);
-      none = rest.none;
-    })
+    front = n ∷ rest.front;
+    back = rest.back;
+    is = ap (λ (ks : List ℕ). n ∷ ks) rest.is;
+    leads = (inl has, rest.leads);
+    none = rest.none;
+  })
   | inr hasnt ↦ (let rest = has_front kind test ns in longer kind n ns hasnt rest.front rest.back rest.is rest.leads rest.none)
 ]
   where

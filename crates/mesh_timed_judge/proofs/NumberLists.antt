@@ -1,5 +1,5 @@
 -- Lists of numbers: what is in them, and that each is in them once.
-use Rattle.std.proofs.Common.{◌≡◌, ◌⊎◌, inl, inr, ℕ, ◌<◌, List, [], ◌∷◌, ◌++◌, ap, subst, refl, sym, ◌∙◌}
+use Rattle.std.proofs.Common.{◌≡◌, ◌⊎◌, inl, inr, ℕ, ◌<◌, List, [], ◌∷◌, ◌++◌, ap, subst, refl, sym}
 use Rattle.std.specs.List.Sorted.{IsPermutation}
 use Rattle.std.proofs.lemmas.List.Sorted.{IsPermutation-cons, IsPermutation-middle, IsPermutation-refl, IsPermutation-sym, IsPermutation-trans}
 use Rattle.mesh_configurations.specs.Carried.{AreBelow}
@@ -50,10 +50,10 @@ from_middle i n (x ∷ front) back at = elim at [
 once_middle : (n : ℕ) (front back : List ℕ) → IsEachOnce (front ++ n ∷ back) → IsEachOnce (front ++ back) × (IsIn n (front ++ back) → ⊥)
 once_middle n [] back once = (once.1, once.0)
 once_middle n (x ∷ front) back once = (
-  let rest = once_middle n front back once.1 in (
-    ((λ at. once.0 (to_middle x n front back at)), rest.0),
-    λ at. elim at [ inl same ↦ once.0 (subst (λ k. IsIn k (front ++ n ∷ back)) (sym same) (at_middle n front back)) | inr later ↦ rest.1 later ],
-  ))
+    let rest = once_middle n front back once.1 in (
+      ((λ at. once.0 (to_middle x n front back at)), rest.0),
+      λ at. elim at [ inl same ↦ once.0 (subst (λ k. IsIn k (front ++ n ∷ back)) (sym same) (at_middle n front back)) | inr later ↦ rest.1 later ],
+    ))
 
 split_at : (n : ℕ) (ms : List ℕ) → IsIn n ms → (front back : List ℕ) × (ms ≡ front ++ n ∷ back)
 split_at n [] at = absurd at

@@ -1,5 +1,5 @@
--- What is at the places of lists where one was set, and the numbers of pending calls at their places.
-use Rattle.std.proofs.Common.{◌≡◌, ◌≢◌, ◌↔◌, ◌⊎◌, inl, inr, ℕ, zero, suc, ◌<◌, true, false, IsTrue, MatchOption, List, [], ◌∷◌, Option, Some, None, length, get_or, slice_get, slice_set, ap, subst, refl, sym, ◌∙◌, arith}
+-- Elements of a list after one was set, and the numbers of pending calls by their places.
+use Rattle.std.proofs.Common.{◌≡◌, ◌≢◌, ◌↔◌, ◌⊎◌, inl, inr, ℕ, zero, suc, ◌<◌, ◌≤◌, true, false, IsTrue, MatchOption, List, [], ◌∷◌, Option, Some, None, length, get_or, slice_get, slice_set, ap, subst, refl, sym, ◌∙◌, arith}
 use Rattle.std.proofs.lemmas.Bool.Decides.{eqb_tells}
 use Rattle.std.proofs.lemmas.List.{length-set}
 use Rattle.std.proofs.lemmas.Option.{get_or_from_slice_get, slice_get-get_or, slice_get_within}
@@ -32,7 +32,7 @@ get_set_cases xs p q v x lt h = elim (eqb_tells p q) [
 abbrev pub HasPlace : List (Option ℕ) → ℕ → Type 0
 HasPlace numbers number = (place : ℕ) × (slice_get numbers place ≡ Some (Some number))
 
--- behind a begin these numbers have places
+-- the numbers that have places after a begin
 pub places_begun : (numbers : List (Option ℕ)) (p number n : ℕ) → slice_get numbers p ≡ Some None
     → HasPlace (slice_set numbers p (Some number)) n ↔ ((n ≡ number) ⊎ HasPlace numbers n)
 places_begun numbers p number n free =
@@ -49,7 +49,7 @@ places_begun numbers p number n free =
       ],
     )
 
--- and behind an end these
+-- and after an end
 pub places_ended : (numbers : List (Option ℕ)) (p number n : ℕ) → slice_get numbers p ≡ Some (Some number)
     → ((q : ℕ) → slice_get numbers q ≡ Some (Some number) → p ≡ q)
     → HasPlace (slice_set numbers p None) n ↔ (HasPlace numbers n × (n ≢ number))
@@ -60,11 +60,11 @@ places_ended numbers p number n here once =
         | inr was ↦ ((at.0, was.1), λ same. was.0 (once at.0 (was.1 ∙ ap (λ k. Some (Some k)) same)))
       ],
       λ both. (
-        let at = both.0 in
-        let other : p ≢ at.0 = λ e. (
+          let at = both.0 in
+          let other : p ≢ at.0 = λ e. (
           let two : Some (Some number) ≡ Some (Some n) = sym here ∙ (ap (λ k. slice_get numbers k) e ∙ at.1) in
           let same : n ≡ number = cc (two) in both.1 same) in
-        (at.0, get_set_other numbers p at.0 None other ∙ at.1)),
+          (at.0, get_set_other numbers p at.0 None other ∙ at.1)),
     )
 
 -- a place is free for both, or for none
@@ -83,6 +83,25 @@ pending_at (Some None) (Some None) n are is = cc
 pending_at (Some None) (Some (Some y)) n are is = absurd are
 pending_at (Some (Some c)) y n are is = (c, refl)
 
+-- where no place is free each has a number
+pub all_have_numbers : {C : Type 0} → (pending : List (Option C)) (numbers : List (Option ℕ)) → AreNumbered pending numbers
+    → ((place : ℕ) → slice_get pending place ≡ Some None → ⊥) → (place : ℕ) → place < 64 → (number : ℕ) × (slice_get numbers place ≡ Some (Some number))
+all_have_numbers {C} pending numbers are taken place lt =
+    has_number (slice_get pending place) (slice_get numbers place) (are.each place) (taken place)
+    (λ none. (let past = within_not numbers place none in let all = are.all in omega (arith, lt, past, all)))
+  where
+    within_not : (xs : List (Option ℕ)) (k : ℕ) → slice_get xs k ≡ None → length xs ≤ k
+    within_not [] k none = omega arith
+    within_not (x ∷ xs) zero none = cc
+    within_not (x ∷ xs) (suc k) none = let rest = within_not xs k none in omega (arith, rest)
+
+    has_number : (x : Option (Option C)) (y : Option (Option ℕ)) → IsNumbered x y → (x ≡ Some None → ⊥) → (y ≡ None → ⊥) → (number : ℕ) × (y ≡ Some (Some number))
+    has_number x None is taken' there = absurd (there refl)
+    has_number None (Some y) is taken' there = absurd is
+    has_number (Some None) (Some y) is taken' there = absurd (taken' refl)
+    has_number (Some (Some c)) (Some None) is taken' there = absurd is
+    has_number (Some (Some c)) (Some (Some number)) is taken' there = (number, refl)
+
 -- what is set at one place of both
 numbered_set : {C : Type 0} → (pending : List (Option C)) (numbers : List (Option ℕ)) (p q : ℕ) (v : Option C) (w : Option ℕ) → p < length pending → p < length numbers
     → IsNumbered (Some v) (Some w) → IsNumbered (slice_get pending q) (slice_get numbers q)
@@ -96,15 +115,17 @@ numbered_set pending numbers p q v w lt lt' new was = elim (eqb_tells p q) [
 ]
 
 -- a begin
-pub numbered_begun : {C : Type 0} → (pending : List (Option C)) (numbers : List (Option ℕ)) (p number : ℕ) (call : C) → AreNumbered pending numbers
-    → slice_get pending p ≡ Some None → (HasPlace numbers number → ⊥) → AreNumbered (slice_set pending p (Some call)) (slice_set numbers p (Some number))
-numbered_begun pending numbers p number call are free fresh =
+pub numbered_begun : {C : Type 0} → (pending pending' : List (Option C)) (numbers : List (Option ℕ)) (p number : ℕ) (call : C) → AreNumbered pending numbers
+    → slice_get pending p ≡ Some None → (HasPlace numbers number → ⊥) → pending' ≡ slice_set pending p (Some call)
+    → AreNumbered pending' (slice_set numbers p (Some number))
+numbered_begun pending pending' numbers p number call are free fresh is =
     let free' = free_number (slice_get pending p) (slice_get numbers p) (are.each p) free in
     let within : p < length pending = slice_get_within pending p None free in
     let within' : p < length numbers = slice_get_within numbers p None free' in
     record {
       all = length-set numbers p (Some number) ∙ are.all;
-      each = λ q. numbered_set pending numbers p q (Some call) (Some number) within within' tt (are.each q);
+      each = λ q. subst (λ xs. IsNumbered (slice_get xs q) (slice_get (slice_set numbers p (Some number)) q)) (sym is)
+          (numbered_set pending numbers p q (Some call) (Some number) within within' tt (are.each q));
       once = λ q r n h k. elim (get_set_cases numbers p q (Some number) (Some n) within' h) [
         | inl new ↦ elim (get_set_cases numbers p r (Some number) (Some n) within' k) [
           | inl new' ↦ sym new.0 ∙ new'.0
@@ -118,9 +139,9 @@ numbered_begun pending numbers p number call are free fresh =
     }
 
 -- an end
-pub numbered_ended : {C : Type 0} → (pending : List (Option C)) (numbers : List (Option ℕ)) (p number : ℕ) → AreNumbered pending numbers
-    → slice_get numbers p ≡ Some (Some number) → AreNumbered (slice_set pending p None) (slice_set numbers p None)
-numbered_ended pending numbers p number are here =
+pub numbered_ended : {C : Type 0} → (pending pending' : List (Option C)) (numbers : List (Option ℕ)) (p number : ℕ) → AreNumbered pending numbers
+    → slice_get numbers p ≡ Some (Some number) → pending' ≡ slice_set pending p None → AreNumbered pending' (slice_set numbers p None)
+numbered_ended pending pending' numbers p number are here is =
     let there = pending_at (slice_get pending p) (slice_get numbers p) number (are.each p) here in
     let within : p < length pending = slice_get_within pending p (Some there.0) there.1 in
     let within' : p < length numbers = slice_get_within numbers p (Some number) here in
@@ -128,7 +149,8 @@ numbered_ended pending numbers p number are here =
     λ q n h. elim (get_set_cases numbers p q None (Some n) within' h) [ inl new ↦ (let ne : ⊥ = cc (new.1) in absurd ne) | inr old ↦ old.1 ] in
     record {
       all = length-set numbers p None ∙ are.all;
-      each = λ q. numbered_set pending numbers p q None None within within' tt (are.each q);
+      each = λ q. subst (λ xs. IsNumbered (slice_get xs q) (slice_get (slice_set numbers p None) q)) (sym is)
+          (numbered_set pending numbers p q None None within within' tt (are.each q));
       once = λ q r n h k. are.once q r n (was q n h) (was r n k);
     }
 
@@ -139,7 +161,7 @@ pub found_is_open : (numbers : List (Option ℕ)) (number : ℕ) (found : Option
 found_is_open numbers number None never = (λ t. (let ne : ⊥ = cc (t) in absurd ne), λ at. absurd (never at.0 at.1))
 found_is_open numbers number (Some p) here = (λ t. (p, here), λ at. refl)
 
--- a number that is read at a place, and that none is
+-- a place that has a number, and one that has none
 pub some_there : (numbers : List (Option ℕ)) (k : ℕ) → k < length numbers → is_some (get_or numbers k None) ≡ true
     → (number : ℕ) × (slice_get numbers k ≡ Some (Some number))
 some_there numbers k lt some = read (get_or numbers k None) (slice_get-get_or numbers k None lt) some

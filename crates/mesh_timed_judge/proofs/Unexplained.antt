@@ -1,5 +1,5 @@
 -- Where an order explains calls and others that begin later, some configuration is left.
-use Rattle.std.proofs.Common.{◌≡◌, ◌⊎◌, inl, inr, ℕ, ◌+◌, ◌<◌, ◌≤◌, List, [], ◌∷◌, ◌++◌, Option, Some, length, map, slice_get, option_map, ap, subst, refl, sym, ◌∙◌, arith, length-append}
+use Rattle.std.proofs.Common.{◌≡◌, ◌⊎◌, inl, inr, ℕ, ◌<◌, List, [], ◌∷◌, ◌++◌, Option, Some, length, map, slice_get, option_map, ap, subst, sym, ◌∙◌, arith, length-append}
 use Rattle.std.specs.List.Sorted.{IsPermutation}
 use Rattle.std.proofs.lemmas.Bool.Decides.{eqb_tells}
 use Rattle.std.proofs.lemmas.List.Sorted.{IsPermutation-sym}
@@ -15,11 +15,10 @@ use Rattle.mesh_configurations.proofs.Placing.{judge_explains}
 use Rattle.mesh_timed_judge.specs.TimedCalls.{ExplainsTimed, Timed}
 use Rattle.mesh_timed_judge.specs.Following.{HasSome, IsJudgeOf, TimedStanding}
 use Rattle.mesh_timed_judge.specs.TimedLaws.{AreLater}
-use Rattle.mesh_timed_judge.proofs.Events.{before_is_ended}
 use Rattle.mesh_timed_judge.proofs.Explained.{same_states, take_time}
-use Rattle.mesh_timed_judge.proofs.Fronts.{HasFront, front_leads, has_front, leads_hold, pairs_front, pairs_within, every_front, same_after}
+use Rattle.mesh_timed_judge.proofs.Fronts.{front_leads, has_front, leads_hold, pairs_front, pairs_within, every_front, same_after}
 use Rattle.mesh_timed_judge.proofs.Listed.{AreAt, at_has, get_within, in_listed, listed, listed_at, listed_once, pairs_back}
-use Rattle.mesh_timed_judge.proofs.Moved.{IsMoved, is_moved}
+use Rattle.mesh_timed_judge.proofs.Moved.{is_moved}
 use Rattle.mesh_timed_judge.proofs.NumberLists.{every_in, every_is_below, in_either, once_front}
 
 -- a call ended or it didn't
@@ -59,10 +58,10 @@ has_numbers calls order same =
       at = listed_at moved.to calls order 0 (λ i j e. (let is : i ≡ j = omega (arith, e) in ap (λ k. slice_get order k) is ∙ moved.there j));
       once = listed_once moved.to order 0 (λ i j e. sym (moved.back i) ∙ (ap moved.from e ∙ moved.back j));
       all = λ i lt. (
-        let call = get_within calls i lt in
-        let there : slice_get order (moved.from i) ≡ Some call.0 = moved.there (moved.from i) ∙ (ap (λ k. slice_get calls k) (moved.forth i) ∙ call.1) in
-        let within = slice_get_within order (moved.from i) call.0 there in
-        subst (λ k. IsIn k (listed moved.to 0 order)) (moved.forth i) (in_listed moved.to order 0 (moved.from i) (omega arith) (omega (arith, within))));
+          let call = get_within calls i lt in
+          let there : slice_get order (moved.from i) ≡ Some call.0 = moved.there (moved.from i) ∙ (ap (λ k. slice_get calls k) (moved.forth i) ∙ call.1) in
+          let within = slice_get_within order (moved.from i) call.0 there in
+          subst (λ k. IsIn k (listed moved.to 0 order)) (moved.forth i) (in_listed moved.to order 0 (moved.from i) (omega arith) (omega (arith, within))));
     }
 
 -- the effects of calls that stand in front of others
@@ -109,12 +108,12 @@ module _ {S C : Type 0} (effect : S → C → Option S) (start : S) (calls more 
       let once = once_front cut.front cut.back (subst (λ ns. IsEachOnce ns) cut.is has.once) in
       let all_ended : (i : ℕ) → HasEnded is.events i → IsIn i cut.front =
       λ i ended. (
-        let lt = is.have_begun i ended in
-        let among = has.all i (simp length-append (omega (arith, lt))) in
-        elim (in_either i cut.front cut.back (subst (λ ns. IsIn i ns) cut.is among)) [
-          | inl here ↦ here
-          | inr behind ↦ absurd (every_in (λ n. HasEnded is.events n → ⊥) cut.back i cut.none behind ended)
-        ]) in
+      let lt = is.have_begun i ended in
+      let among = has.all i (simp length-append (omega (arith, lt))) in
+      elim (in_either i cut.front cut.back (subst (λ ns. IsIn i ns) cut.is among)) [
+        | inl here ↦ here
+        | inr behind ↦ absurd (every_in (λ n. HasEnded is.events n → ⊥) cut.back i cut.none behind ended)
+      ]) in
       let times = all_pairs_from (λ front back. EndsBefore 0 is.events back front → ⊥) cut.front
       (pairs_within (AreApart (calls ++ more)) (λ front back. EndsBefore 0 is.events back front → ⊥) (λ n. n < length calls) cut.front not_behind front_pairs below) in
       let begun = subst (λ n. AreBelow n cut.front) (sym is.all_begun) (every_is_below (length calls) cut.front below) in

@@ -15,6 +15,10 @@ pub record TimedStanding (S C : Type 0) : Type 0 where
 abbrev pub IsOpen : {S C : Type 0} → TimedStanding S C → ℕ → Type 0
 IsOpen judge number = (place : ℕ) × (slice_get judge.numbers place ≡ Some (Some number))
 
+-- a call is pending at each of the 64 places
+abbrev pub IsFull : {S C : Type 0} → TimedStanding S C → Type 0
+IsFull judge = (place : ℕ) → place < 64 → (number : ℕ) × (slice_get judge.numbers place ≡ Some (Some number))
+
 -- some configuration is left
 abbrev pub HasSome : {S C : Type 0} → (S → C → Option S) → TimedStanding S C → Type 0
 HasSome effect judge = CanGoOn effect judge.standing []
@@ -24,14 +28,14 @@ abbrev pub HasMoreAtEnd : {S C : Type 0} → (S → C → Option S) → TimedSta
 HasMoreAtEnd effect judge number most = (place : ℕ) × (slice_get judge.numbers place ≡ Some (Some number))
     × HasMore (carry (effect_at effect judge.standing.pending) had_effect place) (length judge.standing.pending) judge.standing.kept most
 
--- a number is at a place exactly where a call is pending there; both lists are equally long
+-- a place has a number exactly where it has a pending call, and is in both lists or in none
 abbrev pub IsNumbered : {C : Type 0} → Option (Option C) → Option (Option ℕ) → Type 0
 IsNumbered None None = Unit {0}
 IsNumbered (Some None) (Some None) = Unit {0}
 IsNumbered (Some (Some call)) (Some (Some number)) = Unit {0}
 IsNumbered call number = ⊥
 
--- the numbers of the pending calls stand at the places of these calls, no number twice
+-- there are 64 places, each with a number exactly where a call is pending there, and no number is at two places
 pub record AreNumbered {C : Type 0} (pending : List (Option C)) (numbers : List (Option ℕ)) : Type 0 where
   pub all : length numbers ≡ 64
   pub each : (place : ℕ) → IsNumbered (slice_get pending place) (slice_get numbers place)
@@ -45,13 +49,13 @@ pub record CanBegin {S C : Type 0} (calls : List (Timed C)) (judge : TimedStandi
   pub after_ended : (i : ℕ) (other : Timed C) → slice_get calls i ≡ Some other → (IsOpen judge other.number → ⊥) → other.end < timed.begin
   pub before_ends : (i : ℕ) (other : Timed C) → slice_get calls i ≡ Some other → IsOpen judge other.number → timed.begin ≤ other.end
 
--- which call has each place behind events by places: the calls are numbered in the order of their begins
+-- which call has each place after these events: calls are numbered from 0 in the order of their begins, and so many have begun before
 abbrev pub taken_behind : {C : Type 0} → ℕ → List (Option ℕ) → List (Event C) → List (Option ℕ)
 taken_behind begun taken [] = taken
 taken_behind begun taken (Begins place call ∷ placed) = taken_behind (suc begun) (slice_set taken place (Some begun)) placed
 taken_behind begun taken (Ends place ∷ placed) = taken_behind begun (slice_set taken place None) placed
 
--- the call that has a place, by where it is in the list of calls, has the number that is at the place
+-- a place is free for both, or the call that has it, by its index in the list, has this number
 abbrev pub IsNumberOf : {C : Type 0} → List (Timed C) → Option (Option ℕ) → Option (Option ℕ) → Type 0
 IsNumberOf calls None None = Unit {0}
 IsNumberOf calls (Some None) (Some None) = Unit {0}
@@ -59,8 +63,8 @@ IsNumberOf {C} calls (Some (Some i)) (Some (Some number)) = (timed : Timed C) ×
 IsNumberOf calls call number = ⊥
 
 -- the judge follows these calls from a state on, in the order of their begins: it has taken their begins, and the ends of those that aren't pending.
--- These are events of the calls by their places in the list, and the events at places of the judge; a call ended in the events before another began exactly
--- where it isn't pending and its moments say so
+-- The events name calls by their indices in the list. In the events a call ended before another began exactly where it isn't pending and its end is before
+-- the other's begin
 pub record IsJudgeOf {S C : Type 0} (effect : S → C → Option S) (start : S) (calls : List (Timed C)) (judge : TimedStanding S C) : Type 0 where
   pub events : List NumberedEvent
   pub placed : List (Event C)

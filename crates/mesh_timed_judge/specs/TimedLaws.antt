@@ -1,4 +1,4 @@
--- What a timed judge tells of the calls that it has followed.
+-- Laws about the calls that a timed judge has followed.
 use Rattle.std.specs.Prelude.{◌≡◌, ℕ, ◌<◌, List, ◌++◌, Option, Some, slice_get}
 use Rattle.mesh_timed_judge.specs.TimedCalls.{ExplainsTimed, Timed}
 use Rattle.mesh_timed_judge.specs.Following.{HasSome, IsJudgeOf, IsOpen, TimedStanding}

@@ -9,3 +9,6 @@ mod numbers;
 mod timed;
 
 pub use timed::TimedJudge;
+
+#[cfg(test)]
+mod tests;
