@@ -1,5 +1,6 @@
 mod AccessBytes
 mod AccessOrders
+mod BeginSteps
 mod BegunSteps
 mod BegunWrong
 mod CallPlaces

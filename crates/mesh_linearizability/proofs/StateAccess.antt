@@ -156,8 +156,9 @@ module _ (calls : List Call) (call : Call) (waits waits' : ℕ → Option Pendin
     (may : MayBegin calls waits call) (lives : ℕ → Option Life) (starts : ℕ → Option ℕ) (cells serials twice : ℕ → Type 0)
     (h : Holds calls waits lives starts cells serials twice) (cell : ℕ) (names : cell_at call ≡ cell) where
   -- a call on no live object
-  pub stray_starts : lives cell ≡ None → (IsNew call.entry.command → ⊥) → HasFlaw lives cells pending → Doomed (calls ++ call ∷ []) waits' lives cells
-  stray_starts none other flaw = doomed_now calls call waits waits' pending starting may lives cells
+  pub stray_starts : (lives' : ℕ → Option Life) (cells' : ℕ → Type 0) → lives cell ≡ None → (IsNew call.entry.command → ⊥) → HasFlaw lives' cells' pending
+      → Doomed (calls ++ call ∷ []) waits' lives' cells'
+  stray_starts lives' cells' none other flaw = doomed_now calls call waits waits' pending starting may lives' cells'
       (no_object calls call waits may (live_of lives) cells serials h.living other
       (subst (λ (c : ℕ). live_of lives c ≡ None) (sym names) (ap (λ (o : Option Life). option_map (λ life. object_of life.object) o) none)))
       flaw

@@ -14,7 +14,7 @@ use Rattle.mesh_linearizability.specs.Lives.{IsFreed, IsMade, IsNamed, Lives, No
 use Rattle.mesh_linearizability.specs.Queues.{CannotGoOn, HasEnded, IsWaiting, MayBegin, Suits, key_of, object_of}
 use Rattle.mesh_linearizability.specs.Timelines.{Doomed, HasFlaw, Holds, IsDue, IsState, StartsWaiting}
 use Rattle.mesh_linearizability.specs.declared.pending.Pending.{Pending}
-use Rattle.mesh_linearizability.specs.declared.pending.Pending.TheVariants.{Access}
+use Rattle.mesh_linearizability.specs.declared.pending.Pending.TheVariants.{Access, Wrong}
 use Rattle.mesh_linearizability.proofs.BegunSteps.{access_begun, free_begun, new_begun, none_goes_on}
 use Rattle.mesh_linearizability.proofs.CallPlaces.{at_below, at_one}
 use Rattle.mesh_linearizability.proofs.Finish.{life_of}
@@ -42,9 +42,9 @@ lives_same calls ended ended' live cells serials to from h = record {
 module _ (calls : List Call) (call : Call) (waits waits' : ℕ → Option Pending) (pending : Pending) (starting : StartsWaiting calls call waits waits' pending)
     (may : MayBegin calls waits call) where
   -- what is due stays due
-  pub due_still : (lives lives' : ℕ → Option Life) (cells : ℕ → Type 0) → ((c : ℕ) → lives c ≡ None → lives' c ≡ None) → IsDue calls waits lives cells
-      → IsDue (calls ++ call ∷ []) waits' lives' cells
-  due_still lives lives' cells none h = record {
+  pub due_still : (lives lives' : ℕ → Option Life) (cells cells' : ℕ → Type 0) → ((c : ℕ) → lives c ≡ None → lives' c ≡ None) → ((c : ℕ) → cells c → cells' c)
+      → IsDue calls waits lives cells → IsDue (calls ++ call ∷ []) waits' lives' cells'
+  due_still lives lives' cells cells' none keeps h = record {
     end = h.end;
     place = h.place;
     begun = let long = length-append calls (call ∷ []) in let begun = h.begun in omega (arith, long, begun);
@@ -54,13 +54,15 @@ module _ (calls : List Call) (call : Call) (waits waits' : ℕ → Option Pendin
     has_flaw = flaw_still h.pending h.has_flaw;
   }
     where
-      flaw_still : (p : Pending) → HasFlaw lives cells p → HasFlaw lives' cells p
-      flaw_still (Access c) flaw = (none c flaw.0, flaw.1)
-      flaw_still p flaw = flaw
+      flaw_still : (p : Pending) → HasFlaw lives cells p → HasFlaw lives' cells' p
+      flaw_still (Access c) flaw = (none c flaw.0, keeps c flaw.1)
+      flaw_still (Wrong f) flaw = flaw
+      flaw_still p flaw = absurd flaw
 
-  pub doomed_still : (lives lives' : ℕ → Option Life) (cells : ℕ → Type 0) → ((c : ℕ) → lives c ≡ None → lives' c ≡ None) → Doomed calls waits lives cells
-      → Doomed (calls ++ call ∷ []) waits' lives' cells
-  doomed_still lives lives' cells none h = record { cannot = none_goes_on calls call may.last h.cannot; due = due_still lives lives' cells none h.due }
+  pub doomed_still : (lives lives' : ℕ → Option Life) (cells cells' : ℕ → Type 0) → ((c : ℕ) → lives c ≡ None → lives' c ≡ None) → ((c : ℕ) → cells c → cells' c)
+      → Doomed calls waits lives cells → Doomed (calls ++ call ∷ []) waits' lives' cells'
+  doomed_still lives lives' cells cells' none keeps h =
+      record { cannot = none_goes_on calls call may.last h.cannot; due = due_still lives lives' cells cells' none keeps h.due }
 
   -- a call that no history allows begins, and a flaw of it will be told
   pub doomed_now : (lives : ℕ → Option Life) (cells : ℕ → Type 0) → CannotGoOn (calls ++ call ∷ []) → HasFlaw lives cells pending

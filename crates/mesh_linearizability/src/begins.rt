@@ -1,5 +1,5 @@
 //! What happens when a call begins.
-ghost use Rattle.std.specs.Prelude.{◌≡◌, ◌+◌, ◌×◌, ℕ, true, false, IfOk, OnOk, None};
+ghost use Rattle.std.specs.Prelude.{◌≡◌, ◌+◌, ℕ, true, false, IfOk, OnOk, None};
 ghost use Rattle.std.specs.Ordering.{nat_cmp};
 ghost use Rattle.std.specs.BTreeMap.{get};
 ghost use Rattle.model_memory.specs.Plain.{Entry};
@@ -107,30 +107,30 @@ fn begin_in(
     let Some(life) = lives.get_mut(&cell) else {
         return Ok(false);
     };
-    let access = access_of(life.object.address, entry);
+    let access = access_of(life.object.address, entry)?;
     life.begin(alloc, number, access)?;
     Ok(true)
 }
 
-/// What an access was recorded to do to the object at an address.
-fn access_of(address: u64, entry: &RecordedEntry) -> Access
-    ensures { result ≡ access_of address (plain_command entry.now.command) (plain_reply entry.now.reply) }
+/// What an access was recorded to do to the object at an address. An error is an allocation failure.
+fn access_of(address: u64, entry: &RecordedEntry) -> Result<Access, AllocError>
+    ensures { IfOk result (λ access. access ≡ access_of address (plain_command entry.now.command) (plain_reply entry.now.reply)) }
 {
     match (&entry.command, &entry.reply) {
-        (SpeltCommand::Put(_, off, bytes), RecordedReply::Done) => Access::Store(*off, bytes.clone()),
+        (SpeltCommand::Put(_, off, bytes), RecordedReply::Done) => Ok(Access::Store(*off, bytes.clone()?)),
         (SpeltCommand::Get(_, off, len), RecordedReply::Bytes(told)) => {
-            if u64::from(*len) == told.len() as u64 {
-                return Access::Load(*off, told.clone());
+            if *len as usize != told.len() {
+                return Ok(Access::Never);
             }
-            Access::Never
+            Ok(Access::Load(*off, told.clone()?))
         }
         (SpeltCommand::Addr(_), RecordedReply::At(told)) => {
-            if *told == address {
-                return Access::Nothing;
+            if *told != address {
+                return Ok(Access::Never);
             }
-            Access::Never
+            Ok(Access::Nothing)
         }
-        _ => Access::Never,
+        _ => Ok(Access::Never),
     }
 }
 

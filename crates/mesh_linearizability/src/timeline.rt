@@ -1,12 +1,14 @@
 //! `Timeline`, which takes calls in the order of their begins and ends.
 ghost use Rattle.std.specs.Prelude.{◌≡◌, ◌⊎◌, ◌↔◌, ◌+◌, ◌*◌, ◌++◌, ◌∷◌, [], ℕ, List, OnOk, Some, length};
+ghost use Rattle.std.specs.Ordering.{nat_cmp};
+ghost use Rattle.std.specs.BTreeMap.{get};
 ghost use Rattle.model_intervals.specs.Intervals.{Call};
 ghost use Rattle.model_intervals.specs.OverlappingCalls.{HasEffect};
 ghost use Rattle.mesh_fields.specs.Commands.{plain_command};
 ghost use Rattle.mesh_history.specs.RecordedWords.{plain_entry, plain_reply};
 ghost use Rattle.mesh_number_set.specs.Ranges.{Has};
 ghost use Rattle.mesh_linearizability.specs.Queues.{MayBegin};
-ghost use Rattle.mesh_linearizability.specs.Standing.{Stands, lives_of, waits_of};
+ghost use Rattle.mesh_linearizability.specs.Standing.{IsSetAt, Stands, lives_of, waits_of};
 ghost use Rattle.mesh_linearizability.specs.Timelines.{FewOpen};
 
 use crate::life::Life;
@@ -72,9 +74,17 @@ impl Timeline {
     {
         let pending = self.begun(number, entry)?;
         let key = u128::from(end) * NUMBERS + u128::from(number);
-        self.waiting.insert(key, pending)?;
+        set(&mut self.waiting, key, pending)?;
         Ok(())
     }
+}
+
+/// Puts a value under a key. An error is an allocation failure.
+pub(crate) fn set<T: Drop>(map: &mut BTreeMap<u128, T>, key: u128, value: T) -> Result<(), AllocError>
+    ensures { OnOk result (IsSetAt (get nat_cmp map.old) (get nat_cmp map.new) key (Some value)) }
+{
+    map.insert(key, value)?;
+    Ok(())
 }
 
 /// Adds a number to a set if it isn't in it. An error is an allocation failure.
