@@ -1,5 +1,5 @@
 -- A call begins: what a timeline knows.
-use Rattle.std.proofs.Common.{◌≡◌, ◌≢◌, ℕ, ◌+◌, ◌*◌, ◌<◌, ◌≤◌, ◌⊎◌, inl, inr, true, false, List, [], ◌∷◌, ◌++◌, length, arith, refl, sym, subst, ◌∙◌, ap, Option, Some, None, option_map}
+use Rattle.std.proofs.Common.{◌≡◌, ◌≢◌, ℕ, zero, suc, ◌+◌, ◌*◌, ◌<◌, ◌≤◌, ◌⊎◌, inl, inr, true, false, List, [], ◌∷◌, ◌++◌, length, arith, refl, sym, subst, ◌∙◌, ap, Option, Some, None, option_map}
 use Rattle.std.proofs.lemmas.Bool.Decides.{eqb_tells}
 use Rattle.model_memory.specs.Plain.{Entry}
 use Rattle.model_words.specs.declared.commands.Command.{Command}
@@ -7,7 +7,7 @@ use Rattle.model_words.specs.declared.commands.Command.TheVariants.{New, Free}
 use Rattle.model_words.specs.declared.commands.Reply.{Reply}
 use Rattle.model_intervals.specs.Intervals.{Call}
 use Rattle.model_intervals.specs.Objects.{is_access, object_made}
-use Rattle.model_intervals.specs.OverlappingCalls.{HasEffect, IsFree, IsNew, cell_at, cell_of}
+use Rattle.model_intervals.specs.OverlappingCalls.{HasEffect, IsAt, IsFree, IsNew, cell_at, cell_of}
 use Rattle.mesh_number_set.specs.Ranges.{Has}
 use Rattle.mesh_linearizability.specs.Accesses.{access_of}
 use Rattle.mesh_linearizability.specs.Begins.{IsNewPending}
@@ -15,12 +15,13 @@ use Rattle.mesh_linearizability.specs.Judges.{IsJudged}
 use Rattle.mesh_linearizability.specs.LifeSteps.{HasBegun}
 use Rattle.mesh_linearizability.specs.Queues.{MayBegin, Suits, object_of}
 use Rattle.mesh_linearizability.specs.Standing.{HasBegunIn, IsSetAt, Stands, lives_of, starts_of, waits_of}
-use Rattle.mesh_linearizability.specs.Timelines.{FewOpen, IsState, StartsWaiting}
+use Rattle.mesh_linearizability.specs.Timelines.{FewOpen, Holds, IsState, StartsWaiting}
 use Rattle.mesh_linearizability.specs.declared.life.Life.{Life}
 use Rattle.mesh_linearizability.specs.declared.flaws.Flaw.{Flaw}
 use Rattle.mesh_linearizability.specs.declared.pending.Pending.{Pending}
 use Rattle.mesh_linearizability.specs.declared.pending.Pending.TheVariants.{Made, Refused, Free as FreeEnds, Access, Wrong}
 use Rattle.mesh_linearizability.specs.declared.timeline.Timeline.{Timeline}
+use Rattle.mesh_linearizability.proofs.Finish.{life_of}
 use Rattle.mesh_linearizability.proofs.LifeSteps.{few_begun, judged_now}
 use Rattle.mesh_linearizability.proofs.StateAccess.{access_is_no_new, access_of_cell, access_starts, free_starts, stray_starts}
 use Rattle.mesh_linearizability.proofs.StateBegin.{doomed_still, new_starts}
@@ -92,7 +93,7 @@ new_so old number cell len word entry pending is_new will calls call waits' long
       | inl holds ↦ inl (
           new_starts calls call (waits_of old) waits' pending starting may (lives_of old) (starts_of old) (Has old.cells) (Has old.serials) (Has old.freed_twice) holds
               (suits pending (subst (λ (e : Entry). IsNewPending cell len e.reply pending) (sym is) will) is_new')
-              (subst (λ (c : Command). IsNew c) (sym is_new') tt) (no_access pending will))
+              (subst (λ (c : Command). IsNew c) (sym is_new') tt) (no_access entry.reply pending will))
       | inr doomed ↦ inr (doomed_still calls call (waits_of old) waits' pending starting may (lives_of old) (lives_of old) (Has old.cells) (Has old.cells)
           (λ c none. none) (λ c has. has) doomed)
     ]
@@ -105,12 +106,12 @@ new_so old number cell len word entry pending is_new will calls call waits' long
     suits (Access c) will is = absurd will
     suits (Wrong flaw) will is = absurd will
 
-    no_access : {reply : Reply} (p : Pending) → IsNewPending cell len reply p → (c : ℕ) → p ≡ Access c → ⊥
-    no_access (Made x) will c e = cc e
-    no_access (Refused d l refusal) will c e = cc e
-    no_access (FreeEnds d) will c e = will
-    no_access (Access d) will c e = will
-    no_access (Wrong flaw) will c e = will
+    no_access : (reply : Reply) (p : Pending) → IsNewPending cell len reply p → (c : ℕ) → p ≡ Access c → ⊥
+    no_access reply (Made x) will c e = cc e
+    no_access reply (Refused d l refusal) will c e = cc e
+    no_access reply (FreeEnds d) will c e = will
+    no_access reply (Access d) will c e = will
+    no_access reply (Wrong flaw) will c e = will
 
 -- what is open where an object is live no more
 pub few_less : (lives lives' : ℕ → Option Life) (count : ℕ) → ((c : ℕ) (life : Life) → lives' c ≡ Some life → lives c ≡ Some life) → FewOpen lives count → FewOpen lives' count
@@ -122,3 +123,48 @@ few_more lives count few c life judge number is has opened = let low = few c lif
 pub few_begun_in : (lives lives' : ℕ → Option Life) (cell count : ℕ) (entry : Entry) → FewOpen lives count → HasBegunIn lives lives' cell count entry → FewOpen lives' (count + 1)
 few_begun_in lives lives' cell count entry few begun =
     few_begun lives lives' cell count begun.0 begun.1 (access_of begun.0.object.address entry.command entry.reply) few begun.2 begun.3.0 begun.3.1 begun.5
+
+-- ---- a timeline of no call
+
+pub nothing_stands : (waits : ℕ → Option Pending) (lives : ℕ → Option Life) (starts : ℕ → Option ℕ) (cells serials twice : ℕ → Type 0)
+    → ((key : ℕ) → waits key ≡ None) → ((c : ℕ) → lives c ≡ None) → ((a : ℕ) → starts a ≡ None) → ((n : ℕ) → cells n → ⊥) → ((n : ℕ) → serials n → ⊥) → ((n : ℕ) → twice n → ⊥)
+    → Holds [] waits lives starts cells serials twice
+nothing_stands waits lives starts cells serials twice no_wait no_life no_start no_cell no_serial no_twice = record {
+  queue = record {
+    keyed = λ key p is. absurd (let no = no_wait key in cc (no, is));
+    reach = λ i j a b at_i at_j w. absurd (nowhere i a at_i);
+    order = λ i j a b over at_i at_j w. absurd (nowhere i a at_i);
+    few = omega arith;
+  };
+  begun = record {
+    take_time = λ i d below. absurd (omega (arith, below));
+    have_effects = λ i d below. absurd (omega (arith, below));
+    have_cells = λ i d below. absurd (omega (arith, below));
+    after_new = λ i a is other. absurd (nowhere i a is);
+    before_free = λ i j a f apart at_i at_j other frees same. absurd (nowhere i a at_i);
+  };
+  living = record {
+    has_cell = λ i a over is is_new. absurd (nowhere i a is);
+    of_cell = λ c has. absurd (no_cell c has);
+    own_cells = λ i j a b apart over_i over_j at_i at_j new_i new_j. absurd (nowhere i a at_i);
+    fair = λ i a over is. absurd (nowhere i a is);
+    has_serial = λ i a x over is. absurd (nowhere i a is.0);
+    of_serial = λ s has. absurd (no_serial s has);
+    serials_once = λ i j a b x y apart over_i over_j at_i at_j. absurd (nowhere i a at_i.0);
+    apart = λ i j a b x y apart over_i over_j at_i at_j meet. absurd (nowhere i a at_i.0);
+    live_is = λ c x is. absurd (let l = life_of lives c x is in let no = no_life c in let some = l.1 in cc (no, some));
+    made_is = λ i a x over is. absurd (nowhere i a is.0);
+  };
+  judges = record {
+    judged = λ c life is. absurd (let no = no_life c in cc (no, is));
+    settled = λ i a x over made freed. absurd (nowhere i a made.0);
+    access = λ key c is. absurd (let no = no_wait key in cc (no, is));
+  };
+  started = λ c life is. absurd (let no = no_life c in cc (no, is));
+  starts_of = λ a c is. absurd (let no = no_start a in cc (no, is));
+  none_twice = no_twice;
+}
+  where
+    nowhere : (i : ℕ) (a : Call) → IsAt [] i a → ⊥
+    nowhere zero a is = cc is
+    nowhere (suc i) a is = cc is

@@ -4,6 +4,8 @@ mod BeginSteps
 mod BegunSteps
 mod BegunWrong
 mod CallPlaces
+mod EndRanges
+mod EndSteps
 mod Fair
 mod Finish
 mod Follows
@@ -13,6 +15,7 @@ mod LifeSteps
 mod LivesBegin
 mod LivesEnd
 mod LivesWrong
+mod MapSteps
 mod Mapped
 mod QueueSteps
 mod StateAccess

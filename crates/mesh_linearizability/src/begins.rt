@@ -50,7 +50,7 @@ impl Timeline {
     fn free_begun(&mut self, cell: u32) -> Result<Pending, AllocError>
         ensures waiting { self.new.waiting ≡ self.old.waiting }
         ensures begun { IfOk result (λ pending. (number : ℕ) (entry : Entry) → entry.command ≡ Command.Free cell → HasBegunSo self.old self.new number entry pending) }
-        ensures few { (count : ℕ) → FewOpen (lives_of self.old) count → FewOpen (lives_of self.new) count }
+        ensures few { OnOk result ((count : ℕ) → FewOpen (lives_of self.old) count → FewOpen (lives_of self.new) count) }
     {
         let Some(life) = self.lives.remove(&cell) else {
             let flaw = self.stray_free(cell)?;

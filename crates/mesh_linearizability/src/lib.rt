@@ -2,11 +2,14 @@
 #![tactic(auto)]
 
 mod begins;
+mod ends;
 mod flaws;
 mod life;
 mod objects;
 mod pending;
+mod stops;
 mod timeline;
 
 pub use flaws::Flaw;
+pub use stops::{Found, Stop};
 pub use timeline::Timeline;

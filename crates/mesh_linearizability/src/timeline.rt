@@ -1,17 +1,19 @@
 //! `Timeline`, which takes calls in the order of their begins and ends.
-ghost use Rattle.std.specs.Prelude.{◌≡◌, ◌⊎◌, ◌↔◌, ◌+◌, ◌*◌, ◌++◌, ◌∷◌, [], ℕ, List, OnOk, Some, length};
+ghost use Rattle.std.specs.Prelude.{◌≡◌, ◌⊎◌, ◌↔◌, ◌+◌, ◌*◌, ◌++◌, ◌∷◌, ◌<◌, ◌≤◌, ◌^◌, [], ℕ, List, IfOk, IfSome, IsNone, OnOk, Some, length};
 ghost use Rattle.std.specs.Ordering.{nat_cmp};
-ghost use Rattle.std.specs.BTreeMap.{get};
+ghost use Rattle.std.specs.BTreeMap.{Updates, get};
 ghost use Rattle.model_intervals.specs.Intervals.{Call};
 ghost use Rattle.model_intervals.specs.OverlappingCalls.{HasEffect};
 ghost use Rattle.mesh_fields.specs.Commands.{plain_command};
 ghost use Rattle.mesh_history.specs.RecordedWords.{plain_entry, plain_reply};
 ghost use Rattle.mesh_number_set.specs.Ranges.{Has};
+ghost use Rattle.mesh_linearizability.specs.Ends.{AreEnded, IsFirstBefore, IsRuledOut, NoneBefore};
 ghost use Rattle.mesh_linearizability.specs.Queues.{MayBegin};
-ghost use Rattle.mesh_linearizability.specs.Standing.{IsSetAt, Stands, lives_of, waits_of};
+ghost use Rattle.mesh_linearizability.specs.Standing.{Stands, lives_of, waits_of};
 ghost use Rattle.mesh_linearizability.specs.Timelines.{FewOpen};
 
 use crate::life::Life;
+use crate::stops::{Found, Stop};
 use crate::pending::Pending;
 use mesh_configurations::JudgeFault;
 use mesh_history::RecordedEntry;
@@ -77,11 +79,49 @@ impl Timeline {
         set(&mut self.waiting, key, pending)?;
         Ok(())
     }
+
+    /// Takes the ends of the calls that end before a moment, in their order, and returns the first flaw that is found.
+    ///
+    /// An error is `TooMany` if at the end of a call more than `most` configurations of its object are met, and `Memory`
+    /// if an allocation fails. The timeline is of no use behind a flaw or an error.
+    pub fn end_before(&mut self, moment: u128, most: usize) -> Result<Option<Found>, Stop>
+        requires { moment ≤ 2 ^ 64 }
+        ensures ended { IfOk result (λ found. IsNone found → AreEnded self.old self.new moment × NoneBefore (waits_of self.new) moment) }
+        ensures flawed { IfOk result (λ found. IfSome found (λ _. IsRuledOut self.old moment)) }
+    {
+        while let Some((number, pending)) = first_before(&mut self.waiting, moment) {
+            match self.ended(number, pending, most) {
+                Ok(None) => {}
+                Ok(Some(flaw)) => return Ok(Some(Found { number, flaw })),
+                Err(fault) => return Err(Stop { number, fault }),
+            }
+        }
+        Ok(None)
+    }
+}
+
+/// Takes out the first call in the order of ends, if it ends before a moment, and returns its number and what is to be done.
+fn first_before(waiting: &mut BTreeMap<u128, Pending>, moment: u128) -> Option<(u32, Pending)>
+    requires { moment ≤ 2 ^ 64 }
+    ensures some { IfSome result (λ found. IsFirstBefore (get nat_cmp waiting.old) (get nat_cmp waiting.new) moment found.0 found.1) }
+    ensures fewer { IfSome result (λ _. length waiting.new.entries < length waiting.old.entries) }
+    ensures none { IsNone result → (waiting.new ≡ waiting.old) × NoneBefore (get nat_cmp waiting.old) moment }
+{
+    let (key, _) = waiting.first_key_value()?;
+    if *key >= moment * NUMBERS {
+        return None;
+    }
+    let (key, pending) = waiting.pop_first()?;
+    Some(((key % NUMBERS) as u32, pending))
 }
 
 /// Puts a value under a key. An error is an allocation failure.
-pub(crate) fn set<T: Drop>(map: &mut BTreeMap<u128, T>, key: u128, value: T) -> Result<(), AllocError>
-    ensures { OnOk result (IsSetAt (get nat_cmp map.old) (get nat_cmp map.new) key (Some value)) }
+pub(crate) fn set<K: Ord + Drop, T: Drop>(
+    map: &mut BTreeMap<K, T>,
+    key: K,
+    value: T,
+) -> Result<(), AllocError>
+    ensures { OnOk result (Updates K.cmp map.old map.new key (Some value)) }
 {
     map.insert(key, value)?;
     Ok(())

@@ -1,0 +1,181 @@
+//! What happens when a call ends.
+ghost use Rattle.std.specs.Prelude.{◌≡◌, ◌≢◌, ◌+◌, ◌*◌, ◌<◌, ◌≤◌, ◌↔◌, ◌⊎◌, ℕ, IfOk, IfSome, IsNone, IsTrue, OnOk, None};
+ghost use Rattle.std.specs.Ordering.{nat_cmp};
+ghost use Rattle.std.specs.BTreeMap.{get};
+ghost use Rattle.model_history.specs.Recorded.{IsOwnRefusal, any_allocator};
+ghost use Rattle.mesh_linearizability.specs.Ends.{AreDisjoint, HasEndedIn, IsGone, IsNearest, IsOverlapped, Misses};
+ghost use Rattle.mesh_linearizability.specs.Standing.{HasEndedSo, IsFlawed, lives_of, starts_of};
+ghost use Rattle.mesh_linearizability.specs.Timelines.{FewOpen};
+ghost use Rattle.mesh_linearizability.specs.declared.pending.Pending.{Pending};
+
+use crate::flaws::Flaw;
+use crate::life::Life;
+use crate::objects::NewObject;
+use crate::pending::Pending;
+use crate::timeline::{Timeline, set};
+use mesh_configurations::JudgeFault;
+use model_words::Refusal;
+use std::alloc::{AllocError, Global};
+use std::collections::BTreeMap;
+
+impl Timeline {
+    /// Takes the end of the call of a number, and returns the flaw that is told there, if one is.
+    pub(crate) fn ended(&mut self, number: u32, pending: Pending, most: usize) -> Result<Option<Flaw>, JudgeFault>
+        ensures waiting { self.new.waiting ≡ self.old.waiting }
+        ensures ended { IfOk result (λ flaw. IsNone flaw → HasEndedSo self.old self.new number pending) }
+        ensures flawed { IfOk result (λ flaw. IfSome flaw (λ _. IsFlawed self.old number pending)) }
+        ensures few { IfOk result (λ flaw. IsNone flaw → (count : ℕ) → FewOpen (lives_of self.old) count → FewOpen (lives_of self.new) count) }
+    {
+        match pending {
+            Pending::Made(object) => {
+                let flaw = self.made(object)?;
+                Ok(flaw)
+            }
+            Pending::Refused(cell, len, refusal) => {
+                let flaw = self.refused(cell, len, refusal)?;
+                Ok(flaw)
+            }
+            Pending::Free(cell) => Ok(self.free_ended(cell)),
+            Pending::Access(cell) => self.access_ended(number, cell, most),
+            Pending::Wrong(flaw) => Ok(Some(flaw)),
+        }
+    }
+
+    /// The end of a `new` that made an object.
+    fn made(&mut self, object: NewObject) -> Result<Option<Flaw>, AllocError>
+        ensures waiting { self.new.waiting ≡ self.old.waiting }
+        ensures ended { IfOk result (λ flaw. IsNone flaw → (number : ℕ) → HasEndedSo self.old self.new number (Pending.Made object)) }
+        ensures flawed { IfOk result (λ flaw. IfSome flaw (λ _. (number : ℕ) → IsFlawed self.old number (Pending.Made object))) }
+        ensures few { IfOk result (λ flaw. IsNone flaw → (count : ℕ) → FewOpen (lives_of self.old) count → FewOpen (lives_of self.new) count) }
+    {
+        if self.cells.contains(object.cell) {
+            return Ok(Some(Flaw::CellAgain));
+        }
+        if !is_fair_length(object.len) {
+            return Ok(Some(Flaw::UnfairNew));
+        }
+        if self.serials.contains(object.serial) {
+            return Ok(Some(Flaw::SerialAgain));
+        }
+        if let Some(other) = self.overlapped(object) {
+            return Ok(Some(Flaw::Overlaps(other.serial, other.number)));
+        }
+        self.cells.add(object.cell)?;
+        self.serials.add(object.serial)?;
+        set(&mut self.starts, u128::from(object.address), object.cell)?;
+        set(&mut self.lives, object.cell, Life { object, judge: None })?;
+        Ok(None)
+    }
+
+    /// The end of a `new` that was refused.
+    fn refused(&mut self, cell: u32, len: u32, refusal: Refusal) -> Result<Option<Flaw>, AllocError>
+        ensures waiting { self.new.waiting ≡ self.old.waiting }
+        ensures ended { IfOk result (λ flaw. IsNone flaw → (number : ℕ) → HasEndedSo self.old self.new number (Pending.Refused cell len refusal)) }
+        ensures flawed { IfOk result (λ flaw. IfSome flaw (λ _. (number : ℕ) → IsFlawed self.old number (Pending.Refused cell len refusal))) }
+        ensures lives { self.new.lives ≡ self.old.lives }
+    {
+        if self.cells.contains(cell) {
+            return Ok(Some(Flaw::CellAgain));
+        }
+        if !is_own_refusal(len, refusal) {
+            return Ok(Some(Flaw::UnfairNew));
+        }
+        self.cells.add(cell)?;
+        Ok(None)
+    }
+
+    /// The end of a `free`.
+    fn free_ended(&self, cell: u32) -> Option<Flaw>
+        ensures ended { IsNone result → (number : ℕ) → HasEndedSo self.now self.now number (Pending.Free cell) }
+        ensures flawed { IfSome result (λ _. (number : ℕ) → IsFlawed self.now number (Pending.Free cell)) }
+    {
+        if self.freed_twice.contains(cell) {
+            return Some(Flaw::NotBeforeFree);
+        }
+        None
+    }
+
+    /// The end of an access.
+    fn access_ended(&mut self, number: u32, cell: u32, most: usize) -> Result<Option<Flaw>, JudgeFault>
+        ensures waiting { self.new.waiting ≡ self.old.waiting }
+        ensures ended { IfOk result (λ flaw. IsNone flaw → HasEndedSo self.old self.new number (Pending.Access cell)) }
+        ensures flawed { IfOk result (λ flaw. IfSome flaw (λ _. IsFlawed self.old number (Pending.Access cell))) }
+        ensures few { IfOk result (λ flaw. IsNone flaw → (count : ℕ) → FewOpen (lives_of self.old) count → FewOpen (lives_of self.new) count) }
+    {
+        match end_in(&mut self.lives, self.alloc, number, cell, most)? {
+            Some(true) => Ok(None),
+            Some(false) => Ok(Some(Flaw::NoOrder)),
+            None => Ok(Some(Flaw::NotBeforeFree)),
+        }
+    }
+
+    /// The live object that has an address of the range of a new one; of several, the one with the greatest address.
+    fn overlapped(&self, object: NewObject) -> Option<NewObject>
+        requires { 1 ≤ object.len }
+        ensures none { IsNone result → AreDisjoint (lives_of self.now) (starts_of self.now) → Misses (lives_of self.now) object }
+        ensures some { IfSome result (IsOverlapped (lives_of self.now) object) }
+    {
+        let last = u128::from(object.address) + u128::from(object.len) - 1;
+        let cell = nearest(&self.starts, last)?;
+        let life = self.lives.get(&cell)?;
+        let other = life.object;
+        if u128::from(other.address) > last {
+            return None;
+        }
+        if end_of(other) <= u128::from(object.address) {
+            return None;
+        }
+        Some(other)
+    }
+}
+
+/// Takes the end of an access to the live object of a cell. Returns whether some configuration is left, and `None` if no
+/// such access is pending.
+fn end_in(
+    lives: &mut BTreeMap<u32, Life>,
+    alloc: Global,
+    number: u32,
+    cell: u32,
+    most: usize,
+) -> Result<Option<bool>, JudgeFault>
+    ensures ended { IfOk result (λ left. IfSome left (HasEndedIn (get nat_cmp lives.old) (get nat_cmp lives.new) cell number)) }
+    ensures none { IfOk result (λ left. IsNone left → IsGone (get nat_cmp lives.old) cell number) }
+{
+    match lives.get_mut(&cell) {
+        Some(life) => life.end(alloc, number, most),
+        None => Ok(None),
+    }
+}
+
+/// The cell that stands at the greatest address that is at most this one.
+fn nearest(starts: &BTreeMap<u128, u32>, address: u128) -> Option<u32>
+    ensures { IsNearest (get nat_cmp starts.now) address result }
+{
+    let (_, cell) = starts.range(..=address).next_back()?;
+    Some(*cell)
+}
+
+/// The address behind the last byte of an object.
+fn end_of(object: NewObject) -> u128
+    ensures { result ≡ object.address + object.len }
+{
+    u128::from(object.address) + u128::from(object.len)
+}
+
+/// Whether an object may have this length.
+fn is_fair_length(len: u32) -> bool
+    ensures { IsTrue result ↔ ((1 ≤ len) × (len ≤ any_allocator.longest)) }
+{
+    len > 0
+}
+
+/// Whether an allocator may refuse a `new` of this length so.
+fn is_own_refusal(len: u32, refusal: Refusal) -> bool
+    ensures { IsTrue result ↔ IsOwnRefusal any_allocator len refusal }
+{
+    match refusal {
+        Refusal::Zero => len == 0,
+        Refusal::TooLarge | Refusal::NoPages | Refusal::NoAddresses => len > 0,
+        _ => false,
+    }
+}
