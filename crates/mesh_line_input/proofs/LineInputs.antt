@@ -1,30 +1,17 @@
 -- The lines that a device gives, read by read.
-use Rattle.std.proofs.Common.{◌≡◌, ℕ, ◌+◌, ◌<◌, ◌≤◌, Bool, true, false, nat_eq, List, [], ◌∷◌, ◌++◌, Option, Some, None, append-nil, append_assoc, length, length-append, ap, refl, sym, ◌∙◌, arith, inl, inr}
+use Rattle.std.proofs.Common.{◌≡◌, ℕ, ◌≤◌, Bool, true, false, nat_eq, List, [], ◌∷◌, ◌++◌, Option, Some, None, append-nil, append_assoc, length, length-append, ap, refl, sym, ◌∙◌, arith, inl, inr}
 use Rattle.std.proofs.KnownBytes.{Consumes-trans}
 use Rattle.std.specs.Io.KnownBytes.{Consumes, IsAtEnd}
 use Rattle.std.proofs.lemmas.Bool.Decides.{eqb_tells, leb_tells}
 use Rattle.std.proofs.lemmas.List.Splits.{slice_split_none}
-use Rattle.model_words.specs.declared.faults.TextFault.{TextFault}
 use Rattle.mesh_devices.specs.declared.faults.ReplayError.{ReplayError}
 use Rattle.mesh_devices.specs.declared.faults.ReplayError.TheVariants.{Memory, Read, Text, Write}
 use Rattle.mesh_fields.specs.Lines.{text_lines}
 use Rattle.mesh_history.specs.Readings.{end_fault, is_full}
 use Rattle.mesh_line_input.specs.LineInputs.{BadEnd, HasCome, HasEnded, HasStopped, IsFresh, Long, OneTooMany, line_of, lines_of, unread_of}
-use Rattle.mesh_line_input.specs.LineSteps.{EndsWithFault, HasBegun, IsFaulty, IsNext, IsUsedUp, LongAhead, OneMore}
+use Rattle.mesh_line_input.specs.LineSteps.{EndsWithFault, HasBegun, IsFaulty, IsUsedUp, LongAhead, OneMore}
 use Rattle.mesh_line_input.specs.Pendings.{HasBytes}
 use Rattle.mesh_line_input.specs.declared.inputs.LineInput.{LineInput}
-
--- a read begins: the line that was read last is forgotten
-pub line_cleared : (old new : LineInput) (left left' : Option (List ℕ)) (lines : List (List ℕ)) → HasCome old left left' lines → line_of new ≡ []
-    → unread_of new ≡ unread_of old → lines_of new ≡ lines_of old → HasBegun new left left' lines
-line_cleared old new left left' lines come none same count = record {
-  text = come.text;
-  taken = come.taken;
-  reads = λ more.
-      come.reads more ∙ ap (λ (bytes : List ℕ). lines ++ text_lines (bytes ++ more)) (sym same)
-      ∙ ap (λ (bytes : List ℕ). lines ++ text_lines (bytes ++ (unread_of new ++ more))) (sym none);
-  count = come.count ∙ sym count;
-}
 
 -- the bytes that came are used up, and others came
 pub read_on : (old mid new : LineInput) (left left' left'' : Option (List ℕ)) (lines : List (List ℕ)) (some : Bool) → HasBegun old left left' lines → IsUsedUp old mid
@@ -38,20 +25,6 @@ read_on old mid new left left' left'' lines some begun used same count bytes = r
       ∙ ap (λ (begin : List ℕ). lines ++ text_lines (begin ++ (unread_of new ++ more))) (sym (same ∙ used.line));
   count = begun.count ∙ sym (count ∙ used.count);
 }
-
--- a line came
-pub one_more : (old new : LineInput) (left left' : Option (List ℕ)) (lines : List (List ℕ)) → HasBegun old left left' lines → IsNext old new
-    → HasCome new left left' (lines ++ line_of new ∷ [])
-one_more old new left left' lines begun next =
-    let count : length (lines ++ line_of new ∷ []) ≡ lines_of new = omega (arith, begun.count, next.count, length-append lines (line_of new ∷ [])) in record {
-      text = begun.text;
-      taken = begun.taken;
-      reads = λ more.
-          begun.reads more ∙ ap (λ (all : List (List ℕ)). lines ++ all) (next.reads more)
-          ∙ sym (append_assoc lines (line_of new ∷ []) (text_lines (unread_of new ++ more)));
-      count = count;
-      few = rw count next.few;
-    }
 
 -- bytes, of which there are some
 record AreSome (bytes : List ℕ) : Type 0 where

@@ -1,8 +1,7 @@
 -- What the bytes that came make of a line.
-use Rattle.std.proofs.Common.{◌≡◌, ℕ, ◌+◌, ◌-◌, ◌<◌, ◌≤◌, ◌^◌, nat_eq, List, [], ◌∷◌, ◌++◌, append_assoc, drop, length, length-append, ap, refl, sym, ◌∙◌, arith}
+use Rattle.std.proofs.Common.{◌≡◌, ℕ, ◌+◌, ◌-◌, ◌<◌, ◌^◌, nat_eq, List, [], ◌∷◌, ◌++◌, append_assoc, drop, length, length-append, ap, refl, sym, ◌∙◌, arith}
 use Rattle.std.proofs.Math.Seq.{drop-append_seam}
 use Rattle.std.proofs.lemmas.List.Splits.{slice_split_at, slice_split_none}
-use Rattle.model_words.specs.declared.faults.TextFault.{TextFault}
 use Rattle.mesh_devices.specs.declared.faults.ReplayError.{ReplayError}
 use Rattle.mesh_devices.specs.declared.faults.ReplayError.TheVariants.{Memory, Read, Text, Write}
 use Rattle.mesh_fields.specs.KeptLines.{IsUnended}
@@ -30,9 +29,7 @@ rest_is_left bytes last rest cut =
     let front : length bytes - length rest ≡ length (last ++ 10 ∷ []) = omega (arith, len) in
     ap (λ (count : ℕ). drop count bytes) front ∙ ap (λ (all : List ℕ). drop (length (last ++ 10 ∷ [])) all) whole ∙ drop-append_seam (last ++ 10 ∷ []) rest
 
-pub rest_shorter : (bytes last rest : List ℕ) → text_lines bytes ≡ last ∷ text_lines rest → length rest ≤ length bytes
-rest_shorter bytes last rest cut = omega (arith, ap (λ (all : List ℕ). length all) (first_line bytes last rest cut).whole, length-append last (10 ∷ rest))
-
+-- a line ends in the bytes that came
 pub next_line : (old new : LineInput) (last rest : List ℕ) → text_lines (unread_of old) ≡ last ∷ text_lines rest → line_of new ≡ line_of old ++ last
     → unread_of new ≡ rest → lines_of new ≡ lines_of old + 1 → lines_of new < 2 ^ 32 → IsNext old new
 next_line old new last rest cut line left count few = record {

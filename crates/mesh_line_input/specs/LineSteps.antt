@@ -2,7 +2,7 @@
 use Rattle.std.specs.Prelude.{◌≡◌, ℕ, ◌+◌, ◌<◌, ◌≤◌, ◌^◌, true, List, [], ◌∷◌, ◌++◌, Option, Some, length}
 use Rattle.std.specs.Io.KnownBytes.{Consumes}
 use Rattle.mesh_devices.specs.declared.faults.ReplayError.{ReplayError}
-use Rattle.mesh_devices.specs.declared.faults.ReplayError.TheVariants.{Memory, Read, Text, Write}
+use Rattle.mesh_devices.specs.declared.faults.ReplayError.TheVariants.{Memory, Text}
 use Rattle.mesh_fields.specs.Lines.{text_lines}
 use Rattle.model_words.specs.declared.faults.TextFault.{TextFault}
 use Rattle.mesh_history.specs.Readings.{end_fault, is_full, long_line, too_long}

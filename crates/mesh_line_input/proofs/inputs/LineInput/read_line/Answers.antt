@@ -1,10 +1,10 @@
-use Rattle.std.proofs.Common.{◌≡◌, rules, true, false, refl, ◌∙◌, arith}
+use Rattle.std.proofs.Common.{rules, true, false, refl, ◌∙◌}
 use Rattle.mesh_history.proofs.Readings.{handed_on}
 use Rattle.mesh_line_input.specs.LineInputs.{HasStopped}
 use Rattle.mesh_line_input.specs.LineSteps.{IsUsedUp}
 use Rattle.mesh_line_input.specs.Pendings.{HasBytes}
 use Rattle.mesh_line_input.specs.declared.inputs.LineInput.{LineInput}
-use Rattle.mesh_line_input.proofs.LineInputs.{ended, ended_faulty, line_cleared, one_more, read_on, stopped}
+use Rattle.mesh_line_input.proofs.LineInputs.{ended, ended_faulty, read_on, stopped}
 use Rattle.mesh_line_input.proofs.inputs.LineInput.read_line.Goals as goal
 
 pub returns-in_err-take_line-clause-stopped : goal.returns-in_err-take_line-clause-stopped

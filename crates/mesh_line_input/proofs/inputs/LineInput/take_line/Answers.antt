@@ -1,10 +1,9 @@
-use Rattle.std.proofs.Common.{◌≡◌, ◌<◌, ◌^◌, ◌++◌, List, ℕ, refl, ap, sym, ◌∙◌, subst, rules, arith}
-use Rattle.mesh_fields.specs.Lines.{text_lines}
+use Rattle.std.proofs.Common.{◌≡◌, ◌<◌, ◌++◌, List, ℕ, refl, ◌∙◌, subst, rules, arith}
 use Rattle.mesh_fields.proofs.KeptLines.{cut_unended, rest_unended}
 use Rattle.mesh_history.proofs.Readings.{handed_on}
 use Rattle.mesh_line_input.specs.LineInputs.{line_of, lines_of, unread_of}
 use Rattle.mesh_line_input.specs.LineSteps.{IsFaulty, IsNotKept}
-use Rattle.mesh_line_input.proofs.LineSteps.{long_line_begun, long_line_ended, next_line, rest_is_left, rest_shorter}
+use Rattle.mesh_line_input.proofs.LineSteps.{long_line_begun, long_line_ended, next_line, rest_is_left}
 use Rattle.mesh_line_input.proofs.inputs.LineInput.take_line.Goals as goal
 use Rattle.mesh_line_input.proofs.inputs.LineInput.take_line.Goals.{else-self-via-then-self+else-not-is_empty, else-self-via-else-self}
 
