@@ -54,9 +54,10 @@ impl LineInput {
 
     /// Reads the next line, and returns whether there is one. There is none at the end of the input.
     ///
-    /// Errors: Text if the next line has more than 1,024 bytes (as soon as they have come: LONG_LINE), if 4,294,967,295 lines
-    /// were read and more bytes come (TOO_LONG, of line 0), or if the text ends in a line or has none (CUT); Read exactly if
-    /// the input failed; Memory if an allocation failed. Write is never returned. The text is of no use behind an error.
+    /// Errors: Text if the next line has more than 1,024 bytes (as soon as they have come: LONG_LINE), if 4,294,967,295
+    /// lines were read and more bytes come (TOO_LONG, of line 0), or if the text ends in a line or has none (CUT); Read
+    /// exactly if the input failed; Memory if an allocation failed. Write is never returned. The text is of no use behind
+    /// an error.
     pub fn read_line<I: Source>(&mut self, input: &mut I) -> Result<bool, ReplayError>
         requires { I.has_failed input.old ≡ false }
         ensures ok { OnOk result (I.has_failed input.new ≡ false) }
@@ -70,6 +71,7 @@ impl LineInput {
             → IfErr result (HasStopped left (I.remaining input.new) lines) }
         ensures read { result ≡ Err ReplayError.Read → I.has_failed input.new ≡ true }
         ensures failed { I.has_failed input.new ≡ true → result ≡ Err ReplayError.Read }
+        ensures unwritten { result ≡ Err ReplayError.Write → ⊥ }
     {
         self.line.clear();
         loop {
@@ -117,7 +119,8 @@ impl LineInput {
     }
 }
 
-/// Keeps bytes of a line that has so many before it. An error is LONG_LINE if they are too many, or an allocation failure.
+/// Keeps bytes of a line that has so many before it. An error is LONG_LINE if they are too many, or an allocation
+/// failure.
 fn keep(line: &mut BegunLine, lines: u32, bytes: &[u8]) -> Result<(), ReplayError>
     requires { IsUnended bytes.now }
     ensures ok { OnOk result (line.new.bytes.items ≡ line.old.bytes.items ++ bytes.now) }
