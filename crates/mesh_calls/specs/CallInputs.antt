@@ -4,6 +4,7 @@ use Rattle.std.specs.Io.KnownBytes.{Consumes, IsAtEnd}
 use Rattle.model_intervals.specs.Intervals.{Call}
 use Rattle.model_jobs.specs.JobFiles.{fault_at}
 use Rattle.model_words.specs.declared.faults.FaultKind.{FaultKind}
+use Rattle.model_words.specs.declared.faults.TextFault.{TextFault}
 use Rattle.mesh_line_input.specs.LineInputs.{HasCome as LinesCome, IsFresh as IsFreshInput, lines_of}
 use Rattle.mesh_calls.specs.CallOrders.{IsOrderOf}
 use Rattle.mesh_calls.specs.CallReadings.{CallFault, CallLine, CallReading, Head, OfCall, OfText, OutOfOrder, calls_from, calls_of, is_in_order, next_in}
@@ -74,10 +75,16 @@ IsFaultOf read (Order line) = read ≡ Err (OutOfOrder line)
 IsFaultOf read Memory = Unit {0}
 IsFaultOf read Read = ⊥
 
--- the fault is that of a line of this number
+-- a line of this number was read to this fault
+pub record IsFaultAt {A : Type 0} (number : ℕ) (read : Result A FaultKind) (fault : TextFault) : Type 0 where
+  pub kind : FaultKind
+  pub is : read ≡ Err kind
+  pub same : fault ≡ fault_at number kind
+
+-- the error is the fault to which a line of this number was read
 abbrev pub IsFaultIn : {A : Type 0} → ℕ → Result A FaultKind → CallError → Type 0
-IsFaultIn number (Err kind) error = error ≡ Text (fault_at number kind)
-IsFaultIn number (Ok read) error = ⊥
+IsFaultIn number read (Text fault) = IsFaultAt number read fault
+IsFaultIn number read error = ⊥
 
 -- what is made of a line, behind so many lines and these calls
 abbrev pub IsTaken : CallInput → ℕ → List Call → List ℕ → Result (Option TimedCall) CallError → Type 0
