@@ -1,13 +1,12 @@
 -- The calls that a device gives, line by line.
-use Rattle.std.proofs.Common.{◌≡◌, ℕ, ◌+◌, ◌<◌, ◌≤◌, true, nat_eq, List, [], ◌∷◌, ◌++◌, Option, Some, None, Ok, Err, length, length-append, ap, refl, sym, ◌∙◌, arith, inl, inr, ne_eqb}
-use Rattle.std.specs.Prelude.{if◌then◌else◌}
+use Rattle.std.proofs.Common.{◌≡◌, ℕ, ◌+◌, ◌≤◌, true, List, [], ◌∷◌, ◌++◌, Option, Some, None, Ok, length, length-append, ap, refl, sym, ◌∙◌, arith, inl, inr, ne_eqb}
 use Rattle.model_intervals.specs.Intervals.{Call}
 use Rattle.model_words.specs.declared.faults.TextFault.{TextFault}
 use Rattle.mesh_devices.specs.declared.faults.ReplayError.{ReplayError}
 use Rattle.mesh_devices.specs.declared.faults.ReplayError.TheVariants.{Text as FaultyText, Read as FailedRead, Write as FailedWrite, Memory as OfMemory}
 use Rattle.mesh_fields.specs.Lines.{text_lines}
 use Rattle.mesh_fields.proofs.Splits.{some_part}
-use Rattle.mesh_line_input.specs.LineInputs.{BadEnd, HasCome as LinesCome, HasEnded as LinesEnded, HasFault, HasStopped as LinesStopped, IsLineFault, Long, OneTooMany, lines_of, unread_of}
+use Rattle.mesh_line_input.specs.LineInputs.{BadEnd, HasCome as LinesCome, HasEnded as LinesEnded, HasStopped as LinesStopped, Long, OneTooMany, unread_of}
 use Rattle.mesh_line_input.proofs.LineInputs.{none_come}
 use Rattle.mesh_calls.specs.CallFaults.{call_error_of}
 use Rattle.mesh_calls.specs.CallInputs.{HasCome, HasEnded, HasNext, HasStopped, IsFaultOf, IsFresh, lines_before, next_line}
@@ -97,25 +96,25 @@ fault_ahead : (old : CallInput) (left before left' : Option (List ℕ)) (calls :
     → (error : ReplayError) → LinesStopped left left' come.lines error → HasStopped left left' calls (call_error_of error)
 fault_ahead old left before left' calls come (FaultyText fault) stopped = elim stopped.is [
   | Long goes is ↦ record {
-      text = stopped.text;
-      taken = stopped.taken;
-      is_read = inl (λ more.
-          let ahead = goes more in
-          ap (calls_from 0 []) ahead.is ∙ long_read come.lines calls ahead.long ahead.rest come.read ahead.over
-          ∙ ap (λ (found : TextFault). record { calls = calls; fault = Some (OfText found) }) (sym is));
-    }
+    text = stopped.text;
+    taken = stopped.taken;
+    is_read = inl (λ more.
+        let ahead = goes more in
+        ap (calls_from 0 []) ahead.is ∙ long_read come.lines calls ahead.long ahead.rest come.read ahead.over
+        ∙ ap (λ (found : TextFault). record { calls = calls; fault = Some (OfText found) }) (sym is));
+  }
   | OneTooMany full first rest reads is ↦ record {
-      text = stopped.text;
-      taken = stopped.taken;
-      is_read = inl (λ more.
-          ap (calls_from 0 []) (reads more) ∙ full_read come.lines calls first (rest ++ more) come.read full
-          ∙ ap (λ (found : TextFault). record { calls = calls; fault = Some (OfText found) }) (sym is));
-    }
+    text = stopped.text;
+    taken = stopped.taken;
+    is_read = inl (λ more.
+        ap (calls_from 0 []) (reads more) ∙ full_read come.lines calls first (rest ++ more) come.read full
+        ∙ ap (λ (found : TextFault). record { calls = calls; fault = Some (OfText found) }) (sym is));
+  }
   | BadEnd at_end rest is fault_is ↦ record {
-      text = stopped.text;
-      taken = stopped.taken;
-      is_read = inr (ap (calls_from 0 []) is ∙ end_read come.lines calls rest (Some fault) come.read fault_is, at_end);
-    }
+    text = stopped.text;
+    taken = stopped.taken;
+    is_read = inr (ap (calls_from 0 []) is ∙ end_read come.lines calls rest (Some fault) come.read fault_is, at_end);
+  }
 ]
 fault_ahead old left before left' calls come FailedRead stopped = tt
 fault_ahead old left before left' calls come FailedWrite stopped = absurd stopped

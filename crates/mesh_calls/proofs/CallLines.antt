@@ -1,12 +1,12 @@
 -- The fields of a call, and what they are read as.
-use Rattle.std.proofs.Common.{◌≡◌, ℕ, ◌<◌, ◌≤◌, true, false, List, [], ◌∷◌, length, ap, refl, ◌∙◌, arith, Result, Ok, Err}
+use Rattle.std.proofs.Common.{◌≡◌, ℕ, ◌<◌, true, List, [], ◌∷◌, length, ap, refl, ◌∙◌, arith, Result, Ok, Err}
 use Rattle.model_history.specs.Recorded.{many_cells}
 use Rattle.model_intervals.specs.OverlappingCalls.{HasEffect, cell_of}
 use Rattle.model_words.specs.Words.{◌>>=◌}
 use Rattle.model_words.specs.declared.commands.Command.{Command}
-use Rattle.model_words.specs.declared.commands.Command.TheVariants.{New, Put, Get, Free, Alias, Addr, Peek, Poke, Copy as CopyBytes}
+use Rattle.model_words.specs.declared.commands.Command.TheVariants.{New, Put, Get, Free, Addr}
 use Rattle.model_words.specs.declared.commands.Reply.{Reply}
-use Rattle.model_words.specs.declared.commands.Reply.TheVariants.{Object as Made, Done, Bytes, At, Byte, Refused}
+use Rattle.model_words.specs.declared.commands.Reply.TheVariants.{Object as Made, Done, Bytes, At, Refused}
 use Rattle.model_words.specs.declared.faults.FaultKind.{FaultKind}
 use Rattle.model_words.specs.declared.faults.FaultKind.TheVariants.{Word}
 use Rattle.mesh_fields.specs.Commands.{IsWithin, plain_command}
@@ -66,7 +66,7 @@ pub call_read : (before behind : List (List ℕ)) (asked : AskedCall) (reply : R
     → IsCallRead (call_of before behind) (Ok (record { begin = asked.begin; end = asked.end; entry = record { worker = asked.worker; command = asked.command; reply = reply } }))
 call_read before behind asked reply first sound second narrow effect = (
   ap (λ (read : Result Asked FaultKind). read >>= λ a. effect_in a.command behind >>= λ r. Ok (answered a r)) first
-  ∙ ap (λ (read : Result Reply FaultKind). read >>= λ r. Ok (answered (plain_asked asked) r)) second,
+      ∙ ap (λ (read : Result Reply FaultKind). read >>= λ r. Ok (answered (plain_asked asked) r)) second,
   record {
     takes_time = sound.takes_time;
     ends = sound.ends;
@@ -74,5 +74,5 @@ call_read before behind asked reply first sound second narrow effect = (
     narrow = narrow;
     effect = effect_of_test (plain_command asked.command) (plain_reply reply) effect;
     cell = cell_below asked.command sound.within;
-  }
+  },
 )

@@ -1,9 +1,9 @@
 -- The calls that are read of lines, whatever follows.
-use Rattle.std.proofs.Common.{◌≡◌, ℕ, ◌+◌, ◌<◌, ◌≤◌, Bool, true, false, nat_eq, List, [], ◌∷◌, ◌++◌, append_assoc, length, length-append, ap, refl, sym, ◌∙◌, arith, inl, inr, Option, Some, None, Result, Ok, Err, cond}
+use Rattle.std.proofs.Common.{◌≡◌, ℕ, ◌+◌, ◌<◌, ◌≤◌, Bool, true, false, nat_eq, List, [], ◌∷◌, ◌++◌, append_assoc, length, length-append, ap, refl, sym, ◌∙◌, arith, inl, inr, Option, Some, None, Result, Ok, Err}
 use Rattle.std.specs.Prelude.{option_map}
 use Rattle.std.specs.List.{onto_first}
 use Rattle.std.proofs.lemmas.Bool.{le-leb, ne_eqb}
-use Rattle.std.proofs.lemmas.Bool.Decides.{eqb_tells, leb_tells}
+use Rattle.std.proofs.lemmas.Bool.Decides.{eqb_tells}
 use Rattle.std.proofs.lemmas.List.Splits.{slice_split-cons_no, slice_split-cons_yes}
 use Rattle.model_intervals.specs.Intervals.{Call}
 use Rattle.model_words.specs.declared.faults.TextFault.{TextFault}
@@ -11,9 +11,8 @@ use Rattle.mesh_fields.specs.Lines.{text_lines}
 use Rattle.mesh_fields.proofs.KeptLines.{rest_too_long}
 use Rattle.mesh_fields.proofs.Splits.{some_part}
 use Rattle.mesh_history.specs.Readings.{end_fault, is_full, long_line, too_long}
-use Rattle.mesh_calls.specs.CallFiles.{call_head_in, call_in}
 use Rattle.mesh_calls.specs.CallInputs.{AreRead}
-use Rattle.mesh_calls.specs.CallReadings.{CallFault, CallLine, CallReading, Head, OfCall, OfText, call_line, calls_from, next_in, read_on}
+use Rattle.mesh_calls.specs.CallReadings.{CallFault, CallLine, Head, OfCall, OfText, calls_from, next_in, read_on}
 
 -- no line was read
 pub none_read : AreRead [] []
@@ -103,17 +102,17 @@ record BeginLine (lines : List (List ℕ)) : Type 0 where
 begin_line : (first : ℕ) (rest : List ℕ) → BeginLine (text_lines (first ∷ rest))
 begin_line first rest = let parts = some_part 10 rest in elim (eqb_tells first 10) [
   | inl ends ↦ record {
-      line = [];
-      later = parts.first ∷ parts.later;
-      is = slice_split-cons_yes (λ b. nat_eq b 10) first rest ends.0 ∙ ap (λ (later : List (List ℕ)). [] ∷ later) parts.is;
-      some = omega arith;
-    }
+    line = [];
+    later = parts.first ∷ parts.later;
+    is = slice_split-cons_yes (λ b. nat_eq b 10) first rest ends.0 ∙ ap (λ (later : List (List ℕ)). [] ∷ later) parts.is;
+    some = omega arith;
+  }
   | inr other ↦ record {
-      line = first ∷ parts.first;
-      later = parts.later;
-      is = slice_split-cons_no (λ b. nat_eq b 10) first rest other.0 ∙ ap (onto_first first) parts.is;
-      some = omega arith;
-    }
+    line = first ∷ parts.first;
+    later = parts.later;
+    is = slice_split-cons_no (λ b. nat_eq b 10) first rest other.0 ∙ ap (onto_first first) parts.is;
+    some = omega arith;
+  }
 ]
 
 pub full_read : (lines : List (List ℕ)) (calls : List Call) (first : ℕ) (rest : List ℕ) → AreRead lines calls → is_full (length lines) ≡ true

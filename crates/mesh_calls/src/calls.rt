@@ -137,7 +137,10 @@ fn has_effect(command: &SpeltCommand, reply: &RecordedReply) -> bool
     ensures { result ≡ has_effect (plain_command command.now) (plain_reply reply.now) }
 {
     match command {
-        SpeltCommand::New(..) => matches!(reply, RecordedReply::Object(..) | RecordedReply::Refused(_)),
+        SpeltCommand::New(..) => matches!(
+            reply,
+            RecordedReply::Object(..) | RecordedReply::Refused(_)
+        ),
         SpeltCommand::Put(..) | SpeltCommand::Free(_) => matches!(reply, RecordedReply::Done),
         SpeltCommand::Get(..) => matches!(reply, RecordedReply::Bytes(_)),
         SpeltCommand::Addr(_) => matches!(reply, RecordedReply::At(_)),

@@ -3,11 +3,11 @@ ghost use Rattle.mesh_fields.specs.Lines.{texts};
 ghost use Rattle.mesh_history.specs.HistoryFiles.{at_in, done_in, loaded_in, object_in, peeked_in, refused_in, reply_in};
 ghost use Rattle.mesh_history.specs.RecordedWords.{IsReplyRead};
 
-use mesh_history::RecordedReply;
 use crate::refusals::refusal_named;
 use mesh_fields::commands::wide;
 use mesh_fields::hex::{byte, bytes, wide_address};
 use mesh_fields::lines::{is_word, no_field, one_field, three_fields, two_fields};
+use mesh_history::RecordedReply;
 use model_words::FaultKind;
 
 /// The answer of an entry with this word and these fields. WORD where there is no such answer, or it has another number of fields.

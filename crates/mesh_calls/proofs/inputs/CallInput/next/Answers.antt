@@ -1,4 +1,4 @@
-use Rattle.std.proofs.Common.{◌+◌, ◌≤◌, ap, subst, sym, ◌≡◌, ◌++◌, ◌∷◌, [], ◌∙◌, rules, true, false, refl, arith}
+use Rattle.std.proofs.Common.{◌+◌, ◌≤◌, ap, subst, sym, ◌≡◌, ◌++◌, ◌∷◌, [], ◌∙◌, rules, refl, arith}
 use Rattle.mesh_history.proofs.Readings.{handed_on}
 use Rattle.mesh_line_input.specs.LineInputs.{HasCome as LinesCome, HasEnded as LinesEnded, line_of, lines_of}
 use Rattle.mesh_line_input.specs.declared.inputs.LineInput.{LineInput}

@@ -1,4 +1,4 @@
-use Rattle.std.proofs.Common.{◌≡◌, ◌<◌, false, rules, sym, ◌∙◌}
+use Rattle.std.proofs.Common.{◌≡◌, false, rules, sym, ◌∙◌}
 use Rattle.mesh_calls.specs.CallOrders.{end_of, may_begin}
 use Rattle.mesh_calls.specs.CallWords.{plain_call}
 use Rattle.mesh_calls.proofs.CallOrders.{begins_too_early, worker_is_busy}
