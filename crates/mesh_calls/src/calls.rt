@@ -29,9 +29,9 @@ type CallFields<'a> = ArrayVec<&'a [u8], MAX_CALL_FIELDS>;
 
 /// Reads the first line of a history of overlapping calls, `history 2`, without its end.
 ///
-/// The first kind of fault that holds for the line is returned: LONG_LINE where it has more than 1,024 bytes, BYTE where
-/// one of them isn't from 20 to 7e, WORD where it isn't the word `history` and one field behind it, and NUMBER where that
-/// field isn't `2`.
+/// The first kind of fault that holds for the line is returned: LONG_LINE where it has more than 1,024 bytes, BYTE
+/// where one of them isn't from 20 to 7e, WORD where it isn't the word `history` and one field behind it, and NUMBER
+/// where that field isn't `2`.
 pub fn read_call_head(line: &[u8]) -> Result<(), FaultKind>
     ensures { result ≡ call_head_in line.now }
 {
@@ -46,10 +46,10 @@ pub fn read_call_head(line: &[u8]) -> Result<(), FaultKind>
 
 /// Reads the line of a call, `W BEGIN END COMMAND -> ANSWER`, without its end.
 ///
-/// LONG_LINE where the line has more than 1,024 bytes, BYTE where one of them isn't from 20 to 7e, and WORD where a field
-/// is empty, where there are more than 37, or where none is `->`. Else the leftmost fault, as in `history 1`: NUMBER also
-/// where END is below BEGIN, and WORD also where the command doesn't name one object by its cell, or where the answer
-/// isn't one that the command may have. Only a `new` may be refused.
+/// LONG_LINE where the line has more than 1,024 bytes, BYTE where one of them isn't from 20 to 7e, and WORD where a
+/// field is empty, where there are more than 37, or where none is `->`. Else the leftmost fault, as in `history 1`:
+/// NUMBER also where END is below BEGIN, and WORD also where the command doesn't name one object by its cell, or where
+/// the answer isn't one that the command may have. Only a `new` may be refused.
 pub fn read_call(line: &[u8]) -> Result<TimedCall, FaultKind>
     ensures ok { IfOk result (λ call. call_in line.now ≡ Ok (plain_call call)) }
     ensures err { IfErr result (λ kind. call_in line.now ≡ Err kind) }

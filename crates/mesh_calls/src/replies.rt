@@ -10,7 +10,7 @@ use mesh_fields::lines::{is_word, no_field, one_field, three_fields, two_fields}
 use mesh_history::RecordedReply;
 use model_words::FaultKind;
 
-/// The answer of an entry with this word and these fields. WORD where there is no such answer, or it has another number of fields.
+/// The answer with this word and these fields. WORD where there is no such answer, or it has another number of fields.
 pub(crate) fn reply_of(word: &[u8], fields: &[&[u8]]) -> Result<RecordedReply, FaultKind>
     ensures { IsReplyRead (reply_in word.now (texts fields.now)) result }
 {
