@@ -1,5 +1,7 @@
 -- A call ends: what a timeline knows.
 use Rattle.std.proofs.Common.{◌≡◌, ◌≢◌, ◌↔◌, ℕ, zero, suc, ◌+◌, ◌*◌, ◌%◌, ◌<◌, ◌≤◌, ◌⊎◌, inl, inr, Bool, true, false, List, [], length, arith, refl, sym, subst, ◌∙◌, ap, Option, Some, None, option_map, slice_get}
+use Rattle.std.specs.Ordering.{nat_cmp}
+use Rattle.std.specs.BTreeMap.{BTreeMap, get}
 use Rattle.std.proofs.lemmas.Bool.Decides.{eqb_tells}
 use Rattle.model_history.specs.Recorded.{IsOwnRefusal, any_allocator}
 use Rattle.model_words.specs.declared.commands.Command.{Command}
@@ -13,7 +15,7 @@ use Rattle.model_intervals.specs.OverlappingCalls.{IsAt, IsNew, cell_at, cell_of
 use Rattle.mesh_number_set.specs.Ranges.{Has}
 use Rattle.mesh_timed_judge.specs.Following.{IsOpen}
 use Rattle.mesh_linearizability.specs.Accesses.{PlacedCall, is_access_of}
-use Rattle.mesh_linearizability.specs.Ends.{AreDisjoint, HasEndedIn, IsGone, IsOverlapped, Misses}
+use Rattle.mesh_linearizability.specs.Ends.{AreDisjoint, AreEnded, HasEndedIn, IsFirstBefore, IsGone, IsOverlapped, IsRuledOut, Misses, Past}
 use Rattle.mesh_linearizability.specs.Judges.{AccessJudge, IsJudged, live_of}
 use Rattle.mesh_linearizability.specs.LifeSteps.{HasEndedAt}
 use Rattle.mesh_linearizability.specs.Queues.{Suits, WaitsAt, key_of, object_of}
@@ -274,3 +276,38 @@ module _ (t : Timeline) (number cell : ℕ) where
           nothing : {p : PlacedCall} (k : ℕ) → slice_get [] k ≡ Some p → ⊥
           nothing zero at = cc at
           nothing (suc k) at = cc at
+
+-- ---- the calls that end before a moment
+
+pub past_on : (calls : List Call) (waits waits' : ℕ → Option Pending) (moment number : ℕ) (pending : Pending) → IsFirstBefore waits waits' moment number pending
+    → Past calls waits moment → Past calls waits' moment
+past_on calls waits waits' moment number pending first past i a over is = elim (eqb_tells (key_of over.0 i) first.key) [
+  | inl same ↦
+      let one = at_same calls i over.0 a over.1 is in
+      let e = same.1 in let before = first.before in
+      subst (λ (b : Call). b.end < moment) one (omega (arith, e, before))
+  | inr apart ↦ past i a (over.0, over.1, sym (first.stops.others (key_of over.0 i) apart.1) ∙ over.2) is
+]
+
+-- one more has ended without a flaw
+pub ended_one : (start mid taken new : Timeline) (moment number : ℕ) (pending : Pending) → AreEnded start mid moment
+    → IsFirstBefore (waits_of mid) (waits_of taken) moment number pending
+    → ((calls : List Call) (waits : ℕ → Option Pending) → StandsWith calls waits mid → StandsWith calls waits taken)
+    → new.waiting ≡ taken.waiting → HasEndedSo taken new number pending
+    → ((count : ℕ) → FewOpen (lives_of mid) count → FewOpen (lives_of new) count)
+    → AreEnded start new moment
+ended_one start mid taken new moment number pending are first same waiting ended few = record {
+  stands = λ calls stands. subst (λ (m : BTreeMap ℕ Pending). StandsWith calls (get nat_cmp m) new) (sym waiting)
+      (ended calls (waits_of mid) first.key first.is_number first.stops (same calls (waits_of mid) (are.stands calls stands)));
+  past = λ calls past. subst (λ (m : BTreeMap ℕ Pending). Past calls (get nat_cmp m) moment) (sym waiting)
+      (past_on calls (waits_of mid) (waits_of taken) moment number pending first (are.past calls past));
+  few = λ count open_now. few count (are.few count open_now);
+}
+
+-- or a flaw is found
+pub flawed_one : (start mid taken : Timeline) (moment number : ℕ) (pending : Pending) → AreEnded start mid moment
+    → IsFirstBefore (waits_of mid) (waits_of taken) moment number pending
+    → ((calls : List Call) (waits : ℕ → Option Pending) → StandsWith calls waits mid → StandsWith calls waits taken)
+    → IsFlawed taken number pending → IsRuledOut start moment
+flawed_one start mid taken moment number pending are first same flawed calls stands begun =
+    flawed calls (waits_of mid) first.key moment first.is_number first.stops (same calls (waits_of mid) (are.stands calls stands)) first.before begun

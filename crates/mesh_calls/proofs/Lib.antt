@@ -1,0 +1,4 @@
+pub mod CallInputs
+pub mod CallLines
+pub mod CallOrders
+pub mod LinesRead

@@ -1,0 +1,46 @@
+-- The words of a history of overlapping calls, as those of the model.
+use Rattle.std.specs.Prelude.{◌≡◌, ◌<◌, ◌≤◌, ◌^◌, Result, Ok, Err}
+use Rattle.model_history.specs.Recorded.{many_cells}
+use Rattle.model_intervals.specs.Intervals.{Call}
+use Rattle.model_intervals.specs.OverlappingCalls.{HasEffect, cell_at}
+use Rattle.model_words.specs.Commands.{IsInRange}
+use Rattle.model_words.specs.declared.faults.FaultKind.{FaultKind}
+use Rattle.mesh_fields.specs.Commands.{IsWithin, plain_command}
+use Rattle.mesh_history.specs.RecordedWords.{IsNarrow, plain_entry, plain_reply}
+use Rattle.mesh_calls.specs.CallFiles.{Asked}
+use Rattle.mesh_calls.specs.declared.asked.AskedCall.{AskedCall}
+use Rattle.mesh_calls.specs.declared.words.TimedCall.{TimedCall}
+
+-- a call that was read, as one of the model
+abbrev pub plain_call : TimedCall → Call
+plain_call call = record { begin = call.begin; end = call.end; entry = plain_entry call.entry }
+
+-- a call that was read ends no earlier than it begins, its command and its answer are in their ranges, and the answer tells the command's effect
+pub record IsReadCall (call : TimedCall) : Type 0 where
+  pub takes_time : call.begin ≤ call.end
+  pub ends : call.end < 2 ^ 64
+  pub in_range : IsInRange (plain_command call.entry.command)
+  pub narrow : IsNarrow call.entry.reply
+  pub effect : HasEffect (plain_command call.entry.command) (plain_reply call.entry.reply)
+  pub cell : cell_at (plain_call call) < many_cells
+
+-- what a worker asked, as in the model
+abbrev pub plain_asked : AskedCall → Asked
+plain_asked asked = record { worker = asked.worker; begin = asked.begin; end = asked.end; command = plain_command asked.command }
+
+-- what was asked ends no earlier than it begins, and is in its ranges
+pub record IsReadAsked (asked : AskedCall) : Type 0 where
+  pub takes_time : asked.begin ≤ asked.end
+  pub ends : asked.end < 2 ^ 64
+  pub in_range : IsInRange (plain_command asked.command)
+  pub within : IsWithin 4294967295 281474976710655 asked.command
+
+-- what was read of what a worker asked
+abbrev pub IsAskedRead : Result Asked FaultKind → Result AskedCall FaultKind → Type 0
+IsAskedRead read (Ok asked) = (read ≡ Ok (plain_asked asked)) × IsReadAsked asked
+IsAskedRead read (Err kind) = read ≡ Err kind
+
+-- what was read of a call is that call, or its fault
+abbrev pub IsCallRead : Result Call FaultKind → Result TimedCall FaultKind → Type 0
+IsCallRead read (Ok call) = (read ≡ Ok (plain_call call)) × IsReadCall call
+IsCallRead read (Err kind) = read ≡ Err kind

@@ -1,0 +1,10 @@
+-- What the test of an answer means.
+use Rattle.std.specs.Prelude.{◌≡◌, ◌↔◌, true}
+use Rattle.model_intervals.specs.OverlappingCalls.{HasEffect}
+use Rattle.model_words.specs.declared.commands.Command.{Command}
+use Rattle.model_words.specs.declared.commands.Reply.{Reply}
+use Rattle.mesh_calls.specs.CallFiles.{has_effect}
+
+-- an answer passes the test of a command just where it tells the command's effect
+abbrev pub TestsTellEffects : Type 0
+TestsTellEffects = (command : Command) (reply : Reply) → has_effect command reply ≡ true ↔ HasEffect command reply

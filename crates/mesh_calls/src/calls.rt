@@ -1,0 +1,149 @@
+//! The lines of a history of overlapping calls: the first one, and the calls.
+ghost use Rattle.std.specs.Prelude.{◌≡◌, ◌⊎◌, ◌<◌, ◌++◌, ◌∷◌, [], Ok, Err, Some, None, true, false, length, IfOk, IfErr, IfSome, IsNone, OnOk, OnErr};
+ghost use Rattle.std.specs.List.{list_any};
+ghost use Rattle.model_jobs.specs.JobFiles.{is_empty};
+ghost use Rattle.mesh_calls.specs.CallFiles.{call_head_in, call_in, call_of, effect_in, has_effect};
+ghost use Rattle.mesh_calls.specs.CallWords.{IsCallRead, IsReadCall, plain_call};
+ghost use Rattle.mesh_fields.specs.Commands.{plain_command};
+ghost use Rattle.mesh_fields.specs.Lines.{line_fields, texts};
+ghost use Rattle.mesh_history.specs.HistoryFiles.{arrow_split};
+ghost use Rattle.mesh_history.specs.RecordedWords.{IsReplyRead, plain_reply};
+
+use crate::TimedCall;
+use crate::asked::call_asked_of;
+use crate::replies::reply_of;
+use arrayvec::ArrayVec;
+use mesh_fields::commands::SpeltCommand;
+use mesh_fields::lines::{check_bytes, cut, fields_of, header, is_word};
+use mesh_history::{RecordedEntry, RecordedReply};
+use model_words::FaultKind;
+
+/// The version of a history of overlapping calls.
+const VERSION: u32 = 2;
+
+/// The most fields of a call's line.
+const MAX_CALL_FIELDS: usize = 37;
+
+/// The fields of a call's line.
+type CallFields<'a> = ArrayVec<&'a [u8], MAX_CALL_FIELDS>;
+
+/// Reads the first line of a history of overlapping calls, `history 2`, without its end.
+///
+/// The first kind of fault that holds for the line is returned: LONG_LINE where it has more than 1,024 bytes, BYTE
+/// where one of them isn't from 20 to 7e, WORD where it isn't the word `history` and one field behind it, and NUMBER
+/// where that field isn't `2`.
+pub fn read_call_head(line: &[u8]) -> Result<(), FaultKind>
+    ensures { result ≡ call_head_in line.now }
+{
+    check_bytes(line)?;
+    let fields = fields_of(line)?;
+    let [word, fields @ ..] = fields.as_slice() else {
+        return Err(FaultKind::Word);
+    };
+    header(*word, fields, b"history", VERSION, VERSION)?;
+    Ok(())
+}
+
+/// Reads the line of a call, `W BEGIN END COMMAND -> ANSWER`, without its end.
+///
+/// LONG_LINE where the line has more than 1,024 bytes, BYTE where one of them isn't from 20 to 7e, and WORD where a
+/// field is empty, where there are more than 37, or where none is `->`. Else the leftmost fault, as in `history 1`:
+/// NUMBER also where END is below BEGIN, and WORD also where the command doesn't name one object by its cell, or where
+/// the answer isn't one that the command may have. Only a `new` may be refused.
+pub fn read_call(line: &[u8]) -> Result<TimedCall, FaultKind>
+    ensures ok { IfOk result (λ call. call_in line.now ≡ Ok (plain_call call)) }
+    ensures err { IfErr result (λ kind. call_in line.now ≡ Err kind) }
+    ensures read { IfOk result IsReadCall }
+{
+    check_bytes(line)?;
+    let fields = call_fields_of(line)?;
+    let (before, behind) = arrow_split(fields.as_slice()).ok_or(FaultKind::Word)?;
+    call_of(before, behind)
+}
+
+/// Splits a call's line into its fields. WORD where one of them is empty, or where they are too many for any call.
+fn call_fields_of(line: &[u8]) -> Result<CallFields<'_>, FaultKind>
+    ensures fields { IfOk result (λ fields. texts fields.items ≡ line_fields line.now) }
+    ensures filled { OnOk result (list_any is_empty (line_fields line.now) ≡ false) }
+    ensures kind { IfErr result (λ kind. kind ≡ FaultKind.Word) }
+    ensures err { OnErr result ((list_any is_empty (line_fields line.now) ≡ true) ⊎ (37 < length (line_fields line.now))) }
+{
+    let mut fields = CallFields::new();
+    let mut rest = line;
+    while let Some((field, behind)) = cut(rest, b' ') {
+        add_field(&mut fields, field)?;
+        rest = behind;
+    }
+    add_field(&mut fields, rest)?;
+    Ok(fields)
+}
+
+/// Adds a field that isn't empty, where there is room. WORD where it is empty or there is no room.
+fn add_field<'a>(fields: &mut CallFields<'a>, field: &'a [u8]) -> Result<(), FaultKind>
+    ensures ok { OnOk result (texts fields.new.items ≡ texts fields.old.items ++ field.now ∷ []) }
+    ensures filled { OnOk result (is_empty field.now ≡ false) }
+    ensures kind { IfErr result (λ kind. kind ≡ FaultKind.Word) }
+    ensures err { OnErr result ((is_empty field.now ≡ true) ⊎ (length (texts fields.old.items) ≡ 37)) }
+{
+    if field.is_empty() {
+        return Err(FaultKind::Word);
+    }
+    fields.try_push(field).map_err(|_| FaultKind::Word)
+}
+
+/// The fields before the first arrow, and those behind it. None where no field is an arrow.
+fn arrow_split<'a, 'b>(fields: &'b [&'a [u8]]) -> Option<(&'b [&'a [u8]], &'b [&'a [u8]])>
+    ensures some { IfSome result (λ parts. arrow_split (texts fields.now) ≡ Some (texts parts.0.now, texts parts.1.now)) }
+    ensures none { IsNone result → arrow_split (texts fields.now) ≡ None }
+{
+    let place = fields.iter().position(|field| is_word(*field, b"->"))?;
+    Some((&fields[..place], &fields[place + 1..]))
+}
+
+/// The call with these fields before its arrow and these behind it.
+fn call_of(before: &[&[u8]], behind: &[&[u8]]) -> Result<TimedCall, FaultKind>
+    ensures { IsCallRead (call_of (texts before.now) (texts behind.now)) result }
+{
+    let asked = call_asked_of(before)?;
+    let reply = effect_of(&asked.command, behind)?;
+    Ok(TimedCall {
+        begin: asked.begin,
+        end: asked.end,
+        entry: RecordedEntry {
+            worker: asked.worker,
+            command: asked.command,
+            reply,
+        },
+    })
+}
+
+/// What was answered to a command. WORD where it isn't an answer that the command may have.
+fn effect_of(command: &SpeltCommand, fields: &[&[u8]]) -> Result<RecordedReply, FaultKind>
+    ensures read { IsReplyRead (effect_in (plain_command command.now) (texts fields.now)) result }
+    ensures effect { IfOk result (λ reply. has_effect (plain_command command.now) (plain_reply reply) ≡ true) }
+{
+    let [word, fields @ ..] = fields else {
+        return Err(FaultKind::Word);
+    };
+    let reply = reply_of(*word, fields)?;
+    if !has_effect(command, &reply) {
+        return Err(FaultKind::Word);
+    }
+    Ok(reply)
+}
+
+/// Whether the answer is one that the command may have, by which its effect is known.
+fn has_effect(command: &SpeltCommand, reply: &RecordedReply) -> bool
+    ensures { result ≡ has_effect (plain_command command.now) (plain_reply reply.now) }
+{
+    match command {
+        SpeltCommand::New(..) => matches!(
+            reply,
+            RecordedReply::Object(..) | RecordedReply::Refused(_)
+        ),
+        SpeltCommand::Put(..) | SpeltCommand::Free(_) => matches!(reply, RecordedReply::Done),
+        SpeltCommand::Get(..) => matches!(reply, RecordedReply::Bytes(_)),
+        SpeltCommand::Addr(_) => matches!(reply, RecordedReply::At(_)),
+        _ => false,
+    }
+}

@@ -1,0 +1,126 @@
+//! The calls of the history that a device gives.
+ghost use Rattle.std.specs.Prelude.{◌≡◌, ◌+◌, ◌<◌, ◌≤◌, ◌∷◌, ◌++◌, ℕ, List, Option, Ok, Err, [], true, false, IfErr, IfOk, IfSome, IsNone, OnOk};
+ghost use Rattle.model_intervals.specs.Intervals.{Call};
+ghost use Rattle.model_jobs.specs.JobFiles.{fault_at};
+ghost use Rattle.mesh_calls.specs.CallFiles.{call_head_in, call_in};
+ghost use Rattle.mesh_calls.specs.CallInputs.{HasCome, HasEnded, HasNext, HasStopped, IsFaultIn, IsFresh, IsTaken, lines_before};
+ghost use Rattle.mesh_calls.specs.CallOrders.{IsOrderOf};
+ghost use Rattle.mesh_calls.specs.CallWords.{IsReadCall, plain_call};
+ghost use Rattle.mesh_calls.specs.declared.faults.CallError.{CallError};
+ghost use Rattle.mesh_line_input.specs.LineInputs.{line_of};
+
+use crate::order::CallOrder;
+use crate::{CallError, TimedCall, read_call, read_call_head};
+use mesh_devices::Source;
+use mesh_line_input::LineInput;
+use model_words::{FaultKind, TextFault};
+use std::alloc::{AllocError, Global};
+
+/// A history of overlapping calls that comes from a device, of which a beginning was read.
+#[derive(Drop)]
+pub struct CallInput {
+    /// The lines of the text.
+    lines: LineInput,
+    /// What is kept of the calls so far.
+    order: CallOrder,
+}
+
+impl CallInput {
+    /// A history of which nothing was read, with the memory for one read. An error is an allocation failure.
+    pub fn new(alloc: Global) -> Result<CallInput, AllocError>
+        ensures { IfOk result IsFresh }
+    {
+        Ok(CallInput {
+            lines: LineInput::new(alloc)?,
+            order: CallOrder::new(alloc),
+        })
+    }
+
+    /// How many lines were read: the number of the line of the call that came last, from 1.
+    pub fn lines(&self) -> u32
+        ensures { result ≡ lines_before self.now }
+    {
+        self.lines.lines()
+    }
+
+    /// The next call of the history that the input gives. None at its end.
+    ///
+    /// Errors: Text if a line has a fault, or the text ends in a line; Order if a call is out of order; Read exactly if
+    /// the input failed; Memory if an allocation failed. The history is of no use behind an error.
+    pub fn next<I: Source>(&mut self, input: &mut I) -> Result<Option<TimedCall>, CallError>
+        requires { I.has_failed input.old ≡ false }
+        ensures ok { OnOk result (I.has_failed input.new ≡ false) }
+        ensures call { (left : Option (List ℕ)) (calls : List Call) → HasCome self.old left (I.remaining input.old) calls
+            → IfOk result (λ next. IfSome next (HasNext self.new left (I.remaining input.new) calls)) }
+        ensures later { IfOk result (λ next. IfSome next (λ _. lines_before self.old < lines_before self.new)) }
+        ensures is_read { IfOk result (λ next. IfSome next IsReadCall) }
+        ensures ended { (left : Option (List ℕ)) (calls : List Call) → HasCome self.old left (I.remaining input.old) calls
+            → IfOk result (λ next. IsNone next → HasEnded self.new left (I.remaining input.new) calls) }
+        ensures stopped { (left : Option (List ℕ)) (calls : List Call) → HasCome self.old left (I.remaining input.old) calls
+            → IfErr result (HasStopped left (I.remaining input.new) calls) }
+        ensures read { result ≡ Err CallError.Read → I.has_failed input.new ≡ true }
+        ensures failed { I.has_failed input.new ≡ true → result ≡ Err CallError.Read }
+    {
+        loop {
+            if !self.lines.read_line(input)? {
+                return Ok(None);
+            }
+            if let Some(call) = self.take_line()? {
+                return Ok(Some(call));
+            }
+        }
+    }
+
+    /// Takes the line that was read last, and returns its call. None where it is the head.
+    fn take_line(&mut self) -> Result<Option<TimedCall>, CallError>
+        requires { 1 ≤ lines_before self.old }
+        ensures same { self.new.lines ≡ self.old.lines }
+        ensures taken { (lines : ℕ) (calls : List Call) → lines + 1 ≡ lines_before self.old → IsOrderOf self.old.order calls
+            → IsTaken self.new lines calls (line_of self.old.lines) result }
+        ensures head { IfOk result (λ next. IsNone next → lines_before self.old ≡ 1) }
+        ensures call { IfOk result (λ next. IfSome next (λ _. 2 ≤ lines_before self.old)) }
+        ensures is_read { IfOk result (λ next. IfSome next IsReadCall) }
+        ensures unread { result ≡ Err CallError.Read → ⊥ }
+    {
+        let number = self.lines.lines();
+        if number == 1 {
+            head_at(self.lines.line())?;
+            return Ok(None);
+        }
+        let call = call_at(number, self.lines.line())?;
+        if !self.order.add(&call)? {
+            return Err(CallError::Order(number));
+        }
+        Ok(Some(call))
+    }
+}
+
+/// Reads the first line.
+fn head_at(line: &[u8]) -> Result<(), CallError>
+    ensures ok { OnOk result (call_head_in line.now ≡ Ok tt) }
+    ensures fault { IfErr result (IsFaultIn 1 (call_head_in line.now)) }
+{
+    match read_call_head(line) {
+        Ok(()) => Ok(()),
+        Err(kind) => Err(CallError::Text(fault_at(1, kind))),
+    }
+}
+
+/// Reads the line of a call, which has this number.
+fn call_at(number: u32, line: &[u8]) -> Result<TimedCall, CallError>
+    ensures ok { IfOk result (λ call. call_in line.now ≡ Ok (plain_call call)) }
+    ensures is_read { IfOk result IsReadCall }
+    ensures fault { IfErr result (IsFaultIn number (call_in line.now)) }
+{
+    match read_call(line) {
+        Ok(call) => Ok(call),
+        Err(kind) => Err(CallError::Text(fault_at(number, kind))),
+    }
+}
+
+/// A fault of a line.
+fn fault_at(line: u32, kind: FaultKind) -> TextFault
+    ensures { result ≡ fault_at line kind }
+{
+    TextFault { line, kind }
+}

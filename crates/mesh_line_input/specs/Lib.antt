@@ -1,0 +1,3 @@
+pub mod LineInputs
+pub mod LineSteps
+pub mod Pendings

@@ -1,0 +1,62 @@
+//! The beginning of a line whose end did not come yet.
+ghost use Rattle.std.specs.Prelude.{◌≡◌, ◌-◌, ◌≤◌, ◌++◌, ◌↔◌, [], length, IsTrue, OnOk};
+ghost use Rattle.mesh_fields.specs.KeptLines.{IsUnended};
+
+use mesh_fields::lines::MAX_LINE_BYTES;
+use std::alloc::{AllocError, Global};
+
+/// Bytes of a line, no more than a line may have and none of them a line end.
+#[derive(Drop)]
+pub struct BegunLine {
+    bytes: Vec<u8>,
+    ghost short: { length bytes.items ≤ 1024 },
+    ghost unended: { IsUnended bytes.items },
+}
+
+impl BegunLine {
+    /// A line that hasn't begun. It takes no memory.
+    pub fn new(alloc: Global) -> BegunLine
+        ensures { result.bytes.items ≡ [] }
+    {
+        BegunLine {
+            bytes: Vec::new(alloc),
+        }
+    }
+
+    /// Whether the line hasn't begun.
+    pub fn is_empty(&self) -> bool
+        ensures { IsTrue result ↔ self.now.bytes.items ≡ [] }
+    {
+        self.bytes.is_empty()
+    }
+
+    /// The bytes so far.
+    pub fn as_slice(&self) -> &[u8]
+        ensures { result.now ≡ self.now.bytes.items }
+    {
+        self.bytes.as_slice()
+    }
+
+    /// How many more bytes a line may have.
+    pub fn room(&self) -> usize
+        ensures { result ≡ 1024 - length self.now.bytes.items }
+    {
+        MAX_LINE_BYTES - self.bytes.len()
+    }
+
+    /// Adds bytes of the line, for which there is room. An error is an allocation failure.
+    pub fn add(&mut self, bytes: &[u8]) -> Result<(), AllocError>
+        requires room { length bytes.now ≤ 1024 - length self.old.bytes.items }
+        requires unended { IsUnended bytes.now }
+        ensures { OnOk result (self.new.bytes.items ≡ self.old.bytes.items ++ bytes.now) }
+    {
+        self.bytes.extend_from_slice(bytes)
+    }
+
+    /// Begins anew.
+    pub fn clear(&mut self)
+        ensures { self.new.bytes.items ≡ [] }
+    {
+        self.bytes.clear();
+    }
+}

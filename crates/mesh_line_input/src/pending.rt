@@ -1,0 +1,81 @@
+//! The bytes that a device gave and at which nobody looked yet.
+ghost use Rattle.std.specs.Prelude.{◌≡◌, ◌-◌, ◌≤◌, [], false, drop, is_err, length, vec_len, IfErr, IfOk};
+ghost use Rattle.mesh_devices.specs.declared.faults.ReplayError.{ReplayError};
+ghost use Rattle.mesh_line_input.specs.Pendings.{HasBytes};
+
+use mesh_devices::{ReplayError, Source, read_some};
+use std::alloc::{AllocError, Global};
+use std::marker::Model;
+
+/// The most bytes of one read.
+const READ_BYTES: usize = 65_536;
+
+/// The bytes of the last read at which nobody looked yet.
+#[derive(Drop)]
+pub struct Pending {
+    /// The bytes of the last read.
+    buffer: Vec<u8>,
+    /// Where those begin that are left.
+    start: usize,
+    /// Where they end.
+    end: usize,
+}
+
+impl Model for Pending {
+    ghost use Rattle.std.specs.Prelude.{ℕ, List, slice_range};
+    ghost use Rattle.mesh_line_input.specs.Pendings.{AreWithin};
+
+    ghost Value = { List ℕ };
+
+    ghost view = { λ p. slice_range p.buffer.items p.start p.end };
+
+    ghost invariant = { λ p. AreWithin p.buffer.items p.start p.end };
+}
+
+impl Pending {
+    /// No bytes, with the memory for one read. An error is an allocation failure.
+    pub fn new(alloc: Global) -> Result<Pending, AllocError>
+        ensures { IfOk result (λ pending. pending ≡ []) }
+    {
+        Ok(Pending {
+            buffer: room_to_read(alloc)?,
+            start: 0,
+            end: 0,
+        })
+    }
+
+    /// The bytes.
+    pub fn as_slice(&self) -> &[u8]
+        ensures { result.now ≡ self.now }
+    {
+        &self.buffer[self.start..self.end]
+    }
+
+    /// Keeps the last bytes, so many.
+    pub fn keep_last(&mut self, count: usize)
+        requires { count ≤ length self.old }
+        ensures { self.new ≡ drop (length self.old - count) self.old }
+    {
+        self.start = self.end - count;
+    }
+
+    /// Reads the next bytes in place of those that there were, and returns whether there were any.
+    pub fn read<I: Source>(&mut self, input: &mut I) -> Result<bool, ReplayError>
+        requires { I.has_failed input.old ≡ false }
+        ensures bytes { IfOk result (HasBytes self.new (I.remaining input.old) (I.remaining input.new)) }
+        ensures fault { IfErr result (λ error. error ≡ ReplayError.Read) }
+        ensures fails { I.has_failed input.new ≡ is_err result }
+    {
+        let count = read_some(input, &mut self.buffer)?;
+        self.start = 0;
+        self.end = count;
+        Ok(count > 0)
+    }
+}
+
+/// Room for the bytes of one read.
+fn room_to_read(alloc: Global) -> Result<Vec<u8>, AllocError>
+    ensures { IfOk result (λ room. vec_len room ≡ 65536) }
+{
+    vec![in alloc; 0; READ_BYTES]
+}
