@@ -1,5 +1,6 @@
 -- A call ends: what a timeline knows.
 use Rattle.std.proofs.Common.{◌≡◌, ◌≢◌, ◌↔◌, ℕ, zero, suc, ◌+◌, ◌*◌, ◌%◌, ◌<◌, ◌≤◌, ◌⊎◌, inl, inr, Bool, true, false, List, [], length, arith, refl, sym, subst, ◌∙◌, ap, Option, Some, None, option_map, slice_get}
+use Rattle.std.specs.Prelude.{IfSome}
 use Rattle.std.specs.Ordering.{nat_cmp}
 use Rattle.std.specs.BTreeMap.{BTreeMap, get}
 use Rattle.std.proofs.lemmas.Bool.Decides.{eqb_tells}
@@ -35,6 +36,11 @@ use Rattle.mesh_linearizability.proofs.LivesEnd.{made_at_cell}
 use Rattle.mesh_linearizability.proofs.QueueSteps.{small_place}
 use Rattle.mesh_linearizability.proofs.StateAccess.{access_of_cell}
 use Rattle.mesh_linearizability.proofs.StateEnd.{cannot_be, doomed_ends, free_ends, made_new_ends, refused_new_ends, taken_cell, taken_range, taken_serial, this, unfair_new}
+
+-- what holds of a value holds of what follows from it
+pub if_some_weaker : {X : Type 0} (o : Option X) (P Q : X → Type 0) → ((x : X) → P x → Q x) → IfSome o P → IfSome o Q
+if_some_weaker None P Q f h = h
+if_some_weaker (Some x) P Q f h = f x h
 
 -- the parts of a timeline where a call has ended
 abbrev pub EndedParts : Timeline → (ℕ → Option Life) → (ℕ → Option ℕ) → (ℕ → Type 0) → (ℕ → Type 0) → ℕ → Pending → Type 0

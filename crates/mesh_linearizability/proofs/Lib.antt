@@ -4,6 +4,7 @@ mod BeginSteps
 mod BegunSteps
 mod BegunWrong
 mod CallPlaces
+mod CheckSteps
 mod EndRanges
 mod EndSteps
 mod Fair

@@ -21,7 +21,7 @@ use Rattle.mesh_linearizability.specs.declared.pending.Pending.TheVariants.{Made
 use Rattle.mesh_linearizability.proofs.AccessOrders.{tells}
 use Rattle.mesh_linearizability.proofs.BegunSteps.{access_begun, free_begun}
 use Rattle.mesh_linearizability.proofs.BegunWrong.{no_object, not_idle}
-use Rattle.mesh_linearizability.proofs.CallPlaces.{at_below, at_one, at_same}
+use Rattle.mesh_linearizability.proofs.CallPlaces.{at_below, at_front, at_one, at_same}
 use Rattle.mesh_linearizability.proofs.Finish.{idle_object, life_of}
 use Rattle.mesh_linearizability.proofs.JudgesBegin.{access_begins, other_begins}
 use Rattle.mesh_linearizability.proofs.LivesBegin.{another_begins, free_begins}
@@ -245,9 +245,9 @@ module _ (calls : List Call) (call : Call) (waits waits' : ℕ → Option Pendin
             record {
               cannot = not_idle calls call waits may frees some.at some.call some.there here (own.1 ∙ sym names);
               due = record {
-                end = some.call.end;
                 place = some.at;
-                begun = let below = at_below calls some.at some.call some.there in let long = length-append calls (call ∷ []) in omega (arith, below, long);
+                call = some.call;
+                there = at_front calls (call ∷ []) some.at some.call some.there;
                 pending = Access cell;
                 waiting = starting.others (key_of some.call some.at)
                     (λ e. let below = at_below calls some.at some.call some.there in let few = may.few in omega (arith, e, below, few))

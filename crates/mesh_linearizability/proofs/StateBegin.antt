@@ -16,7 +16,7 @@ use Rattle.mesh_linearizability.specs.Timelines.{Doomed, HasFlaw, Holds, IsDue, 
 use Rattle.mesh_linearizability.specs.declared.pending.Pending.{Pending}
 use Rattle.mesh_linearizability.specs.declared.pending.Pending.TheVariants.{Access, Wrong}
 use Rattle.mesh_linearizability.proofs.BegunSteps.{access_begun, free_begun, new_begun, none_goes_on}
-use Rattle.mesh_linearizability.proofs.CallPlaces.{at_below, at_one}
+use Rattle.mesh_linearizability.proofs.CallPlaces.{at_below, at_end, at_front, at_one}
 use Rattle.mesh_linearizability.proofs.Finish.{life_of}
 use Rattle.mesh_linearizability.proofs.JudgesBegin.{access_begins, other_begins}
 use Rattle.mesh_linearizability.proofs.LivesBegin.{another_begins, free_begins}
@@ -45,12 +45,12 @@ module _ (calls : List Call) (call : Call) (waits waits' : ℕ → Option Pendin
   pub due_still : (lives lives' : ℕ → Option Life) (cells cells' : ℕ → Type 0) → ((c : ℕ) → lives c ≡ None → lives' c ≡ None) → ((c : ℕ) → cells c → cells' c)
       → IsDue calls waits lives cells → IsDue (calls ++ call ∷ []) waits' lives' cells'
   due_still lives lives' cells cells' none keeps h = record {
-    end = h.end;
     place = h.place;
-    begun = let long = length-append calls (call ∷ []) in let begun = h.begun in omega (arith, long, begun);
+    call = h.call;
+    there = at_front calls (call ∷ []) h.place h.call h.there;
     pending = h.pending;
-    waiting = starting.others (h.end * 4294967296 + h.place)
-        (λ same. let begun = h.begun in let few = may.few in omega (arith, same, begun, few)) ∙ h.waiting;
+    waiting = starting.others (key_of h.call h.place)
+        (λ same. let below = at_below calls h.place h.call h.there in let few = may.few in omega (arith, same, below, few)) ∙ h.waiting;
     has_flaw = flaw_still h.pending h.has_flaw;
   }
     where
@@ -70,9 +70,9 @@ module _ (calls : List Call) (call : Call) (waits waits' : ℕ → Option Pendin
   doomed_now lives cells cannot flaw = record {
     cannot = cannot;
     due = record {
-      end = call.end;
       place = length calls;
-      begun = let long = length-append calls (call ∷ []) in omega (arith, long);
+      call = call;
+      there = at_end calls call;
       pending = pending;
       waiting = starting.now;
       has_flaw = flaw;

@@ -41,11 +41,11 @@ module _ (calls : List Call) (waits waits' : ℕ → Option Pending) (key : ℕ)
   doomed_ends lives lives' cells cells' no_flaw none keeps h = let due = h.due in record {
     cannot = h.cannot;
     due = record {
-      end = due.end;
       place = due.place;
-      begun = due.begun;
+      call = due.call;
+      there = due.there;
       pending = due.pending;
-      waiting = stop.others (due.end * 4294967296 + due.place)
+      waiting = stop.others (key_of due.call due.place)
           (λ same. no_flaw (let at = subst (λ (q : ℕ). waits q ≡ Some due.pending) same due.waiting in let was = stop.was in
               let one : due.pending ≡ pending = cc (at, was) in subst (λ (p : Pending). HasFlaw lives cells p) one due.has_flaw))
           ∙ due.waiting;

@@ -1,5 +1,6 @@
 pub mod Accesses
 pub mod Begins
+pub mod Checks
 pub mod Ends
 pub mod Judges
 pub mod LifeSteps

@@ -1,6 +1,7 @@
 -- What the parts of a timeline know of the calls that have begun.
-use Rattle.std.specs.Prelude.{◌≡◌, ◌≢◌, ◌⊎◌, ◌↔◌, ℕ, ◌+◌, ◌*◌, ◌<◌, ◌≤◌, List, Option, Some, None, length}
+use Rattle.std.specs.Prelude.{◌≡◌, ◌≢◌, ◌⊎◌, ◌↔◌, ℕ, ◌<◌, ◌≤◌, List, Option, Some, None, length}
 use Rattle.model_intervals.specs.Intervals.{Call}
+use Rattle.model_intervals.specs.OverlappingCalls.{IsAt}
 use Rattle.mesh_timed_judge.specs.Following.{IsOpen}
 use Rattle.mesh_linearizability.specs.Judges.{AccessJudge, Judges, live_of}
 use Rattle.mesh_linearizability.specs.declared.life.Life.{Life}
@@ -28,11 +29,11 @@ HasFlaw lives cells _ = ⊥
 
 -- a call waits of which a flaw will be told
 pub record IsDue (calls : List Call) (waits : ℕ → Option Pending) (lives : ℕ → Option Life) (cells : ℕ → Type 0) : Type 0 where
-  pub end : ℕ
   pub place : ℕ
-  pub begun : place < length calls
+  pub call : Call
+  pub there : IsAt calls place call
   pub pending : Pending
-  pub waiting : waits (end * 4294967296 + place) ≡ Some pending
+  pub waiting : waits (key_of call place) ≡ Some pending
   pub has_flaw : HasFlaw lives cells pending
 
 -- no history begins with these calls, and a flaw will be told

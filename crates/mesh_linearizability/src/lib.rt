@@ -2,6 +2,7 @@
 #![tactic(auto)]
 
 mod begins;
+mod checks;
 mod ends;
 mod flaws;
 mod life;
@@ -9,7 +10,10 @@ mod objects;
 mod pending;
 mod stops;
 mod timeline;
+mod verdicts;
 
+pub use checks::check_calls;
 pub use flaws::Flaw;
 pub use stops::{Found, Stop};
 pub use timeline::Timeline;
+pub use verdicts::CallVerdict;

@@ -7,7 +7,7 @@ ghost use Rattle.model_intervals.specs.OverlappingCalls.{HasEffect};
 ghost use Rattle.mesh_fields.specs.Commands.{plain_command};
 ghost use Rattle.mesh_history.specs.RecordedWords.{plain_entry, plain_reply};
 ghost use Rattle.mesh_number_set.specs.Ranges.{Has};
-ghost use Rattle.mesh_linearizability.specs.Ends.{AreEnded, IsFirstBefore, IsRuledOut, NoneBefore};
+ghost use Rattle.mesh_linearizability.specs.Ends.{AreEnded, IsFirstBefore, IsRuledOut, NoneBefore, Past};
 ghost use Rattle.mesh_linearizability.specs.Queues.{MayBegin};
 ghost use Rattle.mesh_linearizability.specs.Standing.{Stands, lives_of, waits_of};
 ghost use Rattle.mesh_linearizability.specs.Timelines.{FewOpen};
@@ -72,6 +72,8 @@ impl Timeline {
         ensures stands { OnOk result ((calls : List Call) (begin : ℕ) → length calls ≡ number → Stands calls self.old
             → MayBegin calls (waits_of self.old) (record { begin = begin; end = end; entry = plain_entry entry.now })
             → Stands (calls ++ record { begin = begin; end = end; entry = plain_entry entry.now } ∷ []) self.new) }
+        ensures past { OnOk result ((calls : List Call) (call : Call) (moment : ℕ) → length calls ≡ number → call.end ≡ end → Past calls (waits_of self.old) moment
+            → Past (calls ++ call ∷ []) (waits_of self.new) moment) }
         ensures few { OnOk result (FewOpen (lives_of self.new) (number + 1)) }
     {
         let pending = self.begun(number, entry)?;

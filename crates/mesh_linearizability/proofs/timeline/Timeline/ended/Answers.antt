@@ -7,12 +7,8 @@ use Rattle.mesh_linearizability.specs.Standing.{HasEndedSo, IsFlawed, lives_of}
 use Rattle.mesh_linearizability.specs.declared.flaws.Flaw.{Flaw}
 use Rattle.mesh_linearizability.specs.declared.life.Life.{Life}
 use Rattle.mesh_linearizability.specs.declared.pending.Pending.{Pending}
-use Rattle.mesh_linearizability.proofs.EndSteps.{wrong_ended}
+use Rattle.mesh_linearizability.proofs.EndSteps.{if_some_weaker, wrong_ended}
 use Rattle.mesh_linearizability.proofs.timeline.Timeline.ended.Goals as goal
-
-if_some_weaker : {X : Type 0} (o : Option X) (P Q : X → Type 0) → ((x : X) → P x → Q x) → IfSome o P → IfSome o Q
-if_some_weaker None P Q f h = h
-if_some_weaker (Some x) P Q f h = f x h
 
 pub returns-in_ok-flaw-in-Made-clause-ended : goal.returns-in_ok-flaw-in-Made-clause-ended
 returns-in_ok-flaw-in-Made-clause-ended c = λ none.

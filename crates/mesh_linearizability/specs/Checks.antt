@@ -1,0 +1,70 @@
+-- What is found of the text of a history of overlapping calls.
+use Rattle.std.specs.Prelude.{◌≡◌, ◌⊎◌, ℕ, ◌^◌, ◌<◌, ◌≤◌, true, List, ◌++◌, Option, Some, None, Result, Ok, length}
+use Rattle.std.specs.Io.KnownBytes.{Consumes, IsAtEnd}
+use Rattle.model_intervals.specs.Intervals.{Call, IsLinearizable}
+use Rattle.model_intervals.specs.OverlappingCalls.{IsAt, IsHistory}
+use Rattle.mesh_calls.specs.CallInputs.{HasCome, HasRead}
+use Rattle.mesh_calls.specs.CallReadings.{CallReading, OfText, OutOfOrder, calls_of}
+use Rattle.mesh_calls.specs.declared.faults.CallError.{CallError}
+use Rattle.mesh_calls.specs.declared.faults.CallError.TheVariants.{Text, Order, Read, Memory}
+use Rattle.mesh_calls.specs.declared.inputs.CallInput.{CallInput}
+use Rattle.mesh_linearizability.specs.Ends.{Past}
+use Rattle.mesh_linearizability.specs.Standing.{Stands, lives_of, waits_of}
+use Rattle.mesh_linearizability.specs.Timelines.{FewOpen}
+use Rattle.mesh_linearizability.specs.declared.stops.Found.{Found}
+use Rattle.mesh_linearizability.specs.declared.stops.Stop.{Stop}
+use Rattle.mesh_linearizability.specs.declared.timeline.Timeline.{Timeline}
+use Rattle.mesh_linearizability.specs.declared.verdicts.CallVerdict.{CallVerdict}
+use Rattle.mesh_linearizability.specs.declared.verdicts.CallVerdict.TheVariants.{Linearizable, Flawed, Undecided}
+
+-- ---- verdicts
+
+-- some order explains these calls of a text without a fault, and they are a history
+pub record IsLinearizableText (text : List ℕ) (entries : ℕ) : Type 0 where
+  pub calls : List Call
+  pub reading : calls_of text ≡ record { calls = calls; fault = None }
+  pub many : length calls ≡ entries
+  pub history : IsHistory calls
+  pub explained : IsLinearizable calls
+
+-- the calls of a text are no history, or no order explains them
+abbrev pub IsUnexplainedText : List ℕ → Type 0
+IsUnexplainedText text = IsHistory (calls_of text).calls → IsLinearizable (calls_of text).calls → ⊥
+
+-- what a verdict says of what the device gave: of the whole text, or of each text that begins with what was read. Nothing is said where it is undecided
+abbrev pub HasJudged : Option (List ℕ) → Option (List ℕ) → CallVerdict → Type 0
+HasJudged left left' (Linearizable entries) = (text : List ℕ) × Consumes left left' text × IsAtEnd left' × IsLinearizableText text entries
+HasJudged left left' (Flawed line flaw) = (text : List ℕ) × Consumes left left' text
+    × (((more : List ℕ) → IsUnexplainedText (text ++ more)) ⊎ (IsUnexplainedText text × IsAtEnd left'))
+HasJudged left left' (Undecided line fault) = Unit {0}
+
+-- why there is no verdict: the text has this fault. Nothing is said where the input or an allocation failed
+abbrev pub HasNotJudged : Option (List ℕ) → Option (List ℕ) → CallError → Type 0
+HasNotJudged left left' (Text fault) = (calls : List Call) × HasRead left left' (record { calls = calls; fault = Some (OfText fault) })
+HasNotJudged left left' (Order line) = (calls : List Call) × HasRead left left' (record { calls = calls; fault = Some (OutOfOrder line) })
+HasNotJudged left left' Read = Unit {0}
+HasNotJudged left left' Memory = Unit {0}
+
+-- ---- what is kept from call to call
+
+-- the timeline has taken these calls, up to a moment that is no later than the begin of one of them
+pub record IsKept (t : Timeline) (calls : List Call) : Type 0 where
+  pub stands : Stands calls t
+  pub few : FewOpen (lives_of t) (length calls)
+  pub many : length calls ≤ 4294967296
+  pub moment : ℕ
+  pub past : Past calls (waits_of t) moment
+  pub reached : (moment ≡ 0) ⊎ ((i : ℕ) × (a : Call) × IsAt calls i a × (moment ≤ a.begin))
+  pub ends : (i : ℕ) (a : Call) → IsAt calls i a → (a.begin ≤ a.end) × (a.end < 2 ^ 64)
+
+-- the calls that have come were taken
+pub record HasTaken (history : CallInput) (t : Timeline) (left left' : Option (List ℕ)) : Type 0 where
+  pub calls : List Call
+  pub come : HasCome history left left' calls
+  pub kept : IsKept t calls
+
+-- the verdict tells the flaw that was found
+abbrev pub IsTold : Result (Option Found) Stop → CallVerdict → Type 0
+IsTold found (Linearizable entries) = ⊥
+IsTold found (Flawed line flaw) = (first : Found) × (found ≡ Ok (Some first))
+IsTold found (Undecided line fault) = Unit {0}

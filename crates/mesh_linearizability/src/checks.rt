@@ -1,0 +1,114 @@
+//! The verdict on the history of overlapping calls that a device gives.
+ghost use Rattle.std.specs.Prelude.{◌≡◌, ◌≤◌, ◌^◌, ◌++◌, ◌∷◌, [], ℕ, List, Err, true, false, IfErr, IfOk, IfSome, IsNone, None, Ok, OnOk, length};
+ghost use Rattle.model_intervals.specs.Intervals.{Call, IsLinearizable};
+ghost use Rattle.model_intervals.specs.OverlappingCalls.{IsHistory};
+ghost use Rattle.mesh_calls.specs.CallReadings.{is_in_order};
+ghost use Rattle.mesh_calls.specs.CallWords.{IsReadCall, plain_call};
+ghost use Rattle.mesh_calls.specs.declared.faults.CallError.{CallError};
+ghost use Rattle.mesh_calls.specs.CallInputs.{IsFresh};
+ghost use Rattle.mesh_linearizability.specs.Checks.{HasJudged, HasNotJudged, IsKept, IsTold};
+ghost use Rattle.mesh_linearizability.specs.Lives.{CannotBe};
+ghost use Rattle.mesh_linearizability.specs.Standing.{lives_of};
+ghost use Rattle.mesh_linearizability.specs.Timelines.{FewOpen};
+
+use crate::stops::{Found, Stop};
+use crate::timeline::Timeline;
+use crate::verdicts::CallVerdict;
+use mesh_calls::{CallError, CallInput, TimedCall};
+use mesh_configurations::JudgeFault;
+use mesh_devices::Source;
+use std::alloc::Global;
+
+/// A moment behind all that a history tells.
+const LAST_MOMENT: u128 = 18_446_744_073_709_551_616;
+
+/// Judges the history of overlapping calls that the input gives. At most `most` configurations of an object may be met at
+/// the end of a call.
+///
+/// The input is read to its end, or until a flaw is found. Text and Order come where a line has a fault, Read exactly
+/// where the input failed, and Memory where an allocation failed.
+pub fn check_calls<I: Source>(alloc: Global, input: &mut I, most: usize) -> Result<CallVerdict, CallError>
+    requires { I.has_failed input.old ≡ false }
+    ensures ok { OnOk result (I.has_failed input.new ≡ false) }
+    ensures judged { IfOk result (HasJudged (I.remaining input.old) (I.remaining input.new)) }
+    ensures fault { IfErr result (HasNotJudged (I.remaining input.old) (I.remaining input.new)) }
+    ensures read { result ≡ Err CallError.Read → I.has_failed input.new ≡ true }
+    ensures failed { I.has_failed input.new ≡ true → result ≡ Err CallError.Read }
+{
+    let mut history = CallInput::new(alloc)?;
+    let mut timeline = Timeline::new(alloc);
+    judge_calls(&mut history, &mut timeline, input, most)
+}
+
+/// Judges the calls that the input gives, of which none has come. Returns the verdict, with the errors of `check_calls`.
+fn judge_calls<I: Source>(
+    history: &mut CallInput,
+    timeline: &mut Timeline,
+    input: &mut I,
+    most: usize,
+) -> Result<CallVerdict, CallError>
+    requires open { I.has_failed input.old ≡ false }
+    requires fresh { IsFresh history.old }
+    requires kept { IsKept timeline.old [] }
+    ensures ok { OnOk result (I.has_failed input.new ≡ false) }
+    ensures judged { IfOk result (HasJudged (I.remaining input.old) (I.remaining input.new)) }
+    ensures fault { IfErr result (HasNotJudged (I.remaining input.old) (I.remaining input.new)) }
+    ensures read { result ≡ Err CallError.Read → I.has_failed input.new ≡ true }
+    ensures failed { I.has_failed input.new ≡ true → result ≡ Err CallError.Read }
+{
+    while let Some(call) = history.next(input)? {
+        let number = history.lines() - 2;
+        if let Some(verdict) = verdict_of(timeline.take(number, &call, most))? {
+            return Ok(verdict);
+        }
+    }
+    let count = history.lines() - 1;
+    if let Some(verdict) = verdict_of(timeline.finish(most))? {
+        return Ok(verdict);
+    }
+    Ok(CallVerdict::Linearizable(count))
+}
+
+/// The verdict where a flaw was found or the judge stopped. The error is Memory.
+fn verdict_of(found: Result<Option<Found>, Stop>) -> Result<Option<CallVerdict>, CallError>
+    ensures none { IfOk result (λ verdict. IsNone verdict → found ≡ Ok None) }
+    ensures told { IfOk result (λ verdict. IfSome verdict (IsTold found)) }
+    ensures error { IfErr result (λ error. error ≡ CallError.Memory) }
+{
+    match found {
+        Ok(None) => Ok(None),
+        Ok(Some(found)) => Ok(Some(CallVerdict::Flawed(found.number.saturating_add(2), found.flaw))),
+        Err(stop) => match stop.fault {
+            JudgeFault::Memory => Err(CallError::Memory),
+            fault => Ok(Some(CallVerdict::Undecided(stop.number.saturating_add(2), fault))),
+        },
+    }
+}
+
+impl Timeline {
+    /// Takes the next call: the ends that come before its begin, and its begin. Returns the first flaw that is found.
+    fn take(&mut self, number: u32, call: &TimedCall, most: usize) -> Result<Option<Found>, Stop>
+        requires few { FewOpen (lives_of self.old) number }
+        requires is_read { IsReadCall call.now }
+        ensures taken { IfOk result (λ found. IsNone found → (calls : List Call) → length calls ≡ number → IsKept self.old calls
+            → is_in_order calls (plain_call call.now) ≡ true → IsKept self.new (calls ++ plain_call call.now ∷ [])) }
+        ensures flawed { IfOk result (λ found. IfSome found (λ _. (calls : List Call) → IsKept self.old calls
+            → is_in_order calls (plain_call call.now) ≡ true → CannotBe calls call.now.begin)) }
+    {
+        if let Some(found) = self.end_before(u128::from(call.begin), most)? {
+            return Ok(Some(found));
+        }
+        match self.begin(number, call.end, &call.entry) {
+            Ok(()) => Ok(None),
+            Err(fault) => Err(Stop { number, fault }),
+        }
+    }
+
+    /// Takes the ends that are left. Returns the first flaw that is found.
+    fn finish(&mut self, most: usize) -> Result<Option<Found>, Stop>
+        ensures linearizable { IfOk result (λ found. IsNone found → (calls : List Call) → IsKept self.old calls → IsHistory calls × IsLinearizable calls) }
+        ensures flawed { IfOk result (λ found. IfSome found (λ _. (calls : List Call) → IsKept self.old calls → IsHistory calls → IsLinearizable calls → ⊥)) }
+    {
+        self.end_before(LAST_MOMENT, most)
+    }
+}
