@@ -87,19 +87,18 @@ fn lines_have_faults(rt: HostRuntime) {
 }
 
 #[test]
-fn lines_have_at_most_37_fields_and_1024_bytes(rt: HostRuntime) {
-    let mut line = [b'x'; 1025];
+fn lines_have_at_most_1024_bytes(rt: HostRuntime) {
+    let line = [b'x'; 1025];
     assert_eq!(rt; fault(&line), Some(FaultKind::LongLine));
     assert_eq!(rt; fault(&line[..1024]), Some(FaultKind::Word));
-    for field in 0..35 {
-        line[2 * field + 1] = b' ';
-    }
-    line[71] = b' ';
-    line[72] = b'-';
-    line[73] = b'>';
-    assert_eq!(rt; fault(&line[..74]), Some(FaultKind::Number));
-    line[74] = b' ';
-    assert_eq!(rt; fault(&line[..76]), Some(FaultKind::Word));
+}
+
+#[test]
+fn lines_have_at_most_37_fields(rt: HostRuntime) {
+    let most = b"x x x x x x x x x x x x x x x x x x x x x x x x x x x x x x x x x x x x ->";
+    assert_eq!(rt; fault(most), Some(FaultKind::Number));
+    let more = b"x x x x x x x x x x x x x x x x x x x x x x x x x x x x x x x x x x x x -> x";
+    assert_eq!(rt; fault(more), Some(FaultKind::Word));
 }
 
 #[test]

@@ -10,7 +10,7 @@ fn read(rt: &(impl Abort + AllocGlobal), text: &[u8]) -> (Vec<u8>, Option<Replay
     let mut lines = LineInput::new(alloc).expect(rt, "memory");
     let mut input = Input::new(text);
     let mut found = Vec::new(alloc);
-    loop {
+    for _ in 0..u32::MAX {
         match lines.read_line(&mut input) {
             Ok(true) => {
                 found.extend_from_slice(lines.line()).expect(rt, "memory");
@@ -20,6 +20,7 @@ fn read(rt: &(impl Abort + AllocGlobal), text: &[u8]) -> (Vec<u8>, Option<Replay
             Err(error) => return (found, Some(error)),
         }
     }
+    (found, None)
 }
 
 #[test]
