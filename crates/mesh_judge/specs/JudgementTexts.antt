@@ -1,0 +1,38 @@
+-- The text of a judgement. This project's own choice.
+use Rattle.std.specs.Prelude.{ℕ, ◌+◌, List, ◌++◌, codes}
+use Rattle.model_jobs.specs.Texts.{ended, number_field}
+use Rattle.mesh_configurations.specs.declared.faults.JudgeFault.{JudgeFault}
+use Rattle.mesh_configurations.specs.declared.faults.JudgeFault.TheVariants.{TooMany, TooManyPending, Memory}
+use Rattle.mesh_check.specs.VerdictTexts.{verdict_text}
+use Rattle.mesh_linearizability.specs.declared.flaws.Flaw.{Flaw}
+use Rattle.mesh_linearizability.specs.declared.flaws.Flaw.TheVariants.{NotAfterNew, NotBeforeFree, CellAgain, SerialAgain, UnfairNew, Overlaps, NoOrder}
+use Rattle.mesh_linearizability.specs.declared.verdicts.CallVerdict.{CallVerdict}
+use Rattle.mesh_linearizability.specs.declared.verdicts.CallVerdict.TheVariants.{Linearizable, Flawed, Undecided}
+use Rattle.mesh_judge.specs.declared.judging.Judgement.{Judgement}
+use Rattle.mesh_judge.specs.declared.judging.Judgement.TheVariants.{InOrder, Overlapping}
+
+-- why no order explains a history
+abbrev pub flaw_text : Flaw → List ℕ
+flaw_text NotAfterNew = codes "not after its new"
+flaw_text NotBeforeFree = codes "not before its free"
+flaw_text CellAgain = codes "cell again"
+flaw_text SerialAgain = codes "serial again"
+flaw_text UnfairNew = codes "no order explains the answer"
+flaw_text (Overlaps serial number) = codes "overlaps object" ++ number_field serial ++ codes ", made at line" ++ number_field (number + 2)
+flaw_text NoOrder = codes "no order explains the answer"
+
+-- why the judge stopped, where at most so many configurations may be met
+abbrev pub undecided_text : ℕ → JudgeFault → List ℕ
+undecided_text most TooManyPending = codes "more than 64 pending accesses to one object"
+undecided_text most fault = codes "more than" ++ number_field most ++ codes " configurations"
+
+-- what is found of calls that overlap
+abbrev pub call_text : ℕ → CallVerdict → List ℕ
+call_text most (Linearizable entries) = codes "linearizable" ++ number_field entries ++ codes " entries"
+call_text most (Flawed line flaw) = codes "line" ++ number_field line ++ codes ": " ++ flaw_text flaw
+call_text most (Undecided line fault) = codes "undecided at line" ++ number_field line ++ codes ": " ++ undecided_text most fault
+
+-- the line of a judgement, with its end
+abbrev pub judgement_text : ℕ → Judgement → List ℕ
+judgement_text most (InOrder verdict) = verdict_text verdict
+judgement_text most (Overlapping verdict) = ended (call_text most verdict)

@@ -1,0 +1,68 @@
+//! `Begun`, a source of which a beginning was looked at.
+ghost use Rattle.std.specs.Prelude.{◌≡◌, ◌||◌, IfErr, false, is_err, length};
+ghost use Rattle.std.specs.Io.KnownBytes.{ReadConsumes, prepend_known};
+ghost use Rattle.mesh_devices.specs.Devices.{is_read_fault};
+ghost use Rattle.mesh_devices.specs.declared.faults.ReplayError.{ReplayError};
+
+use arrayvec::ArrayVec;
+use mesh_devices::{DeviceFault, ReplayError, Source, read_some};
+
+/// How many bytes are looked at: those of the line `history 2` and its end.
+const LOOKED_AT: usize = 10;
+
+/// A source, and the bytes of it that were looked at and not read yet.
+#[derive(Drop)]
+pub struct Begun<I: Drop> {
+    inner: I,
+    begun: ArrayVec<u8, 10>,
+}
+
+impl<I: Source + Drop> Begun<I> {
+    /// A source at which nobody has looked.
+    pub fn new(inner: I) -> Begun<I>
+        ensures fresh { I.has_failed inner ≡ false → I.has_failed result.inner ≡ false }
+    {
+        Begun {
+            inner,
+            begun: ArrayVec::new(),
+        }
+    }
+
+    /// Whether the text begins with these bytes, of which there are at most ten. Nothing is read of it.
+    ///
+    /// The error is `Read`: the source failed.
+    pub fn begins_with(&mut self, bytes: &[u8]) -> Result<bool, ReplayError>
+        requires { I.has_failed self.old.inner ≡ false }
+        ensures same { prepend_known self.new.begun.items (I.remaining self.new.inner) ≡ prepend_known self.old.begun.items (I.remaining self.old.inner) }
+        ensures fault { IfErr result (λ error. error ≡ ReplayError.Read) }
+        ensures fails { I.has_failed self.new.inner ≡ is_err result }
+    {
+        while self.begun.len() < LOOKED_AT {
+            let mut next = [0; 1];
+            if read_some(&mut self.inner, &mut next)? == 0 {
+                break;
+            }
+            self.begun.push(next[0]);
+        }
+        Ok(self.begun.as_slice() == bytes)
+    }
+}
+
+impl<I: Source + Drop> Source for Begun<I> {
+    ghost remaining = { λ source. prepend_known source.begun.items (I.remaining source.inner) };
+
+    ghost has_failed = { λ source. I.has_failed source.inner };
+
+    fn read(&mut self, buf: &mut [u8]) -> Result<usize, DeviceFault> {
+        if buf.is_empty() {
+            return self.inner.read(buf);
+        }
+        match self.begun.pop_at(0) {
+            Some(byte) => {
+                buf[0] = byte;
+                Ok(1)
+            }
+            None => self.inner.read(buf),
+        }
+    }
+}

@@ -1,0 +1,44 @@
+//! The judgement of a history of either kind.
+ghost use Rattle.std.specs.Prelude.{◌≡◌, Err, IfErr, IfOk, OnOk, false, true};
+ghost use Rattle.mesh_calls.specs.declared.faults.CallError.{CallError};
+ghost use Rattle.mesh_judge.specs.Judgements.{HasJudged, HasNotJudged, left_of};
+
+use crate::begun::Begun;
+use mesh_calls::CallError;
+use mesh_check::{Verdict, check};
+use mesh_devices::Source;
+use mesh_linearizability::{CallVerdict, check_calls};
+use std::alloc::Global;
+
+/// The first line of a history of calls that overlap.
+const OVERLAPPING: &[u8] = b"history 2\n";
+
+/// What is found of a recorded history.
+#[derive(Drop)]
+pub enum Judgement {
+    /// Of a history of calls in the order of their effects.
+    InOrder(Verdict),
+    /// Of a history of calls that overlap.
+    Overlapping(CallVerdict),
+}
+
+/// Judges the recorded history that the input gives, by its first line. Of calls that overlap, at most `most`
+/// configurations of an object may be met at the end of a call.
+///
+/// The input is read to its end, or until a verdict is found. Text and Order come where a line has a fault, Read exactly
+/// where the input failed, and Memory where an allocation failed.
+pub fn judge<I: Source + Drop>(alloc: Global, input: &mut Begun<I>, most: usize) -> Result<Judgement, CallError>
+    requires { I.has_failed input.old.inner ≡ false }
+    ensures ok { OnOk result (I.has_failed input.new.inner ≡ false) }
+    ensures judged { IfOk result (HasJudged (left_of input.old.begun.items (I.remaining input.old.inner)) (left_of input.new.begun.items (I.remaining input.new.inner))) }
+    ensures fault { IfErr result (HasNotJudged (left_of input.old.begun.items (I.remaining input.old.inner)) (left_of input.new.begun.items (I.remaining input.new.inner))) }
+    ensures read { result ≡ Err CallError.Read → I.has_failed input.new.inner ≡ true }
+    ensures failed { I.has_failed input.new.inner ≡ true → result ≡ Err CallError.Read }
+{
+    if input.begins_with(OVERLAPPING)? {
+        let verdict = check_calls(alloc, input, most)?;
+        return Ok(Judgement::Overlapping(verdict));
+    }
+    let verdict = check(alloc, input)?;
+    Ok(Judgement::InOrder(verdict))
+}

@@ -1,0 +1,85 @@
+//! The line of a judgement.
+ghost use Rattle.std.specs.Prelude.{◌≡◌, ◌++◌, IfOk, OnOk};
+ghost use Rattle.mesh_judge.specs.JudgementTexts.{call_text, flaw_text, judgement_text, undecided_text};
+
+use crate::judging::Judgement;
+use mesh_check::verdict_line;
+use mesh_configurations::JudgeFault;
+use mesh_linearizability::{CallVerdict, Flaw};
+use mesh_spelling::add_decimal;
+use std::alloc::{AllocError, Global};
+
+/// The line of a judgement, with its end, where at most `most` configurations may be met. An error is an allocation
+/// failure.
+pub fn judgement_line(alloc: Global, judgement: &Judgement, most: u32) -> Result<Vec<u8>, AllocError>
+    ensures { IfOk result (λ text. text.items ≡ judgement_text most judgement.now) }
+{
+    match judgement {
+        Judgement::InOrder(verdict) => verdict_line(alloc, verdict),
+        Judgement::Overlapping(verdict) => {
+            let mut text = Vec::new(alloc);
+            add_verdict(&mut text, *verdict, most)?;
+            text.extend_from_slice(b"\n")?;
+            Ok(text)
+        }
+    }
+}
+
+/// Adds what is found of calls that overlap.
+fn add_verdict(text: &mut Vec<u8>, verdict: CallVerdict, most: u32) -> Result<(), AllocError>
+    ensures { OnOk result (text.new.items ≡ text.old.items ++ call_text most verdict) }
+{
+    match verdict {
+        CallVerdict::Linearizable(entries) => {
+            text.extend_from_slice(b"linearizable ")?;
+            add_decimal(text, u64::from(entries))?;
+            text.extend_from_slice(b" entries")
+        }
+        CallVerdict::Flawed(line, flaw) => {
+            text.extend_from_slice(b"line ")?;
+            add_decimal(text, u64::from(line))?;
+            text.extend_from_slice(b": ")?;
+            add_flaw(text, flaw)
+        }
+        CallVerdict::Undecided(line, fault) => {
+            text.extend_from_slice(b"undecided at line ")?;
+            add_decimal(text, u64::from(line))?;
+            text.extend_from_slice(b": ")?;
+            add_undecided(text, fault, most)
+        }
+    }
+}
+
+/// Adds why no order explains a history.
+fn add_flaw(text: &mut Vec<u8>, flaw: Flaw) -> Result<(), AllocError>
+    ensures { OnOk result (text.new.items ≡ text.old.items ++ flaw_text flaw) }
+{
+    match flaw {
+        Flaw::NotAfterNew => text.extend_from_slice(b"not after its new"),
+        Flaw::NotBeforeFree => text.extend_from_slice(b"not before its free"),
+        Flaw::CellAgain => text.extend_from_slice(b"cell again"),
+        Flaw::SerialAgain => text.extend_from_slice(b"serial again"),
+        Flaw::UnfairNew => text.extend_from_slice(b"no order explains the answer"),
+        Flaw::Overlaps(serial, number) => {
+            text.extend_from_slice(b"overlaps object ")?;
+            add_decimal(text, u64::from(serial))?;
+            text.extend_from_slice(b", made at line ")?;
+            add_decimal(text, u64::from(number) + 2)
+        }
+        Flaw::NoOrder => text.extend_from_slice(b"no order explains the answer"),
+    }
+}
+
+/// Adds why the judge stopped.
+fn add_undecided(text: &mut Vec<u8>, fault: JudgeFault, most: u32) -> Result<(), AllocError>
+    ensures { OnOk result (text.new.items ≡ text.old.items ++ undecided_text most fault) }
+{
+    match fault {
+        JudgeFault::TooManyPending => text.extend_from_slice(b"more than 64 pending accesses to one object"),
+        JudgeFault::TooMany | JudgeFault::Memory => {
+            text.extend_from_slice(b"more than ")?;
+            add_decimal(text, u64::from(most))?;
+            text.extend_from_slice(b" configurations")
+        }
+    }
+}
