@@ -61,7 +61,7 @@ class Threads:
         self.objects = []
         self.cells = 0
         self.serials = 0
-        self.most_objects = 1 + rng.randrange(2) if calls < 10 else 2 + calls // 60
+        self.most_objects = 1 + rng.randrange(2) if calls < 10 else 4
         self.most_length = rng.choice((1, 2, 4, 8)) if calls < 10 else 40
         self.arena = 3 * self.most_length * self.most_objects
         self.longest = rng.choice((2, 5, 12))
