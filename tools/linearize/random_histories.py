@@ -5,8 +5,9 @@
 
 The same words give the same history. Threads make calls on separate objects; each call has its effect at a moment
 between its BEGIN and its END, and is answered as the objects are then. With --right this is printed. Without it, one
-answer, one address, one serial or one time is changed in three of four histories. The text is always a history of
-version 2, but a changed time may let a call end behind the beginning of its object's `free`, or the like.
+answer, one address, one serial, one time, or the clock of one thread from one of its calls on is changed in three of four
+histories. The text is always a history of version 2, but with a changed time a call may end after the beginning of its
+object's `free`, or the like.
 """
 import argparse
 import dataclasses
@@ -190,9 +191,11 @@ def changed_address(rng, calls):
     told = [call for call in calls if call.answer.startswith(("object ", "at "))]
     if not told:
         return
-    call = rng.choice(told)
+    news = [call for call in told if call.word == "new"]
+    call = rng.choice(news if news and rng.random() < 0.7 else told)
     words = call.answer.split()
-    moved = max(0, int(words[-1], 16) + rng.choice((-3, -2, -1, 1, 2, 3)))
+    moved = int(rng.choice(told).answer.split()[-1], 16) if rng.random() < 0.5 else int(words[-1], 16)
+    moved = max(0, moved + rng.choice((-3, -2, -1, 1, 2, 3)))
     call.answer = " ".join([*words[:-1], f"{moved:x}"])
     if call.word == "new":
         for other in calls:
@@ -201,8 +204,9 @@ def changed_address(rng, calls):
 
 
 def changed_time(rng, calls):
-    """Changes the BEGIN or the END of a call, mostly by little, so that its thread's calls still don't touch."""
-    call = rng.choice(calls)
+    """Changes the BEGIN or the END of a call, so that its thread's calls still don't touch."""
+    lives = [call for call in calls if call.word in ("new", "free")]
+    call = rng.choice(lives if lives and rng.random() < 0.3 else calls)
     own = [other for other in calls if other.thread == call.thread]
     place = own.index(call)
     least = own[place - 1].end + 1 if place > 0 else 0
@@ -216,12 +220,20 @@ def changed_time(rng, calls):
     calls.sort(key=lambda call: call.begin)
 
 
+def changed_clock(rng, calls):
+    """Puts the clock of a thread forward, from one of its calls on."""
+    first, forward = rng.choice(calls), rng.randint(1, 8)
+    for call in [call for call in calls if call.thread == first.thread and call.begin >= first.begin]:
+        call.begin, call.end = call.begin + forward, call.end + forward
+    calls.sort(key=lambda call: call.begin)
+
+
 def history(seed, count, threads, is_right=False):
     """The text of the history of a seed."""
     rng = random.Random(seed)
     calls = Threads(rng, count, threads).run()
     if not is_right and calls and rng.random() < 0.75:
-        rng.choice((changed_answer, changed_answer, changed_address, changed_time, changed_time))(rng, calls)
+        rng.choice((changed_answer, changed_answer, changed_address, changed_time, changed_clock))(rng, calls)
     return "\n".join(["history 2", *(call.line() for call in calls), ""])
 
 
