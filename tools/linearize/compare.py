@@ -3,9 +3,9 @@
 
     tools/linearize/compare.py [COUNT [SEED]]
 
-COUNT histories of 2 to 7 calls of 2 to 4 threads, from SEED on (1,000 from 1 if none is given). Those of which orders.py
-can tell are compared: each `new` has a cell of its own, and each other call is between the `new` and the `free` of its
-cell. Compared are
+COUNT histories of 2 to 7 calls of 2 to 4 threads, from SEED on (1,000 from 1 if none is given). Those that orders.py can
+judge are compared: each `new` has a cell of its own, and each other call is between the `new` and the `free` of its cell.
+Of the others it is checked only that reference.py finds a flaw. Compared are
 
 - whether the history is linearizable;
 - the line of a flaw: the first call, in the order of ends, at whose end no order of the calls that ended by then, with or
