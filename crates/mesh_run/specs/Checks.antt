@@ -1,44 +1,75 @@
 -- What a judgement of a recorded history writes, and what is known where it stops.
-use Rattle.std.specs.Prelude.{◌≡◌, ◌<◌, ◌≤◌, ◌⊎◌, ℕ, List, Option}
+use Rattle.std.specs.Prelude.{◌≡◌, ◌<◌, ◌≤◌, ◌⊎◌, ℕ, Bool, List, ◌++◌, Option, codes}
 use Rattle.std.specs.Io.KnownBytes.{Appends, Keeps}
-use Rattle.mesh_check.specs.Checks.{HasJudged}
-use Rattle.mesh_check.specs.Outcomes.{Faulty, outcome_of}
-use Rattle.mesh_check.specs.VerdictTexts.{verdict_text}
-use Rattle.mesh_check.specs.declared.verdicts.Verdict.{Verdict}
+use Rattle.model_jobs.specs.Texts.{number_field}
+use Rattle.mesh_calls.specs.declared.faults.CallError.{CallError}
+use Rattle.mesh_calls.specs.declared.faults.CallError.TheVariants.{Text as CallText, Order as CallOrder, Read as CallRead, Memory as CallMemory}
 use Rattle.mesh_check.specs.declared.verdicts.Verdict.TheVariants.{Legal, Wrong}
+use Rattle.mesh_linearizability.specs.declared.verdicts.CallVerdict.TheVariants.{Linearizable, Flawed, Undecided}
+use Rattle.mesh_judge.specs.JudgementTexts.{judgement_text}
+use Rattle.mesh_judge.specs.Judgements.{HasJudged, HasNotJudged}
+use Rattle.mesh_judge.specs.declared.judging.Judgement.{Judgement}
+use Rattle.mesh_judge.specs.declared.judging.Judgement.TheVariants.{InOrder, Overlapping}
 use Rattle.mesh_run.specs.Runs.{HasFailed, IsDone, IsStoppedFor, error_text}
 use Rattle.mesh_run.specs.Seen.{Seen}
 use Rattle.mesh_run.specs.Status.{status_of_error}
+use Rattle.mesh_run.specs.declared.check_error.CheckError.{CheckError}
+use Rattle.mesh_run.specs.declared.check_error.CheckError.TheVariants.{Replay, Order}
 use Rattle.mesh_devices.specs.Transfer.{AppendsBeginning}
-use Rattle.mesh_devices.specs.declared.faults.ReplayError.{ReplayError}
 use Rattle.mesh_devices.specs.declared.faults.ReplayError.TheVariants.{Read, Write, Memory, Text}
 
--- the status of a verdict: 0 where the history is legal
-abbrev pub verdict_status : Verdict → ℕ
-verdict_status (Legal entries) = 0
-verdict_status (Wrong line reason) = 1
+-- why nothing is judged, by why no verdict was found
+abbrev pub check_error_of : CallError → CheckError
+check_error_of (CallText fault) = Replay (Text fault)
+check_error_of (CallOrder line) = Order line
+check_error_of CallRead = Replay Read
+check_error_of CallMemory = Replay Memory
 
--- the history was judged, and the line of the verdict was written, which has this status
-abbrev pub HasToldVerdict : Option (List ℕ) → Option (List ℕ) → Option (List ℕ) → Option (List ℕ) → ℕ → Type 0
-HasToldVerdict left left' written written' status =
-    (verdict : Verdict) × HasJudged left left' (outcome_of verdict) × Appends written written' (verdict_text verdict) × (status ≡ verdict_status verdict)
+-- its line, without its end
+abbrev pub check_error_text : CheckError → List ℕ
+check_error_text (Replay error) = error_text error
+check_error_text (Order line) = codes "line" ++ number_field line ++ codes ": ORDER"
+
+-- its status
+abbrev pub status_of_check : CheckError → ℕ
+status_of_check (Replay error) = status_of_error error
+status_of_check (Order line) = 2
+
+-- the device that it tells of has failed
+abbrev pub HasFailedCheck : Bool → Bool → CheckError → Type 0
+HasFailedCheck input output (Replay error) = HasFailed input output error
+HasFailedCheck input output (Order line) = Unit {0}
+
+-- the status of a judgement: 0 where the history is legal, or linearizable
+abbrev pub judgement_status : Judgement → ℕ
+judgement_status (InOrder (Legal entries)) = 0
+judgement_status (InOrder (Wrong line reason)) = 1
+judgement_status (Overlapping (Linearizable entries)) = 0
+judgement_status (Overlapping (Flawed line flaw)) = 1
+judgement_status (Overlapping (Undecided line fault)) = 1
+
+-- the history was judged, and the line of the judgement was written, which has this status
+abbrev pub HasToldVerdict : ℕ → Option (List ℕ) → Option (List ℕ) → Option (List ℕ) → Option (List ℕ) → ℕ → Type 0
+HasToldVerdict most left left' written written' status =
+    (judgement : Judgement) × HasJudged left left' judgement × Appends written written' (judgement_text most judgement) × (status ≡ judgement_status judgement)
 
 -- what was read and written, by the error that a judgement stopped for
-abbrev pub HasStoppedCheck : Option (List ℕ) → Option (List ℕ) → Option (List ℕ) → Option (List ℕ) → ReplayError → Type 0
-HasStoppedCheck left left' written written' Read = Keeps written written'
-HasStoppedCheck left left' written written' Write =
-    (verdict : Verdict) × HasJudged left left' (outcome_of verdict) × AppendsBeginning written written' (verdict_text verdict)
-HasStoppedCheck left left' written written' (Text fault) = HasJudged left left' (Faulty fault) × Keeps written written'
-HasStoppedCheck left left' written written' Memory = Keeps written written'
+abbrev pub HasStoppedCheck : ℕ → Option (List ℕ) → Option (List ℕ) → Option (List ℕ) → Option (List ℕ) → CheckError → Type 0
+HasStoppedCheck most left left' written written' (Replay Read) = Keeps written written'
+HasStoppedCheck most left left' written written' (Replay Write) =
+    (judgement : Judgement) × HasJudged left left' judgement × AppendsBeginning written written' (judgement_text most judgement)
+HasStoppedCheck most left left' written written' (Replay (Text fault)) = HasNotJudged left left' (CallText fault) × Keeps written written'
+HasStoppedCheck most left left' written written' (Replay Memory) = Keeps written written'
+HasStoppedCheck most left left' written written' (Order line) = HasNotJudged left left' (CallOrder line) × Keeps written written'
 
--- the history was judged, the line of a verdict of this status was written, and nothing was told
-abbrev pub IsJudged : Seen → Seen → ℕ → Type 0
-IsJudged before after status = IsDone (λ left left' written written'. HasToldVerdict left left' written written' status) before after
+-- the history was judged, the line of a judgement of this status was written, and nothing was told
+abbrev pub IsJudged : ℕ → Seen → Seen → ℕ → Type 0
+IsJudged most before after status = IsDone (λ left left' written written'. HasToldVerdict most left left' written written' status) before after
 
 -- a judgement ends: with status 0 a verdict was told, and with another one a verdict was, or it stopped for an error of that status
-pub record EndsCheck (before after : Seen) (status : ℕ) : Type 0 where
-  pub done : status ≡ 0 → IsJudged before after status
+pub record EndsCheck (most : ℕ) (before after : Seen) (status : ℕ) : Type 0 where
+  pub done : status ≡ 0 → IsJudged most before after status
   pub found : 0 < status
-      → IsJudged before after status
-      ⊎ ((error : ReplayError) × (status ≡ status_of_error error) × IsStoppedFor error_text HasFailed HasStoppedCheck before after error)
+      → IsJudged most before after status
+      ⊎ ((error : CheckError) × (status ≡ status_of_check error) × IsStoppedFor check_error_text HasFailedCheck (HasStoppedCheck most) before after error)
   pub small : status ≤ 2

@@ -1,61 +1,95 @@
 //! The program's judgement of a recorded history.
 ghost use Rattle.std.specs.Prelude.{◌≡◌, ◌≤◌, false, IfErr, IfOk, OnOk};
-ghost use Rattle.mesh_run.specs.Checks.{EndsCheck, HasStoppedCheck, HasToldVerdict, verdict_status};
-ghost use Rattle.mesh_run.specs.Runs.{HasFailed, IsSound};
+ghost use Rattle.std.specs.Io.KnownBytes.{prepend_known};
+ghost use Rattle.model_jobs.specs.Texts.{ended};
+ghost use Rattle.mesh_run.specs.Checks.{EndsCheck, HasFailedCheck, HasStoppedCheck, HasToldVerdict, check_error_text, judgement_status, status_of_check};
+ghost use Rattle.mesh_run.specs.Runs.{IsSound};
 
 use crate::Devices;
-use crate::runs::{status_of, tell_error};
-use mesh_check::{Verdict, check, verdict_line};
-use mesh_command_line::status::{DONE, FAILED};
-use mesh_devices::{ReplayError, Sink, Source, write_lines};
+use crate::check_error::CheckError;
+use crate::fault_line::{Line, line_of, number_line};
+use crate::runs::{status_of, tell};
+use mesh_command_line::status::{DONE, FAILED, FAULTY};
+use mesh_devices::{Sink, Source, write_lines};
+use mesh_judge::{Begun, CallVerdict, Judgement, Verdict, judge, judgement_line};
 use std::alloc::Global;
 
-/// Judges the recorded history that the input gives, writes the line of its verdict to the output or its fault to `errors`, and gives the exit
-/// status.
+/// Judges the recorded history that the input gives, writes the line of its verdict to the output or its fault to
+/// `errors`, and returns the exit status. Of a history of calls that overlap, at most `most` configurations of an object
+/// may be met at the end of a call.
 ///
-/// The status is 0 with the line `legal N entries`, and 1 with the line `line L: REASON` where an entry isn't one that a plain memory takes. It is 1
-/// with the line `read fault`, `write fault` or `out of memory` in `errors`, and 2 with the line `line L: KIND` where the text has a fault before
-/// such an entry. Where that line can't be written the status stays.
-pub fn check_run<I: Source, O: Sink, E: Sink>(alloc: Global, devices: &mut Devices<I, O, E>) -> u8
+/// The status is 0 with the line `legal N entries` or `linearizable N entries`, and 1 with the line of another verdict. It
+/// is 1 with the line `read fault`, `write fault` or `out of memory` in `errors`, and 2 with the line `line L: KIND` where
+/// the text has a fault, or `line L: ORDER` where a call is out of order. Where that line can't be written the status
+/// stays.
+pub fn check_run<I: Source + Drop, O: Sink, E: Sink>(
+    alloc: Global,
+    most: u32,
+    devices: &mut Devices<Begun<I>, O, E>,
+) -> u8
     requires { IsSound devices.old }
-    ensures { EndsCheck devices.old devices.new result }
+    ensures { EndsCheck most devices.old devices.new result }
 {
-    match write_verdict(alloc, &mut devices.input, &mut devices.output) {
+    match write_verdict(alloc, most, &mut devices.input, &mut devices.output) {
         Ok(status) => status,
         Err(error) => {
-            tell_error(&mut devices.errors, error);
-            status_of(error)
+            tell(&mut devices.errors, check_line_of(error).as_slice());
+            status_of_check(error)
         }
     }
 }
 
-/// Judges the history that the input gives, writes the verdict, and gives its exit status.
-fn write_verdict<I: Source, O: Sink>(
+/// Judges the history that the input gives, writes the verdict, and returns its exit status.
+fn write_verdict<I: Source + Drop, O: Sink>(
     alloc: Global,
-    input: &mut I,
+    most: u32,
+    input: &mut Begun<I>,
     output: &mut O,
-) -> Result<u8, ReplayError>
-    requires input { I.has_failed input.old ≡ false }
+) -> Result<u8, CheckError>
+    requires input { I.has_failed input.old.inner ≡ false }
     requires output { O.has_failed output.old ≡ false }
-    ensures ok { OnOk result ((I.has_failed input.new ≡ false) × (O.has_failed output.new ≡ false)) }
-    ensures told { IfOk result (HasToldVerdict (I.remaining input.old) (I.remaining input.new) (O.written output.old) (O.written output.new)) }
+    ensures ok { OnOk result ((I.has_failed input.new.inner ≡ false) × (O.has_failed output.new ≡ false)) }
+    ensures told { IfOk result (HasToldVerdict most (prepend_known input.old.begun.items (I.remaining input.old.inner)) (prepend_known input.new.begun.items (I.remaining input.new.inner)) (O.written output.old) (O.written output.new)) }
     ensures small { IfOk result (λ status. status ≤ 1) }
-    ensures stopped { IfErr result (HasStoppedCheck (I.remaining input.old) (I.remaining input.new) (O.written output.old) (O.written output.new)) }
-    ensures failed { IfErr result (HasFailed (I.has_failed input.new) (O.has_failed output.new)) }
+    ensures stopped { IfErr result (HasStoppedCheck most (prepend_known input.old.begun.items (I.remaining input.old.inner)) (prepend_known input.new.begun.items (I.remaining input.new.inner)) (O.written output.old) (O.written output.new)) }
+    ensures failed { IfErr result (HasFailedCheck (I.has_failed input.new.inner) (O.has_failed output.new)) }
 {
-    let verdict = check(alloc, input)?;
-    let line = verdict_line(alloc, &verdict)?;
+    let judgement = judge(alloc, input, most as usize)?;
+    let line = judgement_line(alloc, &judgement, most)?;
     write_lines(output, line.as_slice())?;
-    Ok(status_of_verdict(&verdict))
+    Ok(status_of_judgement(&judgement))
 }
 
-/// The exit status of a verdict.
-fn status_of_verdict(verdict: &Verdict) -> u8
-    ensures status { result ≡ verdict_status verdict.now }
+/// The exit status of a judgement.
+fn status_of_judgement(judgement: &Judgement) -> u8
+    ensures status { result ≡ judgement_status judgement.now }
     ensures small { result ≤ 1 }
 {
-    match verdict {
-        Verdict::Legal(_) => DONE,
-        Verdict::Wrong(_, _) => FAILED,
+    match judgement {
+        Judgement::InOrder(Verdict::Legal(_)) => DONE,
+        Judgement::InOrder(Verdict::Wrong(_, _)) => FAILED,
+        Judgement::Overlapping(CallVerdict::Linearizable(_)) => DONE,
+        Judgement::Overlapping(CallVerdict::Flawed(_, _)) => FAILED,
+        Judgement::Overlapping(CallVerdict::Undecided(_, _)) => FAILED,
+    }
+}
+
+/// The line of an error, with its end.
+fn check_line_of(error: CheckError) -> Line
+    ensures { result.items ≡ ended (check_error_text error) }
+{
+    match error {
+        CheckError::Replay(error) => line_of(error),
+        CheckError::Order(line) => number_line(b"line ", line, b": ORDER"),
+    }
+}
+
+/// The exit status where a history isn't judged.
+fn status_of_check(error: CheckError) -> u8
+    ensures { result ≡ status_of_check error }
+{
+    match error {
+        CheckError::Replay(error) => status_of(error),
+        CheckError::Order(_) => FAULTY,
     }
 }

@@ -5,6 +5,7 @@
 #![tactic(auto)]
 
 mod check;
+mod check_error;
 mod criteria;
 mod devices;
 mod draw;
@@ -24,6 +25,7 @@ mod verdict_error;
 pub mod word_laws;
 
 pub use check::check_run;
+pub use check_error::CheckError;
 pub use criteria::Criteria;
 pub use devices::Devices;
 pub use draw::draw_run;
@@ -34,6 +36,7 @@ pub use mesh_command_line::{
     ShownArgs, Stop, ThreadsArgs, Told, arguments, unread_words,
 };
 pub use mesh_devices::{DeviceFault, Input, Output, Sink, Source};
+pub use mesh_judge::Begun;
 pub use mesh_reach::{Unwatched, Watch};
 pub use progress::Progress;
 pub use runs::{replay_history_run, replay_run, stop_run, unopened_run};

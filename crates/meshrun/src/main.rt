@@ -11,7 +11,7 @@ ghost use Rattle.std.specs.Prelude.{◌≡◌, false};
 ghost use Rattle.mesh_run.specs.Runs.{IsSound};
 
 use mesh_run::{
-    Args, Criteria, Devices, ExploreArgs, Input, Output, Parsed, Patterns, Progress, Sink, Source,
+    Args, Begun, Criteria, Devices, ExploreArgs, Input, Output, Parsed, Patterns, Progress, Sink, Source,
     Told, arguments, check_run, draw_run, expected_run, explore_run, live_run, replay_history_run,
     replay_run, savings_run, stop_run, threads_history_run, threads_run, unopened_run,
     unread_words,
@@ -68,7 +68,7 @@ fn path_of<'a>(args: &Args<'a>) -> Option<&'a str> {
         | Args::ThreadsHistory(path, _)
         | Args::Draw(path, _)
         | Args::Explore(path, _)
-        | Args::Check(path)
+        | Args::Check(path, _)
         | Args::Savings(path, _) => path,
     };
     if path == STANDARD_INPUT {
@@ -113,7 +113,10 @@ fn run_on<R: Threads + Wait + Sync, I: Source + Drop, O: Sink + Drop, E: Sink + 
             &mut Devices::new(input, output, errors),
         ),
         Args::Live(args) => live_run(alloc, args, &mut Devices::new(input, output, errors)),
-        Args::Check(_) => check_run(alloc, &mut Devices::new(input, output, errors)),
+        Args::Check(_, args) => {
+            let mut devices = Devices::new(Begun::new(input), output, errors);
+            check_run(alloc, args.configurations, &mut devices)
+        }
         Args::Savings(_, args) => {
             savings_run(alloc, args, &mut Devices::new(input, output, errors))
         }

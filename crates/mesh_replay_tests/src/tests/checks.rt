@@ -3,13 +3,16 @@ ghost use Rattle.std.specs.Prelude.{◌≡◌, false};
 
 use crate::tests::check;
 use mesh_program_tests::memory::{ROW_END, Ran, SlowSource, fields, in_memory};
-use mesh_run::{Input, Source, check_run};
+use mesh_run::{Begun, Input, Source, check_run};
 use std::alloc::Global;
 use std::process::Abort;
 
 /// Histories that the plain memory takes, a row each: its name, its text and the line of its verdict.
 static LEGAL: &str = "\
 no entry|history 1\n|legal 0 entries\n#\
+no call|history 2\n|linearizable 0 entries\n#\
+the old byte and the new one|history 2\n0 1 2 new 3 4 7 -> object 9 at 1000\n0 3 9 put 3 0 68 -> done\n1 4 5 get 3 0 1 -> bytes 00\n1 6 7 get 3 0 1 -> bytes 68\n|linearizable 4 entries\n#\
+a range that was freed|history 2\n0 1 2 new 3 4 7 -> object 9 at 1000\n1 2 3 new 4 4 7 -> object 8 at 1003\n0 3 9 free 3 -> done\n|linearizable 3 entries\n#\
 one entry|history 1\n0 new 3 4 7 -> object 9 at 1000\n|legal 1 entries\n#\
 bytes that were never stored|history 1\n0 new 3 4 7 -> object 9 at 1000\n0 get 3 0 4 -> bytes 00000000\n|legal 2 entries\n#\
 bytes that were stored|history 1\n0 new 3 4 7 -> object 9 at 1000\n1 put 3 1 6869 -> done\n2 get 3 0 4 -> bytes 00686900\n|legal 3 entries\n#\
@@ -29,6 +32,10 @@ the greatest object|history 1\n0 new 0 4294967295 7 -> object 4294967295 at ffff
 
 /// Histories that it doesn't take, in such rows too.
 static ILLEGAL: &str = "\
+the new byte and then the old one|history 2\n0 1 2 new 3 4 7 -> object 9 at 1000\n0 3 9 put 3 0 68 -> done\n1 4 5 get 3 0 1 -> bytes 68\n1 6 7 get 3 0 1 -> bytes 00\n|line 5: no order explains the answer\n#\
+a range that is live|history 2\n0 1 2 new 3 4 7 -> object 9 at 1000\n1 2 3 new 4 4 7 -> object 8 at 1003\n0 4 9 free 3 -> done\n|line 3: overlaps object 9, made at line 2\n#\
+a call in its new|history 2\n0 1 3 new 3 4 7 -> object 9 at 1000\n1 3 4 get 3 0 1 -> bytes 00\n|line 3: not after its new\n#\
+a call in its free|history 2\n0 1 2 new 3 4 7 -> object 9 at 1000\n1 3 4 get 3 0 1 -> bytes 00\n0 4 5 free 3 -> done\n|line 3: not before its free\n#\
 another byte|history 1\n0 new 3 4 7 -> object 9 at 1000\n1 put 3 1 6869 -> done\n2 get 3 1 2 -> bytes 6868\n0 oops\n|line 4: answer differs: bytes 6869 wanted\n#\
 fewer bytes|history 1\n0 new 3 4 7 -> object 9 at 1000\n0 get 3 0 4 -> bytes 000000\n|line 3: answer differs: bytes 00000000 wanted\n#\
 a store that is lost|history 1\n0 new 3 4 7 -> object 9 at 1000\n0 poke 1003 ff -> done\n0 peek 1003 -> byte 00\n|line 4: answer differs: byte ff wanted\n#\
@@ -49,7 +56,11 @@ a new that is done|history 1\n0 new 3 1 7 -> done\n|line 2: answer differs: obje
 /// Texts that are no histories, in such rows too: the line of each is that of its fault.
 static FAULTS: &str = "\
 an empty file||line 1: CUT\n#\
-another head|history 2\n|line 1: NUMBER\n#\
+another head|history 3\n|line 1: NUMBER\n#\
+a head that is cut off|history 2|line 1: CUT\n#\
+numbers out of order|history 2\n0 2 3 new 3 4 7 -> object 9 at 1000\n1 1 4 get 3 0 1 -> bytes 00\n|line 3: ORDER\n#\
+a worker that hasn't ended|history 2\n0 2 3 new 3 4 7 -> object 9 at 1000\n0 3 4 free 3 -> done\n|line 3: ORDER\n#\
+a command on two objects|history 2\n0 2 3 copy 3 0 4 0 1 -> done\n|line 2: WORD\n#\
 no head|0 new 3 4 7 -> object 9 at 1000\n|line 1: WORD\n#\
 a line that is cut off|history 1\n0 new 3 4 7 -> object 9 at 1000\n0 free 3 -> done|line 3: CUT\n#\
 a wrong word|history 1\n0 run 3 -> done\n|line 2: WORD\n#\
@@ -73,8 +84,8 @@ fn illegal() -> &'static str {
 fn judged<I: Source + Drop>(alloc: Global, input: I) -> Ran
     requires { I.has_failed input ≡ false }
 {
-    let mut devices = in_memory(alloc, input);
-    let status = check_run(alloc, &mut devices);
+    let mut devices = in_memory(alloc, Begun::new(input));
+    let status = check_run(alloc, 1_000, &mut devices);
     Ran::of(status, devices)
 }
 
