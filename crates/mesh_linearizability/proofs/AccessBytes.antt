@@ -1,17 +1,15 @@
 -- What the accesses of a judge do to the bytes of an object.
-use Rattle.std.proofs.Common.{◌≡◌, ◌≢◌, ℕ, zero, suc, ◌+◌, ◌-◌, ◌<◌, ◌≤◌, ◌⊎◌, inl, inr, Bool, true, false, not, ◌&&◌, nat_eq, nat_lt, if◌then◌else◌, List, [], ◌∷◌, length, map, slice_range, arith, refl, sym, subst, ◌∙◌, ap, Option, Some, None, option_map, option_and_then}
+use Rattle.std.proofs.Common.{◌≡◌, ◌≢◌, ℕ, ◌+◌, ◌≤◌, inl, inr, Bool, true, false, not, ◌&&◌, nat_eq, if◌then◌else◌, List, [], ◌∷◌, length, slice_range, arith, refl, sym, ◌∙◌, ap, Some, None}
 use Rattle.std.specs.Str.{bytes_eq}
 use Rattle.std.proofs.lemmas.Bool.Decides.{eqb_tells, nat_tests}
 use Rattle.std.proofs.lemmas.List.{length-take, length-drop}
 use Rattle.model_words.specs.declared.commands.Command.{Command}
-use Rattle.model_words.specs.declared.commands.Command.TheVariants.{New, Put, Get, Free, Alias, Addr, Peek, Poke, Copy as CopyBytes}
+use Rattle.model_words.specs.declared.commands.Command.TheVariants.{Put, Get, Addr}
 use Rattle.model_words.specs.declared.commands.Reply.{Reply}
-use Rattle.model_words.specs.declared.commands.Reply.TheVariants.{Object as Made, Done, Bytes, At, Byte, Refused}
-use Rattle.model_intervals.specs.Objects.{accessed, bytes_behind, effect_on, ends_past}
-use Rattle.mesh_object_bytes.specs.declared.access.Access.{Access}
-use Rattle.mesh_object_bytes.specs.ObjectBytes.{EffectIsAccess, State, accessed_by, bytes_of, effect}
-use Rattle.mesh_timed_judge.specs.TimedCalls.{Timed, state_behind}
-use Rattle.mesh_linearizability.specs.Accesses.{PlacedCall, access_of, timed_of}
+use Rattle.model_words.specs.declared.commands.Reply.TheVariants.{Done, Bytes, At}
+use Rattle.model_intervals.specs.Objects.{accessed, ends_past}
+use Rattle.mesh_object_bytes.specs.ObjectBytes.{accessed_by}
+use Rattle.mesh_linearizability.specs.Accesses.{access_of}
 
 -- lists of unequal lengths are no equal bytes
 unequal : (xs ys : List ℕ) → length xs ≢ length ys → bytes_eq xs ys ≡ false

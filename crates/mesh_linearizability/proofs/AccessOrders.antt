@@ -1,14 +1,11 @@
 -- Orders of the accesses to an object, and orders of the calls of its judge.
-use Rattle.std.proofs.Common.{◌≡◌, ◌≢◌, ℕ, zero, suc, ◌+◌, ◌<◌, ◌≤◌, ◌⊎◌, inl, inr, Bool, true, false, ◌&&◌, nat_eq, List, [], ◌∷◌, ◌++◌, length, map, replicate, arith, refl, sym, subst, ◌∙◌, ap, Option, Some, None, option_map, option_and_then, slice_get}
-use Rattle.std.specs.List.{AllPairs, filter}
+use Rattle.std.proofs.Common.{◌≡◌, ℕ, zero, suc, ◌+◌, ◌<◌, ◌⊎◌, inl, inr, Bool, true, false, List, [], ◌∷◌, ◌++◌, length, map, replicate, arith, refl, sym, subst, ◌∙◌, ap, Option, Some, None, option_map, option_and_then, slice_get}
 use Rattle.std.specs.List.Sorted.{IsPermutation}
-use Rattle.std.proofs.lemmas.List.{map-append}
 use Rattle.std.proofs.lemmas.List.Sorted.{IsPermutation-map, IsPermutation-sym}
-use Rattle.std.proofs.lemmas.Option.{slice_get-map}
 use Rattle.model_intervals.specs.Intervals.{Call, RespectsTime}
 use Rattle.model_intervals.specs.Objects.{ExplainsAccesses, accesses_of, bytes_behind, effect_on}
 use Rattle.mesh_object_bytes.specs.declared.access.Access.{Access}
-use Rattle.mesh_object_bytes.specs.ObjectBytes.{State, accessed_by, bytes_of, effect, first_state}
+use Rattle.mesh_object_bytes.specs.ObjectBytes.{State, bytes_of, effect, first_state}
 use Rattle.mesh_object_bytes.proofs.Accessed.{effect_is_access}
 use Rattle.mesh_object_bytes.proofs.Offsets.{bytes_of-first}
 use Rattle.mesh_timed_judge.specs.TimedCalls.{ExplainsTimed, Timed, RespectsTime as TimedRespectsTime, state_behind}
@@ -97,7 +94,7 @@ module _ (address : ℕ) where
       let access = access_of address placed.call.entry.command placed.call.entry.reply in
       let does = effect_is_access state access ∙ same_access address placed.call.entry.command placed.call.entry.reply (bytes_of state) in
       chained (effect state access) (effect_on address (bytes_of state) placed.call) does
-          (λ n. state_behind effect n (map (timed_of address) order)) (λ bytes. bytes_behind address bytes (map call_at order)) (λ next. same_bytes order next)
+      (λ n. state_behind effect n (map (timed_of address) order)) (λ bytes. bytes_behind address bytes (map call_at order)) (λ next. same_bytes order next)
     where
       chained : (next : Option State) (after : Option (List ℕ)) → option_map bytes_of next ≡ after → (f : State → Option State) (g : List ℕ → Option (List ℕ))
           → ((n : State) → option_map bytes_of (f n) ≡ g (bytes_of n)) → option_map bytes_of (option_and_then f next) ≡ option_and_then g after
@@ -110,8 +107,7 @@ module _ (address : ℕ) where
   accesses_explained cell len calls order h =
       let placed = placed_from 0 cell calls in
       let l = lifted (timed_of address) placed order (IsPermutation-sym order (map (timed_of address) placed) h.same) in
-      let behind = subst (λ xs. state_behind effect (first_state len) xs ≡ Some h.last) (sym l.2) h.answers in
-      (
+      let behind = subst (λ xs. state_behind effect (first_state len) xs ≡ Some h.last) (sym l.2) h.answers in (
         map call_at l.0,
         record {
           same = subst (λ xs. IsPermutation (map call_at l.0) xs) (accesses_are 0 cell calls)
@@ -132,8 +128,7 @@ module _ (address : ℕ) where
       let l = lifted call_at placed own (subst (λ xs. IsPermutation xs own) (sym (accesses_are 0 cell calls)) (IsPermutation-sym own (accesses_of cell calls) h.same)) in
       let behind = subst (λ xs. bytes_behind address (replicate len 0) xs ≡ Some h.last) (sym l.2) h.answers in
       let state = some_state (state_behind effect (first_state len) (map (timed_of address) l.0)) h.last
-          (same_bytes l.0 (first_state len) ∙ ap (λ (bytes : List ℕ). bytes_behind address bytes (map call_at l.0)) (bytes_of-first len) ∙ behind) in
-      (
+      (same_bytes l.0 (first_state len) ∙ ap (λ (bytes : List ℕ). bytes_behind address bytes (map call_at l.0)) (bytes_of-first len) ∙ behind) in (
         map (timed_of address) l.0,
         record {
           same = IsPermutation-map (timed_of address) l.0 placed (IsPermutation-sym placed l.0 l.1);

@@ -1,5 +1,5 @@
 -- A call begins: what a timeline knows.
-use Rattle.std.proofs.Common.{◌≡◌, ◌≢◌, ℕ, zero, suc, ◌+◌, ◌*◌, ◌<◌, ◌≤◌, ◌⊎◌, inl, inr, true, false, List, [], ◌∷◌, ◌++◌, length, arith, refl, sym, subst, ◌∙◌, ap, Option, Some, None, option_map}
+use Rattle.std.proofs.Common.{◌≡◌, ◌≢◌, ℕ, zero, suc, ◌+◌, inl, inr, true, List, [], ◌∷◌, ◌++◌, length, arith, refl, sym, subst, ◌∙◌, ap, Option, Some, None, option_map}
 use Rattle.std.proofs.lemmas.Bool.Decides.{eqb_tells}
 use Rattle.model_memory.specs.Plain.{Entry}
 use Rattle.model_words.specs.declared.commands.Command.{Command}
@@ -7,14 +7,13 @@ use Rattle.model_words.specs.declared.commands.Command.TheVariants.{New, Free}
 use Rattle.model_words.specs.declared.commands.Reply.{Reply}
 use Rattle.model_intervals.specs.Intervals.{Call}
 use Rattle.model_intervals.specs.Objects.{is_access, object_made}
-use Rattle.model_intervals.specs.OverlappingCalls.{HasEffect, IsAt, IsFree, IsNew, cell_at, cell_of}
+use Rattle.model_intervals.specs.OverlappingCalls.{IsAt, IsFree, IsNew, cell_at, cell_of}
 use Rattle.mesh_number_set.specs.Ranges.{Has}
 use Rattle.mesh_linearizability.specs.Accesses.{access_of}
 use Rattle.mesh_linearizability.specs.Begins.{IsNewPending}
-use Rattle.mesh_linearizability.specs.Judges.{IsJudged}
 use Rattle.mesh_linearizability.specs.LifeSteps.{HasBegun}
 use Rattle.mesh_linearizability.specs.Queues.{MayBegin, Suits, object_of}
-use Rattle.mesh_linearizability.specs.Standing.{HasBegunIn, IsSetAt, Stands, lives_of, starts_of, waits_of}
+use Rattle.mesh_linearizability.specs.Standing.{HasBegunIn, Stands, lives_of, starts_of, waits_of}
 use Rattle.mesh_linearizability.specs.Timelines.{FewOpen, Holds, IsState, StartsWaiting}
 use Rattle.mesh_linearizability.specs.declared.life.Life.{Life}
 use Rattle.mesh_linearizability.specs.declared.flaws.Flaw.{Flaw}
@@ -23,7 +22,7 @@ use Rattle.mesh_linearizability.specs.declared.pending.Pending.TheVariants.{Made
 use Rattle.mesh_linearizability.specs.declared.timeline.Timeline.{Timeline}
 use Rattle.mesh_linearizability.proofs.Finish.{life_of}
 use Rattle.mesh_linearizability.proofs.LifeSteps.{few_begun, judged_now}
-use Rattle.mesh_linearizability.proofs.StateAccess.{access_is_no_new, access_of_cell, access_starts, free_starts, stray_starts}
+use Rattle.mesh_linearizability.proofs.StateAccess.{access_of_cell, access_starts, free_starts, stray_starts}
 use Rattle.mesh_linearizability.proofs.StateBegin.{doomed_still, new_starts}
 
 -- the parts of a timeline where a call has begun
@@ -55,10 +54,10 @@ access_so old lives' number cell entry begun access names calls call waits' long
           let in_cell = (holds.living.live_is cell (object_of life.object) (ap (λ (o : Option Life). option_map (λ l. object_of l.object) o) alive)).0 in
           let own = access_of_cell life.object.cell call access' (names' ∙ sym in_cell) in
           let steps' = subst (λ (e : Entry). HasBegun life life' (length calls) (access_of life.object.address e.command e.reply)) (sym is)
-              (subst (λ (n : ℕ). HasBegun life life' n (access_of life.object.address entry.command entry.reply)) (sym long) steps) in
+          (subst (λ (n : ℕ). HasBegun life life' n (access_of life.object.address entry.command entry.reply)) (sym long) steps) in
           let judged = judged_now calls call (waits_of old) waits' (Access cell) starting may holds.queue life life' steps' same own (holds.judges.judged cell life alive) in
           access_starts calls call (waits_of old) waits' (Access cell) starting may (lives_of old) (starts_of old) (Has old.cells) (Has old.serials) (Has old.freed_twice) holds
-              cell names' life alive lives' life' access' refl set.0 same set.1 judged)
+          cell names' life alive lives' life' access' refl set.0 same set.1 judged)
       | inr doomed ↦ inr (doomed_still calls call (waits_of old) waits' (Access cell) starting may (lives_of old) lives' (Has old.cells) (Has old.cells)
           (λ c none. elim (eqb_tells c cell) [
             | inl here ↦ absurd (let none' = subst (λ (q : ℕ). lives_of old q ≡ None) here.1 none in cc (alive, none'))
@@ -76,7 +75,7 @@ free_so old lives' starts' number cell entry life frees alive gone others unset 
     elim stands [
       | inl holds ↦
           free_starts calls call (waits_of old) waits' (FreeEnds cell) starting may (lives_of old) (starts_of old) (Has old.cells) (Has old.serials) (Has old.freed_twice) holds
-              cell (ap (λ (c : Command). cell_of c) frees') life alive lives' starts' (subst (λ (c : Command). IsFree c) (sym frees') tt) refl gone others unset others_set
+          cell (ap (λ (c : Command). cell_of c) frees') life alive lives' starts' (subst (λ (c : Command). IsFree c) (sym frees') tt) refl gone others unset others_set
       | inr doomed ↦ inr (doomed_still calls call (waits_of old) waits' (FreeEnds cell) starting may (lives_of old) lives' (Has old.cells) (Has old.cells)
           (λ c none. elim (eqb_tells c cell) [
             | inl here ↦ subst (λ (q : ℕ). lives' q ≡ None) (sym here.1) gone
@@ -92,8 +91,8 @@ new_so old number cell len word entry pending is_new will calls call waits' long
     elim stands [
       | inl holds ↦ inl (
           new_starts calls call (waits_of old) waits' pending starting may (lives_of old) (starts_of old) (Has old.cells) (Has old.serials) (Has old.freed_twice) holds
-              (suits pending (subst (λ (e : Entry). IsNewPending cell len e.reply pending) (sym is) will) is_new')
-              (subst (λ (c : Command). IsNew c) (sym is_new') tt) (no_access entry.reply pending will))
+          (suits pending (subst (λ (e : Entry). IsNewPending cell len e.reply pending) (sym is) will) is_new')
+          (subst (λ (c : Command). IsNew c) (sym is_new') tt) (no_access entry.reply pending will))
       | inr doomed ↦ inr (doomed_still calls call (waits_of old) waits' pending starting may (lives_of old) (lives_of old) (Has old.cells) (Has old.cells)
           (λ c none. none) (λ c has. has) doomed)
     ]

@@ -1,22 +1,22 @@
 -- Calls begin: what a history requires of them.
-use Rattle.std.proofs.Common.{◌≡◌, ◌≢◌, ℕ, zero, suc, ◌+◌, ◌<◌, ◌≤◌, ◌⊎◌, inl, inr, List, [], ◌∷◌, ◌++◌, length, arith, refl, sym, subst, ◌∙◌, ap, Option, Some, None, get_or, slice_get}
+use Rattle.std.proofs.Common.{◌≡◌, ℕ, zero, suc, ◌<◌, ◌≤◌, inl, inr, List, [], ◌∷◌, ◌++◌, sym, subst, ◌∙◌, Option, Some, get_or, slice_get}
 use Rattle.std.specs.List.{All}
 use Rattle.std.proofs.lemmas.List.{append_assoc}
 use Rattle.std.proofs.lemmas.Option.{slice_get-get_or}
 use Rattle.model_history.specs.Recorded.{many_cells}
 use Rattle.model_words.specs.declared.commands.Command.{Command}
-use Rattle.model_words.specs.declared.commands.Command.TheVariants.{New, Free}
+use Rattle.model_words.specs.declared.commands.Command.TheVariants.{New}
 use Rattle.model_words.specs.declared.commands.Reply.{Reply}
 use Rattle.model_words.specs.declared.commands.Reply.TheVariants.{Object as Made}
 use Rattle.model_intervals.specs.Intervals.{Call}
-use Rattle.model_intervals.specs.Objects.{Object as NewObject, IsFreedBy, object_made}
+use Rattle.model_intervals.specs.Objects.{Object as NewObject, object_made}
 use Rattle.model_intervals.specs.OverlappingCalls.{HasEffect, IsAt, IsFree, IsHistory, IsMadeBefore, IsNew, MakesOne, cell_at}
-use Rattle.mesh_linearizability.specs.Lives.{BeginFrom, IsFreed, IsMade, Lives, NoneFrees}
-use Rattle.mesh_linearizability.specs.Queues.{Begun, CannotGoOn, HasEnded, IsWaiting, MayBegin}
+use Rattle.mesh_linearizability.specs.Lives.{BeginFrom, IsMade, NoneFrees}
+use Rattle.mesh_linearizability.specs.Queues.{Begun, CannotGoOn, HasEnded, MayBegin}
 use Rattle.mesh_linearizability.specs.declared.pending.Pending.{Pending}
-use Rattle.mesh_linearizability.proofs.CallPlaces.{at_front, at_below, at_either, at_end, at_one}
+use Rattle.mesh_linearizability.proofs.CallPlaces.{at_front, at_one}
 use Rattle.mesh_linearizability.proofs.LivesEnd.{made_at_cell}
-use Rattle.mesh_linearizability.proofs.LivesWrong.{all_at, maker_by_new}
+use Rattle.mesh_linearizability.proofs.LivesWrong.{all_at}
 
 pub all_places : {X : Type 0} (P : X → Type 0) (xs : List X) → ((i : ℕ) (x : X) → slice_get xs i ≡ Some x → P x) → All P xs
 all_places P xs h k d below = h k (get_or xs k d) (slice_get-get_or xs k d below)
@@ -91,7 +91,7 @@ module _ (calls : List Call) (call : Call) (waits : ℕ → Option Pending) (h :
         → Begun (calls ++ call ∷ [])
     free_begun idle = begins (λ other. made_before) (λ j free at_j other frees same. unfreed j free at_j frees (sym same ∙ names))
         (λ i a at_i other frees same. may.behind i a
-            (idle i a at_i other (λ frees'. unfreed i a at_i frees' (same ∙ names)) (same ∙ names)) at_i)
+        (idle i a at_i other (λ frees'. unfreed i a at_i frees' (same ∙ names)) (same ∙ names)) at_i)
 
 -- no history goes on so, also where one more call begins
 pub none_goes_on : (calls : List Call) (call : Call) → ((i : ℕ) (a : Call) → IsAt calls i a → a.begin ≤ call.begin) → CannotGoOn calls → CannotGoOn (calls ++ call ∷ [])

@@ -1,19 +1,17 @@
 -- Calls begin that no history allows.
-use Rattle.std.proofs.Common.{◌≡◌, ◌≢◌, ℕ, ◌+◌, ◌<◌, ◌≤◌, ◌⊎◌, inl, inr, List, [], ◌∷◌, ◌++◌, length, arith, refl, sym, subst, ◌∙◌, ap, Option, Some, None}
-use Rattle.std.specs.List.{All}
+use Rattle.std.proofs.Common.{◌≡◌, ◌≢◌, ℕ, ◌<◌, ◌≤◌, inl, inr, List, [], ◌∷◌, ◌++◌, length, arith, refl, sym, subst, ◌∙◌, Option, Some, None}
 use Rattle.model_words.specs.declared.commands.Command.{Command}
 use Rattle.model_words.specs.declared.commands.Command.TheVariants.{New}
 use Rattle.model_words.specs.declared.commands.Reply.{Reply}
 use Rattle.model_words.specs.declared.commands.Reply.TheVariants.{Object as Made}
 use Rattle.model_intervals.specs.Intervals.{Call}
 use Rattle.model_intervals.specs.Objects.{Object as NewObject, object_made}
-use Rattle.model_intervals.specs.OverlappingCalls.{IsAt, IsFree, IsHistory, IsMadeBefore, IsNew, MakesOne, cell_at, cell_of}
-use Rattle.mesh_linearizability.specs.Lives.{BeginFrom, IsFreed, Lives}
+use Rattle.model_intervals.specs.OverlappingCalls.{IsAt, IsFree, IsHistory, IsNew, MakesOne, cell_at, cell_of}
+use Rattle.mesh_linearizability.specs.Lives.{BeginFrom, Lives}
 use Rattle.mesh_linearizability.specs.Queues.{CannotGoOn, HasEnded, IsWaiting, MayBegin, key_of}
 use Rattle.mesh_linearizability.specs.declared.pending.Pending.{Pending}
-use Rattle.mesh_linearizability.proofs.BegunSteps.{free_is_no_new}
-use Rattle.mesh_linearizability.proofs.CallPlaces.{at_front, at_below, at_either, at_end, at_one, at_same}
-use Rattle.mesh_linearizability.proofs.LivesWrong.{all_at, maker_by_new}
+use Rattle.mesh_linearizability.proofs.CallPlaces.{at_front, at_below, at_either, at_end, at_one}
+use Rattle.mesh_linearizability.proofs.LivesWrong.{all_at}
 
 -- the object that a call made
 made_one : (command : Command) (reply : Reply) → MakesOne command reply → (x : NewObject) × (object_made command reply ≡ Some x) × (x.cell ≡ cell_of command)
@@ -60,8 +58,8 @@ module _ (calls : List Call) (call : Call) (waits : ℕ → Option Pending) (may
           | inr freed ↦
               let apart : length calls ≢ freed.place = (λ same. let below = at_below calls freed.place freed.free freed.there in omega (arith, same, below)) in
               let early = history.before_free (length calls) freed.place call freed.free apart this
-                  (at_front (calls ++ call ∷ []) more freed.place freed.free (at_front calls (call ∷ []) freed.place freed.free freed.there))
-                  freed.frees (sym in_cell ∙ sym freed.names) in
+              (at_front (calls ++ call ∷ []) more freed.place freed.free (at_front calls (call ∷ []) freed.place freed.free freed.there))
+              freed.frees (sym in_cell ∙ sym freed.names) in
               let last = may.last freed.place freed.free freed.there in let takes = may.takes_time in omega (arith, early, last, takes)
         ];
   }
@@ -74,6 +72,6 @@ module _ (calls : List Call) (call : Call) (waits : ℕ → Option Pending) (may
     there = at_end calls call;
     none = λ more later history.
         let early = history.before_free i (length calls) a call (λ e. let below = at_below calls i a is in omega (arith, e, below))
-            (at_front (calls ++ call ∷ []) more i a (at_front calls (call ∷ []) i a is)) (at_front (calls ++ call ∷ []) more (length calls) call (at_end calls call)) frees same in
+        (at_front (calls ++ call ∷ []) more i a (at_front calls (call ∷ []) i a is)) (at_front (calls ++ call ∷ []) more (length calls) call (at_end calls call)) frees same in
         let late = may.within i a is w in omega (arith, early, late);
   }

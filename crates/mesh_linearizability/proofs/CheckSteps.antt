@@ -1,5 +1,5 @@
 -- What is kept from call to call, and what is found at the end.
-use Rattle.std.proofs.Common.{◌≡◌, ◌≢◌, ℕ, zero, suc, ◌+◌, ◌*◌, ◌^◌, ◌<◌, ◌≤◌, ◌⊎◌, inl, inr, Bool, true, false, ◌&&◌, nat_eq, nat_le, List, [], ◌∷◌, ◌++◌, append_assoc, length, length-append, arith, refl, sym, subst, ◌∙◌, ap, Option, Some, None, Result, Ok, Err, slice_get}
+use Rattle.std.proofs.Common.{◌≡◌, ℕ, zero, suc, ◌+◌, ◌^◌, ◌<◌, ◌≤◌, ◌⊎◌, inl, inr, Bool, true, false, ◌&&◌, nat_eq, nat_le, List, [], ◌∷◌, ◌++◌, append_assoc, length, length-append, arith, refl, sym, subst, ◌∙◌, ap, Option, Some, None, Result, Ok, Err}
 use Rattle.std.specs.Prelude.{IfOk, IfSome}
 use Rattle.std.specs.List.{list_all}
 use Rattle.std.specs.Io.KnownBytes.{Consumes, IsAtEnd}
@@ -13,7 +13,6 @@ use Rattle.model_intervals.proofs.ByObject.{explained}
 use Rattle.model_intervals.proofs.OneOrder.{linearizable}
 use Rattle.model_history.specs.Recorded.{many_cells}
 use Rattle.model_words.specs.declared.faults.FaultKind.{FaultKind}
-use Rattle.mesh_fields.specs.Lines.{text_lines}
 use Rattle.mesh_fields.proofs.Splits.{some_part}
 use Rattle.mesh_history.specs.Readings.{is_full, too_long}
 use Rattle.mesh_line_input.specs.LineInputs.{unread_of}
@@ -25,9 +24,8 @@ use Rattle.mesh_calls.specs.declared.faults.CallError.TheVariants.{Text, Order, 
 use Rattle.mesh_calls.specs.declared.inputs.CallInput.{CallInput}
 use Rattle.mesh_linearizability.specs.Checks.{HasJudged, HasNotJudged, IsKept, IsTold, IsUnexplainedText}
 use Rattle.mesh_linearizability.specs.Ends.{AreEnded, IsRuledOut, NoneBefore, Past}
-use Rattle.mesh_linearizability.specs.Judges.{live_of}
 use Rattle.mesh_linearizability.specs.Lives.{BeginFrom, CannotBe}
-use Rattle.mesh_linearizability.specs.Queues.{HasEnded, IsWaiting, MayBegin, key_of}
+use Rattle.mesh_linearizability.specs.Queues.{MayBegin, key_of}
 use Rattle.mesh_linearizability.specs.Standing.{Stands, lives_of, starts_of, waits_of}
 use Rattle.mesh_linearizability.specs.Timelines.{FewOpen, Holds, StartsWaiting}
 use Rattle.mesh_linearizability.specs.declared.pending.Pending.{Pending}
@@ -37,7 +35,7 @@ use Rattle.mesh_linearizability.specs.declared.timeline.Timeline.{Timeline}
 use Rattle.mesh_linearizability.specs.declared.verdicts.CallVerdict.{CallVerdict}
 use Rattle.mesh_linearizability.specs.declared.verdicts.CallVerdict.TheVariants.{Linearizable, Flawed, Undecided}
 use Rattle.mesh_number_set.specs.Ranges.{Has}
-use Rattle.mesh_linearizability.proofs.CallPlaces.{at_below, at_either, at_end, at_front, at_one, at_same}
+use Rattle.mesh_linearizability.proofs.CallPlaces.{at_below, at_end, at_front, at_one, at_same}
 use Rattle.mesh_linearizability.proofs.Finish.{is_explained, is_history}
 use Rattle.mesh_linearizability.proofs.LivesWrong.{all_at}
 use Rattle.mesh_linearizability.proofs.QueueSteps.{small_place}
@@ -145,10 +143,10 @@ unexplained_text history left left' calls call come cannot = (
   λ more history_of_all linear.
       let parts = some_part 10 (unread_of history.lines ++ more) in
       let reading : calls_of (come.come.text ++ more) ≡ calls_from (length come.lines) (calls ++ call ∷ []) (parts.first ∷ parts.later) =
-          ap (calls_from 0 []) (come.come.reads more ∙ ap (λ (behind : List (List ℕ)). come.lines ++ behind) parts.is) ∙ come.read.reads parts.first parts.later in
+      ap (calls_from 0 []) (come.come.reads more ∙ ap (λ (behind : List (List ℕ)). come.lines ++ behind) parts.is) ∙ come.read.reads parts.first parts.later in
       let behind = read_behind (length come.lines) (calls ++ call ∷ []) (parts.first ∷ parts.later) in
       let are : (calls_of (come.come.text ++ more)).calls ≡ calls ++ call ∷ behind.later =
-          ap (λ (r : CallReading). r.calls) reading ∙ behind.are ∙ append_assoc calls (call ∷ []) behind.later in
+      ap (λ (r : CallReading). r.calls) reading ∙ behind.are ∙ append_assoc calls (call ∷ []) behind.later in
       let all_history = subst IsHistory are history_of_all in
       cannot (call ∷ behind.later) (from behind) all_history (explained (calls ++ call ∷ behind.later) all_history (subst IsLinearizable are linear)),
 )
@@ -236,8 +234,8 @@ module _ (old : Timeline) (calls : List Call) (kept : IsKept old calls) where
   pub kept_flawed : IsRuledOut old (2 ^ 64) → IsHistory calls → IsLinearizable calls → ⊥
   kept_flawed out history linear =
       out calls kept.stands (λ i a is. let e = kept.ends i a is in let b = e.0 in let c = e.1 in omega (arith, b, c))
-          [] (λ i a is. absurd (nowhere i a is)) (subst IsHistory (sym (append-nil calls)) history)
-          (subst IsExplainedByObject (sym (append-nil calls)) (explained calls history linear))
+      [] (λ i a is. absurd (nowhere i a is)) (subst IsHistory (sym (append-nil calls)) history)
+      (subst IsExplainedByObject (sym (append-nil calls)) (explained calls history linear))
     where
       nowhere : (i : ℕ) (a : Call) → IsAt [] i a → ⊥
       nowhere zero a at = cc at

@@ -1,5 +1,5 @@
 -- A call ends: what a timeline knows.
-use Rattle.std.proofs.Common.{◌≡◌, ◌≢◌, ◌↔◌, ℕ, zero, suc, ◌+◌, ◌*◌, ◌%◌, ◌<◌, ◌≤◌, ◌⊎◌, inl, inr, Bool, true, false, List, [], length, arith, refl, sym, subst, ◌∙◌, ap, Option, Some, None, option_map, slice_get}
+use Rattle.std.proofs.Common.{◌≡◌, ◌≢◌, ◌↔◌, ℕ, zero, suc, ◌+◌, ◌*◌, ◌%◌, ◌<◌, ◌≤◌, ◌⊎◌, inl, inr, Bool, true, false, List, [], arith, refl, sym, subst, ◌∙◌, ap, Option, Some, None, option_map, slice_get}
 use Rattle.std.specs.Prelude.{IfSome}
 use Rattle.std.specs.Ordering.{nat_cmp}
 use Rattle.std.specs.BTreeMap.{BTreeMap, get}
@@ -8,18 +8,18 @@ use Rattle.model_history.specs.Recorded.{IsOwnRefusal, any_allocator}
 use Rattle.model_words.specs.declared.commands.Command.{Command}
 use Rattle.model_words.specs.declared.commands.Command.TheVariants.{New}
 use Rattle.model_words.specs.declared.commands.Reply.{Reply}
-use Rattle.model_words.specs.declared.commands.Reply.TheVariants.{Object as MadeReply, Refused as RefusedReply}
+use Rattle.model_words.specs.declared.commands.Reply.TheVariants.{Object as MadeReply}
 use Rattle.model_words.specs.declared.refusals.Refusal.{Refusal}
 use Rattle.model_intervals.specs.Intervals.{Call}
-use Rattle.model_intervals.specs.Objects.{Object as AnObject, IsFairNew, Meet, object_made}
+use Rattle.model_intervals.specs.Objects.{Object as AnObject, IsFairNew, object_made}
 use Rattle.model_intervals.specs.OverlappingCalls.{IsAt, IsNew, cell_at, cell_of}
 use Rattle.mesh_number_set.specs.Ranges.{Has}
 use Rattle.mesh_timed_judge.specs.Following.{IsOpen}
-use Rattle.mesh_linearizability.specs.Accesses.{PlacedCall, is_access_of}
+use Rattle.mesh_linearizability.specs.Accesses.{PlacedCall}
 use Rattle.mesh_linearizability.specs.Ends.{AreDisjoint, AreEnded, HasEndedIn, IsFirstBefore, IsGone, IsOverlapped, IsRuledOut, Misses, Past}
 use Rattle.mesh_linearizability.specs.Judges.{AccessJudge, IsJudged, live_of}
 use Rattle.mesh_linearizability.specs.LifeSteps.{HasEndedAt}
-use Rattle.mesh_linearizability.specs.Queues.{Suits, WaitsAt, key_of, object_of}
+use Rattle.mesh_linearizability.specs.Queues.{WaitsAt, key_of, object_of}
 use Rattle.mesh_linearizability.specs.Standing.{HasEndedSo, IsFlawed, IsSetAt, StandsWith, lives_of, starts_of, waits_of}
 use Rattle.mesh_linearizability.specs.Timelines.{FewOpen, Holds, IsState, StopsWaiting}
 use Rattle.mesh_linearizability.specs.declared.flaws.Flaw.{Flaw}
@@ -150,7 +150,7 @@ module _ (t : Timeline) (number : ℕ) (object : NewObject) where
   made_unfair unfair calls waits key moment at stop stands early begun = elim stands [
     | inl h ↦ let f = made_facts calls waits key stop h in
         unfair_new calls waits (waits_of t) key (Made object) stop (lives_of t) (starts_of t) (Has t.cells) (Has t.serials) (Has t.freed_twice) h object.cell f.1 f.0 moment
-            (λ fair. unfair (f.2.0 fair))
+        (λ fair. unfair (f.2.0 fair))
     | inr d ↦ cannot_be calls moment begun d.cannot
   ]
 
@@ -159,7 +159,7 @@ module _ (t : Timeline) (number : ℕ) (object : NewObject) where
     made_again has calls waits key moment at stop stands early begun = elim stands [
       | inl h ↦ let f = made_facts calls waits key stop h in
           taken_serial calls waits (waits_of t) key (Made object) stop (lives_of t) (starts_of t) (Has t.cells) (Has t.serials) (Has t.freed_twice) h object.cell f.1 f.0 unused
-              (f.2.1 (some, long)) (λ n. (n ≡ object.cell) ⊎ Has t.cells n) (λ n. (λ x. x, λ x. x)) object refl (made_call calls waits key stop h).suits moment has
+          (f.2.1 (some, long)) (λ n. (n ≡ object.cell) ⊎ Has t.cells n) (λ n. (λ x. x, λ x. x)) object refl (made_call calls waits key stop h).suits moment has
       | inr d ↦ cannot_be calls moment begun d.cannot
     ]
 
@@ -167,9 +167,9 @@ module _ (t : Timeline) (number : ℕ) (object : NewObject) where
     made_over other over calls waits key moment at stop stands early begun = elim stands [
       | inl h ↦ let f = made_facts calls waits key stop h in
           taken_range calls waits (waits_of t) key (Made object) stop (lives_of t) (starts_of t) (Has t.cells) (Has t.serials) (Has t.freed_twice) h object.cell f.1 f.0 unused
-              (f.2.1 (some, long)) (λ n. (n ≡ object.cell) ⊎ Has t.cells n) (λ n. (λ x. x, λ x. x)) object refl (made_call calls waits key stop h).suits moment
-              over.0 (object_of other) (ap (λ (o : Option Life). option_map (λ l. object_of l.object) o) over.2 ∙ ap (λ (o : NewObject). Some (object_of o)) over.3) over.4
-              (made_early calls waits key stop h moment early)
+          (f.2.1 (some, long)) (λ n. (n ≡ object.cell) ⊎ Has t.cells n) (λ n. (λ x. x, λ x. x)) object refl (made_call calls waits key stop h).suits moment
+          over.0 (object_of other) (ap (λ (o : Option Life). option_map (λ l. object_of l.object) o) over.2 ∙ ap (λ (o : NewObject). Some (object_of o)) over.3) over.4
+          (made_early calls waits key stop h moment early)
       | inr d ↦ cannot_be calls moment begun d.cannot
     ]
 
@@ -181,8 +181,8 @@ module _ (t : Timeline) (number : ℕ) (object : NewObject) where
     made_so lives' starts' cells' serials' fresh misses more_cells more_serials starts_set lives_set calls waits key at stop stands = elim stands [
       | inl h ↦ inl (let f = made_facts calls waits key stop h in
           made_new_ends calls waits (waits_of t) key (Made object) stop (lives_of t) (starts_of t) (Has t.cells) (Has t.serials) (Has t.freed_twice) h object.cell f.1 f.0 unused
-              (f.2.1 (some, long)) cells' more_cells object refl (made_call calls waits key stop h).suits lives' starts' serials' fresh more_serials
-              lives_set.0 lives_set.1 starts_set.0 starts_set.1 some (misses (disjoint calls waits h)))
+          (f.2.1 (some, long)) cells' more_cells object refl (made_call calls waits key stop h).suits lives' starts' serials' fresh more_serials
+          lives_set.0 lives_set.1 starts_set.0 starts_set.1 some (misses (disjoint calls waits h)))
       | inr d ↦ inr (doomed_ends calls waits (waits_of t) key (Made object) stop (lives_of t) lives' (Has t.cells) cells' (λ f. f)
           (λ c none has. lives_set.1 c (λ same. unused (subst (λ (q : ℕ). Has t.cells q) same has)) ∙ none)
           (λ c has. (more_cells c).1 (inr has)) d)
@@ -196,10 +196,10 @@ module _ (t : Timeline) (number : ℕ) (object : NewObject) where
           apart = λ c d life other two is_c is_d meet.
               let l = h.living.live_is c (object_of life.object) (live c life is_c) in let k = h.living.live_is d (object_of other.object) (live d other is_d) in
               let places : l.2.place ≢ k.2.place = (λ same. two (sym l.0
-                  ∙ (let at = subst (λ (q : ℕ). IsAt calls q l.2.call) same l.2.there.0 in
-                  let one = at_same calls k.2.place l.2.call k.2.call at k.2.there.0 in
-                  sym (made_at_cell calls l.2.place l.2.call (object_of life.object) l.2.there) ∙ ap (λ (a : Call). cell_at a) one ∙ made_at_cell calls k.2.place k.2.call (object_of other.object) k.2.there)
-                  ∙ k.0)) in
+              ∙ (let at = subst (λ (q : ℕ). IsAt calls q l.2.call) same l.2.there.0 in
+              let one = at_same calls k.2.place l.2.call k.2.call at k.2.there.0 in
+              sym (made_at_cell calls l.2.place l.2.call (object_of life.object) l.2.there) ∙ ap (λ (a : Call). cell_at a) one ∙ made_at_cell calls k.2.place k.2.call (object_of other.object) k.2.there)
+              ∙ k.0)) in
               elim (h.living.apart l.2.place k.2.place l.2.call k.2.call (object_of life.object) (object_of other.object) places l.2.over k.2.over l.2.there k.2.there meet) [
                 | inl freed ↦ l.1 freed.place freed.free freed.there freed.frees (freed.names ∙ l.0)
                 | inr freed ↦ k.1 freed.place freed.free freed.there freed.frees (freed.names ∙ k.0)
@@ -270,7 +270,7 @@ module _ (t : Timeline) (number cell : ℕ) where
           → (life : Life) → lives_of t cell ≡ Some life → (judge : Option AccessJudge) → life.judge ≡ judge → ⊥
       judge_there calls waits key stop h at life alive (Some judge) is =
           gone life judge alive is (subst (λ (n : ℕ). IsOpen judge n) (sym (access_place calls waits key stop h at))
-              (access_is_open calls waits (waits_of t) key (Access cell) stop (lives_of t) (starts_of t) (Has t.cells) (Has t.serials) (Has t.freed_twice) h cell refl life alive judge is))
+          (access_is_open calls waits (waits_of t) key (Access cell) stop (lives_of t) (starts_of t) (Has t.cells) (Has t.serials) (Has t.freed_twice) h cell refl life alive judge is))
       judge_there calls waits key stop h at life alive None is =
           let w = this calls waits (waits_of t) key (Access cell) stop (lives_of t) (starts_of t) (Has t.cells) (Has t.serials) (Has t.freed_twice) h in
           let in_cell = (h.living.live_is cell (object_of life.object) (ap (λ (o : Option Life). option_map (λ l. object_of l.object) o) alive)).0 in

@@ -1,5 +1,5 @@
 -- The length of an object that was made.
-use Rattle.std.proofs.Common.{◌≡◌, ℕ, ◌≤◌, Option, Some, subst}
+use Rattle.std.proofs.Common.{◌≡◌, ◌≤◌, Some, subst}
 use Rattle.model_words.specs.declared.commands.Command.{Command}
 use Rattle.model_words.specs.declared.commands.Command.TheVariants.{New}
 use Rattle.model_words.specs.declared.commands.Reply.{Reply}

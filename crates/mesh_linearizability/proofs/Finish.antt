@@ -1,18 +1,16 @@
 -- Where every call has ended, the calls are a history that is explained.
-use Rattle.std.proofs.Common.{◌≡◌, ◌≢◌, ℕ, ◌<◌, ◌⊎◌, inl, inr, true, List, [], map, replicate, arith, refl, sym, subst, ◌∙◌, ap, Option, Some, None, option_map, length}
-use Rattle.std.specs.List.{All}
+use Rattle.std.proofs.Common.{◌≡◌, ℕ, ◌<◌, ◌⊎◌, inl, inr, true, List, [], map, replicate, arith, refl, sym, subst, ◌∙◌, ap, Option, Some, None, option_map}
 use Rattle.std.specs.List.Sorted.{IsPermutation}
 use Rattle.std.proofs.lemmas.Bool.Decides.{eqb_tells}
 use Rattle.std.proofs.lemmas.List.Sorted.{IsPermutation-refl}
 use Rattle.model_words.specs.declared.commands.Command.{Command}
 use Rattle.model_words.specs.declared.commands.Command.TheVariants.{New}
 use Rattle.model_intervals.specs.Intervals.{Call}
-use Rattle.model_intervals.specs.Objects.{Object as AnObject, ExplainsAccesses, IsExplainedByObject, IsFairNew, IsMadeAt, accesses_of}
-use Rattle.model_intervals.specs.OverlappingCalls.{IsAt, IsFree, IsHistory, IsNew, cell_at}
-use Rattle.mesh_linearizability.specs.Accesses.{is_access_of, placed_from}
+use Rattle.model_intervals.specs.Objects.{Object as AnObject, IsExplainedByObject, IsFairNew, accesses_of}
+use Rattle.model_intervals.specs.OverlappingCalls.{IsAt, IsFree, IsHistory, IsNew}
+use Rattle.mesh_linearizability.specs.Accesses.{is_access_of}
 use Rattle.mesh_linearizability.specs.Judges.{AccessJudge, IsExplained, IsJudged, live_of}
 use Rattle.mesh_linearizability.specs.declared.life.Life.{Life}
-use Rattle.mesh_linearizability.specs.Lives.{IsFreed}
 use Rattle.mesh_linearizability.specs.Queues.{HasEnded, IsWaiting, key_of, object_of}
 use Rattle.mesh_linearizability.specs.Timelines.{Holds}
 use Rattle.mesh_linearizability.specs.declared.objects.NewObject.{NewObject}
@@ -21,7 +19,6 @@ use Rattle.mesh_linearizability.proofs.AccessOrders.{accesses_are, call_at}
 use Rattle.mesh_linearizability.proofs.BegunSteps.{all_places}
 use Rattle.mesh_linearizability.proofs.CallPlaces.{at_same}
 use Rattle.mesh_linearizability.proofs.Follows.{idle_explained}
-use Rattle.mesh_linearizability.proofs.LivesEnd.{made_at_cell, made_by_new}
 use Rattle.mesh_linearizability.proofs.LivesWrong.{maker_by_new}
 
 -- the life of a live object
@@ -42,13 +39,15 @@ new_or_not command = inr (λ is_new. is_new)
 pub idle_object : (calls : List Call) (waits : ℕ → Option Pending) (object : NewObject) (judge : Option AccessJudge) → IsJudged calls waits object judge
     → ((i : ℕ) (a : Call) → IsAt calls i a → is_access_of object.cell a ≡ true → IsWaiting waits a i → ⊥) → IsExplained calls (object_of object)
 idle_object calls waits object None none idle =
-    let empty : accesses_of object.cell calls ≡ [] = sym (accesses_are 0 object.cell calls) ∙ ap (λ xs. map call_at xs) none in
-    ([], record {
-      same = subst (λ xs. IsPermutation [] xs) (sym empty) (IsPermutation-refl []);
-      in_time = λ i j d before below. absurd (omega (arith, below));
-      last = replicate object.len 0;
-      answers = refl;
-    })
+    let empty : accesses_of object.cell calls ≡ [] = sym (accesses_are 0 object.cell calls) ∙ ap (λ xs. map call_at xs) none in (
+      [],
+      record {
+        same = subst (λ xs. IsPermutation [] xs) (sym empty) (IsPermutation-refl []);
+        in_time = λ i j d before below. absurd (omega (arith, below));
+        last = replicate object.len 0;
+        answers = refl;
+      },
+    )
 idle_object calls waits object (Some judge) follows idle = idle_explained calls waits object judge follows idle
 
 module _ (calls : List Call) (waits : ℕ → Option Pending) (lives : ℕ → Option Life) (starts : ℕ → Option ℕ) (cells serials twice : ℕ → Type 0)
@@ -91,7 +90,7 @@ module _ (calls : List Call) (waits : ℕ → Option Pending) (lives : ℕ → O
       | inl alive ↦
           let life = life_of lives x.cell x alive in
           let own = idle_object calls waits life.0.object life.0.judge (h.judges.judged x.cell life.0 life.1)
-              (λ k b is access w. let gone = none (key_of b k) in let some = w.1 in cc (gone, some)) in
+          (λ k b is access w. let gone = none (key_of b k) in let some = w.1 in cc (gone, some)) in
           subst (λ (y : AnObject). IsExplained calls y) life.2 own
     ];
   }

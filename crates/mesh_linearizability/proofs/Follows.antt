@@ -1,5 +1,5 @@
 -- The judge of one object, while calls begin and end.
-use Rattle.std.proofs.Common.{◌≡◌, ◌≢◌, ◌↔◌, ℕ, zero, suc, ◌+◌, ◌<◌, ◌≤◌, ◌⊎◌, inl, inr, Bool, true, false, ◌&&◌, List, [], ◌∷◌, ◌++◌, length, map, arith, refl, sym, subst, ◌∙◌, ap, Option, Some, None, option_map, slice_get}
+use Rattle.std.proofs.Common.{◌≡◌, ◌≢◌, ◌↔◌, ℕ, zero, suc, ◌+◌, ◌<◌, ◌≤◌, ◌⊎◌, inl, inr, true, false, List, [], ◌∷◌, ◌++◌, length, map, arith, refl, sym, subst, ◌∙◌, ap, Option, Some, None, option_map, slice_get}
 use Rattle.std.proofs.lemmas.Bool.Decides.{eqb_tells}
 use Rattle.std.proofs.lemmas.List.{append-nil, map-append}
 use Rattle.std.proofs.lemmas.Option.{slice_get-map}
@@ -8,20 +8,19 @@ use Rattle.model_intervals.specs.Objects.{ExplainsAccesses}
 use Rattle.model_intervals.specs.OverlappingCalls.{IsAt}
 use Rattle.mesh_object_bytes.specs.declared.access.Access.{Access}
 use Rattle.mesh_object_bytes.specs.ObjectBytes.{effect, first_state}
-use Rattle.mesh_timed_judge.specs.Following.{CanBegin, HasSome, IsJudgeOf, IsOpen, TimedStanding}
+use Rattle.mesh_timed_judge.specs.Following.{CanBegin, HasSome, IsJudgeOf, IsOpen}
 use Rattle.mesh_timed_judge.specs.TimedCalls.{ExplainsTimed, Timed}
-use Rattle.mesh_timed_judge.specs.TimedLaws.{AreLater}
 use Rattle.mesh_timed_judge.proofs.End.{open_is_call}
 use Rattle.mesh_timed_judge.proofs.Explained.{explained}
 use Rattle.mesh_timed_judge.proofs.Unexplained.{some_is_left}
-use Rattle.mesh_linearizability.specs.Accesses.{PlacedCall, access_of, is_access_of, placed_from, timed_accesses, timed_of}
+use Rattle.mesh_linearizability.specs.Accesses.{PlacedCall, is_access_of, placed_from, timed_accesses, timed_of}
 use Rattle.mesh_linearizability.specs.Judges.{AccessJudge, IsFollowed}
 use Rattle.mesh_linearizability.specs.Lives.{BeginFrom}
 use Rattle.mesh_linearizability.specs.Queues.{HasEnded, IsWaiting, MayBegin, key_of}
 use Rattle.mesh_linearizability.specs.declared.objects.NewObject.{NewObject}
 use Rattle.mesh_linearizability.specs.declared.pending.Pending.{Pending}
-use Rattle.mesh_linearizability.proofs.AccessOrders.{IsPlacedOf, accesses_explained, placed_append, placed_at, tells, timed_explained}
-use Rattle.mesh_linearizability.proofs.CallPlaces.{at_below, at_end, at_front, at_one, at_same}
+use Rattle.mesh_linearizability.proofs.AccessOrders.{accesses_explained, placed_append, placed_at, tells, timed_explained}
+use Rattle.mesh_linearizability.proofs.CallPlaces.{at_below, at_one, at_same}
 
 -- ---- the calls of the judge by their places
 
@@ -50,9 +49,11 @@ access_timed place cell [] (suc i) a is access = cc
 access_timed place cell (call ∷ calls) zero a is access =
     let same : call ≡ a = cc is in
     let access' = subst (λ (b : Call). is_access_of cell b ≡ true) (sym same) access in
-    let first : placed_from place cell (call ∷ calls) ≡ record { place = place; call = call } ∷ placed_from (suc place) cell calls = rw access' refl in
-    (0, subst (λ (l : List PlacedCall). slice_get l 0 ≡ Some (record { place = place + 0; call = a })) (sym first)
-        (ap (λ (b : Call). Some (record { place = place; call = b })) same ∙ ap (λ (n : ℕ). Some (record { place = n; call = a })) (omega arith)))
+    let first : placed_from place cell (call ∷ calls) ≡ record { place = place; call = call } ∷ placed_from (suc place) cell calls = rw access' refl in (
+      0,
+      subst (λ (l : List PlacedCall). slice_get l 0 ≡ Some (record { place = place + 0; call = a })) (sym first)
+          (ap (λ (b : Call). Some (record { place = place; call = b })) same ∙ ap (λ (n : ℕ). Some (record { place = n; call = a })) (omega arith)),
+    )
 access_timed place cell (call ∷ calls) (suc i) a is access =
     let later = access_timed (suc place) cell calls i a is access in
     let at = later.1 ∙ ap (λ (n : ℕ). Some (record { place = n; call = a })) (omega arith) in
@@ -119,10 +120,10 @@ module _ (calls : List Call) (call : Call) (waits waits' : ℕ → Option Pendin
         subst (λ (x : Timed Access). x.begin ≤ call.begin) (sym t.4) (may.last t.0 t.1 t.2);
     after_ended = λ k other is closed. let t = timed_at object.cell object.address calls k other is in
         subst (λ (x : Timed Access). x.end < call.begin) (sym t.4) (may.behind t.0 t.1 (over t.0 t.1 t.2 t.3
-            (subst (λ (x : Timed Access). IsOpen judge x.number → ⊥) t.4 closed)) t.2);
+        (subst (λ (x : Timed Access). IsOpen judge x.number → ⊥) t.4 closed)) t.2);
     before_ends = λ k other is opened. let t = timed_at object.cell object.address calls k other is in
         subst (λ (x : Timed Access). call.begin ≤ x.end) (sym t.4) (may.within t.0 t.1 t.2 ((h.is_open t.0 t.1 t.2 t.3).0
-            (subst (λ (x : Timed Access). IsOpen judge x.number) t.4 opened)));
+        (subst (λ (x : Timed Access). IsOpen judge x.number) t.4 opened)));
   }
     where
       over : (i : ℕ) (a : Call) → IsAt calls i a → is_access_of object.cell a ≡ true → (IsOpen judge i → ⊥) → HasEnded calls waits i
@@ -135,7 +136,7 @@ module _ (calls : List Call) (call : Call) (waits waits' : ℕ → Option Pendin
   -- it has begun
   pub follow_access : (judge judge' : AccessJudge) (pending : Pending) → IsFollowed calls waits object judge → is_access_of object.cell call ≡ true
       → IsJudgeOf effect (first_state object.len)
-          (timed_accesses object.cell object.address calls ++ timed_of object.address (record { place = length calls; call = call }) ∷ []) judge'
+      (timed_accesses object.cell object.address calls ++ timed_of object.address (record { place = length calls; call = call }) ∷ []) judge'
       → HasSome effect judge' → ((n : ℕ) → IsOpen judge' n ↔ ((n ≡ length calls) ⊎ IsOpen judge n)) → waits' (key_of call (length calls)) ≡ Some pending
       → IsFollowed (calls ++ call ∷ []) waits' object judge'
   follow_access judge judge' pending h access follows some opens now = record {
@@ -207,10 +208,10 @@ pub idle_explained : (calls : List Call) (waits : ℕ → Option Pending) (objec
 idle_explained calls waits object judge h idle =
     let timed = timed_accesses object.cell object.address calls in
     let none : (n : ℕ) → IsOpen judge n → ⊥ = (λ n opened.
-        let found = open_is_call effect (first_state object.len) timed judge h.follows n opened in
-        let t = timed_at object.cell object.address calls found.0 found.1 found.2 in
-        let number : n ≡ t.0 = sym found.3 ∙ ap (λ (x : Timed Access). x.number) t.4 in
-        idle t.0 t.1 t.2 t.3 ((h.is_open t.0 t.1 t.2 t.3).0 (subst (λ (m : ℕ). IsOpen judge m) number opened))) in
+    let found = open_is_call effect (first_state object.len) timed judge h.follows n opened in
+    let t = timed_at object.cell object.address calls found.0 found.1 found.2 in
+    let number : n ≡ t.0 = sym found.3 ∙ ap (λ (x : Timed Access). x.number) t.4 in
+    idle t.0 t.1 t.2 t.3 ((h.is_open t.0 t.1 t.2 t.3).0 (subst (λ (m : ℕ). IsOpen judge m) number opened))) in
     let order = explained effect (first_state object.len) timed judge h.follows h.some none in
     accesses_explained object.address object.cell object.len calls order.0 order.1
 
@@ -225,16 +226,16 @@ none_explained calls more waits object judge follows gone over moment past later
     let timed = timed_accesses object.cell object.address calls in
     let order = timed_explained object.address object.cell object.len (calls ++ more) own explains in
     let split : timed_accesses object.cell object.address (calls ++ more) ≡ timed ++ map (timed_of object.address) (placed_from (0 + length calls) object.cell more)
-        = ap (λ xs. map (timed_of object.address) xs) (placed_append 0 object.cell calls more)
-        ∙ map-append (timed_of object.address) (placed_from 0 object.cell calls) (placed_from (0 + length calls) object.cell more) in
+    = ap (λ xs. map (timed_of object.address) xs) (placed_append 0 object.cell calls more)
+    ∙ map-append (timed_of object.address) (placed_from 0 object.cell calls) (placed_from (0 + length calls) object.cell more) in
     gone (some_is_left effect (first_state object.len) timed (map (timed_of object.address) (placed_from (0 + length calls) object.cell more)) judge follows
-        (λ i j call behind at closed at_more.
-            let t = timed_at object.cell object.address calls i call at in
-            let ended = over t.0 t.1 t.2 t.3 (subst (λ (x : Timed Access). IsOpen judge x.number → ⊥) t.4 closed) in
-            let early : call.end < moment = subst (λ (x : Timed Access). x.end < moment) (sym t.4) (past t.0 t.1 ended t.2) in
-            let found = mapped_at (timed_of object.address) (placed_from (0 + length calls) object.cell more) j behind at_more in
-            let placed = placed_at (0 + length calls) object.cell more j found.0 found.1 in
-            let from = later placed.at found.0.call placed.there in
-            let late : moment ≤ behind.begin = subst (λ (x : Timed Access). moment ≤ x.begin) found.2 from in
-            omega (arith, early, late))
-        order.0 (subst (λ xs. ExplainsTimed effect (first_state object.len) xs order.0) split order.1))
+    (λ i j call behind at closed at_more.
+    let t = timed_at object.cell object.address calls i call at in
+    let ended = over t.0 t.1 t.2 t.3 (subst (λ (x : Timed Access). IsOpen judge x.number → ⊥) t.4 closed) in
+    let early : call.end < moment = subst (λ (x : Timed Access). x.end < moment) (sym t.4) (past t.0 t.1 ended t.2) in
+    let found = mapped_at (timed_of object.address) (placed_from (0 + length calls) object.cell more) j behind at_more in
+    let placed = placed_at (0 + length calls) object.cell more j found.0 found.1 in
+    let from = later placed.at found.0.call placed.there in
+    let late : moment ≤ behind.begin = subst (λ (x : Timed Access). moment ≤ x.begin) found.2 from in
+    omega (arith, early, late))
+    order.0 (subst (λ xs. ExplainsTimed effect (first_state object.len) xs order.0) split order.1))

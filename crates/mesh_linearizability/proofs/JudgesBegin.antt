@@ -1,14 +1,13 @@
 -- Calls begin: the judges of the live objects.
-use Rattle.std.proofs.Common.{◌≡◌, ◌≢◌, ◌↔◌, ℕ, ◌⊎◌, inl, inr, Bool, true, false, ◌&&◌, nat_eq, List, [], ◌∷◌, ◌++◌, length, map, refl, sym, subst, ◌∙◌, ap, Option, Some, None}
-use Rattle.std.specs.List.{filter}
+use Rattle.std.proofs.Common.{◌≡◌, ◌≢◌, ◌↔◌, ℕ, inl, inr, Bool, true, false, ◌&&◌, List, [], ◌∷◌, ◌++◌, length, map, refl, sym, subst, ◌∙◌, ap, Option, Some, None}
 use Rattle.std.specs.List.Sorted.{IsPermutation}
 use Rattle.std.proofs.lemmas.Bool.Decides.{eqb_tells}
 use Rattle.model_words.specs.declared.commands.Command.{Command}
 use Rattle.model_words.specs.declared.commands.Command.TheVariants.{Free}
 use Rattle.model_intervals.specs.Intervals.{Call}
-use Rattle.model_intervals.specs.Objects.{Object as AnObject, ExplainsAccesses, IsMadeAt, accesses_of, is_access}
+use Rattle.model_intervals.specs.Objects.{Object as AnObject, IsMadeAt, accesses_of, is_access}
 use Rattle.model_intervals.specs.OverlappingCalls.{IsAt, IsFree, cell_at}
-use Rattle.mesh_linearizability.specs.Accesses.{is_access_of, placed_from}
+use Rattle.mesh_linearizability.specs.Accesses.{is_access_of}
 use Rattle.mesh_linearizability.specs.Judges.{AccessJudge, IsExplained, IsJudged, Judges}
 use Rattle.mesh_linearizability.specs.declared.life.Life.{Life}
 use Rattle.mesh_linearizability.specs.Lives.{IsFreed, NoneFrees}
@@ -45,12 +44,15 @@ pub accesses_stay : (calls : List Call) (call : Call) (cell : ℕ) → is_access
 accesses_stay calls call cell other = sym (accesses_are 0 cell (calls ++ call ∷ [])) ∙ ap (λ xs. map call_at xs) (placed_other cell calls call other) ∙ accesses_are 0 cell calls
 
 pub explained_still : (calls : List Call) (call : Call) (x : AnObject) → is_access_of x.cell call ≡ false → IsExplained calls x → IsExplained (calls ++ call ∷ []) x
-explained_still calls call x other h = (h.0, record {
-  same = subst (λ xs. IsPermutation h.0 xs) (sym (accesses_stay calls call x.cell other)) h.1.same;
-  in_time = h.1.in_time;
-  last = h.1.last;
-  answers = h.1.answers;
-})
+explained_still calls call x other h = (
+  h.0,
+  record {
+    same = subst (λ xs. IsPermutation h.0 xs) (sym (accesses_stay calls call x.cell other)) h.1.same;
+    in_time = h.1.in_time;
+    last = h.1.last;
+    answers = h.1.answers;
+  },
+)
 
 module _ (calls : List Call) (call : Call) (waits waits' : ℕ → Option Pending) (pending : Pending) (queue : Queue calls waits) (may : MayBegin calls waits call)
     (now : waits' (key_of call (length calls)) ≡ Some pending) (others : (q : ℕ) → q ≢ key_of call (length calls) → waits' q ≡ waits q)
@@ -108,8 +110,8 @@ module _ (calls : List Call) (call : Call) (waits waits' : ℕ → Option Pendin
           | inr new ↦ absurd (access_is_no_free call.entry.command access (subst (λ (q : Call). IsFree q.entry.command) (sym new.1) freed.frees))
         ] in
         explained_still calls call x
-            (other_access_of x.cell call (λ e. unfreed freed_before.place freed_before.free freed_before.there freed_before.frees (freed_before.names ∙ sym e ∙ names)))
-            (h.settled i a x b.0 b.1 freed_before);
+        (other_access_of x.cell call (λ e. unfreed freed_before.place freed_before.free freed_before.there freed_before.frees (freed_before.names ∙ sym e ∙ names)))
+        (h.settled i a x b.0 b.1 freed_before);
     access = λ key c is. elim (eqb_tells c cell) [
       | inl same ↦ subst (λ (q : ℕ). (life : Life) × (lives' q ≡ Some life)) (sym same.1) alive
       | inr apart ↦ elim (eqb_tells key (key_of call (length calls))) [

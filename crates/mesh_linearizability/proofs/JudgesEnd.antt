@@ -1,5 +1,5 @@
 -- Calls end: the judges of the live objects.
-use Rattle.std.proofs.Common.{◌≡◌, ◌≢◌, ◌↔◌, ℕ, zero, suc, ◌⊎◌, inl, inr, Bool, true, false, List, [], ◌∷◌, length, refl, sym, subst, ◌∙◌, ap, Option, Some, None}
+use Rattle.std.proofs.Common.{◌≡◌, ◌≢◌, ◌↔◌, ℕ, suc, ◌⊎◌, inl, inr, true, false, List, [], ◌∷◌, refl, sym, subst, ◌∙◌, Option, Some, None}
 use Rattle.std.proofs.lemmas.Bool.Decides.{eqb_tells}
 use Rattle.model_intervals.specs.Intervals.{Call}
 use Rattle.model_words.specs.declared.commands.Command.{Command}
@@ -64,6 +64,7 @@ module _ (calls : List Call) (waits waits' : ℕ → Option Pending) (key : ℕ)
         let one = at_same calls this.place this.call a this.there there.0 in
         unfreed x (this.there, subst (λ (b : Call). object_made b.entry.command b.entry.reply ≡ Some x) (sym one) there.1) freed)
   ]
+
   -- a call that is no access ends
   pub other_ends : is_access this.call.entry.command ≡ false
       → ((x : AnObject) → IsMadeAt calls this.place this.call x → IsFreed calls x.cell → ⊥)

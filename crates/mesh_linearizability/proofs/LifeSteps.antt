@@ -1,15 +1,15 @@
 -- Accesses to a live object begin and end: its judge follows them.
-use Rattle.std.proofs.Common.{◌≡◌, ◌≢◌, ◌↔◌, ℕ, ◌+◌, option_map, ◌<◌, ◌≤◌, ◌⊎◌, inl, inr, Bool, true, false, List, [], ◌∷◌, ◌++◌, length, arith, refl, sym, subst, ◌∙◌, ap, Option, Some, None, IsTrue}
+use Rattle.std.proofs.Common.{◌≡◌, ◌≢◌, ◌↔◌, ℕ, ◌+◌, option_map, ◌<◌, inl, inr, Bool, true, false, List, [], ◌∷◌, ◌++◌, length, arith, refl, sym, subst, ◌∙◌, ap, Option, Some, None}
 use Rattle.std.proofs.lemmas.Bool.Decides.{eqb_tells}
 use Rattle.model_intervals.specs.Intervals.{Call}
-use Rattle.model_intervals.specs.Objects.{IsExplainedByObject, is_access}
-use Rattle.model_intervals.specs.OverlappingCalls.{IsAt, IsHistory, cell_at}
+use Rattle.model_intervals.specs.Objects.{is_access}
+use Rattle.model_intervals.specs.OverlappingCalls.{IsAt, cell_at}
 use Rattle.mesh_object_bytes.specs.ObjectBytes.{effect, first_state}
 use Rattle.mesh_object_bytes.specs.declared.access.Access.{Access as AnAccess}
-use Rattle.mesh_timed_judge.specs.Following.{HasSome, IsJudgeOf, IsOpen}
+use Rattle.mesh_timed_judge.specs.Following.{IsJudgeOf, IsOpen}
 use Rattle.mesh_linearizability.specs.Accesses.{access_of, is_access_of, timed_accesses}
-use Rattle.mesh_linearizability.specs.Judges.{AccessJudge, IsFollowed, IsJudged, Judges, live_of}
-use Rattle.mesh_linearizability.specs.LifeSteps.{HasBegun, HasEndedAt, IsNewJudge}
+use Rattle.mesh_linearizability.specs.Judges.{AccessJudge, IsFollowed, IsJudged, live_of}
+use Rattle.mesh_linearizability.specs.LifeSteps.{HasBegun, HasEndedAt}
 use Rattle.mesh_linearizability.specs.Lives.{CannotBe}
 use Rattle.mesh_linearizability.specs.Queues.{HasEnded, IsWaiting, MayBegin, Queue, Suits, WaitsAt, key_of, object_of}
 use Rattle.mesh_linearizability.specs.Timelines.{FewOpen, Holds, StartsWaiting, StopsWaiting}
@@ -18,7 +18,6 @@ use Rattle.mesh_linearizability.specs.declared.objects.NewObject.{NewObject}
 use Rattle.mesh_linearizability.specs.declared.pending.Pending.{Pending}
 use Rattle.mesh_linearizability.specs.declared.pending.Pending.TheVariants.{Access}
 use Rattle.mesh_linearizability.proofs.CallPlaces.{at_same}
-use Rattle.mesh_linearizability.proofs.Finish.{life_of}
 use Rattle.mesh_linearizability.proofs.Follows.{access_may_begin, follow_access, follow_end, follow_first, none_explained}
 use Rattle.mesh_linearizability.proofs.JudgesEnd.{access_ends, it_waits_no_more, others_wait}
 use Rattle.mesh_linearizability.proofs.LivesBegin.{made_front}
@@ -48,7 +47,7 @@ module _ (calls : List Call) (call : Call) (waits waits' : ℕ → Option Pendin
       let follows = begun.follows (timed_accesses old.object.cell old.object.address calls) call.begin call.end first.follows may_begin in
       let followed = follow_access calls call waits waits' old.object may stays begun.first begun.judge pending first access follows (begun.some first.some) begun.is_open starting.now in
       subst (λ (o : NewObject). IsJudged (calls ++ call ∷ []) waits' o new.judge) (sym same)
-          (subst (λ (j : Option AccessJudge). IsJudged (calls ++ call ∷ []) waits' old.object j) (sym begun.now) followed)
+      (subst (λ (j : Option AccessJudge). IsJudged (calls ++ call ∷ []) waits' old.object j) (sym begun.now) followed)
 
 -- ---- an access ends
 
@@ -98,9 +97,12 @@ module _ (calls : List Call) (waits waits' : ℕ → Option Pending) (key : ℕ)
             others (new, now_lives);
         started = λ c l is. let g = old c l is in subst (λ (o : NewObject). starts o.address ≡ Some c) g.2 (h.started c g.0 g.1);
         starts_of = λ address c is. let s = h.starts_of address c is in elim (eqb_tells c cell) [
-          | inl one ↦ (new, subst (λ (q : ℕ). lives' q ≡ Some new) (sym one.1) now_lives,
-              ap (λ (o : NewObject). o.address) same
-              ∙ (let there = subst (λ (q : ℕ). lives q ≡ Some s.0) one.1 s.1 in let l : life ≡ s.0 = cc (alive, there) in ap (λ (k : Life). k.object.address) l) ∙ s.2)
+          | inl one ↦ (
+            new,
+            subst (λ (q : ℕ). lives' q ≡ Some new) (sym one.1) now_lives,
+            ap (λ (o : NewObject). o.address) same
+                ∙ (let there = subst (λ (q : ℕ). lives q ≡ Some s.0) one.1 s.1 in let l : life ≡ s.0 = cc (alive, there) in ap (λ (k : Life). k.object.address) l) ∙ s.2,
+          )
           | inr two ↦ (s.0, others c two.1 ∙ s.1, s.2)
         ];
         none_twice = h.none_twice;
@@ -108,8 +110,11 @@ module _ (calls : List Call) (waits waits' : ℕ → Option Pending) (key : ℕ)
         where
           old : (c : ℕ) (l : Life) → lives' c ≡ Some l → (k : Life) × (lives c ≡ Some k) × (k.object ≡ l.object)
           old c l is = elim (eqb_tells c cell) [
-            | inl one ↦ (life, subst (λ (q : ℕ). lives q ≡ Some life) (sym one.1) alive,
-                sym same ∙ (let there = subst (λ (q : ℕ). lives' q ≡ Some l) one.1 is in let e : new ≡ l = cc (now_lives, there) in ap (λ (k : Life). k.object) e))
+            | inl one ↦ (
+              life,
+              subst (λ (q : ℕ). lives q ≡ Some life) (sym one.1) alive,
+              sym same ∙ (let there = subst (λ (q : ℕ). lives' q ≡ Some l) one.1 is in let e : new ≡ l = cc (now_lives, there) in ap (λ (k : Life). k.object) e),
+            )
             | inr two ↦ (l, sym (others c two.1) ∙ is, refl)
           ]
 
@@ -140,8 +145,8 @@ module _ (calls : List Call) (waits waits' : ℕ → Option Pending) (key : ℕ)
           let m = l.2 in
           let order = explained.each m.place m.call (object_of life.object) (made_front calls more m.place m.call (object_of life.object) m.there) in
           none_explained calls more waits' life.object ended.judge judge_follows
-              (λ some. let yes = ended.some.1 some in cc (yes, none))
-              over moment past later order.0 order.1
+          (λ some. let yes = ended.some.1 some in cc (yes, none))
+          over moment past later order.0 order.1
         where
           over : (i : ℕ) (a : Call) → IsAt calls i a → is_access_of life.object.cell a ≡ true → (IsOpen ended.judge i → ⊥) → HasEnded calls waits' i
           over i a is access closed = found (waits' (key_of a i)) refl
@@ -149,8 +154,8 @@ module _ (calls : List Call) (waits waits' : ℕ → Option Pending) (key : ℕ)
               waits_and_apart : (p : Pending) → waits' (key_of a i) ≡ Some p → IsWaiting waits a i × (i ≢ at.place)
               waits_and_apart p some =
                   let apart : i ≢ at.place = (λ e. it_waits_no_more calls waits waits' key pending h.queue stop.was stop.gone stop.others lives lives h.judges
-                      (let w : IsWaiting waits' a at.place = subst (λ (n : ℕ). IsWaiting waits' a n) e (p, some) in
-                      subst (λ (b : Call). IsWaiting waits' b at.place) (sym (at_same calls at.place at.call a at.there (subst (λ (n : ℕ). IsAt calls n a) e is))) w)) in
+                  (let w : IsWaiting waits' a at.place = subst (λ (n : ℕ). IsWaiting waits' a n) e (p, some) in
+                  subst (λ (b : Call). IsWaiting waits' b at.place) (sym (at_same calls at.place at.call a at.there (subst (λ (n : ℕ). IsAt calls n a) e is))) w)) in
                   ((others_wait calls waits waits' key pending h.queue stop.was stop.gone stop.others lives lives h.judges i a is apart).1 (p, some), apart)
 
               found : (w : Option Pending) → waits' (key_of a i) ≡ w → HasEnded calls waits' i

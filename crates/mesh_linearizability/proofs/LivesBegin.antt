@@ -37,7 +37,12 @@ module _ (calls : List Call) (call : Call) (ended : ℕ → Type 0) (below : (i 
     begins = record {
       has_cell = λ i a over is is_new. h.has_cell i a over (old_place i a over is) is_new;
       of_cell = λ c has. let n = h.of_cell c has in record {
-        place = n.place; call = n.call; over = n.over; there = at_front calls (call ∷ []) n.place n.call n.there; is_new = n.is_new; names = n.names;
+        place = n.place;
+        call = n.call;
+        over = n.over;
+        there = at_front calls (call ∷ []) n.place n.call n.there;
+        is_new = n.is_new;
+        names = n.names;
       };
       own_cells = λ i j a b apart over_i over_j at_i at_j. h.own_cells i j a b apart over_i over_j (old_place i a over_i at_i) (old_place j b over_j at_j);
       fair = λ i a over is. h.fair i a over (old_place i a over is);

@@ -158,7 +158,11 @@ module _ (calls : List Call) (ended ended' : ℕ → Type 0) (p : ℕ) (a : Call
       freed_before j d x over is meet = elim (h.made_is j d x over is) [
         | inl alive ↦ absurd (clear x.cell x alive meet)
         | inr freed ↦ record {
-          place = freed.place; free = freed.free; there = freed.there; frees = freed.frees; names = freed.names;
+          place = freed.place;
+          free = freed.free;
+          there = freed.there;
+          frees = freed.frees;
+          names = freed.names;
           begun = frees_begun freed.place freed.free freed.there;
         }
       ]

@@ -1,19 +1,18 @@
 -- The end of a `new` that no history allows.
-use Rattle.std.proofs.Common.{◌≡◌, ◌≢◌, ℕ, ◌<◌, ◌≤◌, ◌⊎◌, inl, inr, List, ◌++◌, arith, refl, sym, subst, ◌∙◌, Option, Some, None, length, slice_get, slice_index_or, get_or}
+use Rattle.std.proofs.Common.{◌≡◌, ◌≢◌, ℕ, ◌<◌, ◌≤◌, inl, inr, List, ◌++◌, arith, sym, subst, ◌∙◌, Option, Some, slice_get}
 use Rattle.std.specs.List.{All}
 use Rattle.std.proofs.lemmas.Option.{get_or_from_slice_get}
 use Rattle.std.proofs.lemmas.Bool.Decides.{eqb_tells}
 use Rattle.model_intervals.specs.Intervals.{Call}
-use Rattle.model_intervals.specs.Objects.{Object as NewObject, IsExplainedByObject, IsFairNew, IsFreedBy, IsMadeAt, Meet, object_made}
-use Rattle.model_intervals.specs.OverlappingCalls.{IsAt, IsFree, IsHistory, IsNew, MakesOne, cell_at}
+use Rattle.model_intervals.specs.Objects.{Object as NewObject, IsFairNew, IsMadeAt, Meet, object_made}
+use Rattle.model_intervals.specs.OverlappingCalls.{IsAt, IsFree, IsNew, MakesOne, cell_at}
 use Rattle.model_words.specs.declared.commands.Command.{Command}
 use Rattle.model_words.specs.declared.commands.Command.TheVariants.{New}
 use Rattle.model_words.specs.declared.commands.Reply.{Reply}
-use Rattle.model_words.specs.declared.commands.Reply.TheVariants.{Object as Made}
-use Rattle.mesh_linearizability.specs.Lives.{BeginFrom, CannotBe, Lives, IsMade, NoneFrees}
+use Rattle.mesh_linearizability.specs.Lives.{CannotBe, Lives}
 use Rattle.mesh_linearizability.proofs.CallPlaces.{at_front, at_below, at_either, at_same}
 use Rattle.mesh_linearizability.proofs.LivesBegin.{made_front}
-use Rattle.mesh_linearizability.proofs.LivesEnd.{made_at_cell, made_by_new}
+use Rattle.mesh_linearizability.proofs.LivesEnd.{made_at_cell}
 
 -- what holds of each element holds of one at a place
 pub all_at : {X : Type 0} (P : X → Type 0) (xs : List X) (i : ℕ) (x : X) → All P xs → slice_get xs i ≡ Some x → P x

@@ -1,10 +1,9 @@
 -- Permutations and pairs of what is mapped.
-use Rattle.std.proofs.Common.{◌≡◌, ◌≢◌, ℕ, zero, suc, ◌+◌, ◌-◌, ◌<◌, ◌≤◌, ◌⊎◌, inl, inr, Bool, true, false, not, ◌&&◌, nat_eq, List, [], ◌∷◌, ◌++◌, length, map, replicate, slice_range, arith, refl, sym, subst, ◌∙◌, ap, Option, Some, None, option_map, option_and_then, get_or, slice_get, set}
-use Rattle.std.specs.List.{AllPairs, filter, swap}
+use Rattle.std.proofs.Common.{◌≡◌, ℕ, zero, suc, ◌<◌, List, [], ◌∷◌, length, map, arith, refl, sym, subst, ◌∙◌, ap, get_or, set}
+use Rattle.std.specs.List.{AllPairs, swap}
 use Rattle.std.specs.List.Sorted.{IsPermutation}
 use Rattle.std.proofs.lemmas.List.{get_or_default, length-map}
-use Rattle.std.proofs.lemmas.List.Sorted.{IsPermutation-keeps, IsPermutation-map, IsPermutation-refl, IsPermutation-sym, IsPermutation-trans, length_permutation}
-use Rattle.std.proofs.lemmas.Option.{slice_get-get_or, slice_get-map, get_or_from_slice_get}
+use Rattle.std.proofs.lemmas.List.Sorted.{IsPermutation-keeps, IsPermutation-refl, IsPermutation-trans}
 
 -- ---- permutations of what is mapped
 
@@ -36,8 +35,7 @@ lifted {X} {Y} f xs ys h = IsPermutation-keeps (map f xs) (λ l. (zs : List X) �
     exchanged : (l : List Y) (i j : ℕ) → i < length l → j < length l → (zs : List X) × IsPermutation xs zs × (map f zs ≡ l)
         → (zs : List X) × IsPermutation xs zs × (map f zs ≡ swap l i j)
     exchanged l i j at_i at_j s =
-        let long : length s.0 ≡ length l = sym (length-map s.0 f) ∙ ap (λ (k : List Y). length k) s.2 in
-        (
+        let long : length s.0 ≡ length l = sym (length-map s.0 f) ∙ ap (λ (k : List Y). length k) s.2 in (
           swap s.0 i j,
           IsPermutation-trans xs s.0 (swap s.0 i j) s.1 (swapped s.0 i j (omega (arith, long, at_i)) (omega (arith, long, at_j))),
           map-swap f s.0 i j ∙ ap (λ (k : List Y). swap k i j) s.2,

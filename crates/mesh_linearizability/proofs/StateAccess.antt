@@ -1,7 +1,6 @@
 -- An access or a `free` begins: what the parts of a timeline know.
-use Rattle.std.proofs.Common.{◌≡◌, ◌≢◌, ℕ, zero, suc, ◌+◌, ◌*◌, ◌<◌, ◌≤◌, ◌⊎◌, inl, inr, Bool, true, false, List, [], ◌∷◌, ◌++◌, length, arith, refl, sym, subst, ◌∙◌, ap, Option, Some, None, option_map, slice_get, nat_eq}
+use Rattle.std.proofs.Common.{◌≡◌, ◌≢◌, ℕ, zero, suc, ◌+◌, ◌⊎◌, inl, inr, Bool, true, false, List, [], ◌∷◌, ◌++◌, arith, refl, sym, subst, ◌∙◌, ap, Option, Some, None, option_map, slice_get, nat_eq}
 use Rattle.std.proofs.lemmas.Bool.{eqb-true}
-use Rattle.std.proofs.lemmas.List.{length-append}
 use Rattle.std.proofs.lemmas.Bool.Decides.{eqb_tells}
 use Rattle.model_words.specs.declared.commands.Command.{Command}
 use Rattle.model_words.specs.declared.commands.Command.TheVariants.{New, Put, Get, Free, Alias, Addr, Peek, Poke, Copy as CopyBytes}
@@ -10,11 +9,11 @@ use Rattle.model_intervals.specs.Intervals.{Call}
 use Rattle.model_intervals.specs.Objects.{Object as AnObject, IsMadeAt, is_access, object_made}
 use Rattle.model_intervals.specs.OverlappingCalls.{HasEffect, IsAt, IsFree, IsNew, cell_at}
 use Rattle.mesh_linearizability.specs.Accesses.{is_access_of}
-use Rattle.mesh_linearizability.specs.Judges.{IsExplained, IsJudged, Judges, live_of}
+use Rattle.mesh_linearizability.specs.Judges.{IsExplained, IsJudged, live_of}
 use Rattle.mesh_linearizability.specs.declared.life.Life.{Life}
 use Rattle.mesh_linearizability.specs.Lives.{IsFreed, IsMade, Lives, NoneFrees}
-use Rattle.mesh_linearizability.specs.Queues.{CannotGoOn, HasEnded, IsWaiting, MayBegin, Queue, Suits, key_of, object_of}
-use Rattle.mesh_linearizability.specs.Timelines.{Doomed, HasFlaw, Holds, IsDue, IsState, StartsWaiting}
+use Rattle.mesh_linearizability.specs.Queues.{HasEnded, IsWaiting, MayBegin, Queue, Suits, key_of, object_of}
+use Rattle.mesh_linearizability.specs.Timelines.{Doomed, HasFlaw, Holds, IsState, StartsWaiting}
 use Rattle.mesh_linearizability.specs.declared.objects.NewObject.{NewObject}
 use Rattle.mesh_linearizability.specs.declared.pending.Pending.{Pending}
 use Rattle.mesh_linearizability.specs.declared.pending.Pending.TheVariants.{Made, Refused, Free as FreeEnds, Access, Wrong}
@@ -22,13 +21,13 @@ use Rattle.mesh_linearizability.proofs.AccessOrders.{tells}
 use Rattle.mesh_linearizability.proofs.BegunSteps.{access_begun, free_begun}
 use Rattle.mesh_linearizability.proofs.BegunWrong.{no_object, not_idle}
 use Rattle.mesh_linearizability.proofs.CallPlaces.{at_below, at_front, at_one, at_same}
-use Rattle.mesh_linearizability.proofs.Finish.{idle_object, life_of}
+use Rattle.mesh_linearizability.proofs.Finish.{idle_object}
 use Rattle.mesh_linearizability.proofs.JudgesBegin.{access_begins, other_begins}
 use Rattle.mesh_linearizability.proofs.LivesBegin.{another_begins, free_begins}
 use Rattle.mesh_linearizability.proofs.LivesEnd.{made_at_cell, made_by_new}
 use Rattle.mesh_linearizability.proofs.LivesWrong.{all_at}
 use Rattle.mesh_linearizability.proofs.QueueSteps.{ended_below, one_key, queue_begins, small_place}
-use Rattle.mesh_linearizability.proofs.StateBegin.{doomed_now, doomed_still, from, lives_same, to}
+use Rattle.mesh_linearizability.proofs.StateBegin.{doomed_now, from, lives_same, to}
 
 -- ---- what an access waits for
 
@@ -102,7 +101,10 @@ some_or_none waits cell place [] = inr none
     none (suc i) a is = cc is
 some_or_none waits cell place (call ∷ calls) = elim (some_or_none waits cell (suc place) calls) [
   | inl later ↦ inl (record {
-    at = suc later.at; call = later.call; there = later.there; accesses = later.accesses;
+    at = suc later.at;
+    call = later.call;
+    there = later.there;
+    accesses = later.accesses;
     waiting = subst (λ (n : ℕ). IsWaiting waits later.call n) (omega arith) later.waiting;
   })
   | inr none ↦ elim (tells (is_access_of cell call)) [
@@ -173,7 +175,7 @@ module _ (calls : List Call) (call : Call) (waits waits' : ℕ → Option Pendin
     cell_is_taken : cells cell
     cell_is_taken = let m = known.2 in
         subst (λ (c : ℕ). cells c) (made_at_cell calls m.place m.call (object_of life.object) m.there ∙ known.0)
-            (h.living.has_cell m.place m.call m.over m.there.0 (made_by_new calls m.place m.call (object_of life.object) m.there))
+        (h.living.has_cell m.place m.call m.over m.there.0 (made_by_new calls m.place m.call (object_of life.object) m.there))
 
     -- an access begins
     pub access_starts : (lives' : ℕ → Option Life) (life' : Life) → is_access call.entry.command ≡ true → pending ≡ Access cell
@@ -186,17 +188,20 @@ module _ (calls : List Call) (call : Call) (waits waits' : ℕ → Option Pendin
       begun = access_begun calls call waits h.begun may cell names (object_of life.object) known.0 known.1 known.2 (access_frees_none call.entry.command access);
       living = lives_turned (calls ++ call ∷ []) (HasEnded (calls ++ call ∷ []) waits') (live_of lives) (live_of lives') cells serials live_same
           (lives_same (calls ++ call ∷ []) (HasEnded calls waits) (HasEnded (calls ++ call ∷ []) waits') (live_of lives) cells serials
-              (to calls call waits waits' pending starting may lives starts cells serials twice h suits)
-              (from calls call waits waits' pending starting may lives starts cells serials twice h suits)
-              (another_begins calls call (HasEnded calls waits) (ended_below calls waits) (live_of lives) cells serials h.living (access_frees_none call.entry.command access)));
+          (to calls call waits waits' pending starting may lives starts cells serials twice h suits)
+          (from calls call waits waits' pending starting may lives starts cells serials twice h suits)
+          (another_begins calls call (HasEnded calls waits) (ended_below calls waits) (live_of lives) cells serials h.living (access_frees_none call.entry.command access)));
       judges = access_begins calls call waits waits' pending h.queue may starting.now starting.others lives lives' h.judges cell access names
           (λ c l is. let g = old c l is in object_cell c g.0 l g.1 g.2)
           (λ l is. let one : life' ≡ l = cc (now, is) in subst (λ (k : Life). IsJudged (calls ++ call ∷ []) waits' k.object k.judge) one judged)
           others (life', now) known.1 as_access;
       started = λ c l is. let g = old c l is in subst (λ (o : NewObject). starts o.address ≡ Some c) g.2 (h.started c g.0 g.1);
       starts_of = λ address c is. let s = h.starts_of address c is in elim (eqb_tells c cell) [
-        | inl one ↦ (life', subst (λ (q : ℕ). lives' q ≡ Some life') (sym one.1) now,
-            ap (λ (o : NewObject). o.address) same ∙ (let l : life ≡ s.0 = (let at = s.1 in let at' = subst (λ (q : ℕ). lives q ≡ Some s.0) one.1 at in cc (alive, at')) in ap (λ (k : Life). k.object.address) l) ∙ s.2)
+        | inl one ↦ (
+          life',
+          subst (λ (q : ℕ). lives' q ≡ Some life') (sym one.1) now,
+          ap (λ (o : NewObject). o.address) same ∙ (let l : life ≡ s.0 = (let at = s.1 in let at' = subst (λ (q : ℕ). lives q ≡ Some s.0) one.1 at in cc (alive, at')) in ap (λ (k : Life). k.object.address) l) ∙ s.2,
+        )
         | inr two ↦ (s.0, others c two.1 ∙ s.1, s.2)
       ];
       none_twice = h.none_twice;
@@ -208,8 +213,11 @@ module _ (calls : List Call) (call : Call) (waits waits' : ℕ → Option Pendin
         -- what is live now was live before, as the same object
         old : (c : ℕ) (l : Life) → lives' c ≡ Some l → (k : Life) × (lives c ≡ Some k) × (k.object ≡ l.object)
         old c l is = elim (eqb_tells c cell) [
-          | inl one ↦ (life, subst (λ (q : ℕ). lives q ≡ Some life) (sym one.1) alive,
-              sym same ∙ (let at = subst (λ (q : ℕ). lives' q ≡ Some l) one.1 is in let e : life' ≡ l = cc (now, at) in ap (λ (k : Life). k.object) e))
+          | inl one ↦ (
+            life,
+            subst (λ (q : ℕ). lives q ≡ Some life) (sym one.1) alive,
+            sym same ∙ (let at = subst (λ (q : ℕ). lives' q ≡ Some l) one.1 is in let e : life' ≡ l = cc (now, at) in ap (λ (k : Life). k.object) e),
+          )
           | inr two ↦ (l, sym (others c two.1) ∙ is, refl)
         ]
 
@@ -261,8 +269,8 @@ module _ (calls : List Call) (call : Call) (waits waits' : ℕ → Option Pendin
           queue = queue_begins calls call waits waits' pending h.queue may starting.now starting.others suits;
           begun = free_begun calls call waits h.begun may cell names (object_of life.object) known.0 known.1 known.2
               (λ i a is no_new no_free same. over i a is
-                  (not_waiting i a is (access_of_cell cell a
-                  (effect_is_access a.entry.command a.entry.reply (all_at (λ b. HasEffect b.entry.command b.entry.reply) calls i a h.begun.have_effects is) no_new no_free) same)));
+              (not_waiting i a is (access_of_cell cell a
+              (effect_is_access a.entry.command a.entry.reply (all_at (λ b. HasEffect b.entry.command b.entry.reply) calls i a h.begun.have_effects is) no_new no_free) same)));
           living = lives_same (calls ++ call ∷ []) (HasEnded calls waits) (HasEnded (calls ++ call ∷ []) waits') (live_of lives') cells serials
               (to calls call waits waits' pending starting may lives starts cells serials twice h suits)
               (from calls call waits waits' pending starting may lives starts cells serials twice h suits)
@@ -273,7 +281,7 @@ module _ (calls : List Call) (call : Call) (waits waits' : ℕ → Option Pendin
               old settles still (λ c e. free_or_access cell c (sym is_free ∙ e));
           started = λ c l is. let two = apart c l is in
               others_set l.object.address (λ e. two (let at = h.started c l (old c l is) in let at' = h.started cell life alive in
-                  let at'' = subst (λ (a : ℕ). starts a ≡ Some c) e at in cc (at'', at')))
+              let at'' = subst (λ (a : ℕ). starts a ≡ Some c) e at in cc (at'', at')))
               ∙ h.started c l (old c l is);
           starts_of = λ address c is. elim (eqb_tells address life.object.address) [
             | inl one ↦ absurd (let no = subst (λ (a : ℕ). starts' a ≡ None) (sym one.1) unset in cc (no, is))
@@ -308,7 +316,7 @@ module _ (calls : List Call) (call : Call) (waits waits' : ℕ → Option Pendin
               | inl one ↦ absurd (
                   let at = h.queue.keyed key (Access c) is in
                   not_waiting at.place at.call at.there (access_of_cell cell at.call at.suits.0 (at.suits.1 ∙ one.1))
-                      (Access c, subst (λ (q : ℕ). waits q ≡ Some (Access c)) at.is_key is))
+                  (Access c, subst (λ (q : ℕ). waits q ≡ Some (Access c)) at.is_key is))
             ]
 
             settles : (i : ℕ) (a : Call) (x : AnObject) → HasEnded calls waits i → IsMadeAt calls i a x → IsFreed (calls ++ call ∷ []) x.cell → IsExplained calls x
@@ -320,8 +328,8 @@ module _ (calls : List Call) (call : Call) (waits waits' : ℕ → Option Pendin
                     let this : x.cell ≡ cell = sym freed.names ∙ subst (λ (b : Call). cell_at b ≡ cell) new.1 names in
                     let same : object_of life.object ≡ x = (let at = subst (λ (q : ℕ). live_of lives q ≡ Some x) this alive_x in let at' = live_cell in cc (at, at')) in
                     subst (λ (y : AnObject). IsExplained calls y) same
-                        (idle_object calls waits life.object life.judge (h.judges.judged cell life alive)
-                        (λ k b is access w. not_waiting k b is (subst (λ (q : ℕ). is_access_of q b ≡ true) known.0 access) w))
+                    (idle_object calls waits life.object life.judge (h.judges.judged cell life alive)
+                    (λ k b is access w. not_waiting k b is (subst (λ (q : ℕ). is_access_of q b ≡ true) known.0 access) w))
               ]
             ]
 

@@ -1,25 +1,21 @@
 -- A call begins: what the parts of a timeline know.
-use Rattle.std.proofs.Common.{◌≡◌, ◌≢◌, ℕ, ◌+◌, ◌*◌, ◌<◌, ◌≤◌, ◌⊎◌, inl, inr, true, false, List, [], ◌∷◌, ◌++◌, length, arith, refl, sym, subst, ◌∙◌, ap, Option, Some, None}
-use Rattle.std.proofs.lemmas.Bool.Decides.{eqb_tells}
-use Rattle.std.proofs.lemmas.List.{length-append}
+use Rattle.std.proofs.Common.{◌≡◌, ℕ, inl, inr, false, List, [], ◌∷◌, ◌++◌, length, arith, refl, sym, subst, ◌∙◌, Option, None}
 use Rattle.model_words.specs.declared.commands.Command.{Command}
-use Rattle.model_words.specs.declared.commands.Command.TheVariants.{New, Free}
+use Rattle.model_words.specs.declared.commands.Command.TheVariants.{New}
 use Rattle.model_intervals.specs.Intervals.{Call}
-use Rattle.model_intervals.specs.Objects.{Object as AnObject, IsMadeAt, is_access}
-use Rattle.model_intervals.specs.OverlappingCalls.{IsAt, IsFree, IsNew, cell_at}
-use Rattle.mesh_linearizability.specs.Accesses.{is_access_of}
-use Rattle.mesh_linearizability.specs.Judges.{IsExplained, IsJudged, Judges, live_of}
+use Rattle.model_intervals.specs.Objects.{Object as AnObject, is_access}
+use Rattle.model_intervals.specs.OverlappingCalls.{IsFree, IsNew}
+use Rattle.mesh_linearizability.specs.Judges.{live_of}
 use Rattle.mesh_linearizability.specs.declared.life.Life.{Life}
-use Rattle.mesh_linearizability.specs.Lives.{IsFreed, IsMade, IsNamed, Lives, NoneFrees}
-use Rattle.mesh_linearizability.specs.Queues.{CannotGoOn, HasEnded, IsWaiting, MayBegin, Suits, key_of, object_of}
-use Rattle.mesh_linearizability.specs.Timelines.{Doomed, HasFlaw, Holds, IsDue, IsState, StartsWaiting}
+use Rattle.mesh_linearizability.specs.Lives.{IsFreed, Lives}
+use Rattle.mesh_linearizability.specs.Queues.{CannotGoOn, HasEnded, MayBegin, Suits, key_of}
+use Rattle.mesh_linearizability.specs.Timelines.{Doomed, HasFlaw, Holds, IsDue, StartsWaiting}
 use Rattle.mesh_linearizability.specs.declared.pending.Pending.{Pending}
 use Rattle.mesh_linearizability.specs.declared.pending.Pending.TheVariants.{Access, Wrong}
-use Rattle.mesh_linearizability.proofs.BegunSteps.{access_begun, free_begun, new_begun, none_goes_on}
+use Rattle.mesh_linearizability.proofs.BegunSteps.{new_begun, none_goes_on}
 use Rattle.mesh_linearizability.proofs.CallPlaces.{at_below, at_end, at_front, at_one}
-use Rattle.mesh_linearizability.proofs.Finish.{life_of}
-use Rattle.mesh_linearizability.proofs.JudgesBegin.{access_begins, other_begins}
-use Rattle.mesh_linearizability.proofs.LivesBegin.{another_begins, free_begins}
+use Rattle.mesh_linearizability.proofs.JudgesBegin.{other_begins}
+use Rattle.mesh_linearizability.proofs.LivesBegin.{another_begins}
 use Rattle.mesh_linearizability.proofs.LivesEnd.{is_made_later, is_named_later}
 use Rattle.mesh_linearizability.proofs.QueueSteps.{ended_before, ended_below, ended_still, queue_begins}
 

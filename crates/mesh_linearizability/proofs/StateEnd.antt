@@ -1,32 +1,27 @@
 -- A call ends: what the parts of a timeline know.
-use Rattle.std.proofs.Common.{◌≡◌, ◌≢◌, ◌↔◌, ℕ, ◌+◌, ◌*◌, ◌<◌, ◌≤◌, ◌⊎◌, inl, inr, true, false, List, [], ◌∷◌, length, arith, refl, sym, subst, ◌∙◌, ap, Option, Some, None, option_map}
+use Rattle.std.proofs.Common.{◌≡◌, ◌≢◌, ◌↔◌, ℕ, ◌<◌, ◌≤◌, ◌⊎◌, inl, inr, false, List, arith, refl, sym, subst, ◌∙◌, ap, Option, Some, None, option_map}
 use Rattle.std.proofs.lemmas.Bool.Decides.{eqb_tells}
-use Rattle.model_history.specs.Recorded.{IsOwnRefusal, any_allocator}
 use Rattle.model_words.specs.declared.commands.Command.{Command}
 use Rattle.model_words.specs.declared.commands.Command.TheVariants.{New, Free}
 use Rattle.model_words.specs.declared.commands.Reply.{Reply}
-use Rattle.model_words.specs.declared.commands.Reply.TheVariants.{Object as MadeReply, Refused as RefusedReply}
-use Rattle.model_words.specs.declared.refusals.Refusal.{Refusal}
 use Rattle.model_intervals.specs.Intervals.{Call}
 use Rattle.model_intervals.specs.Objects.{Object as AnObject, IsFairNew, IsMadeAt, Meet, is_access, object_made}
-use Rattle.model_intervals.specs.OverlappingCalls.{IsAt, IsFree, IsNew, cell_at, cell_of}
-use Rattle.mesh_linearizability.specs.Accesses.{is_access_of, placed_from}
-use Rattle.mesh_linearizability.specs.Judges.{IsJudged, Judges, live_of}
+use Rattle.model_intervals.specs.OverlappingCalls.{IsAt, IsFree, IsNew, cell_at}
+use Rattle.mesh_linearizability.specs.Judges.{IsJudged, live_of}
 use Rattle.mesh_linearizability.specs.declared.life.Life.{Life}
-use Rattle.mesh_linearizability.specs.Lives.{CannotBe, IsFreed, NoneFrees}
+use Rattle.mesh_linearizability.specs.Lives.{CannotBe, NoneFrees}
 use Rattle.mesh_linearizability.specs.Queues.{CannotGoOn, HasEnded, IsWaiting, Queue, Suits, WaitsAt, key_of, object_of}
-use Rattle.mesh_linearizability.specs.Timelines.{Doomed, HasFlaw, Holds, IsDue, StopsWaiting}
+use Rattle.mesh_linearizability.specs.Timelines.{Doomed, HasFlaw, Holds, StopsWaiting}
 use Rattle.mesh_linearizability.specs.declared.objects.NewObject.{NewObject}
 use Rattle.mesh_linearizability.specs.declared.pending.Pending.{Pending}
-use Rattle.mesh_linearizability.specs.declared.pending.Pending.TheVariants.{Made, Refused, Free as FreeEnds, Access, Wrong}
-use Rattle.mesh_linearizability.proofs.CallPlaces.{at_same}
+use Rattle.mesh_linearizability.specs.declared.pending.Pending.TheVariants.{Free as FreeEnds, Access, Wrong}
 use Rattle.mesh_linearizability.proofs.Fair.{fair_length}
 use Rattle.mesh_linearizability.proofs.Finish.{life_of}
 use Rattle.mesh_linearizability.proofs.JudgesEnd.{it_was_waiting, other_ends, placed_none}
 use Rattle.mesh_linearizability.proofs.LivesEnd.{another_ends, made_at_cell, made_by_new, made_ends, refused_ends}
 use Rattle.mesh_linearizability.proofs.LivesWrong.{cell_again, maker_by_new, overlap, serial_again, unfair}
 use Rattle.mesh_linearizability.proofs.QueueSteps.{ended_on, ended_or_this, ending, it_ended, it_waited, queue_ends}
-use Rattle.mesh_linearizability.proofs.StateAccess.{access_is_no_new, accesses_cell, lives_turned}
+use Rattle.mesh_linearizability.proofs.StateAccess.{access_is_no_new, accesses_cell}
 
 -- no history goes on from a moment on
 pub cannot_be : (calls : List Call) (moment : ℕ) → ((i : ℕ) (a : Call) → IsAt calls i a → a.begin ≤ moment) → CannotGoOn calls → CannotBe calls moment
@@ -47,7 +42,7 @@ module _ (calls : List Call) (waits waits' : ℕ → Option Pending) (key : ℕ)
       pending = due.pending;
       waiting = stop.others (key_of due.call due.place)
           (λ same. no_flaw (let at = subst (λ (q : ℕ). waits q ≡ Some due.pending) same due.waiting in let was = stop.was in
-              let one : due.pending ≡ pending = cc (at, was) in subst (λ (p : Pending). HasFlaw lives cells p) one due.has_flaw))
+          let one : due.pending ≡ pending = cc (at, was) in subst (λ (p : Pending). HasFlaw lives cells p) one due.has_flaw))
           ∙ due.waiting;
       has_flaw = flaw_still due.pending due.has_flaw;
     };
@@ -141,7 +136,7 @@ module _ (calls : List Call) (waits waits' : ℕ → Option Pending) (key : ℕ)
             let before = h.begun.after_new i a is other in
             let over = ended_before i a is before.place before.call before.there before.ended in
             unused (subst (λ (c : ℕ). cells c) (before.names ∙ same)
-                (h.living.has_cell before.place before.call over before.there (maker_by_new before.call.entry.command before.call.entry.reply before.makes)))
+            (h.living.has_cell before.place before.call over before.there (maker_by_new before.call.entry.command before.call.entry.reply before.makes)))
           where
             ended_before : (i : ℕ) (a : Call) → IsAt calls i a → (k : ℕ) (b : Call) → IsAt calls k b → b.end < a.begin → HasEnded calls waits k
             ended_before i a is k b there early = found (waits (key_of b k)) refl
@@ -207,7 +202,7 @@ module _ (calls : List Call) (waits waits' : ℕ → Option Pending) (key : ℕ)
               not_live c life is same =
                   let l = h.living.live_is c (object_of life.object) (ap (λ (o : Option Life). option_map (λ l. object_of l.object) o) is) in
                   unused (subst (λ (d : ℕ). cells d) (made_cell l.2.place l.2.call l.2.there ∙ l.0 ∙ same)
-                      (h.living.has_cell l.2.place l.2.call l.2.over l.2.there.0 (made_new l.2.place l.2.call l.2.there)))
+                  (h.living.has_cell l.2.place l.2.call l.2.over l.2.there.0 (made_new l.2.place l.2.call l.2.there)))
                 where
                   made_cell : (i : ℕ) (a : Call) → IsMadeAt calls i a (object_of life.object) → cell_at a ≡ life.object.cell
                   made_cell i a made = made_at_cell calls i a (object_of life.object) made
@@ -230,15 +225,15 @@ module _ (calls : List Call) (waits waits' : ℕ → Option Pending) (key : ℕ)
                     (λ k f is. h.queue.reach this.place k this.call f this.there is waiting);
                 judges = other_ends calls waits waits' key pending h.queue stop.was stop.gone stop.others lives lives' h.judges new_is_no_access
                     (λ x made freed. unfreed freed.place freed.free freed.there freed.frees
-                        (freed.names ∙ (let m = made.1 in let one : object_of object ≡ x = cc (makes, m) in ap (λ (y : AnObject). y.cell) (sym one)) ∙ in_cell))
+                    (freed.names ∙ (let m = made.1 in let one : object_of object ≡ x = cc (makes, m) in ap (λ (y : AnObject). y.cell) (sym one)) ∙ in_cell))
                     (λ d life is. elim (eqb_tells d cell) [
                       | inl same ↦ inr (
                           let at = subst (λ (q : ℕ). lives' q ≡ Some life) same.1 is in
                           let one : record { object = object; judge = None } ≡ life = cc (alive, at) in
                           subst (λ (l : Life). IsJudged calls waits' l.object l.judge) one
-                              (placed_none 0 object.cell calls (λ i a there access.
-                                  let own = accesses_cell object.cell a access in
-                                  untouched i a there (access_is_no_new a.entry.command own.0) (own.1 ∙ in_cell))))
+                          (placed_none 0 object.cell calls (λ i a there access.
+                          let own = accesses_cell object.cell a access in
+                          untouched i a there (access_is_no_new a.entry.command own.0) (own.1 ∙ in_cell))))
                       | inr apart ↦ inl (sym (others d apart.1) ∙ is)
                     ])
                     (λ d life is. (life, others d (not_live d life is) ∙ is));

@@ -1,10 +1,10 @@
 -- What is found of the text of a history of overlapping calls.
-use Rattle.std.specs.Prelude.{◌≡◌, ◌⊎◌, ℕ, ◌^◌, ◌<◌, ◌≤◌, true, List, ◌++◌, Option, Some, None, Result, Ok, length}
+use Rattle.std.specs.Prelude.{◌≡◌, ◌⊎◌, ℕ, ◌^◌, ◌<◌, ◌≤◌, List, ◌++◌, Option, Some, None, Result, Ok, length}
 use Rattle.std.specs.Io.KnownBytes.{Consumes, IsAtEnd}
 use Rattle.model_intervals.specs.Intervals.{Call, IsLinearizable}
 use Rattle.model_intervals.specs.OverlappingCalls.{IsAt, IsHistory}
 use Rattle.mesh_calls.specs.CallInputs.{HasCome, HasRead}
-use Rattle.mesh_calls.specs.CallReadings.{CallReading, OfText, OutOfOrder, calls_of}
+use Rattle.mesh_calls.specs.CallReadings.{OfText, OutOfOrder, calls_of}
 use Rattle.mesh_calls.specs.declared.faults.CallError.{CallError}
 use Rattle.mesh_calls.specs.declared.faults.CallError.TheVariants.{Text, Order, Read, Memory}
 use Rattle.mesh_calls.specs.declared.inputs.CallInput.{CallInput}

@@ -1,5 +1,5 @@
 -- Accesses to a live object begin and end.
-use Rattle.std.specs.Prelude.{◌≡◌, ◌≢◌, ◌⊎◌, ◌↔◌, ℕ, Bool, List, [], ◌∷◌, ◌++◌, Option, Some, None, IsTrue}
+use Rattle.std.specs.Prelude.{◌≡◌, ◌≢◌, ◌⊎◌, ◌↔◌, ℕ, Bool, List, [], ◌∷◌, ◌++◌, Some, None, IsTrue}
 use Rattle.mesh_object_bytes.specs.ObjectBytes.{effect, first_state}
 use Rattle.mesh_object_bytes.specs.declared.access.Access.{Access as AnAccess}
 use Rattle.mesh_timed_judge.specs.Following.{CanBegin, HasSome, IsJudgeOf, IsOpen}

@@ -1,16 +1,15 @@
 -- A timeline, and what it knows of the calls that have begun.
-use Rattle.std.specs.Prelude.{◌≡◌, ◌≢◌, ℕ, ◌*◌, ◌%◌, ◌<◌, ◌≤◌, List, [], ◌∷◌, ◌++◌, Option, Some, None, length}
+use Rattle.std.specs.Prelude.{◌≡◌, ◌≢◌, ℕ, ◌*◌, ◌%◌, ◌<◌, ◌≤◌, List, [], ◌∷◌, ◌++◌, Option, Some, length}
 use Rattle.std.specs.Ordering.{nat_cmp}
 use Rattle.std.specs.BTreeMap.{get}
 use Rattle.model_memory.specs.Plain.{Entry}
 use Rattle.model_intervals.specs.Intervals.{Call}
-use Rattle.model_intervals.specs.Objects.{Meet, is_access}
-use Rattle.model_intervals.specs.OverlappingCalls.{IsAt, cell_of}
+use Rattle.model_intervals.specs.OverlappingCalls.{IsAt}
 use Rattle.mesh_number_set.specs.Ranges.{Has}
 use Rattle.mesh_linearizability.specs.Accesses.{access_of}
-use Rattle.mesh_linearizability.specs.LifeSteps.{HasBegun, HasEndedAt}
+use Rattle.mesh_linearizability.specs.LifeSteps.{HasBegun}
 use Rattle.mesh_linearizability.specs.Lives.{CannotBe}
-use Rattle.mesh_linearizability.specs.Queues.{HasEnded, MayBegin, object_of}
+use Rattle.mesh_linearizability.specs.Queues.{MayBegin}
 use Rattle.mesh_linearizability.specs.Timelines.{IsState, StartsWaiting, StopsWaiting}
 use Rattle.mesh_linearizability.specs.declared.life.Life.{Life}
 use Rattle.mesh_linearizability.specs.declared.pending.Pending.{Pending}

@@ -1,5 +1,5 @@
 -- What the parts of a timeline know of the calls that have begun.
-use Rattle.std.specs.Prelude.{◌≡◌, ◌≢◌, ◌⊎◌, ◌↔◌, ℕ, ◌<◌, ◌≤◌, List, Option, Some, None, length}
+use Rattle.std.specs.Prelude.{◌≡◌, ◌≢◌, ◌⊎◌, ℕ, ◌<◌, ◌≤◌, List, Option, Some, None, length}
 use Rattle.model_intervals.specs.Intervals.{Call}
 use Rattle.model_intervals.specs.OverlappingCalls.{IsAt}
 use Rattle.mesh_timed_judge.specs.Following.{IsOpen}
@@ -7,7 +7,6 @@ use Rattle.mesh_linearizability.specs.Judges.{AccessJudge, Judges, live_of}
 use Rattle.mesh_linearizability.specs.declared.life.Life.{Life}
 use Rattle.mesh_linearizability.specs.Lives.{Lives}
 use Rattle.mesh_linearizability.specs.Queues.{Begun, CannotGoOn, HasEnded, Queue, key_of}
-use Rattle.mesh_linearizability.specs.declared.flaws.Flaw.{Flaw}
 use Rattle.mesh_linearizability.specs.declared.pending.Pending.{Pending}
 use Rattle.mesh_linearizability.specs.declared.pending.Pending.TheVariants.{Access, Wrong}
 

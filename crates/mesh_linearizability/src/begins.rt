@@ -26,7 +26,11 @@ use std::collections::BTreeMap;
 
 impl Timeline {
     /// What is to be done at the end of a call that begins.
-    pub(crate) fn begun(&mut self, number: u32, entry: &RecordedEntry) -> Result<Pending, JudgeFault>
+    pub(crate) fn begun(
+        &mut self,
+        number: u32,
+        entry: &RecordedEntry,
+    ) -> Result<Pending, JudgeFault>
         requires effect { HasEffect (plain_command entry.now.command) (plain_reply entry.now.reply) }
         requires few { FewOpen (lives_of self.old) number }
         ensures waiting { self.new.waiting ≡ self.old.waiting }
@@ -75,7 +79,12 @@ impl Timeline {
     }
 
     /// The begin of an access to the object of a cell.
-    fn access_begun(&mut self, number: u32, cell: u32, entry: &RecordedEntry) -> Result<Pending, JudgeFault>
+    fn access_begun(
+        &mut self,
+        number: u32,
+        cell: u32,
+        entry: &RecordedEntry,
+    ) -> Result<Pending, JudgeFault>
         requires few { FewOpen (lives_of self.old) number }
         ensures waiting { self.new.waiting ≡ self.old.waiting }
         ensures begun { IfOk result (λ pending. is_access (plain_command entry.now.command) ≡ true → cell_of (plain_command entry.now.command) ≡ cell
@@ -117,7 +126,10 @@ fn access_of(address: u64, entry: &RecordedEntry) -> Result<Access, AllocError>
     ensures { IfOk result (λ access. access ≡ access_of address (plain_command entry.now.command) (plain_reply entry.now.reply)) }
 {
     match (&entry.command, &entry.reply) {
-        (SpeltCommand::Put(_, off, bytes), RecordedReply::Done) => Ok(Access::Store(*off, bytes.clone()?)),
+        (SpeltCommand::Put(_, off, bytes), RecordedReply::Done) => Ok(Access::Store(
+            *off,
+            bytes.clone()?,
+        )),
         (SpeltCommand::Get(_, off, len), RecordedReply::Bytes(told)) => {
             if *len as usize != told.len() {
                 return Ok(Access::Never);

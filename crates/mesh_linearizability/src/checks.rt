@@ -27,7 +27,11 @@ const LAST_MOMENT: u128 = 18_446_744_073_709_551_616;
 ///
 /// The input is read to its end, or until a flaw is found. Text and Order come where a line has a fault, Read exactly
 /// where the input failed, and Memory where an allocation failed.
-pub fn check_calls<I: Source>(alloc: Global, input: &mut I, most: usize) -> Result<CallVerdict, CallError>
+pub fn check_calls<I: Source>(
+    alloc: Global,
+    input: &mut I,
+    most: usize,
+) -> Result<CallVerdict, CallError>
     requires { I.has_failed input.old ≡ false }
     ensures ok { OnOk result (I.has_failed input.new ≡ false) }
     ensures judged { IfOk result (HasJudged (I.remaining input.old) (I.remaining input.new)) }
@@ -77,7 +81,10 @@ fn verdict_of(found: Result<Option<Found>, Stop>) -> Result<Option<CallVerdict>,
 {
     match found {
         Ok(None) => Ok(None),
-        Ok(Some(found)) => Ok(Some(CallVerdict::Flawed(found.number.saturating_add(2), found.flaw))),
+        Ok(Some(found)) => Ok(Some(CallVerdict::Flawed(
+            found.number.saturating_add(2),
+            found.flaw,
+        ))),
         Err(stop) => match stop.fault {
             JudgeFault::Memory => Err(CallError::Memory),
             fault => Ok(Some(CallVerdict::Undecided(stop.number.saturating_add(2), fault))),

@@ -20,7 +20,12 @@ use std::collections::BTreeMap;
 
 impl Timeline {
     /// Takes the end of the call of a number, and returns the flaw that is told there, if one is.
-    pub(crate) fn ended(&mut self, number: u32, pending: Pending, most: usize) -> Result<Option<Flaw>, JudgeFault>
+    pub(crate) fn ended(
+        &mut self,
+        number: u32,
+        pending: Pending,
+        most: usize,
+    ) -> Result<Option<Flaw>, JudgeFault>
         ensures waiting { self.new.waiting ≡ self.old.waiting }
         ensures ended { IfOk result (λ flaw. IsNone flaw → HasEndedSo self.old self.new number pending) }
         ensures flawed { IfOk result (λ flaw. IfSome flaw (λ _. IsFlawed self.old number pending)) }
@@ -63,7 +68,14 @@ impl Timeline {
         self.cells.add(object.cell)?;
         self.serials.add(object.serial)?;
         set(&mut self.starts, u128::from(object.address), object.cell)?;
-        set(&mut self.lives, object.cell, Life { object, judge: None })?;
+        set(
+            &mut self.lives,
+            object.cell,
+            Life {
+                object,
+                judge: None,
+            },
+        )?;
         Ok(None)
     }
 
@@ -96,7 +108,12 @@ impl Timeline {
     }
 
     /// The end of an access.
-    fn access_ended(&mut self, number: u32, cell: u32, most: usize) -> Result<Option<Flaw>, JudgeFault>
+    fn access_ended(
+        &mut self,
+        number: u32,
+        cell: u32,
+        most: usize,
+    ) -> Result<Option<Flaw>, JudgeFault>
         ensures waiting { self.new.waiting ≡ self.old.waiting }
         ensures ended { IfOk result (λ flaw. IsNone flaw → HasEndedSo self.old self.new number (Pending.Access cell)) }
         ensures flawed { IfOk result (λ flaw. IfSome flaw (λ _. IsFlawed self.old number (Pending.Access cell))) }

@@ -1,4 +1,7 @@
 //! A judge of histories of overlapping calls: whether some order of effects explains them.
+//!
+//! `check_calls` reads a text of `history 2` from a device and returns a `CallVerdict`. A `Timeline` takes the begins and
+//! the ends of the calls in the order of time, and reads no text.
 #![tactic(auto)]
 
 mod begins;
@@ -17,3 +20,6 @@ pub use flaws::Flaw;
 pub use stops::{Found, Stop};
 pub use timeline::Timeline;
 pub use verdicts::CallVerdict;
+
+#[cfg(test)]
+mod tests;

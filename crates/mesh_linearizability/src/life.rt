@@ -54,7 +54,12 @@ impl Life {
     /// access is pending.
     ///
     /// The error is `TooMany` if more than `most` configurations are met, and `Memory` if an allocation fails.
-    pub fn end(&mut self, alloc: Global, number: u32, most: usize) -> Result<Option<bool>, JudgeFault>
+    pub fn end(
+        &mut self,
+        alloc: Global,
+        number: u32,
+        most: usize,
+    ) -> Result<Option<bool>, JudgeFault>
         ensures object { self.new.object ≡ self.old.object }
         ensures ended { IfOk result (λ left. IfSome left (HasEndedAt self.old self.new number)) }
         ensures none { IfOk result (λ left. IsNone left → (judge : AccessJudge) → self.old.judge ≡ Some judge → IsOpen judge number → ⊥) }

@@ -13,8 +13,8 @@ ghost use Rattle.mesh_linearizability.specs.Standing.{Stands, lives_of, waits_of
 ghost use Rattle.mesh_linearizability.specs.Timelines.{FewOpen};
 
 use crate::life::Life;
-use crate::stops::{Found, Stop};
 use crate::pending::Pending;
+use crate::stops::{Found, Stop};
 use mesh_configurations::JudgeFault;
 use mesh_history::RecordedEntry;
 use mesh_number_set::NumberSet;

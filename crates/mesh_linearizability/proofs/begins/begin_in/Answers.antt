@@ -1,4 +1,4 @@
-use Rattle.std.proofs.Common.{◌≡◌, arith, sym}
+use Rattle.std.proofs.Common.{arith, sym}
 use Rattle.mesh_linearizability.proofs.begins.begin_in.Goals as goal
 
 pub begin-requires : goal.begin-requires

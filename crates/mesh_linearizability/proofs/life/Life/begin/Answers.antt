@@ -1,4 +1,4 @@
-use Rattle.std.proofs.Common.{◌≡◌, Some, refl, subst}
+use Rattle.std.proofs.Common.{◌≡◌, refl, subst}
 use Rattle.mesh_object_bytes.specs.ObjectBytes.{first_state}
 use Rattle.mesh_linearizability.specs.Judges.{AccessJudge}
 use Rattle.mesh_linearizability.specs.LifeSteps.{IsFirst}

@@ -1,4 +1,4 @@
-use Rattle.std.proofs.Common.{Bool, Option, None, refl, subst}
+use Rattle.std.proofs.Common.{Bool, Option, refl, subst}
 use Rattle.std.specs.Ordering.{nat_cmp}
 use Rattle.std.specs.BTreeMap.{get}
 use Rattle.std.specs.Prelude.{IfSome, IsNone}

@@ -1,11 +1,10 @@
-use Rattle.std.proofs.Common.{◌≡◌, ℕ, ap, ◌∙◌, subst, sym, refl, true}
+use Rattle.std.proofs.Common.{ap}
 use Rattle.std.proofs.lemmas.Result.{IfOk-weaker}
-use Rattle.model_words.specs.declared.commands.Command.{Command}
 use Rattle.model_intervals.specs.Objects.{is_access}
-use Rattle.model_intervals.specs.OverlappingCalls.{HasEffect, cell_of}
+use Rattle.model_intervals.specs.OverlappingCalls.{cell_of}
 use Rattle.mesh_fields.specs.Commands.{plain_command}
 use Rattle.mesh_fields.specs.declared.commands.SpeltCommand.{SpeltCommand}
-use Rattle.mesh_history.specs.RecordedWords.{plain_entry, plain_reply}
+use Rattle.mesh_history.specs.RecordedWords.{plain_entry}
 use Rattle.mesh_linearizability.specs.Standing.{HasBegunSo, lives_of}
 use Rattle.mesh_linearizability.proofs.BeginSteps.{few_more, new_so}
 use Rattle.mesh_linearizability.proofs.timeline.Timeline.begun.Goals as goal

@@ -1,4 +1,4 @@
-use Rattle.std.proofs.Common.{ℕ, length}
+use Rattle.std.proofs.Common.{length}
 use Rattle.mesh_linearizability.specs.Ends.{AreEnded}
 use Rattle.mesh_linearizability.proofs.timeline.Timeline.end_before.Given as goal
 

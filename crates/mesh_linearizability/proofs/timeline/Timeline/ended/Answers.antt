@@ -1,10 +1,9 @@
-use Rattle.std.proofs.Common.{◌≡◌, ℕ, ap, ◌∙◌, subst, sym, refl, Option, Some, None}
+use Rattle.std.proofs.Common.{ℕ, ap, ◌∙◌, subst, sym}
 use Rattle.std.specs.Prelude.{IfSome, IsNone}
 use Rattle.std.specs.Ordering.{nat_cmp}
 use Rattle.std.specs.BTreeMap.{BTreeMap, get}
 use Rattle.std.proofs.lemmas.Result.{IfOk-weaker}
-use Rattle.mesh_linearizability.specs.Standing.{HasEndedSo, IsFlawed, lives_of}
-use Rattle.mesh_linearizability.specs.declared.flaws.Flaw.{Flaw}
+use Rattle.mesh_linearizability.specs.Standing.{HasEndedSo, IsFlawed}
 use Rattle.mesh_linearizability.specs.declared.life.Life.{Life}
 use Rattle.mesh_linearizability.specs.declared.pending.Pending.{Pending}
 use Rattle.mesh_linearizability.proofs.EndSteps.{if_some_weaker, wrong_ended}
@@ -45,7 +44,7 @@ returns-in-Access-clause-ended c = IfOk-weaker c.access_ended.result _ (λ flaw.
 pub returns-in-Access-clause-flawed : goal.returns-in-Access-clause-flawed
 returns-in-Access-clause-flawed c = IfOk-weaker c.access_ended.result _ (λ flaw. IfSome flaw (λ _. IsFlawed c.args.self.now c.args.number c.args.pending))
     (λ flaw some. if_some_weaker flaw _ (λ _. IsFlawed c.args.self.now c.args.number c.args.pending)
-        (λ f flawed. subst (λ (p : Pending). IsFlawed c.args.self.now c.args.number p) (sym c.in-Access.is) flawed) some) c.access_ended.ensures.flawed
+    (λ f flawed. subst (λ (p : Pending). IsFlawed c.args.self.now c.args.number p) (sym c.in-Access.is) flawed) some) c.access_ended.ensures.flawed
 
 pub returns-in-Wrong-clause-flawed : goal.returns-in-Wrong-clause-flawed
 returns-in-Wrong-clause-flawed c =

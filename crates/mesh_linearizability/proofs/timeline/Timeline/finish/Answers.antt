@@ -1,4 +1,4 @@
-use Rattle.std.proofs.Common.{List, Option}
+use Rattle.std.proofs.Common.{List}
 use Rattle.std.specs.Prelude.{IfSome, IsNone}
 use Rattle.std.proofs.lemmas.Result.{IfOk-weaker}
 use Rattle.model_intervals.specs.Intervals.{Call, IsLinearizable}
@@ -16,4 +16,4 @@ pub returns-clause-flawed : goal.returns-clause-flawed
 returns-clause-flawed c = IfOk-weaker c.end_before.result _
     (λ found. IfSome found (λ _. (calls : List Call) → IsKept c.args.self.now calls → IsHistory calls → IsLinearizable calls → ⊥))
     (λ found some. if_some_weaker found _ (λ _. (calls : List Call) → IsKept c.args.self.now calls → IsHistory calls → IsLinearizable calls → ⊥)
-        (λ first out calls kept. kept_flawed c.args.self.now calls kept out) some) c.end_before.ensures.flawed
+    (λ first out calls kept. kept_flawed c.args.self.now calls kept out) some) c.end_before.ensures.flawed

@@ -1,11 +1,10 @@
-use Rattle.std.proofs.Common.{◌≡◌, ℕ, ◌≤◌, ap, ◌∙◌, subst, sym, refl, arith, Option, Some, None}
+use Rattle.std.proofs.Common.{ℕ, subst, sym, refl, Option, Some, None}
 use Rattle.std.specs.Prelude.{IfSome, IsNone}
 use Rattle.std.specs.Ordering.{nat_cmp}
 use Rattle.std.specs.BTreeMap.{UpdatesBy, get}
 use Rattle.mesh_number_set.specs.Ranges.{Has}
 use Rattle.mesh_linearizability.specs.Ends.{IsOverlapped}
 use Rattle.mesh_linearizability.specs.Standing.{lives_of}
-use Rattle.mesh_linearizability.specs.declared.life.Life.{Life}
 use Rattle.mesh_linearizability.specs.declared.objects.NewObject.{NewObject}
 use Rattle.mesh_linearizability.proofs.EndSteps.{few_made, made_again, made_unfair, made_over, made_so, made_taken}
 use Rattle.mesh_linearizability.proofs.MapSteps.{set_at}

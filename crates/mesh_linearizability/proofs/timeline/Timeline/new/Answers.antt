@@ -1,4 +1,4 @@
-use Rattle.std.proofs.Common.{◌≡◌, ℕ, inl, [], Option, None, refl}
+use Rattle.std.proofs.Common.{◌≡◌, ℕ, inl, [], None, refl}
 use Rattle.std.specs.Ordering.{nat_cmp}
 use Rattle.std.specs.BTreeMap.{BTreeMap, get}
 use Rattle.mesh_number_set.specs.Ranges.{Has}

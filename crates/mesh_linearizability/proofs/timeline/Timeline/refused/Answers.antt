@@ -1,4 +1,3 @@
-use Rattle.std.proofs.Common.{◌≡◌, ℕ}
 use Rattle.mesh_number_set.specs.Ranges.{Has}
 use Rattle.mesh_linearizability.proofs.EndSteps.{refused_so, refused_taken, refused_unfair}
 use Rattle.mesh_linearizability.proofs.timeline.Timeline.refused.Goals as goal
