@@ -27,7 +27,11 @@ pub enum Judgement {
 ///
 /// The input is read to its end, or until a verdict is found. Text and Order come where a line has a fault, Read exactly
 /// where the input failed, and Memory where an allocation failed.
-pub fn judge<I: Source + Drop>(alloc: Global, input: &mut Begun<I>, most: usize) -> Result<Judgement, CallError>
+pub fn judge<I: Source + Drop>(
+    alloc: Global,
+    input: &mut Begun<I>,
+    most: usize,
+) -> Result<Judgement, CallError>
     requires { I.has_failed input.old.inner ≡ false }
     ensures ok { OnOk result (I.has_failed input.new.inner ≡ false) }
     ensures judged { IfOk result (HasJudged (left_of input.old.begun.items (I.remaining input.old.inner)) (left_of input.new.begun.items (I.remaining input.new.inner))) }

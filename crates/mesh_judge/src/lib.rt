@@ -9,8 +9,8 @@ mod judging;
 mod texts;
 
 pub use begun::Begun;
+pub use judging::{Judgement, judge};
 pub use mesh_calls::CallError;
 pub use mesh_check::Verdict;
 pub use mesh_linearizability::CallVerdict;
-pub use judging::{Judgement, judge};
 pub use texts::judgement_line;

@@ -11,7 +11,11 @@ use std::alloc::{AllocError, Global};
 
 /// The line of a judgement, with its end, where at most `most` configurations may be met. An error is an allocation
 /// failure.
-pub fn judgement_line(alloc: Global, judgement: &Judgement, most: u32) -> Result<Vec<u8>, AllocError>
+pub fn judgement_line(
+    alloc: Global,
+    judgement: &Judgement,
+    most: u32,
+) -> Result<Vec<u8>, AllocError>
     ensures { IfOk result (λ text. text.items ≡ judgement_text most judgement.now) }
 {
     match judgement {
@@ -75,7 +79,9 @@ fn add_undecided(text: &mut Vec<u8>, fault: JudgeFault, most: u32) -> Result<(),
     ensures { OnOk result (text.new.items ≡ text.old.items ++ undecided_text most fault) }
 {
     match fault {
-        JudgeFault::TooManyPending => text.extend_from_slice(b"more than 64 pending accesses to one object"),
+        JudgeFault::TooManyPending => text.extend_from_slice(
+            b"more than 64 pending accesses to one object",
+        ),
         JudgeFault::TooMany | JudgeFault::Memory => {
             text.extend_from_slice(b"more than ")?;
             add_decimal(text, u64::from(most))?;

@@ -11,10 +11,10 @@ ghost use Rattle.std.specs.Prelude.{◌≡◌, false};
 ghost use Rattle.mesh_run.specs.Runs.{IsSound};
 
 use mesh_run::{
-    Args, Begun, Criteria, Devices, ExploreArgs, Input, Output, Parsed, Patterns, Progress, Sink, Source,
-    Told, arguments, check_run, draw_run, expected_run, explore_run, live_run, replay_history_run,
-    replay_run, savings_run, stop_run, threads_history_run, threads_run, unopened_run,
-    unread_words,
+    Args, Begun, Criteria, Devices, ExploreArgs, Input, Output, Parsed, Patterns, Progress, Sink,
+    Source, Told, arguments, check_run, draw_run, expected_run, explore_run, live_run,
+    replay_history_run, replay_run, savings_run, stop_run, threads_history_run, threads_run,
+    unopened_run, unread_words,
 };
 use std::fs::File;
 use std::io::IsTerminal;
