@@ -422,6 +422,33 @@ lost='line 306: answer differs: bytes a287dc00000000000000000000000000 wanted'
 check "check: its history with a bug" 1 "$(line "$lost")" "$room/nothing" check "$room/bug.history"
 checked "check: its history with a bug, on standard input" 1 "$(line "$lost")" "$room/nothing" <"$room/bug.history"
 
+# histories of calls that overlap, judged by another engine (tools/linearize/reference.py), which also tells what the call of an
+# unexplained answer could have answered; and those of threads that race
+for history in $histories/overlapping/*.history; do
+    golden=${history%.history}
+    name="check: calls that overlap, $(basename "$golden")"
+    options=
+    [ ! -f "$golden.options" ] || options=$(cat "$golden.options")
+    # shellcheck disable=SC2086 # the words of the options
+    if [ -f "$golden.err" ]; then
+        check "$name" 2 "$room/nothing" "$golden.err" check "$history" $options
+    else
+        sed 's/no order explains .*/no order explains the answer/' "$golden.out" >"$room/wanted"
+        wanted=1
+        ! grep -q '^linearizable' "$room/wanted" || wanted=0
+        check "$name" $wanted "$room/wanted" "$room/nothing" check "$history" $options
+    fi
+done
+gcc -std=gnu11 -O2 -Wall -Wextra -Werror -pthread -o "$room/racing" examples/racing_slots.c >"$room/output" 2>"$room/errors"
+ended "threads in C that race" $? 0 "$room/nothing" "$room/nothing"
+for threads in 2 4; do
+    "$room/racing" --threads $threads >"$room/racing.history"
+    check "check: the history of $threads threads that race" 0 "$(line "linearizable $(($(wc -l <"$room/racing.history") - 1)) entries")" "$room/nothing" \
+        check "$room/racing.history"
+    "$room/racing" --threads $threads --bug >"$room/racing.history"
+    check "check: the history of $threads threads that race, with a bug" 1 any "$room/nothing" check "$room/racing.history"
+done
+
 # entries NAME STATUS OUTPUT ERRORS LINE..: a history of these lines behind its head.
 entries() {
     name=$1 status=$2 output=$3 errors=$4
@@ -497,7 +524,10 @@ text "an empty file" 'line 1: CUT' ''
 text "a head that is cut off" 'line 1: CUT' 'history 1'
 text "a line that is cut off" 'line 3: CUT' 'history 1\n0 new 0 16 0 -> object 0 at 1000\n0 free 0 -> done'
 text "a long line that is cut off" 'line 2: LONG_LINE' "history 1\n$(printf '%01025d' 0)"
-text "a head of version 2" 'line 1: NUMBER' 'history 2\n'
+text "a head of version 3" 'line 1: NUMBER' 'history 3\n'
+text "a cut head of version 2" 'line 1: CUT' 'history 2'
+text "a call of two objects" 'line 2: WORD' 'history 2\n0 1 2 copy 0 0 1 0 4 -> done\n'
+text "an END below its BEGIN" 'line 2: NUMBER' 'history 2\n0 2 1 new 0 4 0 -> refused 3 NO_PAGES\n'
 text "a head of two numbers" 'line 1: WORD' 'history 1 1\n'
 text "the head of a job" 'line 1: WORD' 'mesh 1\n'
 text "an empty head" 'line 1: WORD' '\nhistory 1\n'
@@ -508,6 +538,7 @@ check "check: a missing file" 1 "$room/nothing" "$(line 'read fault')" check "$r
 check "check: a directory" 1 "$room/nothing" "$(line 'read fault')" check jobs
 check "check: no file" 2 "$room/nothing" any check
 check "check: two files" 2 "$room/nothing" any check $histories/wide.history $histories/wide.history
+check "check: no configuration" 2 "$room/nothing" any check $histories/wide.history --configurations 0
 check "check: help" 0 any "$room/nothing" check --help
 
 for history in each_command serial_again; do
