@@ -441,12 +441,12 @@ for history in $histories/overlapping/*.history; do
 done
 gcc -std=gnu11 -O2 -Wall -Wextra -Werror -pthread -o "$room/racing" examples/racing_slots.c >"$room/output" 2>"$room/errors"
 ended "threads in C that race" $? 0 "$room/nothing" "$room/nothing"
-for threads in 2 4; do
-    "$room/racing" --threads $threads >"$room/racing.history"
-    check "check: the history of $threads threads that race" 0 "$(line "linearizable $(($(wc -l <"$room/racing.history") - 1)) entries")" "$room/nothing" \
+for racers in 2 4; do
+    "$room/racing" --threads $racers >"$room/racing.history"
+    check "check: the history of $racers threads that race" 0 "$(line "linearizable $(($(wc -l <"$room/racing.history") - 1)) entries")" "$room/nothing" \
         check "$room/racing.history"
-    "$room/racing" --threads $threads --bug >"$room/racing.history"
-    check "check: the history of $threads threads that race, with a bug" 1 any "$room/nothing" check "$room/racing.history"
+    "$room/racing" --threads $racers --bug >"$room/racing.history"
+    check "check: the history of $racers threads that race, with a bug" 1 any "$room/nothing" check "$room/racing.history"
 done
 
 # entries NAME STATUS OUTPUT ERRORS LINE..: a history of these lines behind its head.
