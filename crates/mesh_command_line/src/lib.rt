@@ -8,6 +8,7 @@ mod draw_args;
 mod explore_args;
 mod live_args;
 mod meshes;
+mod options;
 mod patterns;
 mod savings_args;
 pub mod status;
