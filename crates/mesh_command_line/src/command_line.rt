@@ -6,19 +6,20 @@ ghost use Rattle.clap.specs.Words.{app_of, first_of, found_of, kind_of, rows_of,
 ghost use Rattle.mesh_command_line.specs.Meshes.{pairs_of};
 ghost use Rattle.mesh_command_line.specs.Patterns.{texts_of};
 ghost use Rattle.mesh_command_line.specs.Subcommands.{argument_rule, subcommand_app, with_subcommands};
-ghost use Rattle.mesh_command_line.specs.CommandLine.{IsAllowedOf, IsAsked, IsNoText, IsOutOfMemory, IsSaidOf, IsStopAt, asked, asked_in, asked_of, asked_with, asking, asking_of, asks_verdict, bare_app, compared_in, compared_of, explored_in, explored_of, flag_in, flag_rule, given_in, group_of, is_no_pair, is_recorded_in, is_taken, mesh_rule, meshes_in, meshrun_app, never_in, number_in, number_of, number_rule, numbers_in, numbers_of, pair_of, pairs_in, replay_by, seed_in, shown_answer_of, shown_given_in, shown_in, shown_of, shown_of_text, sizes_in, sizes_of, status_of_kind, text_rule, threads_by, told_by, told_in, told_of};
+ghost use Rattle.mesh_command_line.specs.CommandLine.{IsAllowedOf, IsAsked, IsNoText, IsOutOfMemory, IsSaidOf, IsStopAt, asked, asked_in, asked_of, asked_with, asking, asking_of, asks_verdict, bare_app, checked_in, checked_of, compared_in, compared_of, explored_in, explored_of, flag_in, flag_rule, given_in, group_of, is_no_pair, is_recorded_in, is_taken, mesh_rule, meshes_in, meshrun_app, never_in, number_in, number_of, number_rule, numbers_in, numbers_of, pair_of, pairs_in, replay_by, seed_in, shown_answer_of, shown_given_in, shown_in, shown_of, shown_of_text, sizes_in, sizes_of, status_of_kind, text_rule, threads_by, told_by, told_in, told_of};
 
 use crate::meshes::MOST_MESHES;
 use crate::options::{
-    Argument, CANCEL, COLUMNS, EVERY, EXPECT, EXPLORE, FILE, FIRST_CALL, FIRST_FIT, FROM, GROUPS,
-    HISTORY, LAST_CALL, MESH, MESHERS, NEVER, NumberOption, OBJECT_SEED, PAGES, PROBE, PROGRESS,
-    RECORDED, ROUNDS, SAVINGS, SEED, SESSION_WORKERS, SHOW, STATES, SUBCOMMANDS, SVG, Subcommand,
-    TO, TextOption, WITNESS, WORKERS,
+    Argument, CANCEL, COLUMNS, CONFIGURATIONS, EVERY, EXPECT, EXPLORE, FILE, FIRST_CALL, FIRST_FIT,
+    FROM, GROUPS, HISTORY, LAST_CALL, MESH, MESHERS, NEVER, NumberOption, OBJECT_SEED, PAGES,
+    PROBE, PROGRESS, RECORDED, ROUNDS, SAVINGS, SEED, SESSION_WORKERS, SHOW, STATES, SUBCOMMANDS,
+    SVG, Subcommand, TO, TextOption, WITNESS, WORKERS,
 };
 use crate::patterns::MOST_PATTERNS;
 use crate::status::{DONE, FAILED, FAULTY};
 use crate::{
-    DrawArgs, ExploreArgs, LiveArgs, Meshes, Patterns, SavingsArgs, ShownArgs, ThreadsArgs, Told,
+    CheckArgs, DrawArgs, ExploreArgs, LiveArgs, Meshes, Patterns, SavingsArgs, ShownArgs,
+    ThreadsArgs, Told,
 };
 use clap::builder::ValueParser;
 use clap::error::ErrorKind;
@@ -77,8 +78,8 @@ pub enum Args<'a> {
     Live(LiveArgs),
     /// `explore FILE --mesh SRC:DST ..`: explore what is left of the scripts of the job file at this path, with these meshes and numbers.
     Explore(&'a str, ExploreArgs<'a>),
-    /// `check FILE`: judge the recorded history at this path, or at `-` that of standard input.
-    Check(&'a str),
+    /// `check FILE ..`: judge the recorded history at this path, or at `-` that of standard input, with this number of configurations.
+    Check(&'a str, CheckArgs),
     /// `savings FILE ..`: follow the recorded history at this path, or at `-` that of standard input, and print what meshing saves.
     Savings(&'a str, SavingsArgs),
 }
@@ -262,7 +263,7 @@ fn asked_of<'a>(name: &str, matches: &ArgMatches<'a>, never: &Patterns<'a>) -> O
         "threads" => Some(threads_of(file, numbers(matches)?, is_recorded(matches)?)),
         "draw" => Some(Args::Draw(file, shown(matches)?)),
         "explore" => Some(Args::Explore(file, explored(matches, never)?)),
-        "check" => Some(Args::Check(file)),
+        "check" => Some(Args::Check(file, checked(matches)?)),
         "savings" => Some(Args::Savings(file, compared(matches)?)),
         _ => None,
     }
@@ -430,6 +431,15 @@ fn patterns<'a>(texts: &[&'a str]) -> Patterns<'a>
         rest = behind;
     }
     patterns
+}
+
+/// How many configurations an object of a history may have.
+fn checked<'a>(matches: &ArgMatches<'a>) -> Option<CheckArgs>
+    ensures { option_map checked_of result ≡ checked_in (rows_of (found_of matches.now)) }
+{
+    Some(CheckArgs {
+        configurations: number(matches, CONFIGURATIONS)? as u32,
+    })
 }
 
 /// How a history is to be followed, and what is to be printed.

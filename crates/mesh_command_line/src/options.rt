@@ -171,6 +171,14 @@ pub(crate) const NEVER: TextOption = TextOption {
     help: "Say whether an outcome matches 'worker W: ANSWER | ANSWER ..', where * is any answer; up to 10 times",
 };
 
+pub(crate) const CONFIGURATIONS: NumberOption = NumberOption {
+    name: "configurations",
+    value: "N",
+    least: 1,
+    most: 4294967295,
+    help: "The most configurations that an object of a history of overlapping calls may have, 1 to 4294967295",
+};
+
 pub(crate) const EVERY: NumberOption = NumberOption {
     name: "every",
     value: "F",
@@ -325,8 +333,11 @@ pub(crate) const SUBCOMMANDS: &[Subcommand] = &[
     EXPLORE,
     Subcommand {
         name: "check",
-        about: "Judge a recorded history by the plain memory and say whether it is legal",
-        arguments: &[Argument::File(HISTORY_FILE)],
+        about: "Judge a recorded history, of calls in the order of their effects or of calls that overlap",
+        arguments: &[
+            Argument::File(HISTORY_FILE),
+            Argument::Default(CONFIGURATIONS, "100000"),
+        ],
     },
     SAVINGS,
 ];
