@@ -114,10 +114,13 @@ sessions_are_asked :
 unfolding clap_on_literals asked is_taken
 sessions_are_asked = ((refl, refl), (refl, refl))
 
--- `check` asks whether a history is legal, and `-` is a file's name to the command line
-judgements_are_asked : Asks (codes "check a.history") (check_of (codes "a.history")) × Asks (codes "check -") (check_of (codes "-"))
+-- a history is judged with at most 100,000 configurations of an object, or with as many as are given; `-` is a file's name to the command line
+judgements_are_asked :
+    Asks (codes "check a.history") (check_of (codes "a.history") (record { configurations = 100000 }))
+    × Asks (codes "check --configurations=4294967295 -") (check_of (codes "-") (record { configurations = 4294967295 }))
+    × Asks (codes "check a.history --configurations 1") (check_of (codes "a.history") (record { configurations = 1 }))
 unfolding clap_on_literals asked is_taken
-judgements_are_asked = ((refl, refl), (refl, refl))
+judgements_are_asked = ((refl, refl), (refl, refl), (refl, refl))
 
 -- one mesh is never cancelled, and explored for all outcomes, of at most 100,000 states; two meshes come in their order,
 -- between other options, and their numbers may have a plus and leading zeros
@@ -181,8 +184,8 @@ apart_asks_nothing :
 unfolding clap_on_literals asked
 apart_asks_nothing = (refl, refl)
 
--- the flag has no value, 17 threads make no search, there is no line 0, a session has no file, a picture isn't of a history, a mesh has to be given, and no
--- round comes behind 0 frees
+-- the flag has no value, 17 threads make no search, there is no line 0, a session has no file, a picture isn't of a history, a mesh has to be given, no
+-- round comes behind 0 frees, and an object has a configuration or more
 are_refused :
     (is_taken (spoken (codes "replay hello.job --history=no")) ≡ false)
     × (is_taken (spoken (codes "threads a.job --probe=2 --rounds=3 --workers=17 --seed=5")) ≡ false)
@@ -191,8 +194,9 @@ are_refused :
     × (is_taken (spoken (codes "draw a.job --history")) ≡ false)
     × (is_taken (spoken (codes "explore a.job")) ≡ false)
     × (is_taken (spoken (codes "savings a.history --every=0")) ≡ false)
+    × (is_taken (spoken (codes "check a.history --configurations=0")) ≡ false)
 unfolding clap_on_literals is_taken
-are_refused = (refl, refl, refl, refl, refl, refl, refl)
+are_refused = (refl, refl, refl, refl, refl, refl, refl, refl)
 
 -- no group is above 65,535, and there are just two, which are numbers: other words ask for nothing
 abbrev AsksNothing : Text → Type 0

@@ -5,9 +5,9 @@ use Rattle.clap.specs.Words.{AddsArg, AddsSubcommand, App, app_of, rule_of}
 use Rattle.clap.specs.declared.builder.arg.Arg.{Arg}
 use Rattle.clap.specs.declared.builder.command.Command.{Command}
 use Rattle.mesh_command_line.specs.Subcommands.{argument_rule, subcommand_app, with_arguments, with_subcommands}
-use Rattle.mesh_command_line.specs.declared.command_line.Argument.{Argument}
-use Rattle.mesh_command_line.specs.declared.command_line.Argument.TheVariants.{Default, File, Flag, Meshes, Optional, Required, Text, Texts}
-use Rattle.mesh_command_line.specs.declared.command_line.Subcommand.{Subcommand}
+use Rattle.mesh_command_line.specs.declared.options.Argument.{Argument}
+use Rattle.mesh_command_line.specs.declared.options.Argument.TheVariants.{Default, File, Flag, Meshes, Optional, Required, Text, Texts}
+use Rattle.mesh_command_line.specs.declared.options.Subcommand.{Subcommand}
 use Rattle.mesh_command_line.proofs.CommandsBuilt.{with_argument, with_command}
 
 -- what stands behind the first of some items

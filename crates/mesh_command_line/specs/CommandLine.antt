@@ -13,6 +13,7 @@ use Rattle.clap.specs.declared.error.kind.ErrorKind.TheVariants.{DisplayHelp, Di
 use Rattle.model_jobs.specs.Texts.{ended}
 use Rattle.mesh_command_line.specs.Meshes.{pairs_of}
 use Rattle.mesh_command_line.specs.Patterns.{texts_of}
+use Rattle.mesh_command_line.specs.declared.check_args.CheckArgs.{CheckArgs}
 use Rattle.mesh_command_line.specs.declared.command_line.Args.{Args}
 use Rattle.mesh_command_line.specs.declared.command_line.Args.TheVariants.{Check, Draw, Explore, Live, Replay, ReplayHistory, Savings, Threads, ThreadsHistory}
 use Rattle.mesh_command_line.specs.declared.command_line.Parsed.{Parsed}
@@ -89,9 +90,9 @@ explore_app = with_rule (with_rule (with_rule (with_rule (with_rule (with_rule (
     (number_rule (codes "cancel") 0 1000)) (number_or (codes "states") 1 10000000 (codes "100000"))) (number_rule (codes "witness") 0 4294967295))
     (text_rule (codes "show"))) (text_rule (codes "expect"))) (texts_rule (codes "never"))) (flag_rule (codes "progress"))
 
--- `check FILE`
+-- `check FILE [--configurations N]`
 abbrev pub check_app : App
-check_app = with_rule (new_app (codes "check")) file_rule
+check_app = with_rule (with_rule (new_app (codes "check")) file_rule) (number_or (codes "configurations") 1 4294967295 (codes "100000"))
 
 -- `savings FILE [--every F] [--probe T] [--seed S] [--first-fit] [--from CALL] [--to CALL] [--svg]`
 abbrev pub savings_app : App
@@ -105,7 +106,7 @@ abbrev pub bare_app : App
 bare_app = let app = new_app (codes "meshrun") in
     record app { top = record app.top { has_version = true; subcommand_required = true; arg_required_else_help = true } }
 
--- `meshrun replay FILE ..`, `meshrun threads FILE ..`, `meshrun draw FILE ..`, `meshrun live ..`, `meshrun explore FILE ..`, `meshrun check FILE` and
+-- `meshrun replay FILE ..`, `meshrun threads FILE ..`, `meshrun draw FILE ..`, `meshrun live ..`, `meshrun explore FILE ..`, `meshrun check FILE ..` and
 -- `meshrun savings FILE ..`
 abbrev pub meshrun_app : App
 meshrun_app =
@@ -162,6 +163,10 @@ pub record Explored : Type 0 where
   pub told : ToldOf
   pub is_watched : Bool
 
+-- how a recorded history is judged: the most configurations that an object of a history of overlapping calls may have
+pub record Checked : Type 0 where
+  pub configurations : ℕ
+
 -- how a recorded history is followed on two heaps, and what is printed of it: how many objects are freed between two rounds of meshing, how many rounds of
 -- tries a search makes at most, what the words of the objects are made from, 0 being each of them without it, the first and the last call of the figures,
 -- and whether a plot is printed in place of the table
@@ -184,7 +189,7 @@ pub data Asked : Type 0 where
   draw_of : Text → Shown → Asked
   explore_of : Text → Explored → Asked
   live_of : SessionSizes → Asked
-  check_of : Text → Asked
+  check_of : Text → Checked → Asked
   savings_of : Text → Compared → Asked
 
 -- the number of this text, where `clap` takes it as one in the range
@@ -334,6 +339,10 @@ seed_in rows = option_and_then (λ first_fit. seed_by first_fit rows) (flag_in (
 abbrev pub in_order : Compared → Option Compared
 in_order compared = if nat_le compared.from compared.to then Some compared else None
 
+-- what the matches have for `check`
+abbrev pub checked_in : List Row → Option Checked
+checked_in rows = option_map (λ configurations. record { configurations = configurations }) (number_in (codes "configurations") 1 4294967295 rows)
+
 -- what the matches have for `savings`
 abbrev pub compared_in : List Row → Option Compared
 compared_in rows =
@@ -355,7 +364,7 @@ asked_of never name rows file =
     else (if bytes_eq name (codes "threads") then option_and_then (λ numbers. option_map (threads_by file numbers) (is_recorded_in rows)) (numbers_in rows)
     else (if bytes_eq name (codes "draw") then option_map (draw_of file) (shown_in rows)
     else (if bytes_eq name (codes "explore") then option_map (explore_of file) (explored_in never rows)
-    else (if bytes_eq name (codes "check") then Some (check_of file)
+    else (if bytes_eq name (codes "check") then option_map (check_of file) (checked_in rows)
     else (if bytes_eq name (codes "savings") then option_map (savings_of file) (compared_in rows) else None)))))
 
 -- what a subcommand of this name with these patterns and matches asks for: a session needs no file
@@ -408,6 +417,10 @@ abbrev pub explored_of : List Text → ExploreArgs → Explored
 explored_of never args =
     record { meshes = pairs_of args.meshes; cancel = args.cancel; states = args.states; told = told_of never args.told; is_watched = args.is_watched }
 
+-- what was read of how a history is judged
+abbrev pub checked_of : CheckArgs → Checked
+checked_of args = record { configurations = args.configurations }
+
 -- what was read of how a history is followed
 abbrev pub compared_of : SavingsArgs → Compared
 compared_of args = record { every = args.every; probe = args.probe; seed = args.seed; from = args.from; to = args.to; is_plot = args.is_plot }
@@ -425,7 +438,7 @@ asking never (ThreadsHistory path args) = threads_history_of path.now (numbers_o
 asking never (Draw path args) = draw_of path.now (shown_of args)
 asking never (Explore path args) = explore_of path.now (explored_of never args)
 asking never (Live args) = live_of (sizes_of args)
-asking never (Check path) = check_of path.now
+asking never (Check path args) = check_of path.now (checked_of args)
 asking never (Savings path args) = savings_of path.now (compared_of args)
 
 -- what the program was told to do

@@ -1,3 +1,4 @@
+pub mod CheckArgs
 pub mod CommandLine
 pub mod DrawArgs
 pub mod ExploreArgs

@@ -2,9 +2,9 @@
 use Rattle.std.specs.Prelude.{List, [], ◌∷◌}
 use Rattle.clap.specs.Words.{App, Rule, new_app, with_rule, with_subcommand}
 use Rattle.mesh_command_line.specs.CommandLine.{file_rule, flag_rule, mesh_rule, number_or, number_rule, required_number, text_rule, texts_rule}
-use Rattle.mesh_command_line.specs.declared.command_line.Argument.{Argument}
-use Rattle.mesh_command_line.specs.declared.command_line.Argument.TheVariants.{Default, File, Flag, Meshes, Optional, Required, Text, Texts}
-use Rattle.mesh_command_line.specs.declared.command_line.Subcommand.{Subcommand}
+use Rattle.mesh_command_line.specs.declared.options.Argument.{Argument}
+use Rattle.mesh_command_line.specs.declared.options.Argument.TheVariants.{Default, File, Flag, Meshes, Optional, Required, Text, Texts}
+use Rattle.mesh_command_line.specs.declared.options.Subcommand.{Subcommand}
 
 -- what `clap` is told of what may stand behind a subcommand's name
 abbrev pub argument_rule : Argument → Rule

@@ -6,13 +6,20 @@ ghost use Rattle.clap.specs.Words.{app_of, first_of, found_of, kind_of, rows_of,
 ghost use Rattle.mesh_command_line.specs.Meshes.{pairs_of};
 ghost use Rattle.mesh_command_line.specs.Patterns.{texts_of};
 ghost use Rattle.mesh_command_line.specs.Subcommands.{argument_rule, subcommand_app, with_subcommands};
-ghost use Rattle.mesh_command_line.specs.CommandLine.{IsAllowedOf, IsAsked, IsNoText, IsOutOfMemory, IsSaidOf, IsStopAt, asked, asked_in, asked_of, asked_with, asking, asking_of, asks_verdict, bare_app, compared_in, compared_of, explored_in, explored_of, flag_in, flag_rule, given_in, group_of, is_no_pair, is_recorded_in, is_taken, mesh_rule, meshes_in, meshrun_app, never_in, number_in, number_of, number_rule, numbers_in, numbers_of, pair_of, pairs_in, replay_by, seed_in, shown_answer_of, shown_given_in, shown_in, shown_of, shown_of_text, sizes_in, sizes_of, status_of_kind, text_rule, threads_by, told_by, told_in, told_of};
+ghost use Rattle.mesh_command_line.specs.CommandLine.{IsAllowedOf, IsAsked, IsNoText, IsOutOfMemory, IsSaidOf, IsStopAt, asked, asked_in, asked_of, asked_with, asking, asking_of, asks_verdict, bare_app, checked_in, checked_of, compared_in, compared_of, explored_in, explored_of, flag_in, flag_rule, given_in, group_of, is_no_pair, is_recorded_in, is_taken, mesh_rule, meshes_in, meshrun_app, never_in, number_in, number_of, number_rule, numbers_in, numbers_of, pair_of, pairs_in, replay_by, seed_in, shown_answer_of, shown_given_in, shown_in, shown_of, shown_of_text, sizes_in, sizes_of, status_of_kind, text_rule, threads_by, told_by, told_in, told_of};
 
 use crate::meshes::MOST_MESHES;
+use crate::options::{
+    Argument, CANCEL, COLUMNS, CONFIGURATIONS, EVERY, EXPECT, EXPLORE, FILE, FIRST_CALL, FIRST_FIT,
+    FROM, GROUPS, HISTORY, LAST_CALL, MESH, MESHERS, NEVER, NumberOption, OBJECT_SEED, PAGES,
+    PROBE, PROGRESS, RECORDED, ROUNDS, SAVINGS, SEED, SESSION_WORKERS, SHOW, STATES, SUBCOMMANDS,
+    SVG, Subcommand, TO, TextOption, WITNESS, WORKERS,
+};
 use crate::patterns::MOST_PATTERNS;
 use crate::status::{DONE, FAILED, FAULTY};
 use crate::{
-    DrawArgs, ExploreArgs, LiveArgs, Meshes, Patterns, SavingsArgs, ShownArgs, ThreadsArgs, Told,
+    CheckArgs, DrawArgs, ExploreArgs, LiveArgs, Meshes, Patterns, SavingsArgs, ShownArgs,
+    ThreadsArgs, Told,
 };
 use clap::builder::ValueParser;
 use clap::error::ErrorKind;
@@ -25,27 +32,6 @@ use std::io;
 
 /// The program, where no word tells how it is called.
 const PROGRAM: &str = "meshrun";
-
-/// The file, as the command line and the help call it.
-const FILE: &str = "FILE";
-
-/// The flag that asks for a recorded history.
-const RECORDED: &str = "history";
-
-/// The flag that asks for words that are all 0.
-const FIRST_FIT: &str = "first-fit";
-
-/// The flag that asks for a plot.
-const SVG: &str = "svg";
-
-/// The option that asks for a mesh.
-const MESH: &str = "mesh";
-
-/// What help calls the two groups of a mesh.
-const GROUPS: &str = "SRC:DST";
-
-/// The flag that asks for how many states were found.
-const PROGRESS: &str = "progress";
 
 /// The fault of what is told twice.
 const TOLD_TWICE: &str = "--witness, --show and a verdict (--expect, --never) exclude each other";
@@ -69,318 +55,8 @@ const LAST_GROUP: u64 = 65535;
 /// The greatest number of a line.
 const LAST_LINE: u64 = 4294967295;
 
-/// An option with a number.
-#[derive(Clone, Copy)]
-struct NumberOption {
-    name: &'static str,
-    // What help calls the number.
-    value: &'static str,
-    least: u64,
-    most: u64,
-    help: &'static str,
-}
-
-const PROBE: NumberOption = NumberOption {
-    name: "probe",
-    value: "T",
-    least: 0,
-    most: 64,
-    help: "How many rounds of tries a search makes at most, 0 to 64",
-};
-
-const ROUNDS: NumberOption = NumberOption {
-    name: "rounds",
-    value: "R",
-    least: 0,
-    most: 1000,
-    help: "How many times each mesher searches and meshes, 0 to 1000",
-};
-
-const WORKERS: NumberOption = NumberOption {
-    name: "workers",
-    value: "N",
-    least: 1,
-    most: 16,
-    help: "How many threads make a search, 1 to 16",
-};
-
-const SEED: NumberOption = NumberOption {
-    name: "seed",
-    value: "S",
-    least: 0,
-    most: u64::MAX,
-    help: "What the words of the shuffles are made from, 0 to 18446744073709551615",
-};
-
-const MESHERS: NumberOption = NumberOption {
-    name: "meshers",
-    value: "M",
-    least: 1,
-    most: 10,
-    help: "How many threads mesh, 1 to 10",
-};
-
-const FROM: NumberOption = NumberOption {
-    name: "from",
-    value: "N",
-    least: 1,
-    most: 1048576,
-    help: "The first line of the plan that is drawn, 1 to 1048576",
-};
-
-const TO: NumberOption = NumberOption {
-    name: "to",
-    value: "N",
-    least: 1,
-    most: 1048576,
-    help: "The last line of the plan that is drawn, 1 to 1048576",
-};
-
-const COLUMNS: NumberOption = NumberOption {
-    name: "columns",
-    value: "N",
-    least: 0,
-    most: 64,
-    help: "How many columns the picture has, 1 to 64, or 0 for as many as fit",
-};
-
-const PAGES: NumberOption = NumberOption {
-    name: "pages",
-    value: "P",
-    least: 1,
-    most: 4096,
-    help: "How many physical pages the heap has, 1 to 4096",
-};
-
-const HISTORY: NumberOption = NumberOption {
-    name: "history",
-    value: "H",
-    least: 0,
-    most: 65536,
-    help: "How many entries the journal has room for, 0 to 65536",
-};
-
-const SESSION_WORKERS: NumberOption = NumberOption {
-    name: "workers",
-    value: "N",
-    least: 1,
-    most: 64,
-    help: "How many workers there are, 1 to 64",
-};
-
-const CANCEL: NumberOption = NumberOption {
-    name: "cancel",
-    value: "AFTER",
-    least: 0,
-    most: 1000,
-    help: "Cancel each mesh after so many of its steps, 0 to 1000",
-};
-
-const STATES: NumberOption = NumberOption {
-    name: "states",
-    value: "N",
-    least: 1,
-    most: 10000000,
-    help: "How many states are kept at most, 1 to 10000000",
-};
-
-const WITNESS: NumberOption = NumberOption {
-    name: "witness",
-    value: "K",
-    least: 0,
-    most: 4294967295,
-    help: "Print a job file that leads to outcome K, 0 to 4294967295, in place of what is told of all",
-};
-
-/// An option with a text.
-#[derive(Clone, Copy)]
-struct TextOption {
-    name: &'static str,
-    // What help calls the text.
-    value: &'static str,
-    help: &'static str,
-}
-
-const SHOW: TextOption = TextOption {
-    name: "show",
-    value: "LINE:ANSWER:PHASE",
-    help: "Print a job file that ends with an answer to the command at a line of FILE in a phase of a mesh, as 12:done:unprotect 1",
-};
-
-const EXPECT: TextOption = TextOption {
-    name: "expect",
-    value: "OUTCOMES",
-    help: "Compare the outcomes with those that a file lists, as a listing does, and say whether they are the same",
-};
-
-const NEVER: TextOption = TextOption {
-    name: "never",
-    value: "PATTERN",
-    help: "Say whether an outcome matches 'worker W: ANSWER | ANSWER ..', where * is any answer; up to 10 times",
-};
-
-const EVERY: NumberOption = NumberOption {
-    name: "every",
-    value: "F",
-    least: 1,
-    most: 4294967295,
-    help: "Mesh after every F frees of objects of up to 2048 bytes, 1 to 4294967295",
-};
-
-const OBJECT_SEED: NumberOption = NumberOption {
-    name: "seed",
-    value: "S",
-    least: 0,
-    most: u64::MAX,
-    help: "What the words of the objects are made from, 0 to 18446744073709551615; 1 if not given",
-};
-
-const FIRST_CALL: NumberOption = NumberOption {
-    name: "from",
-    value: "CALL",
-    least: 1,
-    most: 4294967295,
-    help: "The first call that the figures are of, 1 to 4294967295",
-};
-
-const LAST_CALL: NumberOption = NumberOption {
-    name: "to",
-    value: "CALL",
-    least: 1,
-    most: 4294967295,
-    help: "The last call that the figures are of, 1 to 4294967295",
-};
-
 /// The seed where none is given.
 const SEED_NOT_GIVEN: u64 = 1;
-
-/// What may stand behind the name of a subcommand.
-#[derive(Clone, Copy)]
-enum Argument {
-    /// The file, with what help says of it.
-    File(&'static str),
-    /// The meshes.
-    Meshes,
-    /// An option with a number that has to be given.
-    Required(NumberOption),
-    /// An option with a number that is the default where it isn't given.
-    Default(NumberOption, &'static str),
-    /// An option with a number that may be left out.
-    Optional(NumberOption),
-    /// The flag of this name, with what help says of it.
-    Flag(&'static str, &'static str),
-    /// An option with a text, that may be left out.
-    Text(TextOption),
-    /// The same, that may be given several times.
-    Texts(TextOption),
-}
-
-/// A subcommand: its name, what help says of it, and what may stand behind it.
-#[derive(Clone, Copy)]
-struct Subcommand {
-    name: &'static str,
-    about: &'static str,
-    arguments: &'static [Argument],
-}
-
-/// What help says of the file of a subcommand that reads a recorded history.
-const HISTORY_FILE: &str = "The recorded history, or - for standard input";
-
-/// The subcommand that explores.
-const EXPLORE: Subcommand = Subcommand {
-    name: "explore",
-    about: "Run what a job file's plan leaves of its scripts in every interleaving with meshes, and print all answers, or a verdict over them",
-    arguments: &[
-        Argument::File("The job file, whose plan is the setting; - is standard input"),
-        Argument::Meshes,
-        Argument::Optional(CANCEL),
-        Argument::Default(STATES, "100000"),
-        Argument::Optional(WITNESS),
-        Argument::Text(SHOW),
-        Argument::Text(EXPECT),
-        Argument::Texts(NEVER),
-        Argument::Flag(
-            PROGRESS,
-            "Print how many states were found on standard error, once a second, also where that is no terminal",
-        ),
-    ],
-};
-
-/// The subcommand that compares two heaps.
-const SAVINGS: Subcommand = Subcommand {
-    name: "savings",
-    about: "Follow a recorded history on a heap that meshes and on one that doesn't, and compare their pages",
-    arguments: &[
-        Argument::File(HISTORY_FILE),
-        Argument::Default(EVERY, "10000"),
-        Argument::Default(PROBE, "64"),
-        Argument::Optional(OBJECT_SEED),
-        Argument::Flag(
-            FIRST_FIT,
-            "Put each object into the first free slot of its group, in place of a random one",
-        ),
-        Argument::Default(FIRST_CALL, "1"),
-        Argument::Default(LAST_CALL, "4294967295"),
-        Argument::Flag(SVG, "Print a plot as an SVG picture in place of the table"),
-    ],
-};
-
-/// The subcommands, in the order in which help shows them.
-const SUBCOMMANDS: &[Subcommand] = &[
-    Subcommand {
-        name: "replay",
-        about: "Run a job file's plan and print one answer a line",
-        arguments: &[
-            Argument::File("The job file to replay; - is standard input"),
-            Argument::Flag(
-                RECORDED,
-                "Print the journal as a recorded history in place of the answers",
-            ),
-        ],
-    },
-    Subcommand {
-        name: "threads",
-        about: "Run a job file's scripts, a thread each, while others mesh, and print their answers",
-        arguments: &[
-            Argument::File("The job file, whose plan is not used; - is standard input"),
-            Argument::Required(PROBE),
-            Argument::Required(ROUNDS),
-            Argument::Required(WORKERS),
-            Argument::Required(SEED),
-            Argument::Default(MESHERS, "1"),
-            Argument::Flag(
-                RECORDED,
-                "Print the history of all threads as a recorded history in place of each worker's answers",
-            ),
-        ],
-    },
-    Subcommand {
-        name: "draw",
-        about: "Draw a job file's plan as an SVG picture and print it",
-        arguments: &[
-            Argument::File("The job file to draw; - is standard input"),
-            Argument::Default(FROM, "1"),
-            Argument::Default(TO, "1048576"),
-            Argument::Default(COLUMNS, "0"),
-        ],
-    },
-    Subcommand {
-        name: "live",
-        about: "Answer the lines of standard input one by one, on a fresh heap",
-        arguments: &[
-            Argument::Default(PAGES, "4096"),
-            Argument::Default(HISTORY, "65536"),
-            Argument::Default(SESSION_WORKERS, "64"),
-        ],
-    },
-    EXPLORE,
-    Subcommand {
-        name: "check",
-        about: "Judge a recorded history by the plain memory and say whether it is legal",
-        arguments: &[Argument::File(HISTORY_FILE)],
-    },
-    SAVINGS,
-];
 
 /// The version that `--version` tells.
 const VERSION: &str = "0.1.0";
@@ -402,8 +78,8 @@ pub enum Args<'a> {
     Live(LiveArgs),
     /// `explore FILE --mesh SRC:DST ..`: explore what is left of the scripts of the job file at this path, with these meshes and numbers.
     Explore(&'a str, ExploreArgs<'a>),
-    /// `check FILE`: judge the recorded history at this path, or at `-` that of standard input.
-    Check(&'a str),
+    /// `check FILE ..`: judge the recorded history at this path, or at `-` that of standard input, with this number of configurations.
+    Check(&'a str, CheckArgs),
     /// `savings FILE ..`: follow the recorded history at this path, or at `-` that of standard input, and print what meshing saves.
     Savings(&'a str, SavingsArgs),
 }
@@ -587,7 +263,7 @@ fn asked_of<'a>(name: &str, matches: &ArgMatches<'a>, never: &Patterns<'a>) -> O
         "threads" => Some(threads_of(file, numbers(matches)?, is_recorded(matches)?)),
         "draw" => Some(Args::Draw(file, shown(matches)?)),
         "explore" => Some(Args::Explore(file, explored(matches, never)?)),
-        "check" => Some(Args::Check(file)),
+        "check" => Some(Args::Check(file, checked(matches)?)),
         "savings" => Some(Args::Savings(file, compared(matches)?)),
         _ => None,
     }
@@ -755,6 +431,15 @@ fn patterns<'a>(texts: &[&'a str]) -> Patterns<'a>
         rest = behind;
     }
     patterns
+}
+
+/// How many configurations an object of a history may have.
+fn checked<'a>(matches: &ArgMatches<'a>) -> Option<CheckArgs>
+    ensures { option_map checked_of result ≡ checked_in (rows_of (found_of matches.now)) }
+{
+    Some(CheckArgs {
+        configurations: number(matches, CONFIGURATIONS)? as u32,
+    })
 }
 
 /// How a history is to be followed, and what is to be printed.

@@ -3,16 +3,19 @@
 //! `arguments` reads the words by `clap`, and gives what they ask for (`Args`) or why the program stops (`Stop`). Nothing here opens a file or prints.
 #![tactic(auto)]
 
+mod check_args;
 mod command_line;
 mod draw_args;
 mod explore_args;
 mod live_args;
 mod meshes;
+mod options;
 mod patterns;
 mod savings_args;
 pub mod status;
 mod threads_args;
 
+pub use check_args::CheckArgs;
 pub use command_line::{Args, Parsed, Stop, arguments, unread_words};
 pub use draw_args::DrawArgs;
 pub use explore_args::{ExploreArgs, ShownArgs, Told};

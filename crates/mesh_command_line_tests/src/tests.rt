@@ -1,7 +1,8 @@
 //! Command lines, and what they ask for. Each expected text was worked out by hand from the rules, and none was copied from a run.
 
 use mesh_command_line::{
-    Args, DrawArgs, ExploreArgs, LiveArgs, Parsed, SavingsArgs, ThreadsArgs, Told, arguments,
+    Args, CheckArgs, DrawArgs, ExploreArgs, LiveArgs, Parsed, SavingsArgs, ThreadsArgs, Told,
+    arguments,
 };
 use std::alloc::{AllocError, Global};
 use std::process::Abort;
@@ -19,11 +20,17 @@ meshrun threads a.job --probe 2 --rounds 3 --workers 4 --seed 5 --history|thread
 meshrun threads --history a.job --probe 2 --rounds 3 --workers 4 --seed 5|threads a.job 2 3 4 5 1 history#\
 meshrun threads --probe=2 --rounds=3 --history --workers=4 --seed=5 --meshers=1 a.job|threads a.job 2 3 4 5 1 history";
 
-/// Command lines that judge a history, and the file that each is given, in such rows too.
+/// Command lines that judge a history, and what each asks for, in such rows too: the file, and the most configurations of
+/// an object.
 static CHECKED: &str = "\
-meshrun check a.history|check a.history#\
-meshrun check -|check -#\
-meshrun check replay|check replay";
+meshrun check a.history|check a.history 100000#\
+meshrun check -|check - 100000#\
+meshrun check replay|check replay 100000#\
+meshrun check a.history --configurations 5|check a.history 5#\
+meshrun check --configurations 5 a.history|check a.history 5#\
+meshrun check --configurations=1 -|check - 1#\
+meshrun check a.history --configurations=4294967295|check a.history 4294967295#\
+meshrun check a.history --configurations +0012|check a.history 12";
 
 /// Command lines that run scripts in threads, and the numbers that they ask for: probe, rounds, workers, seed and meshers.
 static NUMBERS: &str = "\
@@ -203,6 +210,16 @@ meshrun live --workers 65\n\
 meshrun check a.history b.history\n\
 meshrun check a.history --history\n\
 meshrun check a.history --version\n\
+meshrun check a.history --configurations 0\n\
+meshrun check a.history --configurations 4294967296\n\
+meshrun check a.history --configurations 18446744073709551616\n\
+meshrun check a.history --configurations -1\n\
+meshrun check a.history --configurations 0x5\n\
+meshrun check a.history --configurations\n\
+meshrun check a.history --configurations=\n\
+meshrun check a.history --configurations 5 --configurations 5\n\
+meshrun check --configurations 5\n\
+meshrun check a.history --states 5\n\
 meshrun savings\n\
 meshrun savings a.history b.history\n\
 meshrun savings a.history --every 0\n\
@@ -298,7 +315,7 @@ fn written(alloc: Global, parsed: &Parsed<'_>) -> Result<String, AllocError> {
         Args::Draw(path, args) => add_picture(&mut text, path, &args)?,
         Args::Live(args) => add_session(&mut text, &args)?,
         Args::Explore(path, args) => add_exploration(&mut text, path, &args)?,
-        Args::Check(path) => write!(text, "check {path}")?,
+        Args::Check(path, args) => add_judgement(&mut text, path, &args)?,
         Args::Savings(path, args) => add_savings(&mut text, path, &args)?,
     }
     for pattern in parsed.never.as_slice() {
@@ -367,6 +384,11 @@ fn add_told(text: &mut String, told: &Told<'_>) -> Result<(), AllocError> {
         Told::Answer(shown) => { write!(text, " {} {} {}", shown.line, shown.answer, shown.phase) }
         Told::Verdict(expect) => write!(text, " {}", expect.unwrap_or("-")),
     }
+}
+
+/// Writes how a history is judged.
+fn add_judgement(text: &mut String, path: &str, args: &CheckArgs) -> Result<(), AllocError> {
+    write!(text, "check {path} {}", args.configurations)
 }
 
 /// Writes how a history is followed.

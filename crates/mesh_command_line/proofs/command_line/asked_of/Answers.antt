@@ -1,7 +1,7 @@
-use Rattle.std.proofs.Common.{◌∙◌, Option, Some, option_map, ap, refl}
+use Rattle.std.proofs.Common.{◌∙◌, Option, Some, option_map, ap}
 use Rattle.std.specs.Prelude.{option_and_then}
 use Rattle.clap.specs.Words.{found_of, rows_of}
-use Rattle.mesh_command_line.specs.CommandLine.{Numbers, asking, draw_of, explore_of, is_recorded_in, numbers_of, replay_by, savings_of, threads_by}
+use Rattle.mesh_command_line.specs.CommandLine.{Numbers, asking, check_of, draw_of, explore_of, is_recorded_in, numbers_of, replay_by, savings_of, threads_by}
 use Rattle.mesh_command_line.specs.Patterns.{texts_of}
 use Rattle.mesh_command_line.proofs.CommandLines.{asked_of_file, asked_of_known}
 use Rattle.mesh_command_line.proofs.command_line.asked_of.Goals as goal
@@ -29,8 +29,8 @@ returns-in_ok-shown-in-draw c = asked_of_known (texts_of c.args.never.now) _ _ (
 pub returns-in_ok-explored-in-explore : goal.returns-in_ok-explored-in-explore
 returns-in_ok-explored-in-explore c = asked_of_known (texts_of c.args.never.now) _ _ (found_of c.args.matches.now) _ _ c.in-explore.is c.in_ok-file.ensures (ap (option_map (explore_of c.in_ok-file.file.now)) c.in_ok-explored-in-explore.ensures)
 
-pub returns-in-check : goal.returns-in-check
-returns-in-check c = asked_of_known (texts_of c.args.never.now) _ _ (found_of c.args.matches.now) _ _ c.in-check.is c.in_ok-file.ensures refl
+pub returns-in_ok-checked-in-check : goal.returns-in_ok-checked-in-check
+returns-in_ok-checked-in-check c = asked_of_known (texts_of c.args.never.now) _ _ (found_of c.args.matches.now) _ _ c.in-check.is c.in_ok-file.ensures (ap (option_map (check_of c.in_ok-file.file.now)) c.in_ok-checked-in-check.ensures)
 
 pub returns-in_ok-compared-in-savings : goal.returns-in_ok-compared-in-savings
 returns-in_ok-compared-in-savings c = asked_of_known (texts_of c.args.never.now) _ _ (found_of c.args.matches.now) _ _ c.in-savings.is c.in_ok-file.ensures (ap (option_map (savings_of c.in_ok-file.file.now)) c.in_ok-compared-in-savings.ensures)

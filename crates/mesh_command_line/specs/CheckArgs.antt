@@ -1,0 +1,6 @@
+-- The range of the number that `check` is asked for.
+use Rattle.std.specs.Prelude.{◌≤◌, ℕ}
+
+-- the number is in its range
+pub record IsInRange (configurations : ℕ) : Type 0 where
+  pub least : 1 ≤ configurations
