@@ -45,7 +45,8 @@ module _ (calls : List Call) (ended : ℕ → Type 0) (live : ℕ → Option New
     serial_again has more later history explained = let m = h.of_serial y.serial has in
         explained.serials_once m.1.place p m.1.call a m.0 y (other_place m.1.place m.1.over) (made_front calls more m.1.place m.1.call m.0 m.1.there) (made more) m.2
 
-    -- a live object meets the new one: it is not freed by the end of the `new`, and the new one is not freed by the end of the other `new`
+    -- a live object meets the new one: it is not freed by the end of the `new`, and the new one is not freed by the end
+    -- of the other `new`
     pub overlap : (c : ℕ) (x : NewObject) → live c ≡ Some x → Meet x y → a.end < moment
         → ((i : ℕ) (b : Call) → ended i → IsAt calls i b → b.end ≤ a.end) → CannotBe calls moment
     overlap c x alive meet past order more later history explained =

@@ -31,14 +31,15 @@ pub record IsLinearizableText (text : List ℕ) (entries : ℕ) : Type 0 where
 abbrev pub IsUnexplainedText : List ℕ → Type 0
 IsUnexplainedText text = IsHistory (calls_of text).calls → IsLinearizable (calls_of text).calls → ⊥
 
--- what a verdict says of what the device gave: of the whole text, or of each text that begins with what was read. Nothing is said where it is undecided
+-- what a verdict says of what the device gave: of the whole text, or of each text that begins with what was read.
+-- `Undecided` says nothing
 abbrev pub HasJudged : Option (List ℕ) → Option (List ℕ) → CallVerdict → Type 0
 HasJudged left left' (Linearizable entries) = (text : List ℕ) × Consumes left left' text × IsAtEnd left' × IsLinearizableText text entries
 HasJudged left left' (Flawed line flaw) = (text : List ℕ) × Consumes left left' text
     × (((more : List ℕ) → IsUnexplainedText (text ++ more)) ⊎ (IsUnexplainedText text × IsAtEnd left'))
 HasJudged left left' (Undecided line fault) = Unit {0}
 
--- why there is no verdict: the text has this fault. Nothing is said where the input or an allocation failed
+-- why there is no verdict: the text has this fault. `Read` and `Memory` say nothing of the text
 abbrev pub HasNotJudged : Option (List ℕ) → Option (List ℕ) → CallError → Type 0
 HasNotJudged left left' (Text fault) = (calls : List Call) × HasRead left left' (record { calls = calls; fault = Some (OfText fault) })
 HasNotJudged left left' (Order line) = (calls : List Call) × HasRead left left' (record { calls = calls; fault = Some (OutOfOrder line) })
@@ -63,7 +64,7 @@ pub record HasTaken (history : CallInput) (t : Timeline) (left left' : Option (L
   pub come : HasCome history left left' calls
   pub kept : IsKept t calls
 
--- the verdict tells the flaw that was found
+-- the verdict is `Flawed` only if a flaw was found, and isn't `Linearizable`
 abbrev pub IsTold : Result (Option Found) Stop → CallVerdict → Type 0
 IsTold found (Linearizable entries) = ⊥
 IsTold found (Flawed line flaw) = (first : Found) × (found ≡ Ok (Some first))

@@ -15,7 +15,7 @@ use Rattle.mesh_linearizability.specs.declared.objects.NewObject.{NewObject}
 use Rattle.mesh_linearizability.specs.declared.pending.Pending.{Pending}
 use Rattle.mesh_linearizability.specs.declared.timeline.Timeline.{Timeline}
 
--- what stands at the greatest address that is at most this one
+-- what is at the greatest address that is at most this one
 abbrev pub IsNearest : (ℕ → Option ℕ) → ℕ → Option ℕ → Type 0
 IsNearest starts address None = (q : ℕ) → q ≤ address → starts q ≡ None
 IsNearest starts address (Some cell) = (b : ℕ) × (b ≤ address) × (starts b ≡ Some cell) × ((q c : ℕ) → q ≤ address → starts q ≡ Some c → q ≤ b)
@@ -59,11 +59,11 @@ pub record IsFirstBefore (waits waits' : ℕ → Option Pending) (moment number 
 abbrev pub Past : List Call → (ℕ → Option Pending) → ℕ → Type 0
 Past calls waits moment = (i : ℕ) (a : Call) → HasEnded calls waits i → IsAt calls i a → a.end < moment
 
--- no history goes on so from a moment on
+-- whatever calls begin from a moment on, the calls that have begun and these are no history that is explained by object
 abbrev pub IsRuledOut : Timeline → ℕ → Type 0
 IsRuledOut t moment = (calls : List Call) → Stands calls t → ((i : ℕ) (a : Call) → IsAt calls i a → a.begin ≤ moment) → CannotBe calls moment
 
--- no flaw is told of the calls that ended before a moment
+-- the ends before a moment were taken, and no flaw was found
 pub record AreEnded (old new : Timeline) (moment : ℕ) : Type 0 where
   pub stands : (calls : List Call) → Stands calls old → Stands calls new
   pub past : (calls : List Call) → Past calls (waits_of old) moment → Past calls (waits_of new) moment

@@ -37,7 +37,8 @@ IsJudged calls waits object (Some judge) = IsFollowed calls waits object judge
 abbrev pub IsExplained : List Call → Object → Type 0
 IsExplained calls x = (order : List Call) × ExplainsAccesses calls x.cell x.len x.address order
 
--- each live object is judged, some order explains the accesses to each object that was freed, and no access to a freed object waits
+-- each live object is judged, some order explains the accesses to each object that was freed, and no access to a freed
+-- object waits
 pub record Judges (calls : List Call) (waits : ℕ → Option Pending) (lives : ℕ → Option Life) : Type 0 where
   pub judged : (c : ℕ) (life : Life) → lives c ≡ Some life → IsJudged calls waits life.object life.judge
   pub settled : (i : ℕ) (a : Call) (x : Object) → HasEnded calls waits i → IsMadeAt calls i a x → IsFreed calls x.cell → IsExplained calls x

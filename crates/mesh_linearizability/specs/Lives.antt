@@ -32,8 +32,8 @@ pub record IsNamed (calls : List Call) (ended : ℕ → Type 0) (cell : ℕ) : T
   pub is_new : IsNew call.entry.command
   pub names : cell_at call ≡ cell
 
--- the live objects by their cells, the cells of each `new` that has ended, and the serials that were given, at a moment at which these calls have ended. They
--- agree as far as they have ended
+-- the live objects by their cells, the cell of each `new` that has ended, and the serials that were given, at a moment
+-- at which some of the calls have ended. Those that have ended meet the conditions on the objects of a history
 pub record Lives (calls : List Call) (ended : ℕ → Type 0) (live : ℕ → Option Object) (cells serials : ℕ → Type 0) : Type 0 where
   pub has_cell : (i : ℕ) (a : Call) → ended i → IsAt calls i a → IsNew a.entry.command → cells (cell_at a)
   pub of_cell : (c : ℕ) → cells c → IsNamed calls ended c

@@ -44,7 +44,8 @@ pub record WaitsAt (calls : List Call) (key : ℕ) (pending : Pending) : Type 0 
   pub is_key : key ≡ key_of call place
   pub suits : Suits call pending
 
--- what waits are calls that have begun. A call that waits ends after each begin, and no earlier than each call that has ended
+-- what waits are calls that have begun. A call that waits ends no earlier than any call begins, and no earlier than any
+-- call that has ended
 pub record Queue (calls : List Call) (waits : ℕ → Option Pending) : Type 0 where
   pub keyed : (key : ℕ) (pending : Pending) → waits key ≡ Some pending → WaitsAt calls key pending
   pub reach : (i j : ℕ) (a b : Call) → IsAt calls i a → IsAt calls j b → IsWaiting waits a i → b.begin ≤ a.end
@@ -60,7 +61,8 @@ pub record Begun (calls : List Call) : Type 0 where
   pub before_free : (i j : ℕ) (call free : Call) → i ≢ j → IsAt calls i call → IsAt calls j free → (IsNew call.entry.command → ⊥) → IsFree free.entry.command
       → cell_at call ≡ cell_at free → call.end < free.begin
 
--- a call may begin behind calls that have begun: those that have ended did so before, and those that wait will end behind
+-- a call may begin after calls that have begun: those that have ended did so before it begins, and those that wait end no
+-- earlier than it begins
 pub record MayBegin (calls : List Call) (waits : ℕ → Option Pending) (call : Call) : Type 0 where
   pub takes_time : call.begin ≤ call.end
   pub has_effect : HasEffect call.entry.command call.entry.reply

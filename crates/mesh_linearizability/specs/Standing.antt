@@ -46,12 +46,13 @@ abbrev pub HasBegunIn : (ℕ → Option Life) → (ℕ → Option Life) → ℕ 
 HasBegunIn lives lives' cell number entry = (old new : Life) × (lives cell ≡ Some old) × IsSetAt lives lives' cell (Some new) × (new.object ≡ old.object)
     × HasBegun old new number (access_of old.object.address entry.command entry.reply)
 
--- the call at a key has ended, and no flaw is told
+-- the call at a key has ended, and no flaw is found
 abbrev pub HasEndedSo : Timeline → Timeline → ℕ → Pending → Type 0
 HasEndedSo old new number pending = (calls : List Call) (waits : ℕ → Option Pending) (key : ℕ) → key % 4294967296 ≡ number → StopsWaiting waits (waits_of old) key pending
     → StandsWith calls waits old → StandsWith calls (waits_of old) new
 
--- at the end of the call at a key a flaw is told: no history goes on so from a moment behind that end on
+-- a flaw is found at the end of the call at a key: whatever calls begin from a moment after that end on, the calls that
+-- have begun and these are no history that is explained by object
 abbrev pub IsFlawed : Timeline → ℕ → Pending → Type 0
 IsFlawed old number pending = (calls : List Call) (waits : ℕ → Option Pending) (key moment : ℕ) → key % 4294967296 ≡ number → StopsWaiting waits (waits_of old) key pending
     → StandsWith calls waits old → key < moment * 4294967296 → ((i : ℕ) (a : Call) → IsAt calls i a → a.begin ≤ moment) → CannotBe calls moment

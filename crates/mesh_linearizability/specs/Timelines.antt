@@ -20,13 +20,13 @@ pub record Holds (calls : List Call) (waits : ℕ → Option Pending) (lives : �
   pub starts_of : (address c : ℕ) → starts address ≡ Some c → (life : Life) × (lives c ≡ Some life) × (life.object.address ≡ address)
   pub none_twice : (c : ℕ) → twice c → ⊥
 
--- a flaw is told at the end of such a call: it had one when it began, or the object that it accesses was freed
+-- a flaw is found at the end of such a call: it had one when it began, or the object that it accesses was freed
 abbrev pub HasFlaw : (ℕ → Option Life) → (ℕ → Type 0) → Pending → Type 0
 HasFlaw lives cells (Wrong flaw) = Unit {0}
 HasFlaw lives cells (Access c) = (lives c ≡ None) × cells c
 HasFlaw lives cells _ = ⊥
 
--- a call waits of which a flaw will be told
+-- a call waits at whose end a flaw will be found
 pub record IsDue (calls : List Call) (waits : ℕ → Option Pending) (lives : ℕ → Option Life) (cells : ℕ → Type 0) : Type 0 where
   pub place : ℕ
   pub call : Call
@@ -35,16 +35,16 @@ pub record IsDue (calls : List Call) (waits : ℕ → Option Pending) (lives : �
   pub waiting : waits (key_of call place) ≡ Some pending
   pub has_flaw : HasFlaw lives cells pending
 
--- no history begins with these calls, and a flaw will be told
+-- no history begins with these calls, and a flaw will be found
 pub record Doomed (calls : List Call) (waits : ℕ → Option Pending) (lives : ℕ → Option Life) (cells : ℕ → Type 0) : Type 0 where
   pub cannot : CannotGoOn calls
   pub due : IsDue calls waits lives cells
 
--- the calls may be a history that is explained, or they are none and this will be told
+-- either the calls may be a history that is explained, or they can't be and a flaw will be found
 abbrev pub IsState : List Call → (ℕ → Option Pending) → (ℕ → Option Life) → (ℕ → Option ℕ) → (ℕ → Type 0) → (ℕ → Type 0) → (ℕ → Type 0) → Type 0
 IsState calls waits lives starts cells serials twice = Holds calls waits lives starts cells serials twice ⊎ Doomed calls waits lives cells
 
--- what is open at the judges are calls of numbers below this one
+-- each call that is open at a judge has a number below this one
 abbrev pub FewOpen : (ℕ → Option Life) → ℕ → Type 0
 FewOpen lives count = (c : ℕ) (life : Life) (judge : AccessJudge) (number : ℕ) → lives c ≡ Some life → life.judge ≡ Some judge → IsOpen judge number → number < count
 

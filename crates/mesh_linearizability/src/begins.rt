@@ -25,7 +25,7 @@ use std::alloc::{AllocError, Global};
 use std::collections::BTreeMap;
 
 impl Timeline {
-    /// What is to be done at the end of a call that begins.
+    /// Takes the begin of a call into the live objects. Returns what is to be done at its end.
     pub(crate) fn begun(
         &mut self,
         number: u32,
@@ -50,7 +50,7 @@ impl Timeline {
         }
     }
 
-    /// The begin of the `free` of the object of a cell.
+    /// Takes the begin of a `free`: the object of the cell isn't live any more. Returns what is to be done at its end.
     fn free_begun(&mut self, cell: u32) -> Result<Pending, AllocError>
         ensures waiting { self.new.waiting ≡ self.old.waiting }
         ensures begun { IfOk result (λ pending. (number : ℕ) (entry : Entry) → entry.command ≡ Command.Free cell → HasBegunSo self.old self.new number entry pending) }
@@ -65,7 +65,7 @@ impl Timeline {
         Ok(Pending::Free(cell))
     }
 
-    /// The flaw of a `free` where no object is live.
+    /// The flaw of a `free` of a cell without a live object.
     fn stray_free(&mut self, cell: u32) -> Result<Flaw, AllocError>
         ensures waiting { self.new.waiting ≡ self.old.waiting }
         ensures lives { self.new.lives ≡ self.old.lives }
@@ -78,7 +78,7 @@ impl Timeline {
         Ok(Flaw::NotBeforeFree)
     }
 
-    /// The begin of an access to the object of a cell.
+    /// Takes the begin of an access to the object of a cell. Returns what is to be done at its end.
     fn access_begun(
         &mut self,
         number: u32,

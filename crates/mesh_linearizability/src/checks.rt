@@ -19,14 +19,14 @@ use mesh_configurations::JudgeFault;
 use mesh_devices::Source;
 use std::alloc::Global;
 
-/// A moment behind all that a history tells.
+/// A moment after the end of each call: an end has 64 bits.
 const LAST_MOMENT: u128 = 18_446_744_073_709_551_616;
 
-/// Judges the history of overlapping calls that the input gives. At most `most` configurations of an object may be met at
-/// the end of a call.
+/// Judges the history of overlapping calls that the input has. The verdict is `Undecided` if more than `most`
+/// configurations of an object are met at the end of a call, or more than 64 accesses to an object are pending.
 ///
-/// The input is read to its end, or until a flaw is found. Text and Order come where a line has a fault, Read exactly
-/// where the input failed, and Memory where an allocation failed.
+/// The input is read to its end, or until there is a verdict. The error is `Text` or `Order` if a line has a fault,
+/// `Read` if and only if the input failed, and `Memory` if an allocation failed.
 pub fn check_calls<I: Source>(
     alloc: Global,
     input: &mut I,
@@ -44,7 +44,7 @@ pub fn check_calls<I: Source>(
     judge_calls(&mut history, &mut timeline, input, most)
 }
 
-/// Judges the calls that the input gives, of which none has come. Returns the verdict, with the errors of `check_calls`.
+/// Judges the calls of the input, of which none has been read. The errors are those of `check_calls`.
 fn judge_calls<I: Source>(
     history: &mut CallInput,
     timeline: &mut Timeline,
@@ -73,7 +73,7 @@ fn judge_calls<I: Source>(
     Ok(CallVerdict::Linearizable(count))
 }
 
-/// The verdict where a flaw was found or the judge stopped. The error is Memory.
+/// The verdict if a flaw was found or the judge stopped, `None` otherwise. The error is `Memory`.
 fn verdict_of(found: Result<Option<Found>, Stop>) -> Result<Option<CallVerdict>, CallError>
     ensures none { IfOk result (λ verdict. IsNone verdict → found ≡ Ok None) }
     ensures told { IfOk result (λ verdict. IfSome verdict (IsTold found)) }
@@ -93,7 +93,7 @@ fn verdict_of(found: Result<Option<Found>, Stop>) -> Result<Option<CallVerdict>,
 }
 
 impl Timeline {
-    /// Takes the next call: the ends that come before its begin, and its begin. Returns the first flaw that is found.
+    /// Takes the ends before the begin of the next call, and then this begin. Returns the first flaw that is found.
     fn take(&mut self, number: u32, call: &TimedCall, most: usize) -> Result<Option<Found>, Stop>
         requires few { FewOpen (lives_of self.old) number }
         requires is_read { IsReadCall call.now }

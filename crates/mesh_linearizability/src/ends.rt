@@ -19,7 +19,7 @@ use std::alloc::{AllocError, Global};
 use std::collections::BTreeMap;
 
 impl Timeline {
-    /// Takes the end of the call of a number, and returns the flaw that is told there, if one is.
+    /// Takes the end of the call of a number. Returns the flaw that is found, if there is one.
     pub(crate) fn ended(
         &mut self,
         number: u32,
@@ -126,7 +126,7 @@ impl Timeline {
         }
     }
 
-    /// The live object that has an address of the range of a new one; of several, the one with the greatest address.
+    /// The live object that has an address in common with a new one: of several, the one with the greatest address.
     fn overlapped(&self, object: NewObject) -> Option<NewObject>
         requires { 1 ≤ object.len }
         ensures none { IsNone result → AreDisjoint (lives_of self.now) (starts_of self.now) → Misses (lives_of self.now) object }
@@ -146,8 +146,8 @@ impl Timeline {
     }
 }
 
-/// Takes the end of an access to the live object of a cell. Returns whether some configuration is left, and `None` if no
-/// such access is pending.
+/// Takes the end of an access to the live object of a cell. Returns whether some configuration is left, and `None` if
+/// no such access is pending.
 fn end_in(
     lives: &mut BTreeMap<u32, Life>,
     alloc: Global,
@@ -164,7 +164,7 @@ fn end_in(
     }
 }
 
-/// The cell that stands at the greatest address that is at most this one.
+/// The cell of the live object with the greatest address that is at most this one.
 fn nearest(starts: &BTreeMap<u128, u32>, address: u128) -> Option<u32>
     ensures { IsNearest (get nat_cmp starts.now) address result }
 {

@@ -11,9 +11,9 @@ pub enum Flaw {
     CellAgain,
     /// The serial was given before.
     SerialAgain,
-    /// A `new` of this length isn't answered so.
+    /// No allocator answers a `new` of this length so.
     UnfairNew,
-    /// The object has an address of a live object, which has this serial and was made by the call of this number.
+    /// The object has an address in common with a live object: the live object's serial, and the number of its `new`.
     Overlaps(u32, u32),
     /// No order of the accesses to the object explains the answer.
     NoOrder,

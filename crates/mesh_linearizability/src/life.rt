@@ -15,12 +15,12 @@ use std::alloc::{AllocError, Global};
 pub struct Life {
     /// The object.
     pub object: NewObject,
-    /// The judge.
+    /// The judge of its accesses.
     pub judge: Option<TimedJudge<ObjectAccesses>>,
 }
 
 impl Life {
-    /// Takes the begin of an access, which is named by a number that no pending access has.
+    /// Takes the begin of an access. No pending access has its number.
     ///
     /// The error is `TooManyPending` if 64 accesses are pending, and `Memory` if an allocation fails.
     pub fn begin(&mut self, alloc: Global, number: u32, access: Access) -> Result<(), JudgeFault>
@@ -50,8 +50,8 @@ impl Life {
         Ok(())
     }
 
-    /// Takes the end of the pending access of a number. Returns whether some configuration is left, and `None` if no such
-    /// access is pending.
+    /// Takes the end of the pending access of a number. Returns whether some configuration is left, and `None` if no
+    /// such access is pending.
     ///
     /// The error is `TooMany` if more than `most` configurations are met, and `Memory` if an allocation fails.
     pub fn end(

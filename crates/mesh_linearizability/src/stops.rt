@@ -5,7 +5,7 @@ use mesh_configurations::JudgeFault;
 /// The first flaw of a history.
 #[derive(Clone, Copy, PartialEq, Eq)]
 pub struct Found {
-    /// The number of the call at whose end the flaw is told.
+    /// The number of the call at whose end the flaw was found: how many calls begin before it.
     pub number: u32,
     /// The flaw.
     pub flaw: Flaw,

@@ -21,7 +21,7 @@ use mesh_number_set::NumberSet;
 use std::alloc::{AllocError, Global};
 use std::collections::BTreeMap;
 
-/// How many numbers of calls there are: a key of a call that waits is its end times this, and its number.
+/// One more than the greatest number of a call. The key of a call that waits is its end times this, plus its number.
 pub(crate) const NUMBERS: u128 = 4_294_967_296;
 
 /// The calls that have begun and not ended, and the live objects.
@@ -33,13 +33,13 @@ pub struct Timeline {
     pub(crate) lives: BTreeMap<u32, Life>,
     /// The cells of the live objects by their addresses.
     pub(crate) starts: BTreeMap<u128, u32>,
-    /// The cells of each `new` that has ended.
+    /// The cell of each `new` that has ended.
     pub(crate) cells: NumberSet,
     /// The serials that were given.
     pub(crate) serials: NumberSet,
     /// The cells of the objects that were freed.
     pub(crate) freed: NumberSet,
-    /// The cells of those of which a second `free` has begun.
+    /// The cells of the objects of which a second `free` has begun.
     pub(crate) freed_twice: NumberSet,
     pub(crate) alloc: Global,
 }
@@ -64,8 +64,8 @@ impl Timeline {
 
     /// Takes the begin of the next call: its number, which is how many have begun before it, its end, and what it did.
     ///
-    /// The error is `TooManyPending` if 64 accesses to its object are pending, and `Memory` if an allocation fails. The
-    /// timeline is of no use behind an error.
+    /// The error is `TooManyPending` if 64 accesses to its object are pending, and `Memory` if an allocation fails. After
+    /// an error the timeline is of no more use.
     pub fn begin(&mut self, number: u32, end: u64, entry: &RecordedEntry) -> Result<(), JudgeFault>
         requires effect { HasEffect (plain_command entry.now.command) (plain_reply entry.now.reply) }
         requires few { FewOpen (lives_of self.old) number }
@@ -82,10 +82,10 @@ impl Timeline {
         Ok(())
     }
 
-    /// Takes the ends of the calls that end before a moment, in their order, and returns the first flaw that is found.
+    /// Takes the ends before a moment, in their order. Returns the first flaw that is found.
     ///
-    /// An error is `TooMany` if at the end of a call more than `most` configurations of its object are met, and `Memory`
-    /// if an allocation fails. The timeline is of no use behind a flaw or an error.
+    /// The error is `TooMany` if more than `most` configurations of an object are met at the end of a call, and `Memory`
+    /// if an allocation fails. After a flaw or an error the timeline is of no more use.
     pub fn end_before(&mut self, moment: u128, most: usize) -> Result<Option<Found>, Stop>
         requires { moment ≤ 2 ^ 64 }
         ensures ended { IfOk result (λ found. IsNone found → AreEnded self.old self.new moment × NoneBefore (waits_of self.new) moment) }
@@ -102,7 +102,7 @@ impl Timeline {
     }
 }
 
-/// Takes out the first call in the order of ends, if it ends before a moment, and returns its number and what is to be done.
+/// Removes the first call in the order of ends if it ends before a moment. Returns its number and what is to be done.
 fn first_before(waiting: &mut BTreeMap<u128, Pending>, moment: u128) -> Option<(u32, Pending)>
     requires { moment ≤ 2 ^ 64 }
     ensures some { IfSome result (λ found. IsFirstBefore (get nat_cmp waiting.old) (get nat_cmp waiting.new) moment found.0 found.1) }

@@ -5,10 +5,12 @@ use mesh_configurations::JudgeFault;
 /// What is found of a history of overlapping calls.
 #[derive(Clone, Copy, PartialEq, Eq)]
 pub enum CallVerdict {
-    /// Some order of effect explains so many calls, which are all.
+    /// Some order of effect explains the calls. This is how many there are.
     Linearizable(u32),
-    /// The call of this line is the first, by its end, at which no order explains the calls any more, and why.
+    /// The calls are no history, or no order of effect explains them. This was found at the end of the call of this line,
+    /// and the flaw is why.
     Flawed(u32, Flaw),
-    /// At the call of this line the judge stopped, and why: too many configurations, or too many pending accesses.
+    /// The judge stopped at the call of this line. The fault is why: too many configurations, or too many pending
+    /// accesses.
     Undecided(u32, JudgeFault),
 }
