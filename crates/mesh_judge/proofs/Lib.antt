@@ -1,0 +1,2 @@
+mod BegunReads
+mod JudgementTexts
