@@ -10,10 +10,10 @@ returns-in_ok-extend_from_slice-in-Overlaps-2 c =
     let one = c.extend_from_slice-in-Overlaps.new.self.items in
     let three = c.extend_from_slice-in-Overlaps-2.new.self.items in
     on_ok_weaker c.add_decimal-in-Overlaps.result (λ told. overlap_told _ one _ three _ c.in-Overlaps.serial c.in-Overlaps.number _ c.in-Overlaps.is
-        c.in_ok-extend_from_slice-in-Overlaps.ensures.items
-        (c.in_ok-add_decimal-in-Overlaps.ensures ∙ ap (λ (n : ℕ). one ++ decimal n) c.from.ensures)
-        c.in_ok-extend_from_slice-in-Overlaps-2.ensures.items
-        (told ∙ ap (λ (n : ℕ). three ++ decimal (n + 2)) c.from-in-Overlaps.ensures)) c.add_decimal-in-Overlaps.ensures
+    c.in_ok-extend_from_slice-in-Overlaps.ensures.items
+    (c.in_ok-add_decimal-in-Overlaps.ensures ∙ ap (λ (n : ℕ). one ++ decimal n) c.from.ensures)
+    c.in_ok-extend_from_slice-in-Overlaps-2.ensures.items
+    (told ∙ ap (λ (n : ℕ). three ++ decimal (n + 2)) c.from-in-Overlaps.ensures)) c.add_decimal-in-Overlaps.ensures
 
 pub returns-in-NoOrder : goal.returns-in-NoOrder
 returns-in-NoOrder c = on_ok_weaker c.extend_from_slice-in-NoOrder.result (λ told. told ∙ ap (λ (f : Flaw). c.args.text.now.items ++ flaw_text f) (sym c.in-NoOrder.is))
