@@ -1,8 +1,8 @@
 -- A byte that was looked at is read.
-use Rattle.std.proofs.Common.{◌≡◌, ℕ, ◌<◌, List, [], ◌∷◌, ◌++◌, length, refl, ap, sym, ◌∙◌, arith, Option, Some, None, slice_get, subst}
+use Rattle.std.proofs.Common.{◌≡◌, ℕ, List, [], ◌∷◌, ◌++◌, refl, ap, sym, ◌∙◌, Option, Some, None, slice_get}
 use Rattle.std.specs.Prelude.{slice_set, take}
 use Rattle.std.specs.List.{remove}
-use Rattle.std.specs.Io.KnownBytes.{Consumes, IsAtEnd, prepend_known}
+use Rattle.std.specs.Io.KnownBytes.{Consumes, prepend_known}
 
 front_is : (begun rest : List ℕ) (byte : ℕ) → Some byte ≡ slice_get begun 0 → rest ≡ remove begun 0 → begun ≡ byte ∷ rest
 front_is [] rest byte is left = cc is

@@ -2,7 +2,7 @@
 use Rattle.std.specs.Prelude.{ℕ, ◌+◌, List, ◌++◌, codes}
 use Rattle.model_jobs.specs.Texts.{ended, number_field}
 use Rattle.mesh_configurations.specs.declared.faults.JudgeFault.{JudgeFault}
-use Rattle.mesh_configurations.specs.declared.faults.JudgeFault.TheVariants.{TooMany, TooManyPending, Memory}
+use Rattle.mesh_configurations.specs.declared.faults.JudgeFault.TheVariants.{TooManyPending}
 use Rattle.mesh_check.specs.VerdictTexts.{verdict_text}
 use Rattle.mesh_linearizability.specs.declared.flaws.Flaw.{Flaw}
 use Rattle.mesh_linearizability.specs.declared.flaws.Flaw.TheVariants.{NotAfterNew, NotBeforeFree, CellAgain, SerialAgain, UnfairNew, Overlaps, NoOrder}

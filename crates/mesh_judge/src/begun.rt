@@ -1,6 +1,6 @@
 //! `Begun`, a source of which a beginning was looked at.
-ghost use Rattle.std.specs.Prelude.{◌≡◌, ◌||◌, IfErr, false, is_err, length};
-ghost use Rattle.std.specs.Io.KnownBytes.{ReadConsumes, prepend_known};
+ghost use Rattle.std.specs.Prelude.{◌≡◌, IfErr, OnOk, false, is_err};
+ghost use Rattle.std.specs.Io.KnownBytes.{Keeps, prepend_known};
 ghost use Rattle.mesh_devices.specs.Devices.{is_read_fault};
 ghost use Rattle.mesh_devices.specs.declared.faults.ReplayError.{ReplayError};
 
@@ -33,7 +33,7 @@ impl<I: Source + Drop> Begun<I> {
     /// The error is `Read`: the source failed.
     pub fn begins_with(&mut self, bytes: &[u8]) -> Result<bool, ReplayError>
         requires { I.has_failed self.old.inner ≡ false }
-        ensures same { prepend_known self.new.begun.items (I.remaining self.new.inner) ≡ prepend_known self.old.begun.items (I.remaining self.old.inner) }
+        ensures same { OnOk result (Keeps (prepend_known self.old.begun.items (I.remaining self.old.inner)) (prepend_known self.new.begun.items (I.remaining self.new.inner))) }
         ensures fault { IfErr result (λ error. error ≡ ReplayError.Read) }
         ensures fails { I.has_failed self.new.inner ≡ is_err result }
     {

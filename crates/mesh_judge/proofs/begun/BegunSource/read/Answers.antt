@@ -1,4 +1,4 @@
-use Rattle.std.proofs.Common.{◌≡◌, ℕ, List, [], arith, ap, length}
+use Rattle.std.proofs.Common.{ℕ, List, arith, ap, length}
 use Rattle.mesh_judge.proofs.BegunReads.{byte_consumed}
 use Rattle.mesh_judge.proofs.begun.BegunSource.read.Goals as goal
 
