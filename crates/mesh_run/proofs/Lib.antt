@@ -1,3 +1,4 @@
+pub mod CheckEnds
 pub mod ExploreEnds
 pub mod FirstWords
 pub mod Messages
