@@ -1,6 +1,8 @@
 -- What is found of a recorded history of either kind.
-use Rattle.std.specs.Prelude.{◌⊎◌, ℕ, List, Option}
+use Rattle.std.specs.Prelude.{◌⊎◌, ℕ, List, Option, codes}
 use Rattle.std.specs.Io.KnownBytes.{prepend_known}
+use Rattle.model_jobs.specs.Texts.{ended}
+use Rattle.mesh_judge.specs.Beginnings.{StartsOtherwise, StartsWith}
 use Rattle.mesh_calls.specs.declared.faults.CallError.{CallError}
 use Rattle.mesh_calls.specs.declared.faults.CallError.TheVariants.{Text, Order, Read, Memory}
 use Rattle.mesh_check.specs.Checks.{HasJudged as HasJudgedInOrder}
@@ -13,14 +15,20 @@ use Rattle.mesh_judge.specs.declared.judging.Judgement.TheVariants.{InOrder, Ove
 abbrev pub left_of : List ℕ → Option (List ℕ) → Option (List ℕ)
 left_of begun left = prepend_known begun left
 
--- what was found of the text that the device gave
+-- the first line of a history of calls that overlap
+abbrev pub overlapping_line : List ℕ
+overlapping_line = ended (codes "history 2")
+
+-- what was found of the text that the device gave, by its first line
 abbrev pub HasJudged : Option (List ℕ) → Option (List ℕ) → Judgement → Type 0
-HasJudged left left' (InOrder verdict) = HasJudgedInOrder left left' (outcome_of verdict)
-HasJudged left left' (Overlapping verdict) = HasJudgedOverlapping left left' verdict
+HasJudged left left' (InOrder verdict) = StartsOtherwise overlapping_line left × HasJudgedInOrder left left' (outcome_of verdict)
+HasJudged left left' (Overlapping verdict) = StartsWith overlapping_line left × HasJudgedOverlapping left left' verdict
 
 -- why nothing was found: the text has this fault, as a history of its kind. Nothing is said where the input or an allocation failed
 abbrev pub HasNotJudged : Option (List ℕ) → Option (List ℕ) → CallError → Type 0
-HasNotJudged left left' (Text fault) = HasJudgedInOrder left left' (Faulty fault) ⊎ HasNotJudgedOverlapping left left' (Text fault)
-HasNotJudged left left' (Order line) = HasNotJudgedOverlapping left left' (Order line)
+HasNotJudged left left' (Text fault) =
+    (StartsOtherwise overlapping_line left × HasJudgedInOrder left left' (Faulty fault))
+    ⊎ (StartsWith overlapping_line left × HasNotJudgedOverlapping left left' (Text fault))
+HasNotJudged left left' (Order line) = StartsWith overlapping_line left × HasNotJudgedOverlapping left left' (Order line)
 HasNotJudged left left' Read = Unit {0}
 HasNotJudged left left' Memory = Unit {0}

@@ -1,7 +1,8 @@
 //! `Begun`, a source of which a beginning was looked at.
-ghost use Rattle.std.specs.Prelude.{◌≡◌, IfErr, OnOk, false, is_err};
+ghost use Rattle.std.specs.Prelude.{◌≡◌, IfErr, IfOk, OnOk, false, is_err, length, true};
 ghost use Rattle.std.specs.Io.KnownBytes.{Keeps, prepend_known};
 ghost use Rattle.mesh_devices.specs.Devices.{is_read_fault};
+ghost use Rattle.mesh_judge.specs.Beginnings.{StartsOtherwise, StartsWith};
 ghost use Rattle.mesh_devices.specs.declared.faults.ReplayError.{ReplayError};
 
 use arrayvec::ArrayVec;
@@ -28,12 +29,14 @@ impl<I: Source + Drop> Begun<I> {
         }
     }
 
-    /// Whether the text begins with these bytes, of which there are at most ten. Nothing is read of it.
+    /// Whether the text begins with these ten bytes. Nothing is read of it.
     ///
     /// The error is `Read`: the source failed.
     pub fn begins_with(&mut self, bytes: &[u8]) -> Result<bool, ReplayError>
         requires { I.has_failed self.old.inner ≡ false }
         ensures same { OnOk result (Keeps (prepend_known self.old.begun.items (I.remaining self.old.inner)) (prepend_known self.new.begun.items (I.remaining self.new.inner))) }
+        ensures begins { IfOk result (λ begins. begins ≡ true → StartsWith bytes.now (prepend_known self.old.begun.items (I.remaining self.old.inner))) }
+        ensures other { IfOk result (λ begins. begins ≡ false → length bytes.now ≡ 10 → StartsOtherwise bytes.now (prepend_known self.old.begun.items (I.remaining self.old.inner))) }
         ensures fault { IfErr result (λ error. error ≡ ReplayError.Read) }
         ensures fails { I.has_failed self.new.inner ≡ is_err result }
     {
