@@ -97,7 +97,7 @@ static void find_real(void)
 enum { FEWEST_BITS = 16 };
 
 /* Address 0 is an empty slot. One whose object was freed has 0 bytes, and serves the next object at the address. */
-struct slot { uintptr_t address; uint32_t serial, bytes; };
+struct slot { uintptr_t address; uint64_t bytes; uint32_t serial; };
 static struct { struct slot *slots; unsigned bits; size_t used, live; } table;
 
 /* The slot of an address, or the empty one where it would be. */
@@ -174,9 +174,10 @@ static void __attribute__((format(printf, 1, 2))) write_line(const char *format,
 }
 
 /* The length that is recorded: the one asked for, but at least 1, and at most the greatest of the format. */
-static uint32_t length_of(size_t bytes)
+static uint64_t length_of(size_t bytes)
 {
-    return bytes == 0 ? 1 : bytes > UINT32_MAX ? UINT32_MAX : (uint32_t)bytes;
+    const uint64_t greatest = UINT64_C(1) << 47;
+    return bytes == 0 ? 1 : bytes > greatest ? greatest : bytes;
 }
 
 /* Records that an object is freed, if it is known. Objects from before the recording aren't. */
@@ -206,19 +207,20 @@ static void report_unseen_free(void)
 /* Records an object, or a refusal. Where there is an object at the address already, its free is recorded first. */
 static void record_new(const void *address, size_t bytes)
 {
-    uint32_t serial = history.next_serial, length = length_of(bytes);
+    uint32_t serial = history.next_serial;
+    uint64_t length = length_of(bytes);
     if (slot_of((uintptr_t)address)->bytes != 0)
         report_unseen_free();
     record_free(address);
     if (!*is_on)
         return;
     if (address == NULL) {
-        write_line("%u new %" PRIu32 " %" PRIu32 " 0 -> refused 3 NO_PAGES\n", thread_number(), serial, length);
+        write_line("%u new %" PRIu32 " %" PRIu64 " 0 -> refused 3 NO_PAGES\n", thread_number(), serial, length);
         return;
     }
-    write_line("%u new %" PRIu32 " %" PRIu32 " 0 -> object %" PRIu32 " at %" PRIxPTR "\n", thread_number(), serial,
+    write_line("%u new %" PRIu32 " %" PRIu64 " 0 -> object %" PRIu32 " at %" PRIxPTR "\n", thread_number(), serial,
                length, serial, (uintptr_t)address);
-    add_object((struct slot){ (uintptr_t)address, serial, length });
+    add_object((struct slot){ (uintptr_t)address, length, serial });
     history.next_serial++;
     if (table.used > (size_t)1 << (table.bits - 1) && !renew_table())
         *is_on = false;

@@ -26,7 +26,7 @@ struct Call {
     enum { New, Free, Alias } kind;
     uint32_t cell;
     uint32_t from;    // of `alias`: the cell that is read
-    uint32_t length;  // of `new`
+    uint64_t length;  // of `new`
 };
 
 // ---- Lines
@@ -148,21 +148,21 @@ struct Form {
     std::string_view fields;
 };
 
-// n: a number of 32 bits, w: a number of 64 bits, c: 1 to 32, a: ADDR, h: HEX, b: BYTE, @: the word `at`,
-// r: the number of a refusal, whose name is the next field, .: that name.
-constexpr Form COMMANDS[] = {{"new", "nnw"}, {"free", "n"}, {"alias", "nn"}, {"put", "nnh"},   {"get", "nnc"},
-                             {"addr", "n"},  {"peek", "a"}, {"poke", "ab"},  {"copy", "nnnnc"}};
+// n: a number of 32 bits, s: a length or an offset of up to 2^47, w: a number of 64 bits, c: 1 to 32, a: ADDR, h: HEX,
+// b: BYTE, @: the word `at`, r: the number of a refusal, whose name is the next field, .: that name.
+constexpr Form COMMANDS[] = {{"new", "nsw"}, {"free", "n"}, {"alias", "nn"}, {"put", "nsh"},   {"get", "nsc"},
+                             {"addr", "n"},  {"peek", "a"}, {"poke", "ab"},  {"copy", "nsnsc"}};
 constexpr Form ANSWERS[] = {{"done", ""},   {"object", "n@a"}, {"bytes", "h"},
                             {"byte", "b"}, {"at", "a"},       {"refused", "r."}};
 constexpr std::string_view REFUSALS[] = {"ZERO",    "TOO_LARGE", "NO_PAGES", "NO_ADDRESSES", "EMPTY",    "FREED",
                                          "OUTSIDE", "STRAY",     "NO_GROUP", "SAME",         "CLASS",    "BUSY",
                                          "OVERLAP", "MEMBERS",   "NO_MESH",  "TOO_LATE",     "NOT_EMPTY"};
 
-// Reads fields as one of these forms, and stores their numbers of 32 bits.
+// Reads fields as one of these forms, and stores their numbers, lengths and offsets.
 template <size_t N>
 const Form &read_form(const Form (&forms)[N], const std::string_view *begin, const std::string_view *end,
-                      uint32_t *numbers) {
-    constexpr uint64_t MOST_NUMBER = 4294967295, MOST_ADDRESS = 281474976710655;
+                      uint64_t *numbers) {
+    constexpr uint64_t MOST_NUMBER = 4294967295, MOST_SIZE = uint64_t{1} << 47, MOST_ADDRESS = 281474976710655;
     if (begin == end) throw LineFault{"WORD"};
     const std::string_view word = *begin++;
     const Form *form = std::find_if(forms, forms + N, [&](const Form &f) { return f.word == word; });
@@ -171,6 +171,7 @@ const Form &read_form(const Form (&forms)[N], const std::string_view *begin, con
         const std::string_view field = *begin++;
         switch (kind) {
         case 'n': *numbers++ = number_in(field, 0, MOST_NUMBER); break;
+        case 's': *numbers++ = number_in(field, 0, MOST_SIZE); break;
         case 'w': number_in(field, 0, UINT64_MAX); break;
         case 'c': number_in(field, 1, 32); break;
         case 'a': number_in(field, 0, MOST_ADDRESS, 16); break;
@@ -216,17 +217,20 @@ private:
         has_begun = true;
     }
 
+    static uint32_t cell_in(uint64_t number) { return static_cast<uint32_t>(number); }
+
     // Reads an entry, `W COMMAND -> ANSWER`. Returns whether it is a call.
     bool read_entry(Call &call) {
         const std::string_view *arrow = std::find(fields.begin(), fields.end(), "->");
         if (arrow == fields.end() || arrow - fields.begin() < 2) throw LineFault{"WORD"};
         number_in(*fields.begin(), 0, 65535);
-        uint32_t asked[4], told[1];
+        uint64_t asked[4], told[1];
         const Form &command = read_form(COMMANDS, fields.begin() + 1, arrow, asked);
         const Form &answer = read_form(ANSWERS, arrow + 1, fields.end(), told);
-        if (command.word == "new" && answer.word == "object") call = {Call::New, asked[0], 0, asked[1]};
-        else if (command.word == "free" && answer.word == "done") call = {Call::Free, asked[0], 0, 0};
-        else if (command.word == "alias" && answer.word == "done") call = {Call::Alias, asked[0], asked[1], 0};
+        if (command.word == "new" && answer.word == "object") call = {Call::New, cell_in(asked[0]), 0, asked[1]};
+        else if (command.word == "free" && answer.word == "done") call = {Call::Free, cell_in(asked[0]), 0, 0};
+        else if (command.word == "alias" && answer.word == "done")
+            call = {Call::Alias, cell_in(asked[0]), cell_in(asked[1]), 0};
         else return false;
         return true;
     }

@@ -132,7 +132,7 @@ std::string saved(uint64_t without, uint64_t with) {
 // ---- Cells
 
 struct Object {
-    uint32_t length;
+    uint64_t length;
     bool is_live;
     Place without, with;
 };
@@ -214,8 +214,8 @@ public:
 
 private:
     // Makes an object of this length. Returns false, and changes nothing, if a heap has no room for it.
-    bool add(uint32_t asked) {
-        const uint32_t length = std::max<uint32_t>(asked, 1);
+    bool add(uint64_t asked) {
+        const uint64_t length = std::max<uint64_t>(asked, 1);
         Object object{length, true, {}, {}};
         if (length > LONGEST) {
             large_objects++;

@@ -13,6 +13,7 @@ use Rattle.mesh_fields.specs.Commands.{IsWithin, plain_command}
 use Rattle.mesh_fields.specs.Lines.{texts}
 use Rattle.mesh_fields.specs.declared.commands.SpeltCommand.{SpeltCommand}
 use Rattle.mesh_fields.specs.declared.commands.SpeltCommand.TheVariants.{New as SpeltNew, Put as SpeltPut, Get as SpeltGet, Free as SpeltFree, Alias as SpeltAlias, Addr as SpeltAddr, Peek as SpeltPeek, Poke as SpeltPoke, Copy as SpeltCopy}
+use Rattle.mesh_history.proofs.Sizes.{sized_within}
 use Rattle.mesh_history.specs.RecordedWords.{IsNarrow, plain_reply}
 use Rattle.mesh_history.specs.declared.words.RecordedReply.{RecordedReply}
 use Rattle.mesh_calls.specs.CallFiles.{Asked, answered, call_asked_in, call_of, effect_in, has_effect}
@@ -48,11 +49,11 @@ test_of_effect (Addr cell) (At address) has = refl
 test_of_effect command reply has = absurd has
 
 -- the cell of a command of a history has 32 bits
-cell_below : (command : SpeltCommand) → IsWithin 4294967295 281474976710655 command → cell_of (plain_command command) < many_cells
+cell_below : (command : SpeltCommand) → IsWithin 4294967295 140737488355328 281474976710655 command → cell_of (plain_command command) < many_cells
 unfolding many_cells
-cell_below (SpeltNew cell len word) within = omega (arith, within)
-cell_below (SpeltPut cell off bytes) within = omega (arith, within)
-cell_below (SpeltGet cell off len) within = omega (arith, within)
+cell_below (SpeltNew cell len word) within = omega (arith, within.0)
+cell_below (SpeltPut cell off bytes) within = omega (arith, within.0)
+cell_below (SpeltGet cell off len) within = omega (arith, within.0)
 cell_below (SpeltFree cell) within = omega (arith, within)
 cell_below (SpeltAlias to from) within = omega (arith, within.0)
 cell_below (SpeltAddr cell) within = omega (arith, within)
@@ -71,6 +72,7 @@ call_read before behind asked reply first sound second narrow effect = (
     takes_time = sound.takes_time;
     ends = sound.ends;
     in_range = sound.in_range;
+    sized = sized_within 4294967295 281474976710655 asked.command sound.within;
     narrow = narrow;
     effect = effect_of_test (plain_command asked.command) (plain_reply reply) effect;
     cell = cell_below asked.command sound.within;

@@ -6,7 +6,7 @@ use Rattle.model_intervals.specs.OverlappingCalls.{HasEffect, cell_at}
 use Rattle.model_words.specs.Commands.{IsInRange}
 use Rattle.model_words.specs.declared.faults.FaultKind.{FaultKind}
 use Rattle.mesh_fields.specs.Commands.{IsWithin, plain_command}
-use Rattle.mesh_history.specs.RecordedWords.{IsNarrow, plain_entry, plain_reply}
+use Rattle.mesh_history.specs.RecordedWords.{IsNarrow, IsSized, plain_entry, plain_reply}
 use Rattle.mesh_calls.specs.CallFiles.{Asked}
 use Rattle.mesh_calls.specs.declared.asked.AskedCall.{AskedCall}
 use Rattle.mesh_calls.specs.declared.words.TimedCall.{TimedCall}
@@ -20,6 +20,7 @@ pub record IsReadCall (call : TimedCall) : Type 0 where
   pub takes_time : call.begin ≤ call.end
   pub ends : call.end < 2 ^ 64
   pub in_range : IsInRange (plain_command call.entry.command)
+  pub sized : IsSized (plain_command call.entry.command)
   pub narrow : IsNarrow call.entry.reply
   pub effect : HasEffect (plain_command call.entry.command) (plain_reply call.entry.reply)
   pub cell : cell_at (plain_call call) < many_cells
@@ -33,7 +34,7 @@ pub record IsReadAsked (asked : AskedCall) : Type 0 where
   pub takes_time : asked.begin ≤ asked.end
   pub ends : asked.end < 2 ^ 64
   pub in_range : IsInRange (plain_command asked.command)
-  pub within : IsWithin 4294967295 281474976710655 asked.command
+  pub within : IsWithin 4294967295 140737488355328 281474976710655 asked.command
 
 -- what was read of what a worker asked
 abbrev pub IsAskedRead : Result Asked FaultKind → Result AskedCall FaultKind → Type 0

@@ -87,6 +87,59 @@ fn lines_have_faults(rt: HostRuntime) {
 }
 
 #[test]
+fn the_longest_object_is_read(rt: HostRuntime) {
+    let Ok(call) = read_call(b"3 10 12 new 7 140737488355328 5 -> object 9 at 1000") else {
+        panic!(&rt; "a fault");
+    };
+    assert!(rt;
+        matches!(
+            call.entry.command,
+            SpeltCommand::New(7, 140_737_488_355_328, 5)
+        )
+    );
+}
+
+#[test]
+fn lengths_and_offsets_are_up_to_2_47(rt: HostRuntime) {
+    let lines: [(&[u8], Option<FaultKind>); 10] = [
+        (b"0 1 2 new 1 140737488355328 0 -> refused 3 NO_PAGES", None),
+        (b"0 1 2 put 1 140737488355328 aa -> done", None),
+        (b"0 1 2 get 1 140737488355328 1 -> bytes aa", None),
+        (
+            b"0 1 2 new 1 140737488355329 0 -> object 9 at 1000",
+            Some(FaultKind::Number),
+        ),
+        (
+            b"0 1 2 new 1 140737488355329 0 -> refused 3 NO_PAGES",
+            Some(FaultKind::Number),
+        ),
+        (
+            b"0 1 2 put 1 140737488355329 aa -> done",
+            Some(FaultKind::Number),
+        ),
+        (
+            b"0 1 2 get 1 140737488355329 1 -> bytes aa",
+            Some(FaultKind::Number),
+        ),
+        (
+            b"0 1 2 new 1 18446744073709551616 0 -> object 9 at 1000",
+            Some(FaultKind::Number),
+        ),
+        (
+            b"0 1 2 new 4294967296 1 0 -> object 9 at 1000",
+            Some(FaultKind::Number),
+        ),
+        (
+            b"0 1 2 new 1 1 0 -> object 4294967296 at 1000",
+            Some(FaultKind::Number),
+        ),
+    ];
+    for (line, end) in lines {
+        assert_eq!(rt; fault(line), end);
+    }
+}
+
+#[test]
 fn lines_have_at_most_1024_bytes(rt: HostRuntime) {
     let line = [b'x'; 1025];
     assert_eq!(rt; fault(&line), Some(FaultKind::LongLine));

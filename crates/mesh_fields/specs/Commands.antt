@@ -11,9 +11,13 @@ use Rattle.mesh_fields.specs.declared.commands.Dialect.TheVariants.{Job, History
 use Rattle.mesh_fields.specs.declared.commands.SpeltCommand.{SpeltCommand}
 use Rattle.mesh_fields.specs.declared.commands.SpeltCommand.TheVariants.{New as SpeltNew, Put as SpeltPut, Get as SpeltGet, Free as SpeltFree, Alias as SpeltAlias, Addr as SpeltAddr, Peek as SpeltPeek, Poke as SpeltPoke, Copy as SpeltCopy}
 
--- of a recorded history a cell, a length, an offset or a serial: any number of 32 bits
+-- of a recorded history a cell or a serial: any number of 32 bits
 abbrev pub wide_in : List ℕ → Result ℕ FaultKind
 wide_in field = number_in 0 4294967295 field
+
+-- of a recorded history a length or an offset: any number of up to 2^47
+abbrev pub size_in : List ℕ → Result ℕ FaultKind
+size_in field = number_in 0 140737488355328 field
 
 -- of a recorded history an address: any number of 48 bits
 abbrev pub place_in : List ℕ → Result ℕ FaultKind
@@ -21,7 +25,7 @@ place_in field = hex_in 11 281474976710655 field
 
 -- the rules of a recorded history
 abbrev pub history_rules : CommandRules
-history_rules = record { cell = wide_in; size = wide_in; place = place_in; has_copy = true }
+history_rules = record { cell = wide_in; size = size_in; place = place_in; has_copy = true }
 
 -- the rules of a text
 abbrev pub rules_of : Dialect → CommandRules
@@ -32,6 +36,11 @@ rules_of History = history_rules
 abbrev pub most_cell : Dialect → ℕ
 most_cell (Job version) = 255
 most_cell History = 4294967295
+
+-- the greatest length or offset that a text names
+abbrev pub most_size : Dialect → ℕ
+most_size (Job version) = 65535
+most_size History = 140737488355328
 
 -- the greatest address that a text names
 abbrev pub most_place : Dialect → ℕ
@@ -50,23 +59,24 @@ plain_command (SpeltPeek address) = Peek address
 plain_command (SpeltPoke address byte) = Poke address byte
 plain_command (SpeltCopy to to_off from from_off len) = CopyBytes to to_off from from_off len
 
--- the cells and the address of a command are at most these
-abbrev pub IsWithin : ℕ → ℕ → SpeltCommand → Type 0
-IsWithin cells places (SpeltNew cell len word) = cell ≤ cells
-IsWithin cells places (SpeltPut cell off bytes) = cell ≤ cells
-IsWithin cells places (SpeltGet cell off len) = cell ≤ cells
-IsWithin cells places (SpeltFree cell) = cell ≤ cells
-IsWithin cells places (SpeltAlias to from) = (to ≤ cells) × (from ≤ cells)
-IsWithin cells places (SpeltAddr cell) = cell ≤ cells
-IsWithin cells places (SpeltPeek address) = address ≤ places
-IsWithin cells places (SpeltPoke address byte) = address ≤ places
-IsWithin cells places (SpeltCopy to to_off from from_off len) = (to ≤ cells) × (from ≤ cells)
+-- the cells, the length of a new object and the offsets, and the address of a command are at most these
+abbrev pub IsWithin : ℕ → ℕ → ℕ → SpeltCommand → Type 0
+IsWithin cells sizes places (SpeltNew cell len word) = (cell ≤ cells) × (len ≤ sizes)
+IsWithin cells sizes places (SpeltPut cell off bytes) = (cell ≤ cells) × (off ≤ sizes)
+IsWithin cells sizes places (SpeltGet cell off len) = (cell ≤ cells) × (off ≤ sizes)
+IsWithin cells sizes places (SpeltFree cell) = cell ≤ cells
+IsWithin cells sizes places (SpeltAlias to from) = (to ≤ cells) × (from ≤ cells)
+IsWithin cells sizes places (SpeltAddr cell) = cell ≤ cells
+IsWithin cells sizes places (SpeltPeek address) = address ≤ places
+IsWithin cells sizes places (SpeltPoke address byte) = address ≤ places
+IsWithin cells sizes places (SpeltCopy to to_off from from_off len) =
+    (to ≤ cells) × (to_off ≤ sizes) × (from ≤ cells) × (from_off ≤ sizes)
 
 -- a line of a text reads as this command
 pub record IsCommandOf (dialect : Dialect) (read : Result Command FaultKind) (command : SpeltCommand) : Type 0 where
   pub is : read ≡ Ok (plain_command command)
   pub in_range : IsInRange (plain_command command)
-  pub within : IsWithin (most_cell dialect) (most_place dialect) command
+  pub within : IsWithin (most_cell dialect) (most_size dialect) (most_place dialect) command
 
 -- what was read of a line of a text is its command, or its fault
 abbrev pub IsReadAs : Dialect → Result Command FaultKind → Result SpeltCommand FaultKind → Type 0

@@ -1,7 +1,7 @@
 //! The commands of lines, those of a job file and those of a recorded history: the fields of each, from left to right.
 ghost use Rattle.std.specs.Prelude.{◌≡◌, ◌≤◌, IfOk};
 ghost use Rattle.model_jobs.specs.JobFiles.{addr_in, alias_in, copy_in, count_in, free_in, get_in, new_in, peek_in, poke_in, put_in, ruled_command_in};
-ghost use Rattle.mesh_fields.specs.Commands.{IsReadAs, most_cell, most_place, rules_of, wide_in};
+ghost use Rattle.mesh_fields.specs.Commands.{IsReadAs, most_cell, most_place, most_size, rules_of, wide_in};
 ghost use Rattle.mesh_fields.specs.Lines.{texts};
 
 use crate::hex::{address, byte, bytes, wide_address};
@@ -14,7 +14,10 @@ use model_words::{FaultKind, MAX_BYTES, Version};
 const MAX_CELL: u32 = 255;
 
 /// The greatest length that a `new` of a job may ask for, and the greatest offset of its other commands.
-const MAX_LENGTH: u32 = 65_535;
+const MAX_LENGTH: u64 = 65_535;
+
+/// The same of a recorded history: 2^47, as addresses go.
+pub const MAX_RECORDED_LENGTH: u64 = 140_737_488_355_328;
 
 /// The most bytes that one command loads or copies.
 const MAX_COUNT: u32 = 32;
@@ -24,22 +27,22 @@ const MAX_COUNT: u32 = 32;
 pub enum Dialect {
     /// A job file of this version: cells up to 255, lengths and offsets up to 65,535, addresses up to fffffff, and `copy` from version 2 on.
     Job(Version),
-    /// A recorded history: cells, lengths and offsets of 32 bits, addresses of 48.
+    /// A recorded history: cells of 32 bits, lengths and offsets up to 2^47, addresses of 48 bits.
     History,
 }
 
 /// What a command's line asks, as wide as any text spells it.
 ///
-/// An offset counts bytes from the object's start. Of `Put`, `Get` and `Copy` 1 to 32 bytes are stored, loaded or copied. An address has 48
-/// bits at most.
+/// A length or an offset is 2^47 at most. An offset counts bytes from the object's start. Of `Put`, `Get` and `Copy` 1
+/// to 32 bytes are stored, loaded or copied. An address has 48 bits at most.
 #[derive(Drop)]
 pub enum SpeltCommand {
     /// `New(cell, len, word)`: make an object of `len` zero bytes, and store its reference in `cell`.
-    New(u32, u32, u64),
+    New(u32, u64, u64),
     /// `Put(cell, off, bytes)`: store the bytes at offset `off` of the object that `cell` names.
-    Put(u32, u32, ArrayVec<u8, MAX_BYTES>),
+    Put(u32, u64, ArrayVec<u8, MAX_BYTES>),
     /// `Get(cell, off, len)`: load `len` bytes from offset `off` of the object that `cell` names.
-    Get(u32, u32, u32),
+    Get(u32, u64, u32),
     /// `Free(cell)`: free the object that `cell` names. The cell keeps its reference, which is stale from then on.
     Free(u32),
     /// `Alias(to, from)`: store in `to` the reference that `from` holds.
@@ -52,7 +55,7 @@ pub enum SpeltCommand {
     Poke(u64, u8),
     /// `Copy(to, to_off, from, from_off, len)`: copy `len` bytes from offset `from_off` of the object that `from` names to offset `to_off` of
     /// the one that `to` names. Where the two ranges overlap, each byte is the one that was there before.
-    Copy(u32, u32, u32, u32, u32),
+    Copy(u32, u64, u32, u64, u32),
 }
 
 /// The command of a line with this word and these fields. WORD where the text has no such command, or it has another number of fields; else
@@ -88,7 +91,7 @@ pub fn command_of(
     }
 }
 
-/// A number of a recorded history: a cell, a length, an offset or a serial, of 32 bits. NUMBER where it is anything else.
+/// A cell or a serial of a recorded history, of 32 bits. NUMBER where it is anything else.
 pub fn wide(field: &[u8]) -> Result<u32, FaultKind>
     ensures { result ≡ wide_in field.now }
 {
@@ -127,12 +130,13 @@ impl Dialect {
     }
 
     /// A length or an offset. NUMBER where it is anything else.
-    fn size(self, field: &[u8]) -> Result<u32, FaultKind>
-        ensures { result ≡ (rules_of self).size field.now }
+    fn size(self, field: &[u8]) -> Result<u64, FaultKind>
+        ensures value { result ≡ (rules_of self).size field.now }
+        ensures most { IfOk result (λ size. size ≤ most_size self) }
     {
         match self {
-            Dialect::Job(_) => number32(field, 0, MAX_LENGTH),
-            Dialect::History => wide(field),
+            Dialect::Job(_) => number(field, 0, MAX_LENGTH),
+            Dialect::History => number(field, 0, MAX_RECORDED_LENGTH),
         }
     }
 

@@ -12,7 +12,7 @@ use crate::samples::{CLASSES, Counts};
 use crate::savings::Saving;
 use crate::words::{
     add, add_column, add_counted, add_difference, add_left, add_number_left, add_number_right,
-    add_saved, add_saved_column, add_tenths,
+    add_saved, add_saved_column, add_tenths, add_wide_counted,
 };
 use mesh_class::{Class, all_classes};
 use std::alloc::AllocError;
@@ -28,7 +28,7 @@ pub fn add_calls(text: &mut Vec<u8>, calls: u32, counts: &Counts) -> Result<(), 
     add_counted(text, b"calls ", u64::from(calls))?;
     add_counted(text, b"  objects at most ", u64::from(counts.most_objects))?;
     add_counted(text, b"  above 2048: ", u64::from(counts.large))?;
-    add_counted(text, b", at most ", counts.most_large_pages)?;
+    add_wide_counted(text, b", at most ", counts.most_large_pages)?;
     add(text, b" pages, not meshed\n")
 }
 

@@ -32,8 +32,8 @@ pub struct Counts {
     pub most_objects: u32,
     /// The number of objects made that are larger.
     pub large: u32,
-    /// The most pages that live larger objects took.
-    pub most_large_pages: u64,
+    /// The most pages that live larger objects took. Their number may need more than 64 bits.
+    pub most_large_pages: u128,
     /// The number of meshes.
     pub meshes: u64,
     /// The number of meshes that were refused.

@@ -21,6 +21,16 @@ pub fn add_decimal(text: &mut Vec<u8>, number: u64) -> Result<(), AllocError>
     add(text, digits.format(number).as_bytes())
 }
 
+/// Adds a number of up to 128 bits after what it is.
+#[tactic(auto, unfolding(crate::specs::Texts::counted))]
+pub fn add_wide_counted(text: &mut Vec<u8>, name: &[u8], number: u128) -> Result<(), AllocError>
+    ensures { OnOk result (text.new.items ≡ text.old.items ++ counted name.now number) }
+{
+    add(text, name)?;
+    let mut digits = Buffer::new();
+    add(text, digits.format(number).as_bytes())
+}
+
 /// Adds a number after what it is.
 #[tactic(auto, unfolding(crate::specs::Texts::counted))]
 pub fn add_counted(text: &mut Vec<u8>, name: &[u8], number: u64) -> Result<(), AllocError>

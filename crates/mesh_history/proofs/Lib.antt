@@ -3,3 +3,4 @@ pub mod HistoryInputs
 pub mod Pendings
 pub mod QuickEntries
 pub mod Readings
+pub mod Sizes

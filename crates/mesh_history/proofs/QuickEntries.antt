@@ -15,14 +15,14 @@ use Rattle.model_jobs.specs.Texts.{hex_from}
 use Rattle.model_words.specs.declared.commands.Command.TheVariants.{New, Free, Alias}
 use Rattle.model_words.specs.declared.commands.Reply.TheVariants.{Object as Made, Done}
 use Rattle.model_words.specs.Commands.{IsInRange}
-use Rattle.mesh_fields.specs.Commands.{place_in, plain_command, wide_in}
+use Rattle.mesh_fields.specs.Commands.{place_in, plain_command, size_in, wide_in}
 use Rattle.mesh_fields.specs.KeptLines.{IsUnended}
 use Rattle.mesh_fields.specs.Lines.{line_fields}
 use Rattle.mesh_fields.proofs.LineSteps.{bytes_taken}
 use Rattle.mesh_fields.specs.declared.commands.SpeltCommand.TheVariants.{New as SpeltNew, Free as SpeltFree, Alias as SpeltAlias}
 use Rattle.mesh_history.specs.HistoryFiles.{entry_fields, entry_in, is_arrow}
 use Rattle.mesh_history.specs.QuickEntries.{IsQuickEntry}
-use Rattle.mesh_history.specs.RecordedWords.{IsNarrow, plain_entry}
+use Rattle.mesh_history.specs.RecordedWords.{IsNarrow, IsSized, plain_entry}
 use Rattle.mesh_history.specs.declared.words.RecordedEntry.{RecordedEntry}
 use Rattle.mesh_history.specs.declared.words.RecordedReply.TheVariants.{Object as RecordedObject, Done as RecordedDone}
 
@@ -150,7 +150,7 @@ number_before n small = record { filled = field_filled (decimal n) (decimal_with
 
 -- the fields of an entry of each kind
 new_fields : (w c l d s a : List ℕ) (worker cell len word serial address : ℕ) → IsBefore w → IsBefore c → IsBefore l → IsBefore d → is_empty s ≡ false → is_empty a ≡ false
-    → number_in 0 65535 w ≡ Ok worker → wide_in c ≡ Ok cell → wide_in l ≡ Ok len → word_in d ≡ Ok word → wide_in s ≡ Ok serial → place_in a ≡ Ok address
+    → number_in 0 65535 w ≡ Ok worker → wide_in c ≡ Ok cell → size_in l ≡ Ok len → word_in d ≡ Ok word → wide_in s ≡ Ok serial → place_in a ≡ Ok address
     → entry_fields (w ∷ codes "new" ∷ c ∷ l ∷ d ∷ codes "->" ∷ codes "object" ∷ s ∷ codes "at" ∷ a ∷ [])
     ≡ Ok (record { worker = worker; command = New cell len word; reply = Made serial address })
 new_fields w c l d s a worker cell len word serial address bw bc bl bd es ea iw ic il id is ia =
@@ -166,14 +166,15 @@ alias_fields w t f worker to from bw bt bf iw it if' = rw (bw.filled, bt.filled,
 
 -- a line of fields that are read as an entry
 entry_of_line : (text : List ℕ) (fields : List (List ℕ)) (rest : List ℕ) (entry : RecordedEntry) → IsLineOf text fields rest → entry_fields fields ≡ Ok (plain_entry entry)
-    → IsInRange (plain_command entry.command) → IsNarrow entry.reply → IsQuickEntry text entry rest
-entry_of_line text fields rest entry line read in_range narrow = record {
+    → IsInRange (plain_command entry.command) → IsSized (plain_command entry.command) → IsNarrow entry.reply → IsQuickEntry text entry rest
+entry_of_line text fields rest entry line read in_range sized narrow = record {
   line = line.line;
   whole = line.whole;
   unended = line.unended;
   short = line.short;
   read = line.read ∙ read;
   in_range = in_range;
+  sized = sized;
   narrow = narrow;
 }
 
@@ -187,6 +188,16 @@ wide_field n most = number_field n (omega (arith, most))
 wide_before : (n : ℕ) → n ≤ 4294967295 → IsBefore (decimal n)
 wide_before n most = number_before n (omega (arith, most))
 
+-- so is a length of up to 2^47
+size_back : (n : ℕ) → n ≤ 140737488355328 → size_in (decimal n) ≡ Ok n
+size_back n most = number_back 0 140737488355328 n (omega (arith, most)) (omega arith) most
+
+size_field : (n : ℕ) → n ≤ 140737488355328 → IsField (decimal n)
+size_field n most = number_field n (omega (arith, most))
+
+size_before : (n : ℕ) → n ≤ 140737488355328 → IsBefore (decimal n)
+size_before n most = number_before n (omega (arith, most))
+
 worker_back : (n : ℕ) → n ≤ 65535 → number_in 0 65535 (decimal n) ≡ Ok n
 worker_back n most = number_back 0 65535 n (omega (arith, most)) (omega arith) most
 
@@ -199,7 +210,7 @@ free_is worker cell fields behind rest iw ic is_cell is_done =
     entry_of_line _ (decimal worker ∷ codes "free" ∷ decimal cell ∷ codes "->" ∷ codes "done" ∷ []) rest _
     (line_of _ _ _ rest (ap (λ (left : List ℕ). decimal worker ++ 32 ∷ (codes "free " ++ left)) (is_cell ∙ ap (λ (left : List ℕ). decimal cell ++ 32 ∷ left) is_done))
     (wide_field worker w, (word_field (codes "free") refl, (wide_field cell ic, (word_field (codes "->") refl, (word_field (codes "done") refl, tt))))) (omega arith))
-    (free_fields _ _ worker cell (wide_before worker w) (wide_before cell ic) (worker_back worker iw) (wide_back cell ic)) tt tt
+    (free_fields _ _ worker cell (wide_before worker w) (wide_before cell ic) (worker_back worker iw) (wide_back cell ic)) tt tt tt
 
 -- `alias TO FROM -> done` behind a worker
 pub alias_is : (worker to from : ℕ) (fields first behind rest : List ℕ) → worker ≤ 65535 → to ≤ 4294967295 → from ≤ 4294967295
@@ -212,7 +223,7 @@ alias_is worker to from fields first behind rest iw it if' is_to is_from is_done
     (is_to ∙ ap (λ (left : List ℕ). decimal to ++ 32 ∷ left) (is_from ∙ ap (λ (left : List ℕ). decimal from ++ 32 ∷ left) is_done)))
     (wide_field worker w, (word_field (codes "alias") refl, (wide_field to it, (wide_field from if', (word_field (codes "->") refl, (word_field (codes "done") refl, tt))))))
     (omega arith))
-    (alias_fields _ _ _ worker to from (wide_before worker w) (wide_before to it) (wide_before from if') (worker_back worker iw) (wide_back to it) (wide_back from if')) tt tt
+    (alias_fields _ _ _ worker to from (wide_before worker w) (wide_before to it) (wide_before from if') (worker_back worker iw) (wide_back to it) (wide_back from if')) tt tt tt
 
 -- `new CELL LEN WORD` behind a worker, up to the arrow
 pub new_text : (cell len word : ℕ) (fields first second behind : List ℕ) → fields ≡ decimal cell ++ 32 ∷ first → first ≡ decimal len ++ 32 ∷ second
@@ -228,7 +239,7 @@ object_text serial address behind first second third rest is_object is_serial is
     is_object ∙ ap (λ (left : List ℕ). codes "-> object " ++ left)
     (is_serial ∙ ap (λ (left : List ℕ). decimal serial ++ 32 ∷ left) (is_at ∙ ap (λ (left : List ℕ). codes "at " ++ left) is_address))
 
-pub new_is : (worker cell len word serial address : ℕ) (fields behind rest : List ℕ) → worker ≤ 65535 → cell ≤ 4294967295 → len ≤ 4294967295 → word < 2 ^ 64
+pub new_is : (worker cell len word serial address : ℕ) (fields behind rest : List ℕ) → worker ≤ 65535 → cell ≤ 4294967295 → len ≤ 140737488355328 → word < 2 ^ 64
     → serial ≤ 4294967295 → address ≤ 281474976710655 → fields ≡ decimal cell ++ 32 ∷ (decimal len ++ 32 ∷ (decimal word ++ 32 ∷ behind))
     → behind ≡ codes "-> object " ++ (decimal serial ++ 32 ∷ (codes "at " ++ (hex_from 11 address ++ 10 ∷ rest)))
     → IsQuickEntry (decimal worker ++ 32 ∷ (codes "new " ++ fields)) (record { worker = worker; command = SpeltNew cell len word; reply = RecordedObject serial address }) rest
@@ -244,7 +255,7 @@ new_is worker cell len word serial address fields behind rest iw ic il id is ia 
         (
           wide_field cell ic,
           (
-            wide_field len il,
+            size_field len il,
             (
               number_field word id,
               (
@@ -256,6 +267,6 @@ new_is worker cell len word serial address fields behind rest iw ic il id is ia 
         ),
       ),
     ) (omega arith))
-    (new_fields _ _ _ _ _ _ worker cell len word serial address (wide_before worker w) (wide_before cell ic) (wide_before len il) (number_before word id)
+    (new_fields _ _ _ _ _ _ worker cell len word serial address (wide_before worker w) (wide_before cell ic) (size_before len il) (number_before word id)
     (field_filled (decimal serial) (wide_field serial is).1) (field_filled (hex_from 11 address) (address_field address).1)
-    (worker_back worker iw) (wide_back cell ic) (wide_back len il) words (wide_back serial is) (place_back address ia)) tt (omega (arith, ia))
+    (worker_back worker iw) (wide_back cell ic) (size_back len il) words (wide_back serial is) (place_back address ia)) tt il (omega (arith, ia))

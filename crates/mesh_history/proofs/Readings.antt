@@ -16,7 +16,7 @@ use Rattle.mesh_job.specs.declared.faults.ReadFault.TheVariants.{Text, Memory as
 use Rattle.mesh_history.specs.QuickEntries.{IsQuickEntry}
 use Rattle.mesh_history.specs.Readers.{HasFault, HasRead, HasTaken, IfRead, IsFaultOf, begun_of, bytes_left, lines_of, next_line, reading_behind}
 use Rattle.mesh_history.specs.Readings.{Head, LineRead, OfEntry, Reading, end_fault, ends_with, is_full, long_line, next_in, read_on, reading_from, with_entry}
-use Rattle.mesh_history.specs.RecordedWords.{IsNarrow, plain_entry}
+use Rattle.mesh_history.specs.RecordedWords.{IsNarrow, IsSized, plain_entry}
 use Rattle.mesh_history.specs.declared.reading.EntryReader.{EntryReader}
 use Rattle.mesh_history.specs.declared.words.RecordedEntry.{RecordedEntry}
 use denote.Ref.{Bor}
@@ -46,9 +46,9 @@ later_line reader later = rw (ne_eqb (lines_of reader) 0 (λ is. omega (arith, i
 
 -- the line of an entry ends
 pub entry_ended : (old new : EntryReader) (last : List ℕ) (entry : RecordedEntry) → IsUnended last → next_in (lines_of old) (begun_of old ++ last) ≡ Ok (OfEntry (plain_entry entry))
-    → 1 ≤ lines_of old → lines_of new ≡ lines_of old + 1 → begun_of new ≡ [] → IsInRange (plain_command entry.command) → IsNarrow entry.reply
-    → HasRead old new (last ++ 10 ∷ []) entry []
-entry_ended old new last entry unended read later lines begun in_range narrow = record {
+    → 1 ≤ lines_of old → lines_of new ≡ lines_of old + 1 → begun_of new ≡ [] → IsInRange (plain_command entry.command)
+    → IsSized (plain_command entry.command) → IsNarrow entry.reply → HasRead old new (last ++ 10 ∷ []) entry []
+entry_ended old new last entry unended read later lines begun in_range sized narrow = record {
   reads = λ more.
       read_line (lines_of old) (begun_of old) last more old.begun.unended unended
       ∙ ap (λ (line : Result LineRead TextFault). read_on line (reading_from (lines_of old + 1) (text_lines more))) read
@@ -59,6 +59,7 @@ entry_ended old new last entry unended read later lines begun in_range narrow = 
   whole = sym (append-nil (last ++ 10 ∷ []));
   shorter = omega (arith, length-append last (10 ∷ []));
   in_range = in_range;
+  sized = sized;
   narrow = narrow;
 }
 
@@ -154,6 +155,7 @@ read_in_piece old new piece front rest entry read whole = record {
   whole = whole;
   shorter = omega (arith, read.shorter, ap (λ (bytes : List ℕ). length bytes) whole, length-append front rest);
   in_range = read.in_range;
+  sized = read.sized;
   narrow = read.narrow;
 }
 
@@ -164,7 +166,7 @@ quick_read old new piece entry rest quick none later few lines begun =
     let full : is_full (lines_of old) ≡ false = elim (leb_tells 4294967295 (lines_of old)) [ inl many ↦ (let m = many.1 in absurd (omega (arith, m, few))) | inr not ↦ not.0 ] in
     let first : nat_eq (lines_of old) 0 ≡ false = ne_eqb (lines_of old) 0 (λ is. omega (arith, is, later)) in
     let read : next_in (lines_of old) quick.line ≡ Ok (OfEntry (plain_entry entry)) = rw (full, first, quick.read) refl in
-    let ended = entry_ended old new quick.line entry quick.unended (sym (next_whole old quick.line none) ∙ read) later lines begun quick.in_range quick.narrow in
+    let ended = entry_ended old new quick.line entry quick.unended (sym (next_whole old quick.line none) ∙ read) later lines begun quick.in_range quick.sized quick.narrow in
     read_in_piece old new piece (quick.line ++ 10 ∷ []) rest entry ended (quick.whole ∙ sym (append_assoc quick.line (10 ∷ []) rest))
 
 -- a fault in the front of a piece
@@ -186,6 +188,7 @@ taken_then_read old mid new piece front rest left entry taken whole read = recor
   whole = whole ∙ ap (λ (bytes : List ℕ). front ++ bytes) read.whole ∙ sym (append_assoc front read.front left);
   shorter = omega (arith, read.shorter, ap (λ (bytes : List ℕ). length bytes) whole, length-append front rest);
   in_range = read.in_range;
+  sized = read.sized;
   narrow = read.narrow;
 }
 

@@ -10,7 +10,7 @@ use Rattle.mesh_devices.specs.declared.faults.ReplayError.{ReplayError}
 use Rattle.mesh_devices.specs.declared.faults.ReplayError.TheVariants.{Memory, Read, Text, Write}
 use Rattle.mesh_history.specs.Readers.{bytes_left, lines_of, next_line, reading_behind}
 use Rattle.mesh_history.specs.Readings.{Reading, ends_with, reading_of, with_entries, with_entry}
-use Rattle.mesh_history.specs.RecordedWords.{IsNarrow, plain_entry}
+use Rattle.mesh_history.specs.RecordedWords.{IsNarrow, IsSized, plain_entry}
 use Rattle.mesh_history.specs.declared.inputs.HistoryInput.{HistoryInput}
 use Rattle.mesh_history.specs.declared.words.RecordedEntry.{RecordedEntry}
 
@@ -32,6 +32,7 @@ pub record IsNext (old new : HistoryInput) (entry : RecordedEntry) : Type 0 wher
   pub reads : (more : List ℕ) → reading_left old more ≡ with_entry (plain_entry entry) (reading_left new more)
   pub line : lines_before new ≡ next_line old.reader
   pub in_range : IsInRange (plain_command entry.command)
+  pub sized : IsSized (plain_command entry.command)
   pub narrow : IsNarrow entry.reply
 
 -- no entry ends in the bytes that were read

@@ -4,7 +4,7 @@ use Rattle.model_words.specs.Commands.{IsInRange}
 use Rattle.mesh_fields.specs.Commands.{plain_command}
 use Rattle.mesh_fields.specs.KeptLines.{IsUnended}
 use Rattle.mesh_history.specs.HistoryFiles.{entry_in}
-use Rattle.mesh_history.specs.RecordedWords.{IsNarrow, plain_entry}
+use Rattle.mesh_history.specs.RecordedWords.{IsNarrow, IsSized, plain_entry}
 use Rattle.mesh_history.specs.declared.words.RecordedEntry.{RecordedEntry}
 
 -- the text's first line is read as this entry, and this is the rest behind the line's end
@@ -15,4 +15,5 @@ pub record IsQuickEntry (text : List ℕ) (entry : RecordedEntry) (rest : List �
   pub short : length line ≤ 1024
   pub read : entry_in line ≡ Ok (plain_entry entry)
   pub in_range : IsInRange (plain_command entry.command)
+  pub sized : IsSized (plain_command entry.command)
   pub narrow : IsNarrow entry.reply

@@ -7,7 +7,7 @@ use Rattle.mesh_fields.specs.Lines.{text_lines}
 use Rattle.mesh_job.specs.declared.faults.ReadFault.{ReadFault}
 use Rattle.mesh_job.specs.declared.faults.ReadFault.TheVariants.{Text, Memory as OfMemory}
 use Rattle.mesh_history.specs.Readings.{LineRead, Reading, ends_with, reading_from, with_entry}
-use Rattle.mesh_history.specs.RecordedWords.{IsNarrow, plain_entry}
+use Rattle.mesh_history.specs.RecordedWords.{IsNarrow, IsSized, plain_entry}
 use Rattle.mesh_history.specs.declared.reading.EntryReader.{EntryReader}
 use Rattle.mesh_history.specs.declared.words.RecordedEntry.{RecordedEntry}
 use denote.Ref.{Bor}
@@ -41,6 +41,7 @@ pub record HasRead (old new : EntryReader) (piece : List ℕ) (entry : RecordedE
   pub whole : piece ≡ front ++ rest
   pub shorter : length rest < length piece
   pub in_range : IsInRange (plain_command entry.command)
+  pub sized : IsSized (plain_command entry.command)
   pub narrow : IsNarrow entry.reply
 
 -- the piece was taken, and no entry ends in it

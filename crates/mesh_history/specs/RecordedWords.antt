@@ -1,6 +1,8 @@
 -- The words of a recorded history, as those of the plain memory.
-use Rattle.std.specs.Prelude.{◌≡◌, ◌<◌, ◌^◌, Result, Ok, Err}
+use Rattle.std.specs.Prelude.{◌≡◌, ◌<◌, ◌≤◌, ◌^◌, Result, Ok, Err}
 use Rattle.model_memory.specs.Plain.{Entry}
+use Rattle.model_words.specs.declared.commands.Command.{Command}
+use Rattle.model_words.specs.declared.commands.Command.TheVariants.{New}
 use Rattle.model_words.specs.declared.commands.Reply.{Reply}
 use Rattle.model_words.specs.declared.commands.Reply.TheVariants.{Object as Made, Done, Bytes, At, Byte, Refused}
 use Rattle.model_words.specs.declared.faults.FaultKind.{FaultKind}
@@ -21,6 +23,11 @@ plain_reply (RecordedRefused refusal) = Refused refusal
 -- a recorded entry, as one of the plain memory
 abbrev pub plain_entry : RecordedEntry → Entry
 plain_entry entry = record { worker = entry.worker; command = plain_command entry.command; reply = plain_reply entry.reply }
+
+-- the length of an object that is asked for is at most 2^47
+abbrev pub IsSized : Command → Type 0
+IsSized (New cell len word) = len ≤ 140737488355328
+IsSized command = Unit {0}
 
 -- the address of an object that was made has 48 bits
 abbrev pub IsNarrow : RecordedReply → Type 0

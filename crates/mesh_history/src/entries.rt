@@ -4,7 +4,7 @@ ghost use Rattle.model_words.specs.Commands.{IsInRange};
 ghost use Rattle.mesh_fields.specs.Commands.{plain_command};
 ghost use Rattle.mesh_fields.specs.Lines.{texts};
 ghost use Rattle.mesh_history.specs.HistoryFiles.{answer_in, arrow_split, asked_in, entry_in, entry_of, head_in};
-ghost use Rattle.mesh_history.specs.RecordedWords.{IsNarrow, plain_entry, plain_reply};
+ghost use Rattle.mesh_history.specs.RecordedWords.{IsNarrow, IsSized, plain_entry, plain_reply};
 
 use crate::replies::reply_of;
 use crate::{RecordedEntry, RecordedReply};
@@ -45,6 +45,7 @@ pub fn read_entry(line: &[u8]) -> Result<RecordedEntry, FaultKind>
     ensures ok { IfOk result (λ entry. entry_in line.now ≡ Ok (plain_entry entry)) }
     ensures err { IfErr result (λ kind. entry_in line.now ≡ Err kind) }
     ensures in_range { IfOk result (λ entry. IsInRange (plain_command entry.command)) }
+    ensures sized { IfOk result (λ entry. IsSized (plain_command entry.command)) }
     ensures narrow { IfOk result (λ entry. IsNarrow entry.reply) }
 {
     check_bytes(line)?;
@@ -67,6 +68,7 @@ fn entry_of(before: &[&[u8]], behind: &[&[u8]]) -> Result<RecordedEntry, FaultKi
     ensures ok { IfOk result (λ entry. entry_of (texts before.now) (texts behind.now) ≡ Ok (plain_entry entry)) }
     ensures err { IfErr result (λ kind. entry_of (texts before.now) (texts behind.now) ≡ Err kind) }
     ensures in_range { IfOk result (λ entry. IsInRange (plain_command entry.command)) }
+    ensures sized { IfOk result (λ entry. IsSized (plain_command entry.command)) }
     ensures narrow { IfOk result (λ entry. IsNarrow entry.reply) }
 {
     let (worker, command) = asked_of(before)?;
@@ -83,6 +85,7 @@ fn asked_of(fields: &[&[u8]]) -> Result<(u32, SpeltCommand), FaultKind>
     ensures ok { IfOk result (λ asked. asked_in (texts fields.now) ≡ Ok (asked.0, plain_command asked.1)) }
     ensures err { IfErr result (λ kind. asked_in (texts fields.now) ≡ Err kind) }
     ensures in_range { IfOk result (λ asked. IsInRange (plain_command asked.1)) }
+    ensures sized { IfOk result (λ asked. IsSized (plain_command asked.1)) }
 {
     let [worker, word, fields @ ..] = fields else {
         return Err(FaultKind::Word);

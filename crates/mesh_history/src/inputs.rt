@@ -5,7 +5,7 @@ ghost use Rattle.model_words.specs.Commands.{IsInRange};
 ghost use Rattle.mesh_devices.specs.declared.faults.ReplayError.{ReplayError};
 ghost use Rattle.mesh_fields.specs.Commands.{plain_command};
 ghost use Rattle.mesh_history.specs.Inputs.{EndsWithFault, HasCome, HasEnded, HasStopped, IsFault, IsFresh, IsNext, IsUsedUp, MayEnd, lines_before};
-ghost use Rattle.mesh_history.specs.RecordedWords.{IsNarrow, plain_entry};
+ghost use Rattle.mesh_history.specs.RecordedWords.{IsNarrow, IsSized, plain_entry};
 
 use crate::pending::Pending;
 use crate::{EntryReader, RecordedEntry};
@@ -51,6 +51,7 @@ impl HistoryInput {
             → IfOk result (λ next. IfSome next (λ entry. HasCome self.new left (I.remaining input.new) (entries ++ plain_entry entry ∷ []))) }
         ensures later { IfOk result (λ next. IfSome next (λ _. lines_before self.old < lines_before self.new)) }
         ensures in_range { IfOk result (λ next. IfSome next (λ entry. IsInRange (plain_command entry.command))) }
+        ensures sized { IfOk result (λ next. IfSome next (λ entry. IsSized (plain_command entry.command))) }
         ensures narrow { IfOk result (λ next. IfSome next (λ entry. IsNarrow entry.reply)) }
         ensures ended { (left : Option (List ℕ)) (entries : List Entry) → HasCome self.old left (I.remaining input.old) entries
             → IfOk result (λ next. IsNone next → HasEnded self.new left (I.remaining input.new) entries) }

@@ -5,7 +5,7 @@ ghost use Rattle.mesh_history.specs.QuickEntries.{IsQuickEntry};
 
 use crate::entries::MAX_WORKER;
 use crate::{RecordedEntry, RecordedReply};
-use mesh_fields::commands::SpeltCommand;
+use mesh_fields::commands::{MAX_RECORDED_LENGTH, SpeltCommand};
 use mesh_fields::quick::{behind_all, number, wide_address, word};
 
 /// The entry that the text's first line is, and the bytes behind that line's end.
@@ -33,6 +33,19 @@ fn wide(text: &[u8], end: u8) -> Option<(u32, &[u8])>
     number(text, 0, u32::MAX, end)
 }
 
+/// A length of up to 2^47, and the bytes behind its end.
+#[inline]
+fn size(text: &[u8], end: u8) -> Option<(u64, &[u8])>
+    ensures spelt { IfSome result (λ read. text.now ≡ decimal read.0 ++ end ∷ read.1.now) }
+    ensures most { IfSome result (λ read. read.0 ≤ 140737488355328) }
+{
+    let (value, rest) = word(text, end)?;
+    if value > MAX_RECORDED_LENGTH {
+        return None;
+    }
+    Some((value, rest))
+}
+
 /// The bytes behind `-> done` and the line's end.
 #[inline]
 fn behind_done(text: &[u8]) -> Option<&[u8]>
@@ -47,7 +60,7 @@ fn new_of(worker: u32, fields: &[u8]) -> Option<(RecordedEntry, &[u8])>
     ensures { IfSome result (λ read. IsQuickEntry (decimal worker ++ 32 ∷ (codes "new " ++ fields.now)) read.0 read.1.now) }
 {
     let (cell, rest) = wide(fields, b' ')?;
-    let (len, rest) = wide(rest, b' ')?;
+    let (len, rest) = size(rest, b' ')?;
     let (word, rest) = word(rest, b' ')?;
     let (serial, rest) = wide(behind_all(rest, b"-> object ")?, b' ')?;
     let (address, rest) = wide_address(behind_all(rest, b"at ")?, b'\n')?;

@@ -6,7 +6,7 @@ ghost use Rattle.mesh_fields.specs.Commands.{plain_command};
 ghost use Rattle.mesh_fields.specs.KeptLines.{IsUnended};
 ghost use Rattle.mesh_history.specs.Readers.{HasFault, HasRead, HasTaken, IfRead, IsFaultOf, begun_of, lines_of, reading_behind};
 ghost use Rattle.mesh_history.specs.Readings.{Head, OfEntry, end_fault, ends_with, is_full, long_line, next_in, reading_of};
-ghost use Rattle.mesh_history.specs.RecordedWords.{IsNarrow, plain_entry};
+ghost use Rattle.mesh_history.specs.RecordedWords.{IsNarrow, IsSized, plain_entry};
 
 use crate::begun::BegunLine;
 use crate::{RecordedEntry, quick_entry, read_entry, read_head};
@@ -203,6 +203,7 @@ fn entry_at(lines: u32, line: &[u8]) -> Result<RecordedEntry, ReadFault>
     ensures ok { IfOk result (λ entry. next_in lines line.now ≡ Ok (OfEntry (plain_entry entry))) }
     ensures fault { IfErr result (IsFaultOf (next_in lines line.now)) }
     ensures in_range { IfOk result (λ entry. IsInRange (plain_command entry.command)) }
+    ensures sized { IfOk result (λ entry. IsSized (plain_command entry.command)) }
     ensures narrow { IfOk result (λ entry. IsNarrow entry.reply) }
 {
     if lines == u32::MAX {

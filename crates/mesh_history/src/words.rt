@@ -25,7 +25,8 @@ pub enum RecordedReply {
 pub struct RecordedEntry {
     /// Who asked.
     pub worker: u32,
-    /// What was asked. A cell is any 32-bit number: a recorder may give each object one of its own.
+    /// What was asked. A cell is any 32-bit number: a recorder may give each object one of its own. The length of an
+    /// object is at most 2^47.
     pub command: SpeltCommand,
     /// What was answered.
     pub reply: RecordedReply,

@@ -21,22 +21,22 @@ pub fn command_of(version: Version, word: &[u8], fields: &[&[u8]]) -> Result<Com
     Ok(narrowed(spelt))
 }
 
-/// The command that a job's line asks for: its cells have 8 bits, and its addresses 32.
+/// The command that a job's line asks for: its cells have 8 bits, and its lengths, offsets and addresses 32.
 fn narrowed(spelt: SpeltCommand) -> Command
-    requires { IsWithin 255 268435455 spelt }
+    requires { IsWithin 255 65535 268435455 spelt }
     ensures { result ≡ plain_command spelt }
 {
     match spelt {
-        SpeltCommand::New(cell, len, word) => Command::New(cell as u8, len, word),
-        SpeltCommand::Put(cell, off, bytes) => Command::Put(cell as u8, off, bytes),
-        SpeltCommand::Get(cell, off, len) => Command::Get(cell as u8, off, len),
+        SpeltCommand::New(cell, len, word) => Command::New(cell as u8, len as u32, word),
+        SpeltCommand::Put(cell, off, bytes) => Command::Put(cell as u8, off as u32, bytes),
+        SpeltCommand::Get(cell, off, len) => Command::Get(cell as u8, off as u32, len),
         SpeltCommand::Free(cell) => Command::Free(cell as u8),
         SpeltCommand::Alias(to, from) => Command::Alias(to as u8, from as u8),
         SpeltCommand::Addr(cell) => Command::Addr(cell as u8),
         SpeltCommand::Peek(address) => Command::Peek(address as u32),
         SpeltCommand::Poke(address, byte) => Command::Poke(address as u32, byte),
         SpeltCommand::Copy(to, to_off, from, from_off, len) => {
-            Command::Copy(to as u8, to_off, from as u8, from_off, len)
+            Command::Copy(to as u8, to_off as u32, from as u8, from_off as u32, len)
         }
     }
 }

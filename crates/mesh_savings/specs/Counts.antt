@@ -59,11 +59,11 @@ large_free_counted c len = record c { calls = c.calls + 1; large_pages = c.large
 abbrev pub alias_counted : Counts → Counts
 alias_counted c = record c { calls = c.calls + 1 }
 
--- each count is within the number of calls; a large object has at most 2^20 pages
+-- each count is within the number of calls; a large object has at most 2^52 pages
 pub record IsFew (c : Counts) : Type 0 where
   pub made : c.made ≤ c.calls
   pub small : c.small ≤ c.made
   pub large : c.large ≤ c.made
   pub freed : c.freed ≤ c.calls
   pub rounds : c.rounds ≤ c.freed
-  pub pages : c.large_pages ≤ 1048576 * c.large
+  pub pages : c.large_pages ≤ 4503599627370496 * c.large

@@ -9,7 +9,7 @@ use mesh_history::{RecordedEntry, RecordedReply, SpeltCommand};
 #[derive(Clone, Copy, Debug, PartialEq, Eq)]
 pub enum Call {
     /// `New(cell, len)`: an object of `len` bytes was made, and its reference stored in `cell`.
-    New(u32, u32),
+    New(u32, u64),
     /// `Free(cell)`: the object that `cell` holds was freed.
     Free(u32),
     /// `Alias(to, from)`: the reference that `from` holds was stored in `to`.

@@ -5,7 +5,7 @@ ghost use Rattle.mesh_savings.specs.Counts.{IsFew, alias_counted, large_free_cou
 use mesh_class::Class;
 
 /// The bytes of a page.
-const PAGE: u64 = 4096;
+const PAGE: u128 = 4096;
 
 /// What was counted of the calls so far. Objects of up to 2,048 bytes are small, all others are large.
 #[derive(Clone, Copy, Debug)]
@@ -20,10 +20,10 @@ pub struct Counts {
     pub most_small: u32,
     /// Large objects that were made.
     pub large: u32,
-    /// The pages of the live large objects, each in whole pages.
-    pub large_pages: u64,
+    /// The pages of the live large objects, each in whole pages. Their number may need more than 64 bits.
+    pub large_pages: u128,
     /// The most pages of live large objects at once.
-    pub most_large_pages: u64,
+    pub most_large_pages: u128,
     /// Frees of small objects.
     pub freed: u32,
     /// Rounds that were made.
@@ -57,10 +57,10 @@ impl MeshCounts {
 }
 
 /// So many bytes in whole pages, rounded up.
-fn whole_pages(len: u32) -> u64
+fn whole_pages(len: u64) -> u128
     ensures { result ≡ whole_pages len }
 {
-    (u64::from(len) + (PAGE - 1)) / PAGE
+    (u128::from(len) + (PAGE - 1)) / PAGE
 }
 
 impl Counts {
@@ -103,7 +103,7 @@ impl Counts {
     }
 
     /// After a large object was made.
-    pub(crate) fn large_new(&self, len: u32) -> Counts
+    pub(crate) fn large_new(&self, len: u64) -> Counts
         requires few { IsFew self.now }
         requires calls { self.now.calls < 2 ^ 32 - 1 }
         ensures value { result ≡ large_new_counted self.now len }
@@ -136,7 +136,7 @@ impl Counts {
     }
 
     /// After a large object was freed.
-    pub(crate) fn large_free(&self, len: u32) -> Counts
+    pub(crate) fn large_free(&self, len: u64) -> Counts
         requires few { IsFew self.now }
         requires calls { self.now.calls < 2 ^ 32 - 1 }
         ensures value { result ≡ large_free_counted self.now len }

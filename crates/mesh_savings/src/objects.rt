@@ -20,7 +20,7 @@ pub(crate) enum Object {
     /// An object of up to 2,048 bytes.
     Small(Places),
     /// A larger object of this length. It is in neither heap.
-    Large(u32),
+    Large(u64),
 }
 
 /// The number of the object that each cell was given last, and the live objects by number.

@@ -1,5 +1,5 @@
 //! `Savings`: the follower.
-ghost use Rattle.std.specs.Prelude.{◌≡◌, ◌≢◌, ℕ, ◌+◌, ◌≤◌, ◌<◌, ◌-◌, ◌^◌, ◌↔◌, false, None, Some, IfOk, IsTrue};
+ghost use Rattle.std.specs.Prelude.{◌≡◌, ◌≢◌, ℕ, ◌+◌, ◌≤◌, ◌<◌, ◌-◌, ◌^◌, ◌↔◌, false, None, Some, IfOk, IfSome, IsTrue};
 ghost use Rattle.model_words.specs.Classes.{class_for};
 ghost use Rattle.mesh_placement.specs.Placement.{table_of};
 ghost use Rattle.mesh_savings.specs.Followed.{Followed, aliased, freed, made, object_in, start, step};
@@ -160,7 +160,7 @@ impl Savings {
     }
 
     /// Makes an object above 2,048 bytes: it is only counted.
-    fn new_large(&mut self, cell: u32, len: u32) -> Result<Taken, AllocError>
+    fn new_large(&mut self, cell: u32, len: u64) -> Result<Taken, AllocError>
         requires { HasNumbers self.old }
         ensures taken { (f : Followed) → Follows self.old f → IfOk result (IsTaken self.new f (made self.old.settings f cell len None)) }
         ensures unchanged { IfOk result (λ taken. taken ≢ Made → self.new ≡ self.old) }
@@ -194,16 +194,26 @@ impl Savings {
     }
 
     /// Makes an object.
-    fn new_object(&mut self, cell: u32, len: u32) -> Result<Taken, AllocError>
+    fn new_object(&mut self, cell: u32, len: u64) -> Result<Taken, AllocError>
         requires numbers { HasNumbers self.old }
         requires some { 1 ≤ len }
         ensures taken { (f : Followed) → Follows self.old f → IfOk result (IsTaken self.new f (made self.old.settings f cell len (class_for len))) }
         ensures unchanged { IfOk result (λ taken. taken ≢ Made → self.new ≡ self.old) }
         ensures settings { self.new.settings ≡ self.old.settings }
     {
-        match class_of(len) {
-            Ok(class) => self.new_small(cell, len, class),
-            Err(_) => self.new_large(cell, len),
+        match class_within(len) {
+            Some(class) => self.new_small(cell, len as u32, class),
+            None => self.new_large(cell, len),
         }
     }
+}
+
+/// The class of an object of `len` bytes, 1 at least. None above 2,048 bytes.
+fn class_within(len: u64) -> Option<Class>
+    requires { 1 ≤ len }
+    ensures class { result ≡ class_for len }
+    ensures small { IfSome result (λ _. len ≤ 2048) }
+{
+    let len = u32::try_from(len).ok()?;
+    class_of(len).ok()
 }

@@ -30,11 +30,11 @@ many_cells = 4294967296
 abbrev pub was_given : List ℕ → ℕ → Bool
 was_given serials serial = list_any (λ other. nat_eq other serial) serials
 
--- any allocator: a cell for each object, objects of up to 2^32 - 1 bytes, any length that it finds too large, and any serial that it never gave before
+-- any allocator: a cell for each object, objects of up to 2^47 bytes, as addresses go, any length that it finds too large, and any serial that it never gave before
 abbrev pub any_allocator : Allocator
 any_allocator = record {
   cells = many_cells;
-  longest = 4294967295;
+  longest = 140737488355328;
   may_be_large = λ len. nat_le 1 len;
   may_be_next = λ serials serial. not (was_given serials serial);
 }

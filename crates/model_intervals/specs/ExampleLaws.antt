@@ -115,12 +115,13 @@ SerialsAreGivenOnce = IsExplained (serial_after_free 6) × IsUnexplained (serial
 abbrev pub new_answered : ℕ → Reply → List Call
 new_answered len reply = call 0 0 1 (New 0 len 0) reply ∷ []
 
--- a `new` makes no object of 0 bytes or of 2^32, and is refused only for a reason that fits its length
+-- a `new` makes no object of 0 bytes or of more than 2^47, and is refused only for a reason that fits its length
 abbrev pub NewAnswersFitTheLength : Type 0
-NewAnswersFitTheLength = IsUnexplained (new_answered 0 (Made 5 4096)) × IsUnexplained (new_answered 4294967296 (Made 5 4096))
+NewAnswersFitTheLength = IsUnexplained (new_answered 0 (Made 5 4096)) × IsUnexplained (new_answered 140737488355329 (Made 5 4096))
     × IsExplained (new_answered 0 (Refused Zero)) × IsUnexplained (new_answered 2 (Refused Zero))
     × IsExplained (new_answered 2 (Refused NoPages)) × IsUnexplained (new_answered 0 (Refused NoPages))
-    × IsExplained (new_answered 4294967296 (Refused TooLarge)) × IsUnexplained (new_answered 2 (Refused Outside))
+    × IsExplained (new_answered 140737488355328 (Refused NoPages)) × IsUnexplained (new_answered 140737488355329 (Refused NoPages))
+    × IsExplained (new_answered 140737488355329 (Refused TooLarge)) × IsUnexplained (new_answered 2 (Refused Outside))
 
 -- one call on the first object
 abbrev pub one_access : Command → Reply → List Call

@@ -9,4 +9,4 @@ returns c =
     let calls = rw c.from.ensures at c.in_ok-add_counted.ensures in
     let objects = rw c.from-2.ensures at c.in_ok-add_counted-2.ensures in
     let large = rw c.from-3.ensures at c.in_ok-add_counted-3.ensures in
-    on_ok_weaker c.add.result (λ end. five_pieces _ _ _ _ _ _ _ _ _ _ _ calls objects large c.in_ok-add_counted-4.ensures end) c.add.ensures
+    on_ok_weaker c.add.result (λ end. five_pieces _ _ _ _ _ _ _ _ _ _ _ calls objects large c.in_ok-add_wide_counted.ensures end) c.add.ensures

@@ -28,12 +28,14 @@ returns-clause-serials c = (explained_as_listed (serial_after_free 6) refl refl,
 pub returns-clause-news : goal.returns-clause-news
 returns-clause-news c = (
   unexplained (new_answered 0 (Made 5 4096)) refl (λ explained. let some = (fair_new 0 (Made 5 4096) explained).0 in omega (arith, some)),
-  unexplained (new_answered 4294967296 (Made 5 4096)) refl (λ explained. let few = (fair_new 4294967296 (Made 5 4096) explained).1 in omega (arith, few)),
+  unexplained (new_answered 140737488355329 (Made 5 4096)) refl (λ explained. let few = (fair_new 140737488355329 (Made 5 4096) explained).1 in omega (arith, few)),
   explained_as_listed (new_answered 0 (Refused Zero)) refl refl,
   unexplained (new_answered 2 (Refused Zero)) refl (λ explained. let none = fair_new 2 (Refused Zero) explained in omega (arith, none)),
   explained_as_listed (new_answered 2 (Refused NoPages)) refl refl,
   unexplained (new_answered 0 (Refused NoPages)) refl (λ explained. let some = (fair_new 0 (Refused NoPages) explained).0 in omega (arith, some)),
-  explained_as_listed (new_answered 4294967296 (Refused TooLarge)) refl refl,
+  explained_as_listed (new_answered 140737488355328 (Refused NoPages)) refl refl,
+  unexplained (new_answered 140737488355329 (Refused NoPages)) refl (λ explained. let few = (fair_new 140737488355329 (Refused NoPages) explained).1 in omega (arith, few)),
+  explained_as_listed (new_answered 140737488355329 (Refused TooLarge)) refl refl,
   unexplained (new_answered 2 (Refused Outside)) refl (λ explained. fair_new 2 (Refused Outside) explained),
 )
 
