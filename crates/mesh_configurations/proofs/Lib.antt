@@ -4,6 +4,8 @@ pub mod Growth
 pub mod Beyond
 pub mod Found
 pub mod Left
+pub mod Copied
+pub mod Refuting
 pub mod Passing
 pub mod MarkedStates
 pub mod InTime

@@ -3,4 +3,5 @@ pub mod Growing
 pub mod Marks
 pub mod Orders
 pub mod Placed
+pub mod Refuted
 pub mod Standings

@@ -12,11 +12,13 @@ mod faults;
 mod judge;
 pub mod laws;
 mod met;
+mod refutation;
 
 pub use calls::Calls;
 pub use configuration::Configuration;
 pub use faults::JudgeFault;
 pub use judge::{Judge, MOST_PENDING};
+pub use refutation::Refutation;
 
 #[cfg(test)]
 mod tests;

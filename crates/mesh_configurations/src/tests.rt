@@ -1,9 +1,8 @@
 //! Tests of the judge of a word that is stored and loaded.
 ghost use Rattle.std.specs.Prelude.{◌<◌};
 
-use crate::calls::Calls;
-use crate::judge::Judge;
-use mesh_pool::Value;
+use crate::{Calls, Configuration, Judge, Refutation};
+use mesh_pool::{Pool, Value};
 use std::alloc::{AllocError, Global};
 
 /// What the word holds.
@@ -99,7 +98,7 @@ fn judged(alloc: Global, events: &[Event], most: usize) -> Option<bool> {
                 if !judge.is_pending(place) {
                     return None;
                 }
-                let _left = judge.end(alloc, place, most).ok()?;
+                let _refutation = judge.end(alloc, place, most).ok()?;
             }
         }
     }
@@ -158,9 +157,49 @@ fn at_most_64_calls_are_pending(rt: HostRuntime) {
     }
     assert!(rt; judge.begin(store(1)).is_err());
     assert!(rt; judge.is_pending(7));
-    assert_eq!(rt; judge.end(rt.alloc(), 7, 100).ok(), Some(true));
+    assert!(rt; matches!(judge.end(rt.alloc(), 7, 100), Ok(None)));
     assert!(rt; !judge.is_pending(7));
     assert_eq!(rt; judge.begin(load(0)).ok(), Some(7));
+}
+
+/// In how many of these configurations the word holds a value.
+fn count_of(configurations: &Pool<Configuration<Word>>, value: u64) -> usize {
+    let mut count: usize = 0;
+    for number in 0..configurations.len() {
+        if configurations.get(number as u32).state.value == value {
+            count = count.saturating_add(1);
+        }
+    }
+    count
+}
+
+/// The refutation of a load of 9 at its end. Before it a store of 1 begins, and a store of 2 begins and ends. At most
+/// `most` configurations may be met. `None` if there is no refutation, or if the judge returned an error.
+fn refuted_load(alloc: Global, most: usize) -> Option<Refutation<Register>> {
+    let mut judge = Judge::<Register>::new(alloc, Word { value: 0 }).ok()?;
+    let _open = judge.begin(store(1)).ok()?;
+    for access in [store(2), load(9)] {
+        let place = judge.begin(access).ok()?;
+        if !judge.is_pending(place) {
+            return None;
+        }
+        let ended = judge.end(alloc, place, most).ok()?;
+        if ended.is_some() {
+            return ended;
+        }
+    }
+    None
+}
+
+#[test]
+fn a_refuted_load_is_returned_with_the_states_that_were_met(rt: HostRuntime) {
+    let refutation = refuted_load(rt.alloc(), 4).expect(&rt, "a refutation");
+    assert!(rt; !refutation.call.stores);
+    assert_eq!(rt; refutation.call.value, 9);
+    assert_eq!(rt; refutation.met.len(), 3);
+    assert_eq!(rt; count_of(&refutation.met, 1), 1);
+    assert_eq!(rt; count_of(&refutation.met, 2), 2);
+    assert!(rt; refuted_load(rt.alloc(), 3).is_none());
 }
 
 /// An access with the numbers of the events at which it began and ended.

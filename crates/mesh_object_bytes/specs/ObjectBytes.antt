@@ -1,11 +1,11 @@
 -- The bytes of an object as what accesses find and change, and as the chunks that are kept.
-use Rattle.std.specs.Prelude.{◌≡◌, ℕ, ◌+◌, not, ◌&&◌, if◌then◌else◌, List, [], Option, Some, None, length, map, option_map, slice_range}
+use Rattle.std.specs.Prelude.{◌≡◌, ℕ, ◌+◌, not, ◌&&◌, if◌then◌else◌, List, [], Option, Some, None, length, map, nat_eq, option_map, slice_range}
 use Rattle.std.specs.List.{range_with_len}
 use Rattle.std.specs.Str.{bytes_eq}
 use Rattle.model_memory.specs.Memory.{overwritten}
 use Rattle.model_intervals.specs.Objects.{ends_past}
 use Rattle.mesh_object_bytes.specs.declared.access.Access.{Access}
-use Rattle.mesh_object_bytes.specs.declared.access.Access.TheVariants.{Store, Load, Nothing, Never}
+use Rattle.mesh_object_bytes.specs.declared.access.Access.TheVariants.{Store, Load, Nothing, Elsewhere}
 use Rattle.mesh_object_bytes.specs.declared.chunk.Chunk.{Chunk}
 use Rattle.mesh_object_bytes.specs.Chunks.{byte_at, stored}
 
@@ -25,20 +25,21 @@ bytes_of state = map (byte_at state.chunks) (range_with_len 0 state.len)
 -- the bytes behind an access, if it answers as it was recorded
 abbrev pub accessed_by : Access → List ℕ → Option (List ℕ)
 accessed_by (Store off new) bytes = if ends_past bytes off (length new.items) then None else Some (overwritten bytes off new.items)
-accessed_by (Load off told) bytes =
-    if not (ends_past bytes off (length told.items)) && bytes_eq told.items (slice_range bytes off (off + length told.items)) then Some bytes else None
+accessed_by (Load off len answered) bytes =
+    if nat_eq len (length answered.items) && (not (ends_past bytes off (length answered.items))
+    && bytes_eq answered.items (slice_range bytes off (off + length answered.items))) then Some bytes else None
 accessed_by Nothing bytes = Some bytes
-accessed_by Never bytes = None
+accessed_by (Elsewhere address) bytes = None
 
 -- the state behind an access, if it answers as it was recorded
 abbrev pub effect : State → Access → Option State
 effect state (Store off new) =
     if ends_past (bytes_of state) off (length new.items) then None else Some (record { len = state.len; chunks = stored state.chunks off new.items })
-effect state (Load off told) =
-    if not (ends_past (bytes_of state) off (length told.items)) && bytes_eq told.items (slice_range (bytes_of state) off (off + length told.items))
-    then Some state else None
+effect state (Load off len answered) =
+    if nat_eq len (length answered.items) && (not (ends_past (bytes_of state) off (length answered.items))
+    && bytes_eq answered.items (slice_range (bytes_of state) off (off + length answered.items))) then Some state else None
 effect state Nothing = Some state
-effect state Never = None
+effect state (Elsewhere address) = None
 
 -- what an access does to the state is what it does to the bytes
 abbrev pub EffectIsAccess : Type 0

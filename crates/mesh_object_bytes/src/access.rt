@@ -5,12 +5,12 @@ use model_words::MAX_BYTES;
 /// What an access of an object was recorded to do and to answer.
 #[derive(Clone, Drop)]
 pub enum Access {
-    /// These bytes were stored from an offset on.
-    Store(u32, ArrayVec<u8, MAX_BYTES>),
-    /// These bytes were loaded from an offset on.
-    Load(u32, ArrayVec<u8, MAX_BYTES>),
+    /// A store of these bytes from an offset on.
+    Store(u64, ArrayVec<u8, MAX_BYTES>),
+    /// A load from an offset on: how many bytes were asked for, and the bytes that were answered.
+    Load(u64, u32, ArrayVec<u8, MAX_BYTES>),
     /// The access finds and changes no byte, and was answered rightly.
     Nothing,
-    /// The access was answered as no bytes can explain.
-    Never,
+    /// The address was asked for, and this one was answered, which isn't the object's: no bytes explain that.
+    Elsewhere(u64),
 }

@@ -28,14 +28,14 @@ impl Calls for ObjectAccesses {
                 }
                 Ok(Some(state.stored(alloc, *off, bytes.as_slice())?))
             }
-            Access::Load(off, told) => {
-                if !state.has(*off, told.as_slice()) {
+            Access::Load(off, len, answered) => {
+                if !state.answers(*off, *len, answered.as_slice()) {
                     return Ok(None);
                 }
                 Ok(Some(state.copied(alloc)?))
             }
             Access::Nothing => Ok(Some(state.copied(alloc)?)),
-            Access::Never => Ok(None),
+            Access::Elsewhere(_) => Ok(None),
         }
     }
 

@@ -1,5 +1,5 @@
 //! `ObjectBytes`, the bytes of one object.
-ghost use Rattle.std.specs.Prelude.{◌≡◌, ◌+◌, ◌*◌, ◌^◌, ◌≤◌, ◌<◌, ◌&&◌, IfOk, OnOk, length, not, replicate, slice_range};
+ghost use Rattle.std.specs.Prelude.{◌≡◌, ◌+◌, ◌*◌, ◌^◌, ◌≤◌, ◌<◌, ◌&&◌, IfOk, OnOk, length, nat_eq, not, replicate, slice_range};
 ghost use Rattle.std.specs.Str.{bytes_eq};
 ghost use Rattle.model_intervals.specs.Objects.{ends_past};
 ghost use Rattle.mesh_object_bytes.specs.Chunks.{stored};
@@ -21,7 +21,7 @@ mod prints;
 /// same calls had their effect, and whose bytes are the same, keep the same chunks: they are one and not two.
 #[derive(Drop)]
 pub struct ObjectBytes {
-    len: u32,
+    len: u64,
     chunks: Vec<Chunk>,
 }
 
@@ -35,7 +35,7 @@ impl Model for ObjectBytes {
 
 impl ObjectBytes {
     /// So many zeros. It allocates nothing.
-    pub fn new(alloc: Global, len: u32) -> ObjectBytes
+    pub fn new(alloc: Global, len: u64) -> ObjectBytes
         ensures first { result ≡ first_state len }
         ensures zeros { bytes_of result ≡ replicate len 0 }
     {
@@ -46,14 +46,14 @@ impl ObjectBytes {
     }
 
     /// How many bytes there are.
-    pub fn len(&self) -> u32
+    pub fn len(&self) -> u64
         ensures { result ≡ length (bytes_of self.now) }
     {
         self.len
     }
 
     /// The bytes from an offset on.
-    pub fn load(&self, off: u32, len: u32) -> ArrayVec<u8, MAX_BYTES>
+    pub fn load(&self, off: u64, len: u32) -> ArrayVec<u8, MAX_BYTES>
         requires fits { off + len ≤ length (bytes_of self.now) }
         requires few { len ≤ 32 }
         ensures { result.items ≡ slice_range (bytes_of self.now) off (off + len) }
@@ -65,7 +65,7 @@ impl ObjectBytes {
     }
 
     /// Copies the bytes from an offset on, as many as `out` has.
-    fn read(&self, off: u32, out: &mut [u8])
+    fn read(&self, off: u64, out: &mut [u8])
         requires fits { off + length out.old ≤ length (bytes_of self.now) }
         requires few { length out.old ≤ 32 }
         ensures { out.new ≡ slice_range (bytes_of self.now) off (off + length out.old) }
@@ -79,7 +79,7 @@ impl ObjectBytes {
     }
 
     /// A run of one chunk's bytes, from a place in it on.
-    fn run(&self, number: u32, place: usize, len: usize) -> &[u8]
+    fn run(&self, number: u64, place: usize, len: usize) -> &[u8]
         requires one_chunk { place + len ≤ 64 }
         requires fits { number * 64 + place + len ≤ length (bytes_of self.now) }
         ensures { result.now ≡ slice_range (bytes_of self.now) (number * 64 + place) (number * 64 + place + len) }
@@ -88,29 +88,38 @@ impl ObjectBytes {
     }
 
     /// Whether a range ends past the bytes.
-    pub(crate) fn ends_past(&self, off: u32, len: usize) -> bool
-        requires { len ≤ 32 }
+    pub(crate) fn ends_past(&self, off: u64, len: usize) -> bool
         ensures { result ≡ ends_past (bytes_of self.now) off len }
     {
-        u64::from(self.len) < u64::from(off) + len as u64
+        self.len < off || self.len - off < len as u64
+    }
+
+    /// Whether a load of so many bytes from an offset on answers these bytes.
+    pub(crate) fn answers(&self, off: u64, len: u32, answered: &[u8]) -> bool
+        requires { length answered.now ≤ 32 }
+        ensures { result ≡ (nat_eq len (length answered.now) && (not (ends_past (bytes_of self.now) off (length answered.now))
+            && bytes_eq answered.now (slice_range (bytes_of self.now) off (off + length answered.now)))) }
+    {
+        len as usize == answered.len() && self.has(off, answered)
     }
 
     /// Whether these bytes are there from an offset on.
-    pub(crate) fn has(&self, off: u32, told: &[u8]) -> bool
-        requires { length told.now ≤ 32 }
-        ensures { result ≡ (not (ends_past (bytes_of self.now) off (length told.now)) && bytes_eq told.now (slice_range (bytes_of self.now) off (off + length told.now))) }
+    fn has(&self, off: u64, bytes: &[u8]) -> bool
+        requires { length bytes.now ≤ 32 }
+        ensures { result ≡ (not (ends_past (bytes_of self.now) off (length bytes.now))
+            && bytes_eq bytes.now (slice_range (bytes_of self.now) off (off + length bytes.now))) }
     {
-        if self.ends_past(off, told.len()) {
+        if self.ends_past(off, bytes.len()) {
             return false;
         }
-        told == self.load(off, told.len() as u32).as_slice()
+        bytes == self.load(off, bytes.len() as u32).as_slice()
     }
 
     /// The bytes with others stored from an offset on. An error is an allocation failure, here and below.
     pub(crate) fn stored(
         &self,
         alloc: Global,
-        off: u32,
+        off: u64,
         bytes: &[u8],
     ) -> Result<ObjectBytes, AllocError>
         requires { length bytes.now ≤ 32 }
@@ -122,6 +131,15 @@ impl ObjectBytes {
             len: self.len,
             chunks,
         })
+    }
+
+    /// How many chunks are kept.
+    #[cfg(test)]
+    pub(crate) fn chunk_count(&self) -> usize
+        ensures { result ≡ length self.now.chunks }
+    {
+        let _len = self.len;
+        self.chunks.len()
     }
 
     /// A copy.
@@ -137,7 +155,7 @@ impl ObjectBytes {
 }
 
 /// Stores bytes in the chunks from an offset on.
-fn store_in(chunks: &mut Vec<Chunk>, off: u32, bytes: &[u8]) -> Result<(), AllocError>
+fn store_in(chunks: &mut Vec<Chunk>, off: u64, bytes: &[u8]) -> Result<(), AllocError>
     requires { length bytes.now ≤ 32 }
     ensures { OnOk result (chunks.new.items ≡ stored chunks.old.items off bytes.now) }
 {
@@ -154,13 +172,13 @@ fn store_in(chunks: &mut Vec<Chunk>, off: u32, bytes: &[u8]) -> Result<(), Alloc
 }
 
 /// The chunk in which an offset lies, and the place in that chunk.
-fn chunk_and_place(offset: u32) -> (u32, usize)
+fn chunk_and_place(offset: u64) -> (u64, usize)
     ensures offset { result.0 * 64 + result.1 ≡ offset }
     ensures place { result.1 < 64 }
-    ensures few { result.0 < 2 ^ 26 }
+    ensures few { result.0 < 2 ^ 58 }
 {
-    let offset = offset as usize;
-    ((offset / CHUNK_BYTES) as u32, offset % CHUNK_BYTES)
+    let chunk_bytes = CHUNK_BYTES as u64;
+    (offset / chunk_bytes, (offset % chunk_bytes) as usize)
 }
 
 /// How many of so many bytes from a place on lie in that place's chunk.

@@ -13,7 +13,7 @@ pub(crate) static ZEROS: [u8; CHUNK_BYTES] = [0; CHUNK_BYTES];
 #[derive(Clone, Copy, PartialEq, Eq)]
 pub(crate) struct Chunk {
     /// The number.
-    pub number: u32,
+    pub number: u64,
     /// The bytes.
     pub bytes: [u8; CHUNK_BYTES],
 }

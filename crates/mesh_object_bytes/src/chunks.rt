@@ -7,7 +7,7 @@ use crate::chunk::{CHUNK_BYTES, Chunk, ZEROS};
 use std::alloc::AllocError;
 
 /// The bytes of the chunk of a number.
-pub(crate) fn chunk(chunks: &[Chunk], number: u32) -> &[u8]
+pub(crate) fn chunk(chunks: &[Chunk], number: u64) -> &[u8]
     ensures bytes { result.now ≡ chunk_bytes number chunks.now }
     ensures sized { length result.now ≡ 64 }
 {
@@ -19,7 +19,7 @@ pub(crate) fn chunk(chunks: &[Chunk], number: u32) -> &[u8]
 }
 
 /// The place of the first chunk whose number is at least this one.
-fn index_of(chunks: &[Chunk], number: u32) -> usize
+fn index_of(chunks: &[Chunk], number: u64) -> usize
     ensures is { result ≡ index_of number chunks.now }
     ensures within { result ≤ length chunks.now }
 {
@@ -44,7 +44,7 @@ fn all_bytes(bytes: &[u8; CHUNK_BYTES]) -> &[u8]
 /// Stores bytes in the chunk of a number, from a place on. An error is an allocation failure.
 pub(crate) fn store_run(
     chunks: &mut Vec<Chunk>,
-    number: u32,
+    number: u64,
     place: usize,
     bytes: &[u8],
 ) -> Result<(), AllocError>

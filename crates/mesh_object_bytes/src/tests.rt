@@ -31,12 +31,18 @@ fn bytes_of(some: &[u8]) -> ArrayVec<u8, MAX_BYTES> {
     bytes
 }
 
-/// A random access, most often a store or a load of at most 32 bytes. A load is of what the array has, or of what it
-/// hasn't.
+/// A load from an offset on that is answered with these bytes, as many as it asks for.
+fn load_of(off: u64, answered: &[u8]) -> Access {
+    let bytes = bytes_of(answered);
+    Access::Load(off, bytes.len() as u32, bytes)
+}
+
+/// A random access, most often a store or a load of at most 32 bytes. A load is answered with what the array has, with
+/// another byte, or with another number of bytes than was asked for.
 fn random_access(seed: &mut u64, plain: &[u8; LEN]) -> Access {
     match random(seed, 20) {
         0 => return Access::Nothing,
-        1 => return Access::Never,
+        1 => return Access::Elsewhere(seed.wrapping_mul(64)),
         _ => (),
     }
     let off = random(seed, LEN + 8);
@@ -60,10 +66,13 @@ fn random_access(seed: &mut u64, plain: &[u8; LEN]) -> Access {
         let _full = bytes.try_push(byte);
     }
     if stores {
-        Access::Store(off as u32, bytes)
-    } else {
-        Access::Load(off as u32, bytes)
+        return Access::Store(off as u64, bytes);
     }
+    let asked = match random(seed, 10) {
+        0 => random(seed, 33),
+        _ => len,
+    };
+    Access::Load(off as u64, asked as u32, bytes)
 }
 
 /// What the array has behind an access, `None` if it was answered wrongly.
@@ -71,7 +80,7 @@ fn behind(plain: &[u8; LEN], access: &Access) -> Option<[u8; LEN]> {
     let mut next = *plain;
     match access {
         Access::Store(off, bytes) => {
-            if *off as usize + bytes.len() > LEN {
+            if (*off as usize).saturating_add(bytes.len()) > LEN {
                 return None;
             }
             for (place, byte) in bytes.as_slice().iter().enumerate() {
@@ -80,18 +89,20 @@ fn behind(plain: &[u8; LEN], access: &Access) -> Option<[u8; LEN]> {
                 }
             }
         }
-        Access::Load(off, told) => {
-            if *off as usize + told.len() > LEN {
+        Access::Load(off, len, answered) => {
+            if *len as usize != answered.len()
+                || (*off as usize).saturating_add(answered.len()) > LEN
+            {
                 return None;
             }
-            for (place, byte) in told.as_slice().iter().enumerate() {
+            for (place, byte) in answered.as_slice().iter().enumerate() {
                 if next.get(*off as usize + place) != Some(byte) {
                     return None;
                 }
             }
         }
         Access::Nothing => (),
-        Access::Never => return None,
+        Access::Elsewhere(_) => return None,
     }
     Some(next)
 }
@@ -121,7 +132,7 @@ fn goes_on(
 /// Whether loads find all bytes of the array.
 fn has_all(alloc: Global, state: &ObjectBytes, plain: &[u8; LEN]) -> Result<bool, AllocError> {
     for (number, some) in plain.chunks(20).enumerate() {
-        let load = Access::Load((number * 20) as u32, bytes_of(some));
+        let load = load_of((number * 20) as u64, some);
         if ObjectAccesses::effect(alloc, state, &load)?.is_none() {
             return Ok(false);
         }
@@ -151,8 +162,8 @@ fn random_accesses_do_what_they_do_to_an_array(rt: HostRuntime) {
 /// The state behind stores, if all are within the object. An error is an allocation failure.
 fn stored(
     alloc: Global,
-    len: u32,
-    stores: &[(u32, u8)],
+    len: u64,
+    stores: &[(u64, u8)],
 ) -> Result<Option<ObjectBytes>, AllocError> {
     let mut state = ObjectBytes::new(alloc, len);
     for (off, byte) in stores {
@@ -182,14 +193,43 @@ fn the_order_of_stores_to_other_bytes_is_not_kept(rt: HostRuntime) {
 }
 
 #[test]
-fn the_longest_object_has_its_last_bytes_and_none_behind_them(rt: HostRuntime) {
-    let last = stored(rt.alloc(), 0xffff_ffff, &[(0xffff_fffd, 7)]);
-    let last = last.expect(&rt, "out of memory").expect(&rt, "refused");
-    let past = stored(rt.alloc(), 0xffff_ffff, &[(0xffff_fffe, 7)]);
-    assert!(rt; past.expect(&rt, "out of memory").is_none());
-    if last.len() == 0xffff_ffff {
+fn an_object_of_2_to_the_47_bytes_has_its_last_byte_and_none_behind_it(rt: HostRuntime) {
+    let empty = ObjectBytes::new(rt.alloc(), 0x8000_0000_0000);
+    let last = Access::Store(0x7fff_ffff_ffff, bytes_of(&[7]));
+    let next = ObjectAccesses::effect(rt.alloc(), &empty, &last);
+    let next = next.expect(&rt, "out of memory").expect(&rt, "refused");
+    assert_eq!(rt; next.chunk_count(), 1);
+    if next.len() == 0x8000_0000_0000 {
         assert_eq!(rt;
-            last.load(0xffff_fffb, 4).as_slice(),
+            next.load(0x7fff_ffff_fffc, 4).as_slice(),
+            [0, 0, 0, 7].as_slice()
+        );
+    }
+    for off in [0x8000_0000_0000, 0xffff_ffff_ffff_ffff] {
+        for access in [Access::Store(off, bytes_of(&[7])), load_of(off, &[0])] {
+            let past = ObjectAccesses::effect(rt.alloc(), &next, &access);
+            assert!(rt; past.expect(&rt, "out of memory").is_none(), "at {off}");
+        }
+    }
+}
+
+#[test]
+fn the_longest_object_has_its_last_bytes_and_none_behind_them(rt: HostRuntime) {
+    let last = stored(
+        rt.alloc(),
+        0xffff_ffff_ffff_ffff,
+        &[(0xffff_ffff_ffff_fffd, 7)],
+    );
+    let last = last.expect(&rt, "out of memory").expect(&rt, "refused");
+    let past = stored(
+        rt.alloc(),
+        0xffff_ffff_ffff_ffff,
+        &[(0xffff_ffff_ffff_fffe, 7)],
+    );
+    assert!(rt; past.expect(&rt, "out of memory").is_none());
+    if last.len() == 0xffff_ffff_ffff_ffff {
+        assert_eq!(rt;
+            last.load(0xffff_ffff_ffff_fffb, 4).as_slice(),
             [0, 0, 7, 7].as_slice()
         );
     }
@@ -200,19 +240,19 @@ fn a_judge_follows_the_bytes(rt: HostRuntime) {
     let start = ObjectBytes::new(rt.alloc(), 100);
     let mut judge = Judge::<ObjectAccesses>::new(rt.alloc(), start).expect(&rt, "out of memory");
     let store = judge.begin(Access::Store(62, bytes_of(&[1, 2, 3, 4])));
-    let load = judge.begin(Access::Load(63, bytes_of(&[0, 0])));
+    let load = judge.begin(load_of(63, &[0, 0]));
     let load = load.expect(&rt, "too many calls");
     if judge.is_pending(load) {
-        assert_eq!(rt; judge.end(rt.alloc(), load, 100).ok(), Some(true));
+        assert!(rt; matches!(judge.end(rt.alloc(), load, 100), Ok(None)));
     }
     let store = store.expect(&rt, "too many calls");
     if judge.is_pending(store) {
-        assert_eq!(rt; judge.end(rt.alloc(), store, 100).ok(), Some(true));
+        assert!(rt; matches!(judge.end(rt.alloc(), store, 100), Ok(None)));
     }
     let later = judge
-        .begin(Access::Load(63, bytes_of(&[0, 0])))
+        .begin(load_of(63, &[0, 0]))
         .expect(&rt, "too many calls");
     if judge.is_pending(later) {
-        assert_eq!(rt; judge.end(rt.alloc(), later, 100).ok(), Some(false));
+        assert!(rt; matches!(judge.end(rt.alloc(), later, 100), Ok(Some(_))));
     }
 }

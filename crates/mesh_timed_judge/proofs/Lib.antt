@@ -9,3 +9,4 @@ pub mod Explained
 pub mod Moved
 pub mod Fronts
 pub mod Unexplained
+pub mod Refuting

@@ -3,6 +3,8 @@ use Rattle.std.specs.Prelude.{◌≡◌, ◌≢◌, ◌↔◌, ℕ, suc, ◌<◌
 use Rattle.mesh_configurations.specs.Carried.{HasMore, carry}
 use Rattle.mesh_configurations.specs.Orders.{EndsBefore, HasEnded, NumberedEvent, begun_behind}
 use Rattle.mesh_configurations.specs.Placed.{ArePlaced, HavePassed, none_taken}
+use Rattle.mesh_configurations.specs.declared.refutation.Refutation.{Refutation}
+use Rattle.mesh_configurations.specs.Refuted.{IsRefuted}
 use Rattle.mesh_configurations.specs.Standings.{Begins, CanGoOn, Ends, Event, Standing, effect_at, first_standing, had_effect}
 use Rattle.mesh_timed_judge.specs.TimedCalls.{Timed}
 
@@ -27,6 +29,11 @@ HasSome effect judge = CanGoOn effect judge.standing []
 abbrev pub HasMoreAtEnd : {S C : Type 0} → (S → C → Option S) → TimedStanding S C → ℕ → ℕ → Type 0
 HasMoreAtEnd effect judge number most = (place : ℕ) × (slice_get judge.numbers place ≡ Some (Some number))
     × HasMore (carry (effect_at effect judge.standing.pending) had_effect place) (length judge.standing.pending) judge.standing.kept most
+
+-- the call is the one that was pending under the number, and the configurations are exactly the kept ones and those that
+-- effects of pending calls, up to that of the call, make of them
+abbrev pub IsRefutedOf : {O S C : Type 0} → (S → C → Option S) → TimedStanding S C → ℕ → Refutation O S C → Type 0
+IsRefutedOf effect old number refutation = (place : ℕ) × (slice_get old.numbers place ≡ Some (Some number)) × IsRefuted effect old.standing place refutation
 
 -- a place has a number exactly where it has a pending call, and is in both lists or in none
 abbrev pub IsNumbered : {C : Type 0} → Option (Option C) → Option (Option ℕ) → Type 0

@@ -8,6 +8,7 @@ pub mod laws;
 mod numbers;
 mod timed;
 
+pub use mesh_configurations::Refutation;
 pub use timed::TimedJudge;
 
 #[cfg(test)]

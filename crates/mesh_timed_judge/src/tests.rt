@@ -99,7 +99,7 @@ fn judged(alloc: Global, events: &[Event], most: usize) -> Option<bool> {
                 if !judge.is_open(number) {
                     return None;
                 }
-                some = judge.end(alloc, number, most).ok()?;
+                some = judge.end(alloc, number, most).ok()?.is_none();
             }
         }
     }
@@ -147,6 +147,25 @@ fn what_was_loaded_once_stays(rt: HostRuntime) {
 }
 
 #[test]
+fn a_refuted_load_is_returned_with_the_states_that_were_met(rt: HostRuntime) {
+    let mut judge = TimedJudge::<Register>::new(rt.alloc(), Word { value: 0 }).expect(
+        &rt,
+        "out of memory",
+    );
+    for (number, access) in [(3, store(1)), (8, load(2))] {
+        assert!(rt; !judge.is_open(number));
+        assert!(rt; judge.begin(number, access).is_ok());
+    }
+    assert!(rt; judge.is_open(8));
+    let ended = judge.end(rt.alloc(), 8, 100).ok().expect(&rt, "an end");
+    let refutation = ended.expect(&rt, "a refutation");
+    assert!(rt; !refutation.call.stores);
+    assert_eq!(rt; refutation.call.value, 2);
+    assert_eq!(rt; refutation.met.len(), 2);
+    assert!(rt; !judge.is_open(8));
+}
+
+#[test]
 fn at_most_64_calls_are_pending(rt: HostRuntime) {
     let mut judge = TimedJudge::<Register>::new(rt.alloc(), Word { value: 0 }).expect(
         &rt,
@@ -161,7 +180,7 @@ fn at_most_64_calls_are_pending(rt: HostRuntime) {
     assert!(rt; !judge.is_open(7));
     assert!(rt; judge.begin(7, store(1)).is_err());
     assert!(rt; judge.is_open(107));
-    assert_eq!(rt; judge.end(rt.alloc(), 107, 100).ok(), Some(true));
+    assert!(rt; matches!(judge.end(rt.alloc(), 107, 100), Ok(None)));
     assert!(rt; !judge.is_open(107));
     assert!(rt; !judge.is_idle());
     assert!(rt; !judge.is_open(7));

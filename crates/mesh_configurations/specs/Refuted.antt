@@ -1,0 +1,12 @@
+-- Why no configuration is left at the end of a call.
+use Rattle.std.specs.Prelude.{◌≡◌, ℕ, Option, Some, length, slice_get}
+use Rattle.mesh_configurations.specs.declared.refutation.Refutation.{Refutation}
+use Rattle.mesh_configurations.specs.Carried.{carry}
+use Rattle.mesh_configurations.specs.Growing.{AreMet}
+use Rattle.mesh_configurations.specs.Standings.{Standing, effect_at, had_effect}
+
+-- the call is the one that was pending at the place, and the configurations are exactly the kept ones and those that
+-- effects of pending calls, up to that of the call, make of them
+abbrev pub IsRefuted : {O S C : Type 0} → (S → C → Option S) → Standing S C → ℕ → Refutation O S C → Type 0
+IsRefuted effect old place refutation = (slice_get old.pending place ≡ Some (Some refutation.call))
+    × AreMet (carry (effect_at effect old.pending) had_effect place) (length old.pending) old.kept refutation.met
