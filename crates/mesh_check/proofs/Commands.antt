@@ -1,5 +1,5 @@
 -- What commands that are done leave of a memory.
-use Rattle.std.proofs.Common.{◌≡◌, ℕ, suc, ◌+◌, ◌-◌, ◌≤◌, false, List, [], ◌∷◌, length, arith, refl, sym, ◌∙◌, inl, inr, Some, None, Result, Ok, IsOk}
+use Rattle.std.proofs.Common.{◌≡◌, ℕ, suc, ◌+◌, ◌-◌, ◌≤◌, false, List, [], ◌∷◌, length, arith, refl, sym, ◌∙◌, inl, inr, Some, None, Result, Ok, Err, IsOk}
 use Rattle.std.specs.List.{slice_range}
 use Rattle.std.proofs.lemmas.Bool.{true≢false}
 use Rattle.std.proofs.lemmas.Bool.Decides.{leb_tells}
@@ -8,6 +8,7 @@ use Rattle.model_memory.specs.Memory.{Memory, Object, object_of, overwritten, ro
 use Rattle.model_memory.specs.Plain.{Named, copied, ends_outside, holding, named_by, plain, stored}
 use Rattle.model_words.specs.declared.commands.Command.TheVariants.{Put, Free, Alias, Poke, Copy as CopyBytes}
 use Rattle.model_words.specs.declared.commands.Reply.TheVariants.{Done}
+use Rattle.model_words.specs.declared.refusals.Refusal.TheVariants.{Empty, Freed}
 use Rattle.arrayvec.specs.ArrayVec.{ArrayVec}
 
 -- a store leaves as many bytes
@@ -47,3 +48,19 @@ inside o off len h = elim (leb_tells (suc (length o.bytes)) (off + len)) [
 -- as many bytes as a range is long
 pub range_length : (bytes : List ℕ) (start len : ℕ) → start + len ≤ length bytes → length (slice_range bytes start (start + len)) ≡ len
 range_length bytes start len fits = grind (arith, common_steps)
+
+-- why a copy is refused
+pub copy_empty_to : (m : Memory) (to to_off from from_off len : ℕ) → root_of m to ≡ None → plain m 0 (CopyBytes to to_off from from_off len) ≡ Err Empty
+copy_empty_to m to to_off from from_off len none = rw none refl
+
+pub copy_empty_from : (m : Memory) (to to_off from from_off len s : ℕ) → root_of m to ≡ Some s → root_of m from ≡ None
+    → plain m 0 (CopyBytes to to_off from from_off len) ≡ Err Empty
+copy_empty_from m to to_off from from_off len s is none = rw is (rw none refl)
+
+pub copy_freed_to : (m : Memory) (to to_off from from_off len s u : ℕ) → root_of m to ≡ Some s → root_of m from ≡ Some u → object_of m s ≡ None
+    → plain m 0 (CopyBytes to to_off from from_off len) ≡ Err Freed
+copy_freed_to m to to_off from from_off len s u is is' none = rw (is, is') (rw none refl)
+
+pub copy_freed_from : (m : Memory) (to to_off from from_off len s u : ℕ) (x : Object) → root_of m to ≡ Some s → root_of m from ≡ Some u → object_of m s ≡ Some x
+    → object_of m u ≡ None → plain m 0 (CopyBytes to to_off from from_off len) ≡ Err Freed
+copy_freed_from m to to_off from from_off len s u x is is' at none = rw (is, is') (rw at (rw none refl))

@@ -1,19 +1,26 @@
 -- What is found of an entry.
-use Rattle.std.proofs.Common.{◌≡◌, ◌≢◌, ℕ, true, false, refl, sym, ◌∙◌, subst, Option, Some, None, Result, Ok, Err}
-use Rattle.std.specs.Prelude.{IfOk, IfSome, IsNone, IsSome}
+use Rattle.std.proofs.Common.{◌≡◌, ◌≢◌, ℕ, true, false, ap, refl, sym, ◌∙◌, subst, Option, Some, None, Result, Ok, Err}
+use Rattle.std.specs.Prelude.{IfErr, IfOk, IfSome, IsNone, OnOk}
+use Rattle.std.specs.declared.alloc.AllocError.{AllocError}
 use Rattle.model_memory.specs.Memory.{Memory}
 use Rattle.model_memory.specs.Plain.{Follows, plain}
 use Rattle.model_history.specs.Recorded.{Recorded, RecordedStep, any_allocator}
 use Rattle.model_words.specs.declared.commands.Command.{Command}
 use Rattle.model_words.specs.declared.commands.Command.TheVariants.{New}
 use Rattle.model_words.specs.declared.commands.Reply.{Reply}
+use Rattle.model_words.specs.declared.commands.Reply.TheVariants.{Done, Refused}
 use Rattle.model_words.specs.declared.refusals.Refusal.{Refusal}
-use Rattle.mesh_check.specs.Judged.{IsAnswered, IsWrong, is_new}
-use Rattle.mesh_check.specs.Reasons.{IsDifference, IsOnly, Tells, is_refusal}
-use Rattle.mesh_check.specs.Stands.{Stands, with_memory}
+use Rattle.mesh_history.specs.RecordedWords.{plain_reply}
+use Rattle.mesh_history.specs.declared.words.RecordedReply.{RecordedReply}
+use Rattle.mesh_check.specs.Judged.{IsAnswered, IsTold, IsWrong, is_new}
+use Rattle.mesh_check.specs.Reasons.{IsByte, IsDifference, IsOnly, Tells, is_refusal}
+use Rattle.mesh_check.specs.Stands.{IsDone, IsRefused, Stands, with_memory}
+use Rattle.mesh_check.specs.declared.faults.CommandError.{CommandError}
+use Rattle.mesh_check.specs.declared.faults.CommandError.TheVariants.{Refused as IsRefusedSo, Memory as OfMemory}
 use Rattle.mesh_check.specs.declared.memory.Tracked.{Tracked}
+use Rattle.mesh_check.specs.declared.reasons.DifferentByte.{DifferentByte}
 use Rattle.mesh_check.specs.declared.reasons.Reason.{Reason}
-use Rattle.mesh_check.specs.declared.reasons.Reason.TheVariants.{Differs, NoObject, LiveRefused}
+use Rattle.mesh_check.specs.declared.reasons.Reason.TheVariants.{Differs, LiveRefused}
 
 -- a recorded step that is no `new` follows what the plain memory does
 step_follows : (r : Recorded) (command : Command) (reply : Reply) (n : Recorded) → is_new command ≡ false → RecordedStep any_allocator r command reply n
@@ -32,6 +39,26 @@ one_reply : (x : Result (Reply × Memory) Refusal) (m : Memory) (reply other : R
 one_reply (Ok x) m reply other n k first second = first.0 ∙ sym second.0
 one_reply (Err refusal) m reply other n k first second = first.0 ∙ sym second.0
 
+-- what is told of a command that is done or refused is its answer
+pub told_done : (old new : Tracked) (command : Command) (outcome : Result (Unit {0}) CommandError) (told : Result RecordedReply AllocError)
+    → OnOk outcome (IsDone old new command) → IfErr outcome (IsRefused old new command) → IsTold outcome told
+    → IfOk told (λ reply. IsAnswered old new command (plain_reply reply))
+told_done old new command (Ok x) (Ok reply) done refused told = λ r st.
+    let after = done r st in (
+      after.0,
+      subst (λ (a : RecordedReply). Follows (plain r.memory 0 command) r.memory (plain_reply a) after.0) (sym told)
+          (subst (λ (x : Result (Reply × Memory) Refusal). Follows x r.memory Done after.0) (sym after.1) (refl, refl)),
+      after.2,
+    )
+told_done old new command (Err (IsRefusedSo refusal)) (Ok reply) done refused told = λ r st. (
+  r.memory,
+  subst (λ (a : RecordedReply). Follows (plain r.memory 0 command) r.memory (plain_reply a) r.memory) (sym told)
+      (subst (λ (x : Result (Reply × Memory) Refusal). Follows x r.memory (Refused refusal) r.memory) (sym (refused.1 r st)) (refl, refl)),
+  subst (λ (m : Tracked). Stands m r) (sym refused.0) st,
+)
+told_done old new command (Err OfMemory) (Ok reply) done refused told = absurd told
+told_done old new command outcome (Err error) done refused told = tt
+
 -- an answer is wrong that is not the plain memory's
 pub wrong_answer : (old new : Tracked) (command : Command) (reply wanted : Reply) → is_new command ≡ false → IsAnswered old new command wanted → reply ≢ wanted
     → IsWrong old command reply
@@ -49,22 +76,23 @@ only_answer old new command wanted other answered r st =
     }
 
 -- what is told of an answer that is not the plain memory's
-told_answer : (old new : Tracked) (command : Command) (reply wanted : Reply) (reason : Reason) → is_new command ≡ false → IsAnswered old new command wanted
-    → IsDifference reply wanted reason → Tells old command reply reason
-told_answer old new command reply wanted (Differs told) other answered is = λ r st.
-    subst (λ (w : Reply). IsOnly r command w × (is_refusal reply ≡ true → is_refusal w ≡ true)) (sym is.0) (only_answer old new _ _ other answered _ st, is.1)
-told_answer old new command reply wanted LiveRefused other answered is = λ r st. (is.0, (wanted, is.1, only_answer old new _ _ other answered _ st))
-told_answer old new command reply wanted NoObject other answered is = absurd is
-told_answer old new command reply wanted reason other answered is = absurd is
-
-pub told_difference : (old new : Tracked) (command : Command) (reply wanted : Reply) (reason : Option Reason) → is_new command ≡ false
-    → IsAnswered old new command wanted → IfSome reason (IsDifference reply wanted) → IfSome reason (Tells old command reply)
-told_difference old new command reply wanted None other answered is = tt
-told_difference old new command reply wanted (Some reason) other answered is = told_answer old new command reply wanted reason other answered is
-
-pub if_some : {X P : Type 0} (o : Option X) → (IsSome o → P) → IfSome o (λ _. P)
-if_some None holds = tt
-if_some (Some x) holds = holds refl
+pub told_answer : (old new : Tracked) (command : Command) (answered wanted : RecordedReply) (byte : Option DifferentByte) (reason : Reason) → is_new command ≡ false
+    → IsAnswered old new command (plain_reply wanted) → ((r : Recorded) → Stands old r → IsByte r command (plain_reply answered) (plain_reply wanted) byte)
+    → IsDifference answered wanted byte reason → Tells old command (plain_reply answered) reason
+told_answer old new command answered wanted byte (Differs difference) other told bytes is = λ r st. (
+  ap (λ (a : RecordedReply). plain_reply a) is.0,
+  subst (λ (a : RecordedReply). IsOnly r command (plain_reply a)) (sym is.1) (only_answer old new command (plain_reply wanted) other told r st),
+  subst (λ (a : RecordedReply). is_refusal (plain_reply answered) ≡ true → is_refusal (plain_reply a) ≡ true) (sym is.1) is.3,
+  subst (λ (b : Option DifferentByte). IsByte r command (plain_reply answered) (plain_reply difference.wanted) b) (sym is.2)
+      (subst (λ (a : RecordedReply). IsByte r command (plain_reply answered) (plain_reply a) byte) (sym is.1) (bytes r st)),
+)
+told_answer old new command answered wanted byte (LiveRefused refusal) other told bytes is = λ r st. (
+  ap (λ (a : RecordedReply). plain_reply a) is.0,
+  subst (λ (a : RecordedReply). IsOnly r command (plain_reply a)) (sym is.1) (only_answer old new command (plain_reply wanted) other told r st),
+  is.2,
+  subst (λ (a : RecordedReply). is_refusal (plain_reply a) ≡ false) (sym is.1) is.3,
+)
+told_answer old new command answered wanted byte reason other told bytes is = absurd is
 
 -- what is found for any word is found for one
 pub none_for_one : {X E : Type 0} (P : ℕ → Type 0) (found : Result (Option X) E) (word : ℕ) → IfOk found (λ reason. IsNone reason → (word : ℕ) → P word)

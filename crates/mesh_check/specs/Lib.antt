@@ -1,8 +1,11 @@
 pub use Rattle.model_memory.specs.Memory
 pub use Rattle.model_words.specs.Commands
+pub mod Cells
 pub mod Checks
 pub mod Chunks
+pub mod Differences
 pub mod Judged
+pub mod Lines
 pub mod Objects
 pub mod Outcomes
 pub mod Reasons

@@ -1,16 +1,20 @@
--- What is told by the reason for which an entry is not taken.
-use Rattle.std.specs.Prelude.{◌≡◌, ℕ, ◌≤◌, Bool, true, false, if◌then◌else◌, nat_eq}
-use Rattle.model_memory.specs.Plain.{IsVacantRange}
+-- Why an entry is not taken.
+use Rattle.std.specs.Prelude.{◌≡◌, ℕ, ◌+◌, ◌≤◌, Bool, true, false, Option, Some, None, Ok, if◌then◌else◌, nat_eq}
+use Rattle.model_memory.specs.Plain.{IsVacantRange, Named, holding}
 use Rattle.model_history.specs.Recorded.{Recorded, RecordedStep, any_allocator, was_given}
 use Rattle.model_words.specs.declared.commands.Command.{Command}
-use Rattle.model_words.specs.declared.commands.Command.TheVariants.{New}
+use Rattle.model_words.specs.declared.commands.Command.TheVariants.{New, Get, Peek}
 use Rattle.model_words.specs.declared.commands.Reply.{Reply}
 use Rattle.model_words.specs.declared.commands.Reply.TheVariants.{Object as Made, Refused}
 use Rattle.model_words.specs.declared.refusals.Refusal.TheVariants.{Zero}
 use Rattle.mesh_history.specs.RecordedWords.{plain_reply}
+use Rattle.mesh_history.specs.declared.words.RecordedReply.{RecordedReply}
 use Rattle.mesh_history.specs.declared.words.RecordedReply.TheVariants.{Refused as RecordedRefused}
+use Rattle.mesh_check.specs.Differences.{DifferAt, DifferNowhere, bytes_of}
 use Rattle.mesh_check.specs.Stands.{IsOverlapped, Stands}
 use Rattle.mesh_check.specs.declared.memory.Tracked.{Tracked}
+use Rattle.mesh_check.specs.declared.reasons.DifferentByte.{DifferentByte}
+use Rattle.mesh_check.specs.declared.reasons.Overlap.{Overlap}
 use Rattle.mesh_check.specs.declared.reasons.Reason.{Reason}
 use Rattle.mesh_check.specs.declared.reasons.Reason.TheVariants.{Differs, NoObject, LiveRefused, SerialAgain, Overlaps}
 
@@ -24,20 +28,48 @@ abbrev pub is_object : Reply → Bool
 is_object (Made serial address) = true
 is_object reply = false
 
--- how an answer differs from the one that is wanted: it refuses what is to be done, or else it is another
-abbrev pub IsDifference : Reply → Reply → Reason → Type 0
-IsDifference reply wanted (Differs other) = (plain_reply other ≡ wanted) × (is_refusal reply ≡ true → is_refusal wanted ≡ true)
-IsDifference reply wanted LiveRefused = (is_refusal reply ≡ true) × (is_refusal wanted ≡ false)
-IsDifference reply wanted reason = ⊥
+-- the command loads bytes
+abbrev pub is_load : Command → Bool
+is_load (Get cell off len) = true
+is_load (Peek address) = true
+is_load command = false
 
--- what is told of a `new` that is not answered by an object, or should not be
-abbrev pub no_object : ℕ → Reason
-no_object len = if nat_eq len 0 then Differs (RecordedRefused Zero) else NoObject
+-- how an answer differs from the one that is wanted: it refuses what is to be done, or else it is another
+abbrev pub IsDifference : RecordedReply → RecordedReply → Option DifferentByte → Reason → Type 0
+IsDifference answered wanted byte (Differs difference) =
+    (difference.answered ≡ answered) × (difference.wanted ≡ wanted) × (difference.byte ≡ byte)
+    × (is_refusal (plain_reply answered) ≡ true → is_refusal (plain_reply wanted) ≡ true)
+IsDifference answered wanted byte (LiveRefused refusal) =
+    (refusal.answered ≡ answered) × (refusal.wanted ≡ wanted) × (is_refusal (plain_reply answered) ≡ true) × (is_refusal (plain_reply wanted) ≡ false)
+IsDifference answered wanted byte reason = ⊥
+
+-- why a `new` is not taken that is answered by no object, or is answered by one and should not be
+abbrev pub no_object : ℕ → RecordedReply → Reason
+no_object len answered = if nat_eq len 0 then Differs (record { answered = answered; wanted = RecordedRefused Zero; byte = None }) else NoObject answered
 
 -- the command may be answered so, and no otherwise
 pub record IsOnly (r : Recorded) (command : Command) (wanted : Reply) : Type 0 where
   pub some : (n : Recorded) × RecordedStep any_allocator r command wanted n
   pub one : (reply : Reply) (n : Recorded) → RecordedStep any_allocator r command reply n → reply ≡ wanted
+
+-- the command loads bytes from this offset of an object on
+abbrev pub LoadsFrom : Recorded → Command → ℕ → Type 0
+LoadsFrom r (Get cell off len) start = start ≡ off
+LoadsFrom r (Peek address) start = (named : Named) × (holding r.memory address ≡ Ok named) × (named.object.address + start ≡ address)
+LoadsFrom r command start = ⊥
+
+-- the byte at this offset of the object is the first that differs
+pub record DiffersFrom (r : Recorded) (command : Command) (reply wanted : Reply) (offset : ℕ) : Type 0 where
+  pub start : ℕ
+  pub place : ℕ
+  pub loads : LoadsFrom r command start
+  pub is_offset : offset ≡ start + place
+  pub first : DifferAt (bytes_of reply) (bytes_of wanted) place
+
+-- the first byte that differs, of those that both answers have, if one does
+abbrev pub IsByte : Recorded → Command → Reply → Reply → Option DifferentByte → Type 0
+IsByte r command reply wanted None = DifferNowhere (bytes_of reply) (bytes_of wanted)
+IsByte r command reply wanted (Some byte) = DiffersFrom r command reply wanted byte.offset
 
 -- a `new` of one byte or more
 abbrev pub MakesSome : Command → Type 0
@@ -49,19 +81,24 @@ abbrev pub IsGiven : Recorded → Reply → Type 0
 IsGiven r (Made serial address) = was_given r.serials serial ≡ true
 IsGiven r reply = ⊥
 
--- a new object with a new serial, where a live object, which was given the other serial, has an address of its range
-abbrev pub IsCrowded : Recorded → Command → Reply → ℕ → Type 0
-IsCrowded r (New cell len word) (Made serial address) other =
-    (was_given r.serials serial ≡ false) × (IsVacantRange r.memory address len → ⊥) × IsOverlapped r address len other
-IsCrowded r command reply other = ⊥
+-- a new object with a new serial, where a live object has an address of its range
+abbrev pub IsCrowded : Recorded → Command → Reply → Overlap → Type 0
+IsCrowded r (New cell len word) (Made serial address) overlap =
+    (was_given r.serials serial ≡ false) × (IsVacantRange r.memory address len → ⊥) × IsOverlapped r address len overlap
+IsCrowded r command reply overlap = ⊥
 
 -- what the reason says of an entry
 abbrev pub IsReason : Recorded → Command → Reply → Reason → Type 0
-IsReason r command reply (Differs wanted) = IsOnly r command (plain_reply wanted) × (is_refusal reply ≡ true → is_refusal (plain_reply wanted) ≡ true)
-IsReason r command reply NoObject = MakesSome command × (is_object reply ≡ false)
-IsReason r command reply LiveRefused = (is_refusal reply ≡ true) × ((wanted : Reply) × (is_refusal wanted ≡ false) × IsOnly r command wanted)
+IsReason r command reply (Differs difference) =
+    (plain_reply difference.answered ≡ reply) × IsOnly r command (plain_reply difference.wanted)
+    × (is_refusal reply ≡ true → is_refusal (plain_reply difference.wanted) ≡ true)
+    × IsByte r command reply (plain_reply difference.wanted) difference.byte
+IsReason r command reply (NoObject answered) = (plain_reply answered ≡ reply) × MakesSome command × (is_object reply ≡ false)
+IsReason r command reply (LiveRefused refusal) =
+    (plain_reply refusal.answered ≡ reply) × IsOnly r command (plain_reply refusal.wanted) × (is_refusal reply ≡ true)
+    × (is_refusal (plain_reply refusal.wanted) ≡ false)
 IsReason r command reply SerialAgain = MakesSome command × IsGiven r reply
-IsReason r command reply (Overlaps serial) = IsCrowded r command reply serial
+IsReason r command reply (Overlaps overlap) = IsCrowded r command reply overlap
 
 -- it is so of whatever the trees stand for
 abbrev pub Tells : Tracked → Command → Reply → Reason → Type 0

@@ -1,41 +1,59 @@
 -- The memory of a recorded history, kept in trees.
-use Rattle.std.specs.Prelude.{◌≡◌, ◌≢◌, ℕ, ◌<◌, ◌≤◌, ◌+◌, Bool, true, List, Option, Some, None, Ok, Err, IsOk, length, slice_get}
+use Rattle.std.specs.Prelude.{◌≡◌, ◌≢◌, ◌↔◌, ℕ, ◌<◌, ◌≤◌, ◌+◌, ◌^◌, true, List, Option, Some, None, Ok, Err, IsOk, length, slice_get}
 use Rattle.std.specs.Ordering.{nat_cmp}
 use Rattle.std.specs.BTreeMap.{get}
-use Rattle.std.specs.BTreeSet.{contains}
 use Rattle.model_memory.specs.Memory.{Memory, Object, has_address, next_serial, object_of, overwritten, root_of, with_object}
 use Rattle.model_memory.specs.Plain.{plain}
 use Rattle.model_history.specs.Recorded.{Recorded, many_cells, was_given}
 use Rattle.model_words.specs.declared.commands.Command.{Command}
 use Rattle.model_words.specs.declared.commands.Reply.TheVariants.{Done}
 use Rattle.model_words.specs.declared.refusals.Refusal.{Refusal}
+use Rattle.mesh_number_set.specs.Ranges.{Has}
+use Rattle.mesh_check.specs.Cells.{CellTable, IsFreed, number_at}
+use Rattle.mesh_check.specs.Objects.{LiveObject, object_in, serial_in}
+use Rattle.mesh_check.specs.declared.cells.Held.{Held}
+use Rattle.mesh_check.specs.declared.cells.Held.TheVariants.{Number, Freed}
 use Rattle.mesh_check.specs.declared.faults.CommandError.{CommandError}
 use Rattle.mesh_check.specs.declared.faults.CommandError.TheVariants.{Refused, Memory as OfMemory}
 use Rattle.mesh_check.specs.declared.memory.Tracked.{Tracked}
+use Rattle.mesh_check.specs.declared.reasons.AddressRange.{AddressRange}
+use Rattle.mesh_check.specs.declared.reasons.Overlap.{Overlap}
 
--- the serials that were given: which these are, and their order
-pub record Given : Type 0 where
-  pub has : ℕ → Bool
-  pub order : List ℕ
-
--- the objects by number, their numbers by address, the numbers that cells hold, the serials that were given, and how many objects were made, are
--- those of what was recorded; no two live objects have an address in common
-pub record StandsFor (objects : ℕ → Option Object) (starts roots : ℕ → Option ℕ) (given : Given) (made : ℕ) (r : Recorded) : Type 0 where
+-- the objects by number, the serials that they were given, their numbers by address, what cells hold, the serials that
+-- were given, and how many objects were made, are those of what was recorded; no two live objects have an address in
+-- common
+pub record StandsFor (objects : ℕ → Option Object) (serials_at starts : ℕ → Option ℕ) (table : CellTable) (set : List (ℕ × ℕ)) (made : ℕ) (r : Recorded) : Type 0 where
   pub count : next_serial r.memory ≡ made
   pub object : (n : ℕ) → object_of r.memory n ≡ objects n
   pub cells : length r.memory.roots ≡ many_cells
-  pub root : (cell : ℕ) → cell < 4294967296 → root_of r.memory cell ≡ roots cell
-  pub serials : (serial : ℕ) → was_given r.serials serial ≡ given.has serial
-  pub in_order : r.serials ≡ given.order
+  pub root : (cell n : ℕ) → number_at table cell ≡ Some n → root_of r.memory cell ≡ Some n
+  pub freed : (cell : ℕ) → IsFreed table cell → (n : ℕ) × (n < made) × (root_of r.memory cell ≡ Some n) × (objects n ≡ None)
+  pub empty : (cell : ℕ) → number_at table cell ≡ None → (IsFreed table cell → ⊥) → root_of r.memory cell ≡ None
+  pub serials : (serial : ℕ) → Has set serial ↔ (was_given r.serials serial ≡ true)
   pub each : length r.serials ≡ made
+  pub given : (n serial : ℕ) → serials_at n ≡ Some serial → slice_get r.serials n ≡ Some serial
   pub started : (n : ℕ) (o : Object) → objects n ≡ Some o → starts o.address ≡ Some n
   pub starts_of : (address n : ℕ) → starts address ≡ Some n → (o : Object) × (objects n ≡ Some o) × (o.address ≡ address)
   pub filled : (n : ℕ) (o : Object) → objects n ≡ Some o → 1 ≤ length o.bytes
+  pub ends : (n : ℕ) (o : Object) → objects n ≡ Some o → o.address + length o.bytes < 2 ^ 64
   pub apart : (n k : ℕ) (o p : Object) → objects n ≡ Some o → objects k ≡ Some p → (x : ℕ) → has_address o x ≡ true → has_address p x ≡ true → n ≡ k
+
+-- the live objects by number
+abbrev pub objects_of : Tracked → ℕ → Option Object
+objects_of m n = object_in (get nat_cmp m.objects n)
+
+-- the serials that they were given
+abbrev pub serials_of : Tracked → ℕ → Option ℕ
+serials_of m n = serial_in (get nat_cmp m.objects n)
 
 -- the trees are those of what was recorded
 abbrev pub Stands : Tracked → Recorded → Type 0
-Stands m r = StandsFor (get nat_cmp m.objects) (get nat_cmp m.starts) (get nat_cmp m.roots) (record { has = contains nat_cmp m.serials; order = m.order.items }) m.made r
+Stands m r = StandsFor (objects_of m) (serials_of m) (get nat_cmp m.starts) m.cells m.serials m.made r
+
+-- what a cell holds is the number of no live object
+abbrev pub IsGone : Tracked → Held → Type 0
+IsGone m (Number n) = get nat_cmp m.objects n ≡ None
+IsGone m Freed = Unit {0}
 
 -- `g` gives this at `k`, and at each other number what `f` gives
 abbrev pub IsSetAt : {X : Type 0} → (ℕ → Option X) → (ℕ → Option X) → ℕ → Option X → Type 0
@@ -69,12 +87,18 @@ IsRefused old new command OfMemory = Unit {0}
 abbrev pub IsPossible : Tracked → Command → Type 0
 IsPossible old command = (r : Recorded) → Stands old r → IsOk (plain r.memory 0 command)
 
--- a live object that was given this serial has an address of the range
-pub record IsOverlapped (r : Recorded) (address len serial : ℕ) : Type 0 where
+-- so many addresses from one on
+abbrev pub addresses_from : ℕ → ℕ → AddressRange
+addresses_from address len = record { from = address; to = address + len }
+
+-- a live object has an address of the range: the overlap has its serial and its addresses, and those of the range
+pub record IsOverlapped (r : Recorded) (address len : ℕ) (overlap : Overlap) : Type 0 where
   pub number : ℕ
   pub object : Object
   pub is_live : object_of r.memory number ≡ Some object
-  pub is_given : slice_get r.serials number ≡ Some serial
+  pub is_given : slice_get r.serials number ≡ Some overlap.serial
+  pub is_other : overlap.other ≡ addresses_from object.address (length object.bytes)
+  pub is_range : overlap.range ≡ addresses_from address len
   pub place : ℕ
   pub from : address ≤ place
   pub to : place < address + len
@@ -83,5 +107,5 @@ pub record IsOverlapped (r : Recorded) (address len serial : ℕ) : Type 0 where
 -- the command is done by storing these bytes from an offset of the live object of this number on, where they have room
 abbrev pub IsCopied : Tracked → Command → ℕ → ℕ → List ℕ → Type 0
 IsCopied m command n off bytes =
-    (o : Object) × (get nat_cmp m.objects n ≡ Some o) × (off + length bytes ≤ length o.bytes)
-    × ((r : Recorded) → Stands m r → plain r.memory 0 command ≡ Ok (Done, with_object r.memory n (Some (record o { bytes = overwritten o.bytes off bytes }))))
+    (o : LiveObject) × (get nat_cmp m.objects n ≡ Some o) × (off + length bytes ≤ length o.object.bytes)
+    × ((r : Recorded) → Stands m r → plain r.memory 0 command ≡ Ok (Done, with_object r.memory n (Some (record o.object { bytes = overwritten o.object.bytes off bytes }))))

@@ -1,9 +1,12 @@
 -- The text of a verdict. This project's own choice.
-use Rattle.std.specs.Prelude.{ℕ, List, ◌++◌, codes}
+use Rattle.std.specs.Prelude.{ℕ, List, [], ◌++◌, Option, Some, None, codes, decimal}
 use Rattle.model_jobs.specs.Texts.{ended, number_field, told_with}
 use Rattle.mesh_spelling.specs.Addresses.{wide_text}
 use Rattle.mesh_history.specs.RecordedWords.{plain_reply}
 use Rattle.mesh_history.specs.declared.words.RecordedReply.{RecordedReply}
+use Rattle.mesh_check.specs.declared.reasons.AddressRange.{AddressRange}
+use Rattle.mesh_check.specs.declared.reasons.DifferentByte.{DifferentByte}
+use Rattle.mesh_check.specs.declared.reasons.Overlap.{Overlap}
 use Rattle.mesh_check.specs.declared.reasons.Reason.{Reason}
 use Rattle.mesh_check.specs.declared.reasons.Reason.TheVariants.{Differs, NoObject, LiveRefused, SerialAgain, Overlaps}
 use Rattle.mesh_check.specs.declared.verdicts.Verdict.{Verdict}
@@ -13,13 +16,39 @@ use Rattle.mesh_check.specs.declared.verdicts.Verdict.TheVariants.{Legal, Wrong}
 abbrev pub recorded_text : RecordedReply → List ℕ
 recorded_text reply = told_with wide_text (plain_reply reply)
 
+-- an answer, and the one that is wanted
+abbrev pub answers_text : RecordedReply → RecordedReply → List ℕ
+answers_text answered wanted = recorded_text answered ++ codes ", wanted " ++ recorded_text wanted
+
+-- which entry stored a byte
+abbrev pub store_text : Option ℕ → List ℕ
+store_text None = codes " was never stored"
+store_text (Some line) = codes " was last stored at line " ++ decimal line
+
+-- which byte differs
+abbrev pub byte_text : Option DifferentByte → List ℕ
+byte_text None = []
+byte_text (Some byte) = codes "; byte " ++ decimal byte.offset ++ store_text byte.stored_at
+
+-- the addresses of an object
+abbrev pub range_text : AddressRange → List ℕ
+range_text range = wide_text range.from ++ codes ".." ++ wide_text range.to
+
+-- which object is overlapped
+abbrev pub overlapped_text : Overlap → List ℕ
+overlapped_text overlap = codes "overlaps object " ++ decimal overlap.serial ++ codes ", made at line " ++ decimal overlap.made_at
+
+-- the addresses of both objects
+abbrev pub ranges_text : Overlap → List ℕ
+ranges_text overlap = codes ": addresses " ++ range_text overlap.range ++ codes " and " ++ range_text overlap.other
+
 -- why an entry is not taken
 abbrev pub reason_text : Reason → List ℕ
-reason_text (Differs wanted) = codes "answer differs: " ++ recorded_text wanted ++ codes " wanted"
-reason_text NoObject = codes "answer differs: object wanted"
-reason_text LiveRefused = codes "live object is refused"
+reason_text (Differs difference) = codes "answer differs: " ++ answers_text difference.answered difference.wanted ++ byte_text difference.byte
+reason_text (NoObject answered) = codes "answer differs: " ++ recorded_text answered ++ codes ", wanted object"
+reason_text (LiveRefused refusal) = codes "live object is refused: " ++ answers_text refusal.answered refusal.wanted
 reason_text SerialAgain = codes "serial again"
-reason_text (Overlaps serial) = codes "overlaps object" ++ number_field serial
+reason_text (Overlaps overlap) = overlapped_text overlap ++ ranges_text overlap
 
 -- what a verdict says
 abbrev pub found_text : Verdict → List ℕ

@@ -1,12 +1,13 @@
 //! The chunks of an object's bytes that are kept, by number.
-ghost use Rattle.std.specs.Prelude.{◌≡◌, ◌+◌, ◌≤◌, None, OnOk, OnErr, length};
+ghost use Rattle.std.specs.Prelude.{◌≡◌, ◌+◌, ◌≤◌, ◌<◌, None, IfOk, OnOk, OnErr, length};
 ghost use Rattle.std.specs.Ordering.{nat_cmp};
 ghost use Rattle.std.specs.BTreeMap.{IsUnchanged, get};
 ghost use Rattle.model_memory.specs.Memory.{overwritten};
 ghost use Rattle.mesh_check.specs.Chunks.{IsSetAt, chunk_bytes};
 
-use std::alloc::AllocError;
+use std::alloc::{AllocError, Global};
 use std::collections::BTreeMap;
+use std::marker::Model;
 
 /// How many bytes a chunk has. This project's own choice.
 pub const CHUNK_BYTES: usize = 64;
@@ -17,23 +18,104 @@ const _: () = prove!(CHUNK_BYTES == 64);
 /// The bytes of a chunk that is not kept.
 static ZEROS: [u8; CHUNK_BYTES] = [0; CHUNK_BYTES];
 
+/// A chunk that is kept. Contracts see its bytes.
+///
+/// What was stored is in a box of its own, since a node of a tree has room for several values, also where it has one.
+#[derive(Drop)]
+pub struct Chunk {
+    stores: Box<Stores>,
+}
+
+/// What was stored in a chunk.
+#[derive(Drop)]
+struct Stores {
+    /// The bytes.
+    bytes: [u8; CHUNK_BYTES],
+    /// For each byte the line of the last entry that stored it, 0 where none did.
+    lines: [u32; CHUNK_BYTES],
+}
+
+impl Model for Chunk {
+    ghost use Rattle.std.specs.Prelude.{ℕ, List};
+    ghost use Rattle.std.specs.Coded.{coded_list, coded_ℕ};
+
+    ghost Value = { List ℕ };
+
+    ghost coded = { coded_list coded_ℕ };
+
+    ghost view = { λ s. s.stores.value.bytes };
+}
+
+impl Chunk {
+    /// A chunk in which nothing was stored. An error is an allocation failure.
+    fn new(alloc: Global) -> Result<Chunk, AllocError>
+        ensures { IfOk result (λ chunk. chunk ≡ chunk_bytes None) }
+    {
+        let stores = Stores {
+            bytes: ZEROS,
+            lines: [0; CHUNK_BYTES],
+        };
+        Ok(Chunk {
+            stores: Box::new(alloc, stores)?,
+        })
+    }
+
+    /// The bytes.
+    fn bytes(&self) -> &[u8]
+        ensures bytes { result.now ≡ self.now }
+        ensures sized { length result.now ≡ 64 }
+    {
+        &self.stores.bytes
+    }
+
+    /// Writes bytes from a place on, as the entry of a line does.
+    fn write(&mut self, place: usize, bytes: &[u8], line: u32)
+        requires { place + length bytes.now ≤ 64 }
+        ensures written { self.new ≡ overwritten self.old place bytes.now }
+        ensures sized { length self.old ≡ 64 }
+    {
+        write(&mut self.stores.bytes, place, bytes);
+        mark(&mut self.stores.lines, place, bytes.len(), line);
+    }
+
+    /// The line of the last entry that stored the byte at a place. None if none did.
+    fn stored_at(&self, place: usize) -> Option<u32>
+        requires { place < 64 }
+    {
+        match self.stores.lines[place] {
+            0 => None,
+            line => Some(line),
+        }
+    }
+}
+
 /// A chunk's bytes.
-pub fn chunk(chunks: &BTreeMap<u32, [u8; CHUNK_BYTES]>, number: u32) -> &[u8]
+pub fn chunk_bytes(chunks: &BTreeMap<u64, Chunk>, number: u64) -> &[u8]
     ensures bytes { result.now ≡ chunk_bytes (get nat_cmp chunks.now number) }
     ensures sized { length result.now ≡ 64 }
 {
     match chunks.get(&number) {
-        Some(bytes) => bytes,
+        Some(kept) => kept.bytes(),
         None => &ZEROS,
     }
 }
 
-/// Stores bytes in a chunk from a place on. An error is an allocation failure, and comes only of a chunk that was not kept.
+/// The line of the last entry that stored the byte at a place of a chunk. None if none did.
+pub fn stored_at(chunks: &BTreeMap<u64, Chunk>, number: u64, place: usize) -> Option<u32>
+    requires { place < 64 }
+{
+    chunks.get(&number)?.stored_at(place)
+}
+
+/// Stores bytes in a chunk from a place on, as the entry of a line does. An error is an allocation failure, and comes
+/// only of a chunk that was not kept.
 pub fn store_in(
-    chunks: &mut BTreeMap<u32, [u8; CHUNK_BYTES]>,
-    number: u32,
+    alloc: Global,
+    chunks: &mut BTreeMap<u64, Chunk>,
+    number: u64,
     place: usize,
     bytes: &[u8],
+    line: u32,
 ) -> Result<(), AllocError>
     requires { place + length bytes.now ≤ 64 }
     ensures stored { OnOk result (IsSetAt (get nat_cmp chunks.old) (get nat_cmp chunks.new) number (overwritten (chunk_bytes (get nat_cmp chunks.old number)) place bytes.now)) }
@@ -42,11 +124,11 @@ pub fn store_in(
     ensures sized { length (chunk_bytes (get nat_cmp chunks.old number)) ≡ 64 }
 {
     if let Some(kept) = chunks.get_mut(&number) {
-        write(kept, place, bytes);
+        kept.write(place, bytes, line);
         return Ok(());
     }
-    let mut fresh = ZEROS;
-    write(&mut fresh, place, bytes);
+    let mut fresh = Chunk::new(alloc)?;
+    fresh.write(place, bytes, line);
     match chunks.insert(number, fresh) {
         Ok(_) => Ok(()),
         Err(_) => Err(AllocError),
@@ -60,4 +142,11 @@ fn write(chunk: &mut [u8; CHUNK_BYTES], place: usize, bytes: &[u8])
     ensures sized { length chunk.old ≡ 64 }
 {
     chunk[place..place + bytes.len()].copy_from_slice(bytes);
+}
+
+/// Keeps a line for so many bytes from a place on.
+fn mark(lines: &mut [u32; CHUNK_BYTES], place: usize, len: usize, line: u32)
+    requires { place + len ≤ 64 }
+{
+    lines[place..place + len].fill(line);
 }

@@ -48,7 +48,7 @@ fn judge_input<I: Source>(
 {
     while let Some(entry) = history.next(input)? {
         let line = history.lines();
-        if let Some(reason) = memory.judge(&entry)? {
+        if let Some(reason) = memory.judge(line, &entry)? {
             return Ok(Verdict::Wrong(line, reason));
         }
     }

@@ -1,14 +1,14 @@
 //! What the commands do to the trees of a memory.
-ghost use Rattle.std.specs.Prelude.{◌≡◌, ℕ, ◌||◌, nat_eq, ◌+◌, ◌≤◌, ◌<◌, Some, None, IfSome, IsNone, OnOk, length};
+ghost use Rattle.std.specs.Prelude.{◌≡◌, ℕ, ◌+◌, ◌≤◌, ◌<◌, Some, None, IfSome, IsNone, OnErr, OnOk, length};
 ghost use Rattle.std.specs.Ordering.{nat_cmp};
-ghost use Rattle.std.specs.BTreeMap.{get};
-ghost use Rattle.std.specs.BTreeSet.{contains};
-ghost use Rattle.model_memory.specs.Memory.{Object, overwritten};
+ghost use Rattle.std.specs.BTreeMap.{IsUnchanged, get};
+ghost use Rattle.model_memory.specs.Memory.{overwritten};
+ghost use Rattle.mesh_check.specs.Objects.{LiveObject, with_bytes};
 ghost use Rattle.mesh_check.specs.Stands.{IsNearest, IsSetAt};
 
 use crate::stored::Stored;
 use std::alloc::AllocError;
-use std::collections::{BTreeMap, BTreeSet};
+use std::collections::BTreeMap;
 
 /// The number that stands at the greatest address that is at most this one.
 pub fn nearest(starts: &BTreeMap<u64, u32>, address: u64) -> Option<u32>
@@ -18,27 +18,29 @@ pub fn nearest(starts: &BTreeMap<u64, u32>, address: u64) -> Option<u32>
     Some(*number)
 }
 
-/// Stores bytes from an offset of an object on. An error is an allocation failure.
+/// Stores bytes from an offset of an object on, as the entry of a line does. An error is an allocation failure.
 pub fn store(
     objects: &mut BTreeMap<u32, Stored>,
     number: u32,
-    off: u32,
+    off: u64,
     bytes: &[u8],
+    line: u32,
 ) -> Result<(), AllocError>
-    requires fits { (o : Object) → get nat_cmp objects.old number ≡ Some o → off + length bytes.now ≤ length o.bytes }
+    requires fits { (o : LiveObject) → get nat_cmp objects.old number ≡ Some o → off + length bytes.now ≤ length o.object.bytes }
     requires few { length bytes.now ≤ 32 }
-    ensures { OnOk result ((o : Object) → get nat_cmp objects.old number ≡ Some o
-        → IsSetAt (get nat_cmp objects.old) (get nat_cmp objects.new) number (Some (record o { bytes = overwritten o.bytes off bytes.now }))) }
+    ensures { OnOk result ((o : LiveObject) → get nat_cmp objects.old number ≡ Some o
+        → IsSetAt (get nat_cmp objects.old) (get nat_cmp objects.new) number (Some (with_bytes o (overwritten o.object.bytes off bytes.now)))) }
 {
     match objects.get_mut(&number) {
-        Some(object) => object.bytes.store(off, bytes),
+        Some(object) => object.bytes.store(off, bytes, line),
         None => Ok(()),
     }
 }
 
 /// Puts a value under a number: an object under its own, or the number that a cell holds. An error is an allocation failure.
 pub fn set<T: Drop>(map: &mut BTreeMap<u32, T>, key: u32, value: T) -> Result<(), AllocError>
-    ensures { OnOk result (IsSetAt (get nat_cmp map.old) (get nat_cmp map.new) key (Some value)) }
+    ensures set { OnOk result (IsSetAt (get nat_cmp map.old) (get nat_cmp map.new) key (Some value)) }
+    ensures unchanged { OnErr result (IsUnchanged map.old map.new) }
 {
     map.insert(key, value)?;
     Ok(())
@@ -53,13 +55,5 @@ pub fn set_start(
     ensures { OnOk result (IsSetAt (get nat_cmp starts.old) (get nat_cmp starts.new) address (Some number)) }
 {
     starts.insert(address, number)?;
-    Ok(())
-}
-
-/// Adds a serial to those that were given. An error is an allocation failure.
-pub fn give(serials: &mut BTreeSet<u32>, serial: u32) -> Result<(), AllocError>
-    ensures { OnOk result ((q : ℕ) → contains nat_cmp serials.new q ≡ (contains nat_cmp serials.old q || nat_eq serial q)) }
-{
-    serials.insert(serial)?;
     Ok(())
 }

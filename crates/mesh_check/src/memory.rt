@@ -8,31 +8,38 @@ ghost use Rattle.model_words.specs.declared.refusals.Refusal.{Refusal};
 ghost use Rattle.model_memory.specs.Memory.{has_address, root_of};
 ghost use Rattle.model_memory.specs.Plain.{IsVacantRange, holding, made, named_by, plain};
 ghost use Rattle.model_history.specs.Recorded.{Recorded, any_allocator, nothing_recorded};
-ghost use Rattle.mesh_check.specs.Stands.{IsCopied, IsDone, IsOverlapped, IsPossible, IsRefused, IsRefusedAs, Stands};
+ghost use Rattle.mesh_number_set.specs.Ranges.{Has};
+ghost use Rattle.mesh_check.specs.Cells.{IsHeld, number_at};
+ghost use Rattle.mesh_check.specs.Lines.{IsOfLive, MakesAtMost, MakesNone};
+ghost use Rattle.mesh_check.specs.declared.cells.Held.{Held};
+ghost use Rattle.mesh_check.specs.Stands.{IsCopied, IsDone, IsGone, IsOverlapped, IsPossible, IsRefused, Stands};
 
+use crate::cells::{Cells, Held};
 use crate::faults::CommandError;
-use crate::maps::{give, nearest, set, set_start, store};
+use crate::maps::{nearest, set, set_start, store};
+use crate::reasons::{AddressRange, Overlap};
 use crate::sparse::SparseBytes;
 use crate::stored::Stored;
 use arrayvec::ArrayVec;
+use mesh_number_set::NumberSet;
 use model_words::{MAX_BYTES, Refusal};
 use std::alloc::{AllocError, Global};
-use std::collections::{BTreeMap, BTreeSet};
+use std::collections::BTreeMap;
 
 /// The plain memory of the entries so far.
 ///
-/// Objects have numbers, in the order of their making, and a cell holds the number of one. No live object has an address of another.
+/// Objects have numbers, in the order of their making, and a cell holds the number of one. No live object has an
+/// address of another. What it takes in memory depends on the live objects and on how many ranges serials and cells
+/// are, and not on how many objects were made.
 pub struct Tracked {
     /// The live objects by number.
     pub(crate) objects: BTreeMap<u32, Stored>,
     /// The number of each live object, by its address.
     pub(crate) starts: BTreeMap<u64, u32>,
-    /// The number that a cell holds.
-    pub(crate) roots: BTreeMap<u32, u32>,
+    /// What each cell holds.
+    pub(crate) cells: Cells,
     /// The serials that were given.
-    pub(crate) serials: BTreeSet<u32>,
-    /// The same in their order: that of an object is at the place of its number.
-    pub(crate) order: Vec<u32>,
+    pub(crate) serials: NumberSet,
     /// How many objects were made.
     pub(crate) made: u32,
     alloc: Global,
@@ -40,7 +47,7 @@ pub struct Tracked {
 
 #[rattlefmt::skip]
 impl Drop for Tracked {
-    fn drop(self) { let Tracked { objects: _, starts: _, roots: _, serials: _, order: _, made: _, alloc: _ } = self; }
+    fn drop(self) { let Tracked { objects: _, starts: _, cells: _, serials: _, made: _, alloc: _ } = self; }
 }
 
 impl Tracked {
@@ -52,54 +59,58 @@ impl Tracked {
         Tracked {
             objects: BTreeMap::new(alloc),
             starts: BTreeMap::new(alloc),
-            roots: BTreeMap::new(alloc),
-            serials: BTreeSet::new(alloc),
-            order: Vec::new(alloc),
+            cells: Cells::new(alloc),
+            serials: NumberSet::new(alloc),
             made: 0,
             alloc,
         }
     }
 
-    /// The number that a cell holds. EMPTY where it holds none.
-    fn root(&self, cell: u32) -> Result<u32, Refusal>
-        ensures held { IfOk result (λ number. (r : Recorded) → Stands self.now r → root_of r.memory cell ≡ Some number) }
-        ensures none { OnErr result ((r : Recorded) → Stands self.now r → root_of r.memory cell ≡ None) }
+    /// What a cell holds. EMPTY where no number was stored in it.
+    fn root(&self, cell: u32) -> Result<Held, Refusal>
+        ensures held { IfOk result (λ held. IsHeld self.now.cells cell (Some held)) }
+        ensures none { OnErr result (IsHeld self.now.cells cell None) }
         ensures refusal { IfErr result (λ refusal. refusal ≡ Refusal.Empty) }
     {
-        match self.roots.get(&cell) {
-            Some(number) => Ok(*number),
+        match self.cells.held(cell) {
+            Some(held) => Ok(held),
             None => Err(Refusal::Empty),
         }
     }
 
-    /// The live object of a number. FREED where it is no longer live.
-    fn object(&self, number: u32) -> Result<&Stored, Refusal>
-        ensures live { IfOk result (λ object. get nat_cmp self.now.objects number ≡ Some object.now) }
-        ensures none { OnErr result (get nat_cmp self.now.objects number ≡ None) }
+    /// The live object of what a cell holds, with its number. FREED where it is no longer live.
+    fn object(&self, held: Held) -> Result<(u32, &Stored), Refusal>
+        ensures live { IfOk result (λ found. get nat_cmp self.now.objects found.0 ≡ Some found.1.now) }
+        ensures number { IfOk result (λ found. held ≡ Held.Number found.0) }
+        ensures none { OnErr result (IsGone self.now held) }
         ensures refusal { IfErr result (λ refusal. refusal ≡ Refusal.Freed) }
     {
+        let Held::Number(number) = held else {
+            return Err(Refusal::Freed);
+        };
         match self.objects.get(&number) {
-            Some(object) => Ok(object),
+            Some(object) => Ok((number, object)),
             None => Err(Refusal::Freed),
         }
     }
 
     /// The live object that a cell names, with its number. EMPTY and FREED, in this order.
-    fn named(&self, cell: u32) -> Result<(u32, &Stored), Refusal>
-        ensures named { IfOk result (λ found. (r : Recorded) → Stands self.now r → named_by r.memory cell ≡ Ok (record { serial = found.0; object = found.1.now })) }
+    pub(crate) fn named(&self, cell: u32) -> Result<(u32, &Stored), Refusal>
+        ensures named { IfOk result (λ found. (r : Recorded) → Stands self.now r → named_by r.memory cell ≡ Ok (record { serial = found.0; object = found.1.now.object })) }
         ensures live { IfOk result (λ found. get nat_cmp self.now.objects found.0 ≡ Some found.1.now) }
+        ensures number { IfOk result (λ found. number_at self.now.cells cell ≡ Some found.0) }
         ensures refusal { IfErr result (λ refusal. (r : Recorded) → Stands self.now r → named_by r.memory cell ≡ Err refusal) }
     {
-        let number = self.root(cell)?;
-        let object = self.object(number)?;
+        let held = self.root(cell)?;
+        let (number, object) = self.object(held)?;
         Ok((number, object))
     }
 
     /// The live object that has an address, with its number. STRAY where none has it.
-    fn holding(&self, address: u64) -> Result<(u32, &Stored), Refusal>
-        ensures held { IfOk result (λ found. (r : Recorded) → Stands self.now r → holding r.memory address ≡ Ok (record { serial = found.0; object = found.1.now })) }
+    pub(crate) fn holding(&self, address: u64) -> Result<(u32, &Stored), Refusal>
+        ensures held { IfOk result (λ found. (r : Recorded) → Stands self.now r → holding r.memory address ≡ Ok (record { serial = found.0; object = found.1.now.object })) }
         ensures live { IfOk result (λ found. get nat_cmp self.now.objects found.0 ≡ Some found.1.now) }
-        ensures within { IfOk result (λ found. has_address found.1.now address ≡ true) }
+        ensures within { IfOk result (λ found. has_address found.1.now.object address ≡ true) }
         ensures refusal { IfErr result (λ refusal. (r : Recorded) → Stands self.now r → holding r.memory address ≡ Err refusal) }
     {
         let Some(number) = nearest(&self.starts, address) else {
@@ -115,7 +126,7 @@ impl Tracked {
     }
 
     /// Loads `len` bytes from offset `off` of the object that `cell` names. EMPTY, FREED and OUTSIDE, in this order.
-    pub fn get(&self, cell: u32, off: u32, len: u32) -> Result<ArrayVec<u8, MAX_BYTES>, Refusal>
+    pub fn get(&self, cell: u32, off: u64, len: u32) -> Result<ArrayVec<u8, MAX_BYTES>, Refusal>
         requires { len ≤ 32 }
         ensures bytes { IfOk result (λ bytes. (r : Recorded) → Stands self.now r → plain r.memory 0 (Command.Get cell off len) ≡ Ok (Reply.Bytes bytes, r.memory)) }
         ensures refusal { IfErr result (λ refusal. (r : Recorded) → Stands self.now r → plain r.memory 0 (Command.Get cell off len) ≡ Err refusal) }
@@ -145,34 +156,40 @@ impl Tracked {
         Ok(object.byte(object.offset_of(address)))
     }
 
-    /// Stores bytes from offset `off` of the object that `cell` names. EMPTY, FREED and OUTSIDE, in this order, and then Memory.
+    /// Stores bytes from offset `off` of the object that `cell` names, as the entry of a line does. EMPTY, FREED and
+    /// OUTSIDE, in this order, and then Memory.
     pub fn put(
         &mut self,
+        line: u32,
         cell: u32,
-        off: u32,
+        off: u64,
         bytes: &ArrayVec<u8, MAX_BYTES>,
     ) -> Result<(), CommandError>
         ensures done { OnOk result (IsDone self.old self.new (Command.Put cell off bytes.now)) }
         ensures refused { IfErr result (IsRefused self.old self.new (Command.Put cell off bytes.now)) }
         ensures memory { result ≡ Err CommandError.Memory → IsPossible self.old (Command.Put cell off bytes.now) }
         ensures made { self.new.made ≡ self.old.made }
+        ensures lined { OnOk result (MakesNone self.old self.new) }
     {
         let (number, object) = self.named(cell)?;
         if object.ends_outside(off, bytes.len() as u32) {
             return Err(CommandError::Refused(Refusal::Outside));
         }
-        store(&mut self.objects, number, off, bytes.as_slice())?;
+        store(&mut self.objects, number, off, bytes.as_slice(), line)?;
         Ok(())
     }
 
-    /// Frees the object that `cell` names. The cell keeps its number. EMPTY and FREED, in this order. It takes no memory.
-    pub fn free(&mut self, cell: u32) -> Result<(), Refusal>
+    /// Frees the object that `cell` names. The cell keeps its number. EMPTY and FREED, in this order, and then Memory.
+    pub fn free(&mut self, cell: u32) -> Result<(), CommandError>
         ensures done { OnOk result (IsDone self.old self.new (Command.Free cell)) }
-        ensures refused { IfErr result (IsRefusedAs self.old self.new (Command.Free cell)) }
+        ensures refused { IfErr result (IsRefused self.old self.new (Command.Free cell)) }
+        ensures memory { result ≡ Err CommandError.Memory → IsPossible self.old (Command.Free cell) }
         ensures made { self.new.made ≡ self.old.made }
+        ensures lined { OnOk result (MakesNone self.old self.new) }
     {
         let (number, object) = self.named(cell)?;
         let address = object.address;
+        self.cells.free(cell)?;
         self.objects.remove(&number);
         self.starts.remove(&address);
         Ok(())
@@ -184,35 +201,39 @@ impl Tracked {
         ensures refused { IfErr result (IsRefused self.old self.new (Command.Alias to from)) }
         ensures memory { result ≡ Err CommandError.Memory → IsPossible self.old (Command.Alias to from) }
         ensures made { self.new.made ≡ self.old.made }
+        ensures lined { OnOk result (MakesNone self.old self.new) }
     {
         let (number, _) = self.named(from)?;
-        set(&mut self.roots, to, number)?;
+        self.cells.point(to, number)?;
         Ok(())
     }
 
-    /// Stores a byte at an address. STRAY where no live object has it, and then Memory.
-    pub fn poke(&mut self, address: u64, byte: u8) -> Result<(), CommandError>
+    /// Stores a byte at an address, as the entry of a line does. STRAY where no live object has it, and then Memory.
+    pub fn poke(&mut self, line: u32, address: u64, byte: u8) -> Result<(), CommandError>
         ensures done { OnOk result (IsDone self.old self.new (Command.Poke address byte)) }
         ensures refused { IfErr result (IsRefused self.old self.new (Command.Poke address byte)) }
         ensures memory { result ≡ Err CommandError.Memory → IsPossible self.old (Command.Poke address byte) }
         ensures made { self.new.made ≡ self.old.made }
+        ensures lined { OnOk result (MakesNone self.old self.new) }
     {
         let (number, object) = self.holding(address)?;
         let off = object.offset_of(address);
-        store(&mut self.objects, number, off, &[byte])?;
+        store(&mut self.objects, number, off, &[byte], line)?;
         Ok(())
     }
 
-    /// Copies `len` bytes from offset `from_off` of the object that `from` names to offset `to_off` of the one that `to` names. Where the two
-    /// ranges overlap, each byte is the one that was there before.
+    /// Copies `len` bytes from offset `from_off` of the object that `from` names to offset `to_off` of the one that
+    /// `to` names, as the entry of a line does. Where the two ranges overlap, each byte is the one that was there
+    /// before.
     ///
     /// EMPTY, of either cell, FREED, of either object, and OUTSIDE, of either range, in this order, and then Memory.
     pub fn copy(
         &mut self,
+        line: u32,
         to: u32,
-        to_off: u32,
+        to_off: u64,
         from: u32,
-        from_off: u32,
+        from_off: u64,
         len: u32,
     ) -> Result<(), CommandError>
         requires { len ≤ 32 }
@@ -220,17 +241,19 @@ impl Tracked {
         ensures refused { IfErr result (IsRefused self.old self.new (Command.Copy to to_off from from_off len)) }
         ensures memory { result ≡ Err CommandError.Memory → IsPossible self.old (Command.Copy to to_off from from_off len) }
         ensures made { self.new.made ≡ self.old.made }
+        ensures lined { OnOk result (MakesNone self.old self.new) }
     {
         let (number, bytes) = self.copied((to, to_off), (from, from_off), len)?;
-        store(&mut self.objects, number, to_off, bytes.as_slice())?;
+        store(&mut self.objects, number, to_off, bytes.as_slice(), line)?;
         Ok(())
     }
 
-    /// The number of the object that a copy stores in, and the bytes that it stores: `to` and `from` are a cell and an offset each.
+    /// The number of the object that a copy stores in, and the bytes that it stores: `to` and `from` are a cell and an
+    /// offset each.
     fn copied(
         &self,
-        to: (u32, u32),
-        from: (u32, u32),
+        to: (u32, u64),
+        from: (u32, u64),
         len: u32,
     ) -> Result<(u32, ArrayVec<u8, MAX_BYTES>), Refusal>
         requires { len ≤ 32 }
@@ -240,47 +263,71 @@ impl Tracked {
     {
         let target = self.root(to.0)?;
         let source = self.root(from.0)?;
-        let into = self.object(target)?;
-        let out_of = self.object(source)?;
+        let (number, into) = self.object(target)?;
+        let (_, out_of) = self.object(source)?;
         if into.ends_outside(to.1, len) || out_of.ends_outside(from.1, len) {
             return Err(Refusal::Outside);
         }
-        Ok((target, out_of.bytes.load(from.1, len)))
+        Ok((number, out_of.bytes.load(from.1, len)))
     }
 
-    /// The serial of a live object that has an address of the range; of several, of the one with the greatest start.
-    pub fn overlapped(&self, address: u64, len: u32) -> Option<u32>
+    /// A live object that has an address of the range; of several, the one with the greatest start.
+    pub fn overlapped(&self, address: u64, len: u64) -> Option<Overlap>
         requires some { 1 ≤ len }
-        requires small { address + len < 2 ^ 64 }
+        requires narrow { address < 2 ^ 48 }
+        requires long { len ≤ 2 ^ 47 }
         ensures none { IsNone result → (r : Recorded) → Stands self.now r → IsVacantRange r.memory address len }
-        ensures some { IfSome result (λ serial. (r : Recorded) → Stands self.now r → IsVacantRange r.memory address len → ⊥) }
-        ensures told { IfSome result (λ serial. (r : Recorded) → Stands self.now r → IsOverlapped r address len serial) }
+        ensures some { IfSome result (λ overlap. (r : Recorded) → Stands self.now r → IsVacantRange r.memory address len → ⊥) }
+        ensures told { IfSome result (λ overlap. (r : Recorded) → Stands self.now r → IsOverlapped r address len overlap) }
+        ensures live { IfSome result (IsOfLive self.now) }
     {
-        let last = address + u64::from(len - 1);
+        let last = address + (len - 1);
         let number = nearest(&self.starts, last)?;
         let object = self.objects.get(&number)?;
         if !object.ends_behind(address) {
             return None;
         }
-        let serial = self.order.get(number as usize)?;
-        Some(*serial)
+        let to = address + len;
+        Some(Overlap {
+            serial: object.serial,
+            made_at: object.made_at,
+            range: AddressRange { from: address, to },
+            other: object.range(),
+        })
     }
 
-    /// Makes an object of `len` zeros at a vacant range, and stores its number in `cell`. The only error is an allocation failure.
-    pub fn make(&mut self, cell: u32, len: u32, serial: u32, address: u64) -> Result<(), AllocError>
+    /// Makes an object of `len` zeros at a vacant range, as the `new` of a line does, and stores its number in `cell`.
+    /// The only error is an allocation failure.
+    pub fn make(
+        &mut self,
+        line: u32,
+        cell: u32,
+        len: u64,
+        serial: u32,
+        address: u64,
+    ) -> Result<(), AllocError>
         requires few { self.old.made < 2 ^ 32 - 1 }
         requires some { 1 ≤ len }
+        requires narrow { address < 2 ^ 48 }
+        requires long { len ≤ 2 ^ 47 }
+        requires new { Has self.old.serials serial → ⊥ }
         ensures made { OnOk result ((r : Recorded) → Stands self.old r → IsVacantRange r.memory address len
             → Stands self.new (record { memory = made r.memory cell len address; serials = r.serials ++ serial ∷ [] })) }
         ensures made_one { self.new.made ≤ self.old.made + 1 }
+        ensures lined { OnOk result (MakesAtMost self.old self.new line (Reply.Object serial address)) }
     {
         let number = self.made;
         let bytes = SparseBytes::new(self.alloc, len);
-        set(&mut self.objects, number, Stored { address, bytes })?;
+        let object = Stored {
+            serial,
+            made_at: line,
+            address,
+            bytes,
+        };
+        set(&mut self.objects, number, object)?;
         set_start(&mut self.starts, address, number)?;
-        set(&mut self.roots, cell, number)?;
-        give(&mut self.serials, serial)?;
-        self.order.push(serial)?;
+        self.cells.point(cell, number)?;
+        self.serials.add(serial)?;
         self.made = number + 1;
         Ok(())
     }

@@ -1,50 +1,69 @@
 //! Why an entry is not taken.
-ghost use Rattle.std.specs.Prelude.{◌≡◌, ◌≢◌, ◌↔◌, IfSome, IsTrue, IsNone, IsSome};
-ghost use Rattle.mesh_history.specs.RecordedWords.{plain_reply};
-ghost use Rattle.mesh_check.specs.Reasons.{IsDifference, is_refusal};
-
 use mesh_history::RecordedReply;
 
 /// Why the plain memory doesn't take an entry.
 #[derive(Clone, Drop, PartialEq, Eq)]
 pub enum Reason {
-    /// The plain memory answers this.
-    Differs(RecordedReply),
-    /// A `new` of one byte or more is answered by what is no object and no refusal of a `new`.
-    NoObject,
+    /// The answer is another than the only one that the plain memory may give.
+    Differs(Difference),
+    /// The answer to a `new` of one byte or more, which is neither an object nor a refusal of such a `new`.
+    NoObject(RecordedReply),
     /// The command is refused, and the plain memory does it.
-    LiveRefused,
+    LiveRefused(LiveRefusal),
     /// The serial was given to another object before.
     SerialAgain,
-    /// The new object has an address of a live object, which has this serial.
-    Overlaps(u32),
+    /// The new object has an address of a live object.
+    Overlaps(Overlap),
 }
 
-/// Why an answer is not the one that is wanted, where it is another.
-pub fn difference(reply: &RecordedReply, wanted: RecordedReply) -> Option<Reason>
-    ensures none { IsNone result → plain_reply reply.now ≡ plain_reply wanted }
-    ensures some { IsSome result → plain_reply reply.now ≢ plain_reply wanted }
-    ensures told { IfSome result (IsDifference (plain_reply reply.now) (plain_reply wanted)) }
-{
-    if is_same(reply, &wanted) {
-        return None;
-    }
-    if is_refusal(reply) && !is_refusal(&wanted) {
-        return Some(Reason::LiveRefused);
-    }
-    Some(Reason::Differs(wanted))
+/// Two answers, and how they differ.
+#[derive(Clone, Drop, PartialEq, Eq)]
+pub struct Difference {
+    /// What was answered.
+    pub answered: RecordedReply,
+    /// What the plain memory answers.
+    pub wanted: RecordedReply,
+    /// The first byte that differs, of a `get` or a `peek` where both answers are bytes. None where no byte differs
+    /// that both have.
+    pub byte: Option<DifferentByte>,
 }
 
-/// Whether two replies are the same.
-fn is_same(one: &RecordedReply, other: &RecordedReply) -> bool
-    ensures { IsTrue result ↔ (plain_reply one.now ≡ plain_reply other.now) }
-{
-    one == other
+/// A byte that is not the one that was stored last.
+#[derive(Clone, Copy, PartialEq, Eq)]
+pub struct DifferentByte {
+    /// The offset in its object.
+    pub offset: u64,
+    /// The line of the last `put`, `poke` or `copy` that stored it. None where none did.
+    pub stored_at: Option<u32>,
 }
 
-/// Whether a reply is a refusal.
-fn is_refusal(reply: &RecordedReply) -> bool
-    ensures { result ≡ is_refusal (plain_reply reply.now) }
-{
-    matches!(reply, RecordedReply::Refused(_))
+/// A refusal of a command that the plain memory does.
+#[derive(Clone, Drop, PartialEq, Eq)]
+pub struct LiveRefusal {
+    /// The refusal.
+    pub answered: RecordedReply,
+    /// What the plain memory answers.
+    pub wanted: RecordedReply,
+}
+
+/// A live object that has an address of a new object.
+#[derive(Clone, Copy, PartialEq, Eq)]
+pub struct Overlap {
+    /// The serial of the live object.
+    pub serial: u32,
+    /// The line of the `new` that made it.
+    pub made_at: u32,
+    /// The addresses of the new object.
+    pub range: AddressRange,
+    /// The addresses of the live object.
+    pub other: AddressRange,
+}
+
+/// The addresses of an object: those from `from` on that are below `to`.
+#[derive(Clone, Copy, PartialEq, Eq)]
+pub struct AddressRange {
+    /// The first address.
+    pub from: u64,
+    /// The address behind the last.
+    pub to: u64,
 }

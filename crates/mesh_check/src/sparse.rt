@@ -3,7 +3,7 @@ ghost use Rattle.std.specs.Prelude.{◌≡◌, ◌+◌, ◌*◌, ◌^◌, ◌≤
 ghost use Rattle.model_memory.specs.Memory.{overwritten};
 ghost use Rattle.mesh_check.specs.Chunks.{IsPartlyStored};
 
-use crate::chunks::{CHUNK_BYTES, chunk, store_in};
+use crate::chunks::{CHUNK_BYTES, Chunk, chunk_bytes, store_in, stored_at};
 use arrayvec::ArrayVec;
 use model_words::MAX_BYTES;
 use std::alloc::{AllocError, Global};
@@ -13,13 +13,15 @@ use std::marker::Model;
 #[cfg(test)]
 mod tests;
 
-/// The bytes of one object. Those that were never stored are 0 and take no memory, but for the rest of a chunk in which one was stored.
+/// The bytes of one object, and which line stored each last. Those that were never stored are 0 and take no memory, but
+/// for the rest of a chunk in which one was stored.
 #[derive(Drop)]
 pub struct SparseBytes {
     // How many bytes there are.
-    len: u32,
+    len: u64,
     // The chunks in which bytes were stored, by number.
-    chunks: BTreeMap<u32, [u8; CHUNK_BYTES]>,
+    chunks: BTreeMap<u64, Chunk>,
+    alloc: Global,
 }
 
 impl Model for SparseBytes {
@@ -38,24 +40,25 @@ impl Model for SparseBytes {
 
 impl SparseBytes {
     /// So many zeros. It takes no memory.
-    pub fn new(alloc: Global, len: u32) -> Self
+    pub fn new(alloc: Global, len: u64) -> Self
         ensures { result ≡ replicate len 0 }
     {
         SparseBytes {
             len,
             chunks: BTreeMap::new(alloc),
+            alloc,
         }
     }
 
     /// How many bytes there are.
-    pub fn len(&self) -> u32
+    pub fn len(&self) -> u64
         ensures { result ≡ length self.now }
     {
         self.len
     }
 
     /// The bytes from an offset on.
-    pub fn load(&self, start: u32, len: u32) -> ArrayVec<u8, MAX_BYTES>
+    pub fn load(&self, start: u64, len: u32) -> ArrayVec<u8, MAX_BYTES>
         requires fits { start + len ≤ length self.now }
         requires few { len ≤ 32 }
         ensures { result.items ≡ slice_range self.now start (start + len) }
@@ -67,7 +70,7 @@ impl SparseBytes {
     }
 
     /// Copies the bytes from an offset on, as many as `out` has.
-    fn read(&self, start: u32, out: &mut [u8])
+    fn read(&self, start: u64, out: &mut [u8])
         requires fits { start + length out.old ≤ length self.now }
         requires few { length out.old ≤ 32 }
         ensures { out.new ≡ slice_range self.now start (start + length out.old) }
@@ -80,12 +83,18 @@ impl SparseBytes {
         }
     }
 
-    /// Stores bytes from an offset on.
+    /// The line of the last entry that stored the byte at an offset. None if none did. No clause says so.
+    pub fn stored_at(&self, off: u64) -> Option<u32> {
+        let (number, place) = chunk_and_place(off);
+        stored_at(&self.chunks, number, place)
+    }
+
+    /// Stores bytes from an offset on, as the entry of a line does. Lines are numbered from 1.
     ///
-    /// The only error is an allocation failure. Then some of the bytes, from the first on, are stored, and all others are as they were. It comes
-    /// only where a chunk of 64 bytes that the range lies in had no byte stored before; no clause says so, since the list of bytes doesn't tell
-    /// which chunks take memory.
-    pub fn store(&mut self, start: u32, bytes: &[u8]) -> Result<(), AllocError>
+    /// The only error is an allocation failure. Then some of the bytes, from the first on, are stored, and all others
+    /// are as they were. It comes only where a chunk of 64 bytes that the range lies in had no byte stored before; no
+    /// clause says so, since the list of bytes doesn't tell which chunks take memory.
+    pub fn store(&mut self, start: u64, bytes: &[u8], line: u32) -> Result<(), AllocError>
         requires fits { start + length bytes.now ≤ length self.old }
         requires few { length bytes.now ≤ 32 }
         ensures stored { OnOk result (self.new ≡ overwritten self.old start bytes.now) }
@@ -97,42 +106,48 @@ impl SparseBytes {
         }
         let (number, place) = chunk_and_place(start);
         let (first, rest) = bytes.split_at(first_run(place, bytes.len()));
-        self.store_run(number, place, first)?;
+        self.store_run(number, place, first, line)?;
         if rest.is_empty() {
             return Ok(());
         }
-        self.store_run(number + 1, 0, rest)
+        self.store_run(number + 1, 0, rest, line)
     }
 
     /// A run of one chunk's bytes, from a place in it on.
-    fn run(&self, number: u32, place: usize, len: usize) -> &[u8]
+    fn run(&self, number: u64, place: usize, len: usize) -> &[u8]
         requires one_chunk { place + len ≤ 64 }
         requires fits { number * 64 + place + len ≤ length self.now }
         ensures { result.now ≡ slice_range self.now (number * 64 + place) (number * 64 + place + len) }
     {
-        &chunk(&self.chunks, number)[place..place + len]
+        &chunk_bytes(&self.chunks, number)[place..place + len]
     }
 
-    /// Stores a run of bytes in one chunk, from a place in it on. The only error is an allocation failure, and comes only of a chunk that was not
-    /// kept (`store_in`).
-    fn store_run(&mut self, number: u32, place: usize, bytes: &[u8]) -> Result<(), AllocError>
+    /// Stores a run of bytes in one chunk, from a place in it on, as the entry of a line does. The only error is an
+    /// allocation failure, and comes only of a chunk that was not kept (`store_in`).
+    fn store_run(
+        &mut self,
+        number: u64,
+        place: usize,
+        bytes: &[u8],
+        line: u32,
+    ) -> Result<(), AllocError>
         requires one_chunk { place + length bytes.now ≤ 64 }
         requires fits { number * 64 + place + length bytes.now ≤ length self.old }
         ensures stored { OnOk result (self.new ≡ overwritten self.old (number * 64 + place) bytes.now) }
         ensures unchanged { OnErr result (self.new ≡ self.old) }
     {
-        store_in(&mut self.chunks, number, place, bytes)
+        store_in(self.alloc, &mut self.chunks, number, place, bytes, line)
     }
 }
 
 /// The chunk in which an offset lies, and the place in that chunk.
-fn chunk_and_place(offset: u32) -> (u32, usize)
+fn chunk_and_place(offset: u64) -> (u64, usize)
     ensures offset { result.0 * 64 + result.1 ≡ offset }
     ensures place { result.1 < 64 }
-    ensures few { result.0 < 2 ^ 26 }
+    ensures few { result.0 < 2 ^ 58 }
 {
-    let offset = offset as usize;
-    ((offset / CHUNK_BYTES) as u32, offset % CHUNK_BYTES)
+    let chunk = CHUNK_BYTES as u64;
+    (offset / chunk, (offset % chunk) as usize)
 }
 
 /// How many of so many bytes from a place on lie in that place's chunk.

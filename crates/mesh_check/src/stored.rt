@@ -1,14 +1,20 @@
 //! `Stored`, a live object.
-ghost use Rattle.std.specs.Prelude.{◌≡◌, ◌+◌, ◌-◌, ◌<◌, ◌≤◌, true, nat_lt, length, slice_index};
+ghost use Rattle.std.specs.Prelude.{◌≡◌, ◌+◌, ◌-◌, ◌^◌, ◌<◌, ◌≤◌, true, nat_lt, length, slice_index};
 ghost use Rattle.model_memory.specs.Memory.{has_address};
 ghost use Rattle.model_memory.specs.Plain.{ends_outside};
+ghost use Rattle.mesh_check.specs.Stands.{addresses_from};
 
+use crate::reasons::AddressRange;
 use crate::sparse::SparseBytes;
 use std::marker::Model;
 
-/// A live object: its address and its bytes.
+/// A live object: the serial that it was given, the line that made it, its address and its bytes.
 #[derive(Drop)]
 pub struct Stored {
+    /// The serial.
+    pub serial: u32,
+    /// The line of the `new` that made it.
+    pub made_at: u32,
     /// The address.
     pub address: u64,
     /// The bytes.
@@ -16,53 +22,63 @@ pub struct Stored {
 }
 
 impl Model for Stored {
-    ghost use Rattle.model_memory.specs.Memory.{Object};
-    ghost use Rattle.mesh_check.specs.Objects.{object_code};
+    ghost use Rattle.mesh_check.specs.Objects.{LiveObject, live_code};
 
-    ghost Value = { Object };
+    ghost Value = { LiveObject };
 
-    ghost coded = { object_code };
+    ghost coded = { live_code };
 
-    ghost view = { λ s. record { address = s.address; bytes = s.bytes } };
+    ghost view = { λ s. record { object = record { address = s.address; bytes = s.bytes }; serial = s.serial; made_at = s.made_at } };
 }
 
 impl Stored {
     /// Whether the object has the address in its range.
     pub fn has_address(&self, address: u64) -> bool
-        ensures { result ≡ has_address self.now address }
+        ensures { result ≡ has_address self.now.object address }
     {
-        self.address <= address && address - self.address < u64::from(self.bytes.len())
+        self.address <= address && address - self.address < self.bytes.len()
+    }
+
+    /// Its addresses. The sum is exact: no object has an address of more than 64 bits.
+    pub fn range(&self) -> AddressRange
+        ensures from { result.from ≡ self.now.object.address }
+        ensures range { self.now.object.address + length self.now.object.bytes < 2 ^ 64 → result ≡ addresses_from self.now.object.address (length self.now.object.bytes) }
+    {
+        AddressRange {
+            from: self.address,
+            to: self.address.saturating_add(self.bytes.len()),
+        }
     }
 
     /// Whether the object ends behind an address.
     pub fn ends_behind(&self, address: u64) -> bool
-        ensures { result ≡ nat_lt address (self.now.address + length self.now.bytes) }
+        ensures { result ≡ nat_lt address (self.now.object.address + length self.now.object.bytes) }
     {
         self.address > address || self.has_address(address)
     }
 
     /// The offset of an address in the object's range.
-    pub fn offset_of(&self, address: u64) -> u32
-        requires { has_address self.now address ≡ true }
-        ensures value { result ≡ address - self.now.address }
-        ensures within { result < length self.now.bytes }
-        ensures from { self.now.address ≤ address }
+    pub fn offset_of(&self, address: u64) -> u64
+        requires { has_address self.now.object address ≡ true }
+        ensures value { result ≡ address - self.now.object.address }
+        ensures within { result < length self.now.object.bytes }
+        ensures from { self.now.object.address ≤ address }
     {
-        let off = address - self.address;
-        off.min(u64::from(self.bytes.len())) as u32
+        address - self.address
     }
 
     /// Whether a range of the object ends past it.
-    pub fn ends_outside(&self, off: u32, len: u32) -> bool
-        ensures { result ≡ ends_outside self.now off len }
+    pub fn ends_outside(&self, off: u64, len: u32) -> bool
+        ensures { result ≡ ends_outside self.now.object off len }
     {
-        u64::from(self.bytes.len()) < u64::from(off) + u64::from(len)
+        let room = self.bytes.len();
+        room < off || room - off < u64::from(len)
     }
 
     /// The byte at an offset.
-    pub fn byte(&self, off: u32) -> u8
-        requires { off < length self.now.bytes }
-        ensures { result ≡ slice_index self.now.bytes off }
+    pub fn byte(&self, off: u64) -> u8
+        requires { off < length self.now.object.bytes }
+        ensures { result ≡ slice_index self.now.object.bytes off }
     {
         self.bytes.load(off, 1)[0]
     }

@@ -1,8 +1,8 @@
 //! The line of a verdict.
 ghost use Rattle.std.specs.Prelude.{◌≡◌, ◌++◌, IfOk, OnOk};
-ghost use Rattle.mesh_check.specs.VerdictTexts.{found_text, reason_text, recorded_text, verdict_text};
+ghost use Rattle.mesh_check.specs.VerdictTexts.{answers_text, byte_text, found_text, overlapped_text, range_text, ranges_text, reason_text, recorded_text, store_text, verdict_text};
 
-use crate::reasons::Reason;
+use crate::reasons::{AddressRange, DifferentByte, Overlap, Reason};
 use crate::verdicts::Verdict;
 use mesh_history::RecordedReply;
 use mesh_spelling::{add_address, add_bytes, add_decimal, add_refusal};
@@ -42,23 +42,99 @@ fn add_reason(text: &mut Vec<u8>, reason: &Reason) -> Result<(), AllocError>
     ensures { OnOk result (text.new.items ≡ text.old.items ++ reason_text reason.now) }
 {
     match reason {
-        Reason::Differs(wanted) => {
+        Reason::Differs(difference) => {
             text.extend_from_slice(b"answer differs: ")?;
-            add_recorded(text, wanted)?;
-            text.extend_from_slice(b" wanted")
+            add_answers(text, &difference.answered, &difference.wanted)?;
+            add_byte(text, difference.byte)
         }
-        Reason::NoObject => text.extend_from_slice(b"answer differs: object wanted"),
-        Reason::LiveRefused => text.extend_from_slice(b"live object is refused"),
+        Reason::NoObject(answered) => {
+            text.extend_from_slice(b"answer differs: ")?;
+            add_recorded(text, answered)?;
+            text.extend_from_slice(b", wanted object")
+        }
+        Reason::LiveRefused(refusal) => {
+            text.extend_from_slice(b"live object is refused: ")?;
+            add_answers(text, &refusal.answered, &refusal.wanted)
+        }
         Reason::SerialAgain => text.extend_from_slice(b"serial again"),
-        Reason::Overlaps(serial) => {
-            text.extend_from_slice(b"overlaps object ")?;
-            add_decimal(text, u64::from(*serial))
+        Reason::Overlaps(overlap) => {
+            add_overlapped(text, overlap)?;
+            add_ranges(text, overlap)
         }
     }
 }
 
-/// Adds an answer, as a recorded history has it.
-fn add_recorded(text: &mut Vec<u8>, reply: &RecordedReply) -> Result<(), AllocError>
+/// Adds an answer and the one that is wanted.
+fn add_answers(
+    text: &mut Vec<u8>,
+    answered: &RecordedReply,
+    wanted: &RecordedReply,
+) -> Result<(), AllocError>
+    ensures { OnOk result (text.new.items ≡ text.old.items ++ answers_text answered.now wanted.now) }
+{
+    add_recorded(text, answered)?;
+    text.extend_from_slice(b", wanted ")?;
+    add_recorded(text, wanted)
+}
+
+/// Adds which byte differs, if one is known.
+fn add_byte(text: &mut Vec<u8>, byte: Option<DifferentByte>) -> Result<(), AllocError>
+    ensures { OnOk result (text.new.items ≡ text.old.items ++ byte_text byte) }
+{
+    match byte {
+        Some(byte) => {
+            text.extend_from_slice(b"; byte ")?;
+            add_decimal(text, byte.offset)?;
+            add_store(text, byte.stored_at)
+        }
+        None => Ok(()),
+    }
+}
+
+/// Adds which entry stored a byte.
+fn add_store(text: &mut Vec<u8>, stored_at: Option<u32>) -> Result<(), AllocError>
+    ensures { OnOk result (text.new.items ≡ text.old.items ++ store_text stored_at) }
+{
+    match stored_at {
+        Some(line) => {
+            text.extend_from_slice(b" was last stored at line ")?;
+            add_decimal(text, u64::from(line))
+        }
+        None => text.extend_from_slice(b" was never stored"),
+    }
+}
+
+/// Adds which object is overlapped.
+fn add_overlapped(text: &mut Vec<u8>, overlap: &Overlap) -> Result<(), AllocError>
+    ensures { OnOk result (text.new.items ≡ text.old.items ++ overlapped_text overlap.now) }
+{
+    text.extend_from_slice(b"overlaps object ")?;
+    add_decimal(text, u64::from(overlap.serial))?;
+    text.extend_from_slice(b", made at line ")?;
+    add_decimal(text, u64::from(overlap.made_at))
+}
+
+/// Adds the addresses of both objects.
+fn add_ranges(text: &mut Vec<u8>, overlap: &Overlap) -> Result<(), AllocError>
+    ensures { OnOk result (text.new.items ≡ text.old.items ++ ranges_text overlap.now) }
+{
+    text.extend_from_slice(b": addresses ")?;
+    add_range(text, overlap.range)?;
+    text.extend_from_slice(b" and ")?;
+    add_range(text, overlap.other)
+}
+
+/// Adds the addresses of an object.
+fn add_range(text: &mut Vec<u8>, range: AddressRange) -> Result<(), AllocError>
+    ensures { OnOk result (text.new.items ≡ text.old.items ++ range_text range) }
+{
+    add_address(text, range.from)?;
+    text.extend_from_slice(b"..")?;
+    add_address(text, range.to)
+}
+
+/// Adds an answer, as a recorded history has it. An error is an allocation failure.
+pub fn add_recorded(text: &mut Vec<u8>, reply: &RecordedReply) -> Result<(), AllocError>
     ensures { OnOk result (text.new.items ≡ text.old.items ++ recorded_text reply.now) }
 {
     match reply {

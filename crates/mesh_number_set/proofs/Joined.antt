@@ -9,7 +9,7 @@ moved : (f : ℕ → Option ℕ) (a b k : ℕ) → a ≡ b → f a ≡ Some k �
 moved f a b k same at = let P : ℕ → Type 0 = λ m. f m ≡ Some k in subst P same at
 
 -- no range and a range
-apart_from_none : (f : ℕ → Option ℕ) (a b k : ℕ) → f b ≡ None → f a ≡ Some k → a ≢ b
+pub apart_from_none : (f : ℕ → Option ℕ) (a b k : ℕ) → f b ≡ None → f a ≡ Some k → a ≢ b
 apart_from_none f a b k none at same = let there = moved f a b k same at in cc
 
 module _ (f g : ℕ → Option ℕ) (n first last : ℕ) (apart : AreApart f) (new : HasIn f n → ⊥) (is_first : IsFirst f n first) (is_last : IsLast f n last)

@@ -1,5 +1,5 @@
 -- Numbers as ranges. A function gives the last number of the range that begins with a number, if one does.
-use Rattle.std.specs.Prelude.{◌≡◌, ◌≢◌, ◌⊎◌, ℕ, ◌+◌, ◌<◌, ◌≤◌, List, Option, Some, None}
+use Rattle.std.specs.Prelude.{◌≡◌, ◌≢◌, ◌⊎◌, ℕ, ◌+◌, ◌-◌, ◌<◌, ◌≤◌, List, Option, Some, None}
 use Rattle.std.specs.Ordering.{nat_cmp}
 use Rattle.std.specs.BTreeMap.{is_at}
 use Rattle.std.specs.Map.{lookup}
@@ -49,3 +49,25 @@ pub record IsJoined (old new : ℕ → Option ℕ) (n first last : ℕ) : Type 0
   pub joined : new first ≡ Some last
   pub behind : new (n + 1) ≡ None
   pub others : (q : ℕ) → q ≢ first → q ≢ n + 1 → new q ≡ old q
+
+-- the second has the numbers of a range that are behind this one as a range, if there are any, and the other ranges of the first
+pub record IsRest (old new : ℕ → Option ℕ) (n last : ℕ) : Type 0 where
+  pub rest : n < last → new (n + 1) ≡ Some last
+  pub others : (q : ℕ) → (n < last → q ≢ n + 1) → new q ≡ old q
+
+-- the second has of the range that begins with `first` the numbers that are before this one, and the other ranges of the first
+pub record IsCut (old new : ℕ → Option ℕ) (n first : ℕ) : Type 0 where
+  pub none : first ≡ n → new first ≡ None
+  pub some : first < n → new first ≡ Some (n - 1)
+  pub others : (q : ℕ) → q ≢ first → new q ≡ old q
+
+-- of the range that has this number the second has the numbers before it and those behind it, each as a range
+pub record IsParted (old new : ℕ → Option ℕ) (n : ℕ) : Type 0 where
+  pub first : ℕ
+  pub last : ℕ
+  pub is_range : old first ≡ Some last
+  pub from : first ≤ n
+  pub to : n ≤ last
+  pub between : ℕ → Option ℕ
+  pub rest : IsRest old between n last
+  pub cut : IsCut between new n first

@@ -1,8 +1,8 @@
 //! The ranges of a set, in a map from the first number of each to its last.
-ghost use Rattle.std.specs.Prelude.{◌≡◌, ◌↔◌, ◌+◌, ◌≤◌, ◌<◌, ℕ, IsTrue, OnErr, OnOk};
+ghost use Rattle.std.specs.Prelude.{◌≡◌, ◌↔◌, ◌+◌, ◌≤◌, ◌<◌, ℕ, Some, IsSome, IsTrue, OnErr, OnOk};
 ghost use Rattle.std.specs.Ordering.{nat_cmp};
 ghost use Rattle.std.specs.BTreeMap.{IsUnchanged, get};
-ghost use Rattle.mesh_number_set.specs.Ranges.{AreApart, HasIn, IsFirst, IsJoined, IsLast, IsNearest, IsNext};
+ghost use Rattle.mesh_number_set.specs.Ranges.{AreApart, HasIn, IsCut, IsFirst, IsJoined, IsLast, IsNearest, IsNext, IsParted, IsRest};
 
 use std::alloc::AllocError;
 use std::collections::BTreeMap;
@@ -85,4 +85,55 @@ pub(crate) fn join(
         let _behind = ranges.remove(&(number + 1));
     }
     Ok(())
+}
+
+/// Takes out a number that one of the ranges has. An error is an allocation failure, which can come only if the range has
+/// numbers on both sides of this one.
+pub(crate) fn part(ranges: &mut BTreeMap<u32, u32>, number: u32) -> Result<(), AllocError>
+    requires apart { AreApart (get nat_cmp ranges.old) }
+    requires has { HasIn (get nat_cmp ranges.old) number }
+    ensures parted { OnOk result (IsParted (get nat_cmp ranges.old) (get nat_cmp ranges.new) number) }
+    ensures unchanged { OnErr result (IsUnchanged ranges.old ranges.new) }
+{
+    let (first, last) = range_of(ranges, number);
+    add_rest(ranges, number, last)?;
+    cut(ranges, number, first);
+    Ok(())
+}
+
+/// The first and the last number of the range that has a number.
+fn range_of(ranges: &BTreeMap<u32, u32>, number: u32) -> (u32, u32)
+    requires apart { AreApart (get nat_cmp ranges.now) }
+    requires has { HasIn (get nat_cmp ranges.now) number }
+    ensures is_range { get nat_cmp ranges.now result.0 ≡ Some result.1 }
+    ensures from { result.0 ≤ number }
+    ensures to { number ≤ result.1 }
+{
+    nearest(ranges, number).unwrap()
+}
+
+/// Adds what is behind a number in a range that has it and ends with `last`. An error is an allocation failure.
+fn add_rest(ranges: &mut BTreeMap<u32, u32>, number: u32, last: u32) -> Result<(), AllocError>
+    requires { number ≤ last }
+    ensures rest { OnOk result (IsRest (get nat_cmp ranges.old) (get nat_cmp ranges.new) number last) }
+    ensures unchanged { OnErr result (IsUnchanged ranges.old ranges.new) }
+{
+    if number == last {
+        return Ok(());
+    }
+    ranges.insert(number + 1, last)?;
+    Ok(())
+}
+
+/// Leaves of the range that begins with `first` what is before a number in it.
+fn cut(ranges: &mut BTreeMap<u32, u32>, number: u32, first: u32)
+    requires is_range { IsSome (get nat_cmp ranges.old first) }
+    requires from { first ≤ number }
+    ensures { IsCut (get nat_cmp ranges.old) (get nat_cmp ranges.new) number first }
+{
+    if first == number {
+        let _whole = ranges.remove(&first);
+    } else if let Some(last) = ranges.get_mut(&first) {
+        *last = number - 1;
+    }
 }

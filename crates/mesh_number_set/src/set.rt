@@ -1,8 +1,8 @@
 //! `NumberSet`, a set of numbers.
-ghost use Rattle.std.specs.Prelude.{◌≡◌, ◌↔◌, ◌⊎◌, ℕ, IsTrue, OnErr, OnOk, length};
+ghost use Rattle.std.specs.Prelude.{◌≡◌, ◌≢◌, ◌↔◌, ◌⊎◌, ℕ, IsTrue, OnErr, OnOk, length};
 ghost use Rattle.mesh_number_set.specs.Ranges.{AreApart, Has, last_in};
 
-use crate::ranges::{first_with, has, join, last_with};
+use crate::ranges::{first_with, has, join, last_with, part};
 use std::alloc::{AllocError, Global};
 use std::collections::BTreeMap;
 use std::marker::Model;
@@ -61,5 +61,15 @@ impl NumberSet {
         let first = first_with(&self.ranges, number);
         let last = last_with(&self.ranges, number);
         join(&mut self.ranges, number, first, last)
+    }
+
+    /// Removes a number that is in the set. An error is an allocation failure; then the set is unchanged. It can come only
+    /// if the number before and the number behind are in the set too, since one range becomes two then.
+    pub fn remove(&mut self, number: u32) -> Result<(), AllocError>
+        requires { Has self.old number }
+        ensures removed { OnOk result ((n : ℕ) → Has self.new n ↔ (Has self.old n × (n ≢ number))) }
+        ensures unchanged { OnErr result ((n : ℕ) → Has self.new n ↔ Has self.old n) }
+    {
+        part(&mut self.ranges, number)
     }
 }

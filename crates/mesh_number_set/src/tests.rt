@@ -28,6 +28,19 @@ fn add(set: &mut NumberSet, plain: &mut [bool; 64], number: usize) -> Result<(),
     Ok(())
 }
 
+/// Removes a number from the set and from the array, if the set has it. An error is an allocation failure.
+fn remove(set: &mut NumberSet, plain: &mut [bool; 64], number: usize) -> Result<(), AllocError>
+    requires { number < 64 }
+{
+    if set.contains(number as u32) {
+        set.remove(number as u32)?;
+    }
+    if let Some(has) = plain.get_mut(number) {
+        *has = false;
+    }
+    Ok(())
+}
+
 /// Whether the set has the numbers that the array has.
 fn has_all(set: &NumberSet, plain: &[bool; 64]) -> bool {
     for (number, has) in plain.iter().enumerate() {
@@ -47,6 +60,24 @@ fn random_numbers_are_in_the_set_as_in_an_array(rt: HostRuntime) {
         for step in 0..100u32 {
             let number = random(&mut seed, 64);
             add(&mut set, &mut plain, number).expect(&rt, "out of memory");
+            assert!(rt; has_all(&set, &plain), "at step {step} of round {round}");
+        }
+    }
+}
+
+#[test]
+fn random_numbers_are_removed_as_from_an_array(rt: HostRuntime) {
+    let mut seed = 47;
+    for round in 0..20u32 {
+        let mut set = NumberSet::new(rt.alloc());
+        let mut plain = [false; 64];
+        for step in 0..200u32 {
+            let number = random(&mut seed, 64);
+            if random(&mut seed, 2) == 0 {
+                add(&mut set, &mut plain, number).expect(&rt, "out of memory");
+            } else {
+                remove(&mut set, &mut plain, number).expect(&rt, "out of memory");
+            }
             assert!(rt; has_all(&set, &plain), "at step {step} of round {round}");
         }
     }
@@ -90,6 +121,27 @@ fn numbers_that_touch_are_one_range(rt: HostRuntime) {
         if !set.contains(number) {
             set.add(number).expect(&rt, "out of memory");
         }
+        assert_eq!(rt; set.ranges(), ranges, "behind {number}");
+    }
+}
+
+#[test]
+fn a_range_without_a_number_is_cut_or_split(rt: HostRuntime) {
+    let numbers = [0, 1, 2, 3, 4, 0xffff_fffe, 0xffff_ffff];
+    let mut set = set_of(rt.alloc(), &numbers).expect(&rt, "out of memory");
+    for (number, ranges) in [
+        (0, 2),
+        (2, 3),
+        (0xffff_ffff, 3),
+        (1, 2),
+        (0xffff_fffe, 1),
+        (4, 1),
+        (3, 0),
+    ] {
+        if set.contains(number) {
+            set.remove(number).expect(&rt, "out of memory");
+        }
+        assert!(rt; !set.contains(number), "at {number}");
         assert_eq!(rt; set.ranges(), ranges, "behind {number}");
     }
 }

@@ -5,7 +5,7 @@ use super::SparseBytes;
 use std::process::Abort;
 
 /// The bytes from an offset on are these.
-fn holds<R: Abort>(rt: &R, all: &SparseBytes, start: u32, bytes: &[u8])
+fn holds<R: Abort>(rt: &R, all: &SparseBytes, start: u64, bytes: &[u8])
     requires fits { start + length bytes.now ≤ length all.now }
     requires few { length bytes.now ≤ 32 }
 {
@@ -16,13 +16,21 @@ fn holds<R: Abort>(rt: &R, all: &SparseBytes, start: u32, bytes: &[u8])
     );
 }
 
-/// Bytes are stored from an offset on.
-fn stores<R: Abort>(rt: &R, all: &mut SparseBytes, start: u32, bytes: &[u8])
+/// Bytes are stored from an offset on, by the entry of a line.
+fn stores<R: Abort>(rt: &R, all: &mut SparseBytes, start: u64, bytes: &[u8], line: u32)
     requires fits { start + length bytes.now ≤ length all.old }
     requires few { length bytes.now ≤ 32 }
     ensures { length all.new ≡ length all.old }
 {
-    assert!(rt; all.store(start, bytes).is_ok(), "from {start} on");
+    assert!(rt; all.store(start, bytes, line).is_ok(), "from {start} on");
+}
+
+/// The bytes from an offset on were last stored by these lines, where 0 stands for none.
+fn stored_by<R: Abort>(rt: &R, all: &SparseBytes, start: u64, lines: &[u32]) {
+    for (place, line) in lines.iter().enumerate() {
+        let off = start.saturating_add(place as u64);
+        assert_eq!(rt; all.stored_at(off).unwrap_or(0), *line, "at {off}");
+    }
 }
 
 /// So many chunks are kept.
@@ -35,7 +43,7 @@ fn bytes_that_were_never_stored_are_zeros(rt: HostRuntime) {
     let mut all = SparseBytes::new(rt.alloc(), 200);
     assert_eq!(rt; all.len(), 200);
     holds(&rt, &all, 0, &[0; 32]);
-    stores(&rt, &mut all, 70, &[7]);
+    stores(&rt, &mut all, 70, &[7], 2);
     holds(&rt, &all, 50, &[0; 20]);
     holds(&rt, &all, 70, &[7, 0, 0]);
     holds(&rt, &all, 168, &[0; 32]);
@@ -45,9 +53,9 @@ fn bytes_that_were_never_stored_are_zeros(rt: HostRuntime) {
 #[test]
 fn bytes_are_stored_across_the_border_of_two_chunks(rt: HostRuntime) {
     let mut all = SparseBytes::new(rt.alloc(), 130);
-    stores(&rt, &mut all, 62, &[1, 2, 3, 4, 5]);
+    stores(&rt, &mut all, 62, &[1, 2, 3, 4, 5], 2);
     holds(&rt, &all, 60, &[0, 0, 1, 2, 3, 4, 5, 0]);
-    stores(&rt, &mut all, 63, &[6, 7]);
+    stores(&rt, &mut all, 63, &[6, 7], 3);
     holds(&rt, &all, 62, &[1, 6, 7, 4, 5]);
     holds(&rt, &all, 128, &[0, 0]);
     keeps(&rt, &all, 2);
@@ -56,17 +64,32 @@ fn bytes_are_stored_across_the_border_of_two_chunks(rt: HostRuntime) {
 /// The last byte of an object of so many is stored and loaded, and one chunk is kept then.
 ///
 /// The length is an argument, since a proof writes out all the zeros of a length that stands in the code.
-fn last_byte_takes_one_chunk<R: AllocGlobal + Abort>(rt: &R, len: u32)
+fn last_byte_takes_one_chunk<R: AllocGlobal + Abort>(rt: &R, len: u64)
     requires { 4 ≤ len }
 {
     let mut all = SparseBytes::new(rt.alloc(), len);
-    stores(rt, &mut all, len - 1, &[9]);
+    stores(rt, &mut all, len - 1, &[9], u32::MAX);
     holds(rt, &all, len - 4, &[0, 0, 0, 9]);
     holds(rt, &all, 0, &[0]);
+    stored_by(rt, &all, len - 2, &[0, u32::MAX, 0]);
     keeps(rt, &all, 1);
 }
 
 #[test]
 fn the_last_byte_of_the_longest_object_takes_one_chunk(rt: HostRuntime) {
-    last_byte_takes_one_chunk(&rt, u32::MAX);
+    last_byte_takes_one_chunk(&rt, 1 << 47);
+}
+
+#[test]
+fn the_line_of_the_last_store_of_each_byte_is_kept(rt: HostRuntime) {
+    let mut all = SparseBytes::new(rt.alloc(), 200);
+    stored_by(&rt, &all, 60, &[0, 0, 0]);
+    stores(&rt, &mut all, 61, &[1, 2, 3, 4, 5], 7);
+    stored_by(&rt, &all, 60, &[0, 7, 7, 7, 7, 7, 0]);
+    stores(&rt, &mut all, 63, &[4, 3], 9);
+    stores(&rt, &mut all, 60, &[0, 0], 10);
+    stored_by(&rt, &all, 59, &[0, 10, 10, 7, 9, 9, 7, 0]);
+    stores(&rt, &mut all, 128, &[1], 11);
+    stored_by(&rt, &all, 127, &[0, 11, 0]);
+    stored_by(&rt, &all, 199, &[0, 0]);
 }

@@ -11,11 +11,11 @@ returns-in-Some-clause-sized c =
 
 pub returns-in-Ok-clause-sized : goal.returns-in-Ok-clause-sized
 returns-in-Ok-clause-sized c =
-    ap (λ (xs : List ℕ). length xs) (absent_bytes (get nat_cmp c.args.chunks.now) c.args.number (sym c.in_default.ensures.value)) ∙ c.write-2.ensures.sized
+    ap (λ (xs : List ℕ). length xs) (absent_bytes (get nat_cmp c.args.chunks.now) c.args.number (sym c.in_default.ensures.value))
 
-pub returns-in-Err-clause-sized : goal.returns-in-Err-clause-sized
-returns-in-Err-clause-sized c =
-    ap (λ (xs : List ℕ). length xs) (absent_bytes (get nat_cmp c.args.chunks.now) c.args.number (sym c.in_default.ensures.value)) ∙ c.write-2.ensures.sized
+pub returns-in_err-fresh-clause-sized : goal.returns-in_err-fresh-clause-sized
+returns-in_err-fresh-clause-sized c =
+    ap (λ (xs : List ℕ). length xs) (absent_bytes (get nat_cmp c.args.chunks.now) c.args.number (sym c.in_default.ensures.value))
 
 pub returns-in-Ok-clause-stored : goal.returns-in-Ok-clause-stored
 returns-in-Ok-clause-stored c =

@@ -7,8 +7,8 @@ pub returns-clause-done : goal.returns-clause-done
 returns-clause-done c = λ r st. (
   with_root r.memory c.args.to c.in_ok-number.number,
   alias_done r.memory c.args.to c.args.from _ (c.in_ok-number.ensures.named r st),
-  pointed_stands _ _ _ _ r _ _ c.args.to c.in_ok-number.number st c.ranges.to.fits c.in_ok-set.ensures,
+  pointed_stands _ _ _ r _ _ _ _ c.args.to c.in_ok-number.number st c.ranges.to.fits c.in_ok-point.ensures,
 )
 
-pub returns-in_err-set-clause-memory : goal.returns-in_err-set-clause-memory
-returns-in_err-set-clause-memory c = λ is r st. done_is_ok _ _ (alias_done r.memory c.args.to c.args.from _ (c.in_ok-number.ensures.named r st))
+pub returns-in_err-point-clause-memory : goal.returns-in_err-point-clause-memory
+returns-in_err-point-clause-memory c = λ is r st. done_is_ok _ _ (alias_done r.memory c.args.to c.args.from _ (c.in_ok-number.ensures.named r st))

@@ -10,7 +10,7 @@ returns c =
     let place = c.args.place in
     let start : ℕ = c.args.number * 64 + place in
     let long = length_of_all f c.self.inside.len c.args.self.now c.self.view_is in
-    ap (λ (xs : List ℕ). slice_range xs place (place + c.args.len)) c.chunk.ensures.bytes
-    ∙ run_in_chunk f c.self.inside.len c.args.number place c.args.len (ap (λ (xs : List ℕ). length xs) (sym c.chunk.ensures.bytes) ∙ c.chunk.ensures.sized)
+    ap (λ (xs : List ℕ). slice_range xs place (place + c.args.len)) c.chunk_bytes.ensures.bytes
+    ∙ run_in_chunk f c.self.inside.len c.args.number place c.args.len (ap (λ (xs : List ℕ). length xs) (sym c.chunk_bytes.ensures.bytes) ∙ c.chunk_bytes.ensures.sized)
     c.requires.one_chunk (omega (arith, c.requires.fits, long))
     ∙ ap (λ (xs : List ℕ). slice_range xs start (start + c.args.len)) c.self.view_is

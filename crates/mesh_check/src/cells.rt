@@ -1,0 +1,98 @@
+//! `Cells`: what each cell holds.
+ghost use Rattle.std.specs.Prelude.{◌≡◌, ◌≢◌, ◌↔◌, ℕ, IsSome, OnOk, OnErr};
+ghost use Rattle.mesh_number_set.specs.Ranges.{Has};
+ghost use Rattle.mesh_check.specs.Cells.{IsFreedAt, IsHeld, IsNew, IsPointed, number_at};
+
+use crate::maps::set;
+use mesh_number_set::NumberSet;
+use std::alloc::{AllocError, Global};
+use std::collections::BTreeMap;
+use std::marker::Model;
+
+/// What a cell holds in which a number was stored.
+#[derive(Clone, Copy)]
+pub enum Held {
+    /// This number. Its object may have been freed through another cell.
+    Number(u32),
+    /// The number of an object that was freed through this cell.
+    Freed,
+}
+
+/// What each cell holds. No cell is kept twice.
+///
+/// The cells of freed objects are kept as ranges, so those that follow one another take no more memory than one.
+#[derive(Drop)]
+pub struct Cells {
+    // The numbers that cells hold.
+    numbers: BTreeMap<u32, u32>,
+    // The cells that hold the number of an object that was freed through them.
+    freed: NumberSet,
+}
+
+impl Model for Cells {
+    ghost use Rattle.mesh_check.specs.Cells.{AreEither, CellTable, cells_code};
+
+    ghost Value = { CellTable };
+
+    ghost coded = { cells_code };
+
+    ghost view = { λ s. record { numbers = s.numbers.entries; freed = s.freed } };
+
+    ghost invariant = { λ s. AreEither (record { numbers = s.numbers.entries; freed = s.freed }) };
+}
+
+impl Cells {
+    /// No cell holds a number. It takes no memory.
+    pub fn new(alloc: Global) -> Cells
+        ensures { IsNew result }
+    {
+        Cells {
+            numbers: BTreeMap::new(alloc),
+            freed: NumberSet::new(alloc),
+        }
+    }
+
+    /// What a cell holds. None where no number was stored in it.
+    pub fn held(&self, cell: u32) -> Option<Held>
+        ensures { IsHeld self.now cell result }
+    {
+        if let Some(number) = self.numbers.get(&cell) {
+            return Some(Held::Number(*number));
+        }
+        if self.freed.contains(cell) {
+            return Some(Held::Freed);
+        }
+        None
+    }
+
+    /// Stores a number in a cell. An error is an allocation failure; then it isn't known what the cell holds.
+    pub fn point(&mut self, cell: u32, number: u32) -> Result<(), AllocError>
+        ensures { OnOk result (IsPointed self.old self.new cell number) }
+    {
+        remove(&mut self.freed, cell)?;
+        set(&mut self.numbers, cell, number)?;
+        Ok(())
+    }
+
+    /// Keeps of a cell that the object of the number that it holds is no longer live. An error is an allocation
+    /// failure.
+    pub fn free(&mut self, cell: u32) -> Result<(), AllocError>
+        requires { IsSome (number_at self.old cell) }
+        ensures { OnOk result (IsFreedAt self.old self.new cell) }
+    {
+        self.freed.add(cell)?;
+        let _number = self.numbers.remove(&cell);
+        Ok(())
+    }
+}
+
+/// Removes a cell, if it is in the set. An error is an allocation failure; then the set is unchanged.
+fn remove(cells: &mut NumberSet, cell: u32) -> Result<(), AllocError>
+    ensures removed { OnOk result ((q : ℕ) → Has cells.new q ↔ (Has cells.old q × (q ≢ cell))) }
+    ensures unchanged { OnErr result ((q : ℕ) → Has cells.new q ↔ Has cells.old q) }
+{
+    if cells.contains(cell) {
+        cells.remove(cell)?;
+    }
+    Ok(())
+}

@@ -1,0 +1,84 @@
+//! How an answer differs from the one that is wanted.
+ghost use Rattle.std.specs.Prelude.{◌≡◌, ◌≢◌, ◌↔◌, IfSome, IsTrue, IsNone, IsSome};
+ghost use Rattle.mesh_history.specs.RecordedWords.{plain_reply};
+ghost use Rattle.mesh_check.specs.Differences.{IsFirst, bytes_of};
+ghost use Rattle.mesh_check.specs.Reasons.{IsDifference, is_refusal};
+
+use crate::reasons::{Difference, DifferentByte, LiveRefusal, Reason};
+use arrayvec::ArrayVec;
+use mesh_history::RecordedReply;
+use model_words::MAX_BYTES;
+use std::array;
+
+/// Why an answer is not taken which is another than the one that is wanted.
+pub fn difference(
+    answered: RecordedReply,
+    wanted: RecordedReply,
+    byte: Option<DifferentByte>,
+) -> Reason
+    ensures { IsDifference answered wanted byte result }
+{
+    if is_refusal(&answered) && !is_refusal(&wanted) {
+        return Reason::LiveRefused(LiveRefusal { answered, wanted });
+    }
+    Reason::Differs(Difference {
+        answered,
+        wanted,
+        byte,
+    })
+}
+
+/// Whether two replies are the same.
+pub fn is_same(one: &RecordedReply, other: &RecordedReply) -> bool
+    ensures { IsTrue result ↔ (plain_reply one.now ≡ plain_reply other.now) }
+{
+    one == other
+}
+
+/// Whether a reply is a refusal.
+fn is_refusal(reply: &RecordedReply) -> bool
+    ensures { result ≡ is_refusal (plain_reply reply.now) }
+{
+    matches!(reply, RecordedReply::Refused(_))
+}
+
+/// The same reply. It takes no memory.
+pub fn copied(reply: &RecordedReply) -> RecordedReply
+    ensures { result ≡ reply.now }
+{
+    match reply {
+        RecordedReply::Object(serial, address) => RecordedReply::Object(*serial, *address),
+        RecordedReply::Done => RecordedReply::Done,
+        RecordedReply::Bytes(bytes) => RecordedReply::Bytes(copied_bytes(bytes)),
+        RecordedReply::At(address) => RecordedReply::At(*address),
+        RecordedReply::Byte(byte) => RecordedReply::Byte(*byte),
+        RecordedReply::Refused(refusal) => RecordedReply::Refused(*refusal),
+    }
+}
+
+/// The same bytes. It takes no memory.
+fn copied_bytes(bytes: &ArrayVec<u8, MAX_BYTES>) -> ArrayVec<u8, MAX_BYTES>
+    ensures { result ≡ bytes.now }
+{
+    let mut copy = ArrayVec::new();
+    copy.try_extend_from_slice(bytes.as_slice()).unwrap();
+    copy
+}
+
+/// The bytes that a reply gives: none, but for that of a load.
+pub fn bytes_of(reply: &RecordedReply) -> &[u8]
+    ensures { result.now ≡ bytes_of (plain_reply reply.now) }
+{
+    match reply {
+        RecordedReply::Bytes(bytes) => bytes.as_slice(),
+        RecordedReply::Byte(byte) => array::from_ref(byte),
+        _ => &[],
+    }
+}
+
+/// The place of the first byte that differs, of those that both have.
+pub fn first_difference(one: &[u8], other: &[u8]) -> Option<usize>
+    ensures { IsFirst one.now other.now result }
+{
+    one.iter().zip(other).position(|(x, y)| x != y)
+}
