@@ -16,7 +16,7 @@ use Rattle.mesh_linearizability.specs.Queues.{MayBegin, Suits, object_of}
 use Rattle.mesh_linearizability.specs.Standing.{HasBegunIn, Stands, lives_of, starts_of, waits_of}
 use Rattle.mesh_linearizability.specs.Timelines.{FewOpen, Holds, IsState, StartsWaiting}
 use Rattle.mesh_linearizability.specs.declared.life.Life.{Life}
-use Rattle.mesh_linearizability.specs.declared.flaws.Flaw.{Flaw}
+use Rattle.mesh_linearizability.specs.declared.flaws.OutsideLife.{OutsideLife}
 use Rattle.mesh_linearizability.specs.declared.pending.Pending.{Pending}
 use Rattle.mesh_linearizability.specs.declared.pending.Pending.TheVariants.{Made, Refused, Free as FreeEnds, Access, Wrong}
 use Rattle.mesh_linearizability.specs.declared.timeline.Timeline.{Timeline}
@@ -32,7 +32,7 @@ BegunParts old lives' starts' cells' serials' twice' number entry pending = (cal
     → IsState (calls ++ call ∷ []) waits' lives' starts' cells' serials' twice'
 
 -- a call on no live object
-pub stray_so : (old : Timeline) (lives' : ℕ → Option Life) (starts' : ℕ → Option ℕ) (cells' serials' twice' : ℕ → Type 0) (number cell : ℕ) (entry : Entry) (flaw : Flaw)
+pub stray_so : (old : Timeline) (lives' : ℕ → Option Life) (starts' : ℕ → Option ℕ) (cells' serials' twice' : ℕ → Type 0) (number cell : ℕ) (entry : Entry) (flaw : OutsideLife)
     → lives_of old cell ≡ None → cell_of entry.command ≡ cell → (IsNew entry.command → ⊥) → ((c : ℕ) → lives_of old c ≡ None → lives' c ≡ None)
     → ((c : ℕ) → Has old.cells c → cells' c) → BegunParts old lives' starts' cells' serials' twice' number entry (Wrong flaw)
 stray_so old lives' starts' cells' serials' twice' number cell entry flaw none names other gone keeps calls call waits' long is stands may starting = inr (elim stands [

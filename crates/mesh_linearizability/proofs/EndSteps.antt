@@ -22,7 +22,7 @@ use Rattle.mesh_linearizability.specs.LifeSteps.{HasEndedAt}
 use Rattle.mesh_linearizability.specs.Queues.{WaitsAt, key_of, object_of}
 use Rattle.mesh_linearizability.specs.Standing.{HasEndedSo, IsFlawed, IsSetAt, StandsWith, lives_of, starts_of, waits_of}
 use Rattle.mesh_linearizability.specs.Timelines.{FewOpen, Holds, IsState, StopsWaiting}
-use Rattle.mesh_linearizability.specs.declared.flaws.Flaw.{Flaw}
+use Rattle.mesh_linearizability.specs.declared.flaws.OutsideLife.{OutsideLife}
 use Rattle.mesh_linearizability.specs.declared.life.Life.{Life}
 use Rattle.mesh_linearizability.specs.declared.objects.NewObject.{NewObject}
 use Rattle.mesh_linearizability.specs.declared.pending.Pending.{Pending}
@@ -62,7 +62,7 @@ freed_twice t number cell twice calls waits key moment at stop stands early begu
 ]
 
 -- a call that had a flaw when it began
-pub wrong_ended : (t : Timeline) (number : ℕ) (flaw : Flaw) → IsFlawed t number (Wrong flaw)
+pub wrong_ended : (t : Timeline) (number : ℕ) (flaw : OutsideLife) → IsFlawed t number (Wrong flaw)
 wrong_ended t number flaw calls waits key moment at stop stands early begun = elim stands [
   | inl h ↦ absurd ((this calls waits (waits_of t) key (Wrong flaw) stop (lives_of t) (starts_of t) (Has t.cells) (Has t.serials) (Has t.freed_twice) h).suits)
   | inr d ↦ cannot_be calls moment begun d.cannot
@@ -119,10 +119,10 @@ module _ (t : Timeline) (number cell len : ℕ) (refusal : Refusal) where
 -- ---- a `new` that made an object
 
 made_is_new : (command : Command) (reply : Reply) (x : AnObject) → object_made command reply ≡ Some x
-    → IsNew command × (cell_of command ≡ x.cell) × (IsFairNew command reply ↔ ((1 ≤ x.len) × (x.len ≤ 4294967295)))
+    → IsNew command × (cell_of command ≡ x.cell) × (IsFairNew command reply ↔ ((1 ≤ x.len) × (x.len ≤ any_allocator.longest)))
 made_is_new (New cell len word) (MadeReply serial address) x is =
     let same : record { cell = cell; len = len; serial = serial; address = address } ≡ x = cc is in
-    subst (λ (y : AnObject). Unit {0} × (cell ≡ y.cell) × (((1 ≤ len) × (len ≤ 4294967295)) ↔ ((1 ≤ y.len) × (y.len ≤ 4294967295)))) same (tt, refl, (λ f. f, λ f. f))
+    subst (λ (y : AnObject). Unit {0} × (cell ≡ y.cell) × (((1 ≤ len) × (len ≤ any_allocator.longest)) ↔ ((1 ≤ y.len) × (y.len ≤ any_allocator.longest)))) same (tt, refl, (λ f. f, λ f. f))
 made_is_new command reply x is = absurd (cc is)
 
 module _ (t : Timeline) (number : ℕ) (object : NewObject) where
@@ -132,7 +132,7 @@ module _ (t : Timeline) (number : ℕ) (object : NewObject) where
     made_call = this calls waits (waits_of t) key (Made object) stop (lives_of t) (starts_of t) (Has t.cells) (Has t.serials) (Has t.freed_twice) h
 
     made_facts : IsNew made_call.call.entry.command × (cell_at made_call.call ≡ object.cell)
-        × (IsFairNew made_call.call.entry.command made_call.call.entry.reply ↔ ((1 ≤ object.len) × (object.len ≤ 4294967295)))
+        × (IsFairNew made_call.call.entry.command made_call.call.entry.reply ↔ ((1 ≤ object.len) × (object.len ≤ any_allocator.longest)))
     made_facts = made_is_new made_call.call.entry.command made_call.call.entry.reply (object_of object) made_call.suits
 
     made_early : (moment : ℕ) → key < moment * 4294967296 → made_call.call.end < moment
@@ -146,7 +146,7 @@ module _ (t : Timeline) (number : ℕ) (object : NewObject) where
     | inr d ↦ cannot_be calls moment begun d.cannot
   ]
 
-  pub made_unfair : ((1 ≤ object.len) × (object.len ≤ 4294967295) → ⊥) → IsFlawed t number (Made object)
+  pub made_unfair : ((1 ≤ object.len) × (object.len ≤ any_allocator.longest) → ⊥) → IsFlawed t number (Made object)
   made_unfair unfair calls waits key moment at stop stands early begun = elim stands [
     | inl h ↦ let f = made_facts calls waits key stop h in
         unfair_new calls waits (waits_of t) key (Made object) stop (lives_of t) (starts_of t) (Has t.cells) (Has t.serials) (Has t.freed_twice) h object.cell f.1 f.0 moment
@@ -154,7 +154,7 @@ module _ (t : Timeline) (number : ℕ) (object : NewObject) where
     | inr d ↦ cannot_be calls moment begun d.cannot
   ]
 
-  module _ (unused : Has t.cells object.cell → ⊥) (some : 1 ≤ object.len) (long : object.len ≤ 4294967295) where
+  module _ (unused : Has t.cells object.cell → ⊥) (some : 1 ≤ object.len) (long : object.len ≤ any_allocator.longest) where
     pub made_again : Has t.serials object.serial → IsFlawed t number (Made object)
     made_again has calls waits key moment at stop stands early begun = elim stands [
       | inl h ↦ let f = made_facts calls waits key stop h in

@@ -8,15 +8,15 @@ use Rattle.model_intervals.specs.Intervals.{Call}
 use Rattle.model_intervals.specs.Objects.{is_access}
 use Rattle.model_intervals.specs.OverlappingCalls.{cell_at}
 use Rattle.mesh_object_bytes.specs.declared.access.Access.{Access}
-use Rattle.mesh_object_bytes.specs.declared.access.Access.TheVariants.{Store, Load, Nothing, Never}
+use Rattle.mesh_object_bytes.specs.declared.access.Access.TheVariants.{Store, Load, Nothing, Elsewhere}
 use Rattle.mesh_timed_judge.specs.TimedCalls.{Timed}
 
 -- what a call was recorded to do to the object at an address
 abbrev pub access_of : ℕ → Command → Reply → Access
 access_of address (Put cell off bytes) Done = Store off bytes
-access_of address (Get cell off len) (Bytes told) = if nat_eq len (length told.items) then Load off told else Never
-access_of address (Addr cell) (At told) = if nat_eq told address then Nothing else Never
-access_of address command reply = Never
+access_of address (Get cell off len) (Bytes answered) = Load off len answered
+access_of address (Addr cell) (At answered) = if nat_eq answered address then Nothing else Elsewhere answered
+access_of address command reply = Elsewhere 0
 
 -- a call and its place
 pub record PlacedCall : Type 0 where

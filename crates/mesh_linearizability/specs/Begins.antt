@@ -14,4 +14,4 @@ IsNewPending cell len reply (Made x) = (word : ℕ) → object_made (New cell le
 IsNewPending cell len reply (Refused c l refusal) = (c ≡ cell) × (l ≡ len) × (reply ≡ RefusedReply refusal)
 IsNewPending cell len reply (Free c) = ⊥
 IsNewPending cell len reply (Access c) = ⊥
-IsNewPending cell len reply (Wrong flaw) = ⊥
+IsNewPending cell len reply (Wrong outside) = ⊥

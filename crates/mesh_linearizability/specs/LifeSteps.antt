@@ -1,11 +1,18 @@
 -- Accesses to a live object begin and end.
-use Rattle.std.specs.Prelude.{◌≡◌, ◌≢◌, ◌⊎◌, ◌↔◌, ℕ, Bool, List, [], ◌∷◌, ◌++◌, Some, None, IsTrue}
+use Rattle.std.specs.Prelude.{◌≡◌, ◌≢◌, ◌⊎◌, ◌↔◌, ℕ, Bool, true, false, List, [], ◌∷◌, ◌++◌, Some, None, IsTrue}
 use Rattle.mesh_object_bytes.specs.ObjectBytes.{effect, first_state}
 use Rattle.mesh_object_bytes.specs.declared.access.Access.{Access as AnAccess}
 use Rattle.mesh_timed_judge.specs.Following.{CanBegin, HasSome, IsJudgeOf, IsOpen}
 use Rattle.mesh_timed_judge.specs.TimedCalls.{Timed}
 use Rattle.mesh_linearizability.specs.Judges.{AccessJudge}
+use Rattle.mesh_linearizability.specs.declared.life.AccessEnd.{AccessEnd}
+use Rattle.mesh_linearizability.specs.declared.life.AccessEnd.TheVariants.{Explained, Unexplained}
 use Rattle.mesh_linearizability.specs.declared.life.Life.{Life}
+
+-- some configuration is left at the end of an access
+abbrev pub is_explained : AccessEnd → Bool
+is_explained Explained = true
+is_explained (Unexplained answer) = false
 
 -- a judge that has followed nothing
 pub record IsNewJudge (len : ℕ) (judge : AccessJudge) : Type 0 where

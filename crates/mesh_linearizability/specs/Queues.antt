@@ -34,7 +34,7 @@ Suits call (Made x) = object_made call.entry.command call.entry.reply ≡ Some (
 Suits call (Refused cell len refusal) = (word : ℕ) × (call.entry.command ≡ New cell len word) × (call.entry.reply ≡ RefusedReply refusal)
 Suits call (Free cell) = IsFree call.entry.command × (cell_at call ≡ cell)
 Suits call (Access cell) = (is_access call.entry.command ≡ true) × (cell_at call ≡ cell)
-Suits call (Wrong flaw) = ⊥
+Suits call (Wrong outside) = ⊥
 
 -- the call that waits at a place in the order of ends
 pub record WaitsAt (calls : List Call) (key : ℕ) (pending : Pending) : Type 0 where

@@ -22,7 +22,7 @@ pub record Holds (calls : List Call) (waits : ℕ → Option Pending) (lives : �
 
 -- a flaw is found at the end of such a call: it had one when it began, or the object that it accesses was freed
 abbrev pub HasFlaw : (ℕ → Option Life) → (ℕ → Type 0) → Pending → Type 0
-HasFlaw lives cells (Wrong flaw) = Unit {0}
+HasFlaw lives cells (Wrong outside) = Unit {0}
 HasFlaw lives cells (Access c) = (lives c ≡ None) × cells c
 HasFlaw lives cells _ = ⊥
 

@@ -13,7 +13,7 @@ ghost use Rattle.mesh_linearizability.specs.Begins.{IsNewPending};
 ghost use Rattle.mesh_linearizability.specs.Standing.{HasBegunIn, HasBegunSo, lives_of};
 ghost use Rattle.mesh_linearizability.specs.Timelines.{FewOpen};
 
-use crate::flaws::Flaw;
+use crate::flaws::OutsideLife;
 use crate::life::Life;
 use crate::objects::NewObject;
 use crate::pending::Pending;
@@ -66,16 +66,16 @@ impl Timeline {
     }
 
     /// The flaw of a `free` of a cell without a live object.
-    fn stray_free(&mut self, cell: u32) -> Result<Flaw, AllocError>
+    fn stray_free(&mut self, cell: u32) -> Result<OutsideLife, AllocError>
         ensures waiting { self.new.waiting ≡ self.old.waiting }
         ensures lives { self.new.lives ≡ self.old.lives }
         ensures cells { self.new.cells ≡ self.old.cells }
     {
         if !self.freed.contains(cell) {
-            return Ok(Flaw::NotAfterNew);
+            return Ok(OutsideLife::NotAfterNew);
         }
         add(&mut self.freed_twice, cell)?;
-        Ok(Flaw::NotBeforeFree)
+        Ok(OutsideLife::NotBeforeFree)
     }
 
     /// Takes the begin of an access to the object of a cell. Returns what is to be done at its end.
@@ -85,6 +85,8 @@ impl Timeline {
         cell: u32,
         entry: &RecordedEntry,
     ) -> Result<Pending, JudgeFault>
+        requires access { is_access (plain_command entry.now.command) ≡ true }
+        requires effect { HasEffect (plain_command entry.now.command) (plain_reply entry.now.reply) }
         requires few { FewOpen (lives_of self.old) number }
         ensures waiting { self.new.waiting ≡ self.old.waiting }
         ensures begun { IfOk result (λ pending. is_access (plain_command entry.now.command) ≡ true → cell_of (plain_command entry.now.command) ≡ cell
@@ -95,9 +97,9 @@ impl Timeline {
             return Ok(Pending::Access(cell));
         }
         if self.freed.contains(cell) {
-            return Ok(Pending::Wrong(Flaw::NotBeforeFree));
+            return Ok(Pending::Wrong(OutsideLife::NotBeforeFree));
         }
-        Ok(Pending::Wrong(Flaw::NotAfterNew))
+        Ok(Pending::Wrong(OutsideLife::NotAfterNew))
     }
 }
 
@@ -109,6 +111,8 @@ fn begin_in(
     cell: u32,
     entry: &RecordedEntry,
 ) -> Result<bool, JudgeFault>
+    requires access { is_access (plain_command entry.now.command) ≡ true }
+    requires effect { HasEffect (plain_command entry.now.command) (plain_reply entry.now.reply) }
     requires few { FewOpen (get nat_cmp lives.old) number }
     ensures begun { IfOk result (λ there. there ≡ true → HasBegunIn (get nat_cmp lives.old) (get nat_cmp lives.new) cell number (plain_entry entry.now)) }
     ensures none { IfOk result (λ there. there ≡ false → (get nat_cmp lives.old cell ≡ None) × (lives.new ≡ lives.old)) }
@@ -122,7 +126,9 @@ fn begin_in(
 }
 
 /// What an access was recorded to do to the object at an address. An error is an allocation failure.
-fn access_of(address: u64, entry: &RecordedEntry) -> Result<Access, AllocError>
+pub fn access_of(address: u64, entry: &RecordedEntry) -> Result<Access, AllocError>
+    requires access { is_access (plain_command entry.now.command) ≡ true }
+    requires effect { HasEffect (plain_command entry.now.command) (plain_reply entry.now.reply) }
     ensures { IfOk result (λ access. access ≡ access_of address (plain_command entry.now.command) (plain_reply entry.now.reply)) }
 {
     match (&entry.command, &entry.reply) {
@@ -130,24 +136,21 @@ fn access_of(address: u64, entry: &RecordedEntry) -> Result<Access, AllocError>
             *off,
             bytes.clone()?,
         )),
-        (SpeltCommand::Get(_, off, len), RecordedReply::Bytes(told)) => {
-            if *len as usize != told.len() {
-                return Ok(Access::Never);
-            }
-            Ok(Access::Load(*off, told.clone()?))
+        (SpeltCommand::Get(_, off, len), RecordedReply::Bytes(answered)) => {
+            Ok(Access::Load(*off, *len, answered.clone()?))
         }
-        (SpeltCommand::Addr(_), RecordedReply::At(told)) => {
-            if *told != address {
-                return Ok(Access::Never);
+        (SpeltCommand::Addr(_), RecordedReply::At(answered)) => {
+            if *answered == address {
+                return Ok(Access::Nothing);
             }
-            Ok(Access::Nothing)
+            Ok(Access::Elsewhere(*answered))
         }
-        _ => Ok(Access::Never),
+        _ => unreachable!(),
     }
 }
 
 /// What is to be done at the end of a `new`.
-fn new_begun(number: u32, cell: u32, len: u32, reply: &RecordedReply) -> Pending
+fn new_begun(number: u32, cell: u32, len: u64, reply: &RecordedReply) -> Pending
     requires { (word : ℕ) → HasEffect (Command.New cell len word) (plain_reply reply.now) }
     ensures { IsNewPending cell len (plain_reply reply.now) result }
 {

@@ -4,16 +4,19 @@ ghost use Rattle.std.specs.Ordering.{nat_cmp};
 ghost use Rattle.std.specs.BTreeMap.{get};
 ghost use Rattle.model_history.specs.Recorded.{IsOwnRefusal, any_allocator};
 ghost use Rattle.mesh_linearizability.specs.Ends.{AreDisjoint, HasEndedIn, IsGone, IsNearest, IsOverlapped, Misses};
+ghost use Rattle.mesh_linearizability.specs.LifeSteps.{is_explained};
 ghost use Rattle.mesh_linearizability.specs.Standing.{HasEndedSo, IsFlawed, lives_of, starts_of};
 ghost use Rattle.mesh_linearizability.specs.Timelines.{FewOpen};
 ghost use Rattle.mesh_linearizability.specs.declared.pending.Pending.{Pending};
 
-use crate::flaws::Flaw;
-use crate::life::Life;
+use crate::flaws::{Flaw, OutsideLife};
+use crate::life::{AccessEnd, Life};
 use crate::objects::NewObject;
 use crate::pending::Pending;
 use crate::timeline::{Timeline, set};
 use mesh_configurations::JudgeFault;
+use mesh_fields::commands::MAX_RECORDED_LENGTH;
+use mesh_history::RecordedReply;
 use model_words::Refusal;
 use std::alloc::{AllocError, Global};
 use std::collections::BTreeMap;
@@ -42,7 +45,7 @@ impl Timeline {
             }
             Pending::Free(cell) => Ok(self.free_ended(cell)),
             Pending::Access(cell) => self.access_ended(number, cell, most),
-            Pending::Wrong(flaw) => Ok(Some(flaw)),
+            Pending::Wrong(outside) => Ok(Some(Flaw::Outside(outside))),
         }
     }
 
@@ -57,7 +60,7 @@ impl Timeline {
             return Ok(Some(Flaw::CellAgain));
         }
         if !is_fair_length(object.len) {
-            return Ok(Some(Flaw::UnfairNew));
+            return Ok(Some(Flaw::NoByte(RecordedReply::Object(object.serial, object.address))));
         }
         if self.serials.contains(object.serial) {
             return Ok(Some(Flaw::SerialAgain));
@@ -80,7 +83,7 @@ impl Timeline {
     }
 
     /// The end of a `new` that was refused.
-    fn refused(&mut self, cell: u32, len: u32, refusal: Refusal) -> Result<Option<Flaw>, AllocError>
+    fn refused(&mut self, cell: u32, len: u64, refusal: Refusal) -> Result<Option<Flaw>, AllocError>
         ensures waiting { self.new.waiting ≡ self.old.waiting }
         ensures ended { IfOk result (λ flaw. IsNone flaw → (number : ℕ) → HasEndedSo self.old self.new number (Pending.Refused cell len refusal)) }
         ensures flawed { IfOk result (λ flaw. IfSome flaw (λ _. (number : ℕ) → IsFlawed self.old number (Pending.Refused cell len refusal))) }
@@ -90,7 +93,7 @@ impl Timeline {
             return Ok(Some(Flaw::CellAgain));
         }
         if !is_own_refusal(len, refusal) {
-            return Ok(Some(Flaw::UnfairNew));
+            return Ok(Some(unfair_refusal(len, refusal)));
         }
         self.cells.add(cell)?;
         Ok(None)
@@ -102,7 +105,7 @@ impl Timeline {
         ensures flawed { IfSome result (λ _. (number : ℕ) → IsFlawed self.now number (Pending.Free cell)) }
     {
         if self.freed_twice.contains(cell) {
-            return Some(Flaw::NotBeforeFree);
+            return Some(Flaw::Outside(OutsideLife::NotBeforeFree));
         }
         None
     }
@@ -120,9 +123,9 @@ impl Timeline {
         ensures few { IfOk result (λ flaw. IsNone flaw → (count : ℕ) → FewOpen (lives_of self.old) count → FewOpen (lives_of self.new) count) }
     {
         match end_in(&mut self.lives, self.alloc, number, cell, most)? {
-            Some(true) => Ok(None),
-            Some(false) => Ok(Some(Flaw::NoOrder)),
-            None => Ok(Some(Flaw::NotBeforeFree)),
+            Some(AccessEnd::Explained) => Ok(None),
+            Some(AccessEnd::Unexplained(answer)) => Ok(Some(Flaw::NoOrder(answer))),
+            None => Ok(Some(Flaw::Outside(OutsideLife::NotBeforeFree))),
         }
     }
 
@@ -146,17 +149,16 @@ impl Timeline {
     }
 }
 
-/// Takes the end of an access to the live object of a cell. Returns whether some configuration is left, and `None` if
-/// no such access is pending.
+/// Takes the end of an access to the live object of a cell. Returns how it ended, `None` if no such access is pending.
 fn end_in(
     lives: &mut BTreeMap<u32, Life>,
     alloc: Global,
     number: u32,
     cell: u32,
     most: usize,
-) -> Result<Option<bool>, JudgeFault>
-    ensures ended { IfOk result (λ left. IfSome left (HasEndedIn (get nat_cmp lives.old) (get nat_cmp lives.new) cell number)) }
-    ensures none { IfOk result (λ left. IsNone left → IsGone (get nat_cmp lives.old) cell number) }
+) -> Result<Option<AccessEnd>, JudgeFault>
+    ensures ended { IfOk result (λ ended. IfSome ended (λ end. HasEndedIn (get nat_cmp lives.old) (get nat_cmp lives.new) cell number (is_explained end))) }
+    ensures none { IfOk result (λ ended. IsNone ended → IsGone (get nat_cmp lives.old) cell number) }
 {
     match lives.get_mut(&cell) {
         Some(life) => life.end(alloc, number, most),
@@ -180,19 +182,28 @@ fn end_of(object: NewObject) -> u128
 }
 
 /// Whether an object may have this length.
-fn is_fair_length(len: u32) -> bool
+fn is_fair_length(len: u64) -> bool
     ensures { IsTrue result ↔ ((1 ≤ len) × (len ≤ any_allocator.longest)) }
 {
-    len > 0
+    len > 0 && len <= MAX_RECORDED_LENGTH
+}
+
+/// The flaw of a `new` of this length that no allocator refuses so.
+fn unfair_refusal(len: u64, refusal: Refusal) -> Flaw {
+    if len == 0 {
+        return Flaw::NoByte(RecordedReply::Refused(refusal));
+    }
+    Flaw::StrangeRefusal(refusal)
 }
 
 /// Whether an allocator may refuse a `new` of this length so.
-fn is_own_refusal(len: u32, refusal: Refusal) -> bool
+fn is_own_refusal(len: u64, refusal: Refusal) -> bool
     ensures { IsTrue result ↔ IsOwnRefusal any_allocator len refusal }
 {
     match refusal {
         Refusal::Zero => len == 0,
-        Refusal::TooLarge | Refusal::NoPages | Refusal::NoAddresses => len > 0,
+        Refusal::TooLarge => len > 0,
+        Refusal::NoPages | Refusal::NoAddresses => is_fair_length(len),
         _ => false,
     }
 }

@@ -11,12 +11,15 @@ mod flaws;
 mod life;
 mod objects;
 mod pending;
+mod possible;
 mod stops;
 mod timeline;
 mod verdicts;
 
+pub use begins::access_of;
 pub use checks::check_calls;
-pub use flaws::Flaw;
+pub use flaws::{Flaw, OutsideLife};
+pub use possible::{Loads, Possible, Unexplained};
 pub use stops::{Found, Stop};
 pub use timeline::Timeline;
 pub use verdicts::CallVerdict;

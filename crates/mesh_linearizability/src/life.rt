@@ -1,10 +1,11 @@
 //! `Life`, a live object and the judge of its accesses.
 ghost use Rattle.std.specs.Prelude.{◌≡◌, IfOk, IfSome, IsNone, OnOk, Some};
 ghost use Rattle.mesh_linearizability.specs.Judges.{AccessJudge};
-ghost use Rattle.mesh_linearizability.specs.LifeSteps.{HasBegun, HasEndedAt, HasJudge};
+ghost use Rattle.mesh_linearizability.specs.LifeSteps.{HasBegun, HasEndedAt, HasJudge, is_explained};
 ghost use Rattle.mesh_timed_judge.specs.Following.{IsOpen};
 
 use crate::objects::NewObject;
+use crate::possible::{Unexplained, unexplained_access};
 use mesh_configurations::JudgeFault;
 use mesh_object_bytes::{Access, ObjectAccesses, ObjectBytes};
 use mesh_timed_judge::TimedJudge;
@@ -17,6 +18,15 @@ pub struct Life {
     pub object: NewObject,
     /// The judge of its accesses.
     pub judge: Option<TimedJudge<ObjectAccesses>>,
+}
+
+/// How an access ended.
+#[derive(Drop)]
+pub enum AccessEnd {
+    /// Some configuration is left.
+    Explained,
+    /// None is left.
+    Unexplained(Unexplained),
 }
 
 impl Life {
@@ -50,8 +60,7 @@ impl Life {
         Ok(())
     }
 
-    /// Takes the end of the pending access of a number. Returns whether some configuration is left, and `None` if no
-    /// such access is pending.
+    /// Takes the end of the pending access of a number. Returns how it ended, `None` if no such access is pending.
     ///
     /// The error is `TooMany` if more than `most` configurations are met, and `Memory` if an allocation fails.
     pub fn end(
@@ -59,11 +68,11 @@ impl Life {
         alloc: Global,
         number: u32,
         most: usize,
-    ) -> Result<Option<bool>, JudgeFault>
+    ) -> Result<Option<AccessEnd>, JudgeFault>
         ensures object { self.new.object ≡ self.old.object }
-        ensures ended { IfOk result (λ left. IfSome left (HasEndedAt self.old self.new number)) }
-        ensures none { IfOk result (λ left. IsNone left → (judge : AccessJudge) → self.old.judge ≡ Some judge → IsOpen judge number → ⊥) }
-        ensures unchanged { IfOk result (λ left. IsNone left → self.new ≡ self.old) }
+        ensures ended { IfOk result (λ ended. IfSome ended (λ end. HasEndedAt self.old self.new number (is_explained end))) }
+        ensures none { IfOk result (λ ended. IsNone ended → (judge : AccessJudge) → self.old.judge ≡ Some judge → IsOpen judge number → ⊥) }
+        ensures unchanged { IfOk result (λ ended. IsNone ended → self.new ≡ self.old) }
     {
         let Some(judge) = &mut self.judge else {
             return Ok(None);
@@ -71,7 +80,12 @@ impl Life {
         if !judge.is_open(number) {
             return Ok(None);
         }
-        let left = judge.end(alloc, number, most)?;
-        Ok(Some(left))
+        match judge.end(alloc, number, most)? {
+            None => Ok(Some(AccessEnd::Explained)),
+            Some(refutation) => Ok(Some(AccessEnd::Unexplained(unexplained_access(
+                self.object.address,
+                refutation,
+            )))),
+        }
     }
 }

@@ -8,7 +8,7 @@ pub struct NewObject {
     /// The cell that names it.
     pub cell: u32,
     /// How many bytes it has.
-    pub len: u32,
+    pub len: u64,
     /// The serial that it was given.
     pub serial: u32,
     /// Its address.

@@ -1,5 +1,5 @@
 //! `Pending`, what is to be done at the end of a call.
-use crate::flaws::Flaw;
+use crate::flaws::OutsideLife;
 use crate::objects::NewObject;
 use model_words::Refusal;
 
@@ -9,11 +9,11 @@ pub enum Pending {
     /// An object is made.
     Made(NewObject),
     /// A `new` of this cell and this length was refused.
-    Refused(u32, u32, Refusal),
+    Refused(u32, u64, Refusal),
     /// The object of this cell was freed.
     Free(u32),
     /// The object of this cell was accessed.
     Access(u32),
-    /// The call had a flaw when it began.
-    Wrong(Flaw),
+    /// The call isn't between the `new` and the `free` of its object, which was known when it began.
+    Wrong(OutsideLife),
 }

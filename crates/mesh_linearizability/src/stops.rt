@@ -3,7 +3,7 @@ use crate::flaws::Flaw;
 use mesh_configurations::JudgeFault;
 
 /// The first flaw of a history.
-#[derive(Clone, Copy, PartialEq, Eq)]
+#[derive(Drop)]
 pub struct Found {
     /// The number of the call at whose end the flaw was found: how many calls begin before it.
     pub number: u32,

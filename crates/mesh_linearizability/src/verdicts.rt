@@ -3,7 +3,7 @@ use crate::flaws::Flaw;
 use mesh_configurations::JudgeFault;
 
 /// What is found of a history of overlapping calls.
-#[derive(Clone, Copy, PartialEq, Eq)]
+#[derive(Drop)]
 pub enum CallVerdict {
     /// Some order of effect explains the calls. This is how many there are.
     Linearizable(u32),

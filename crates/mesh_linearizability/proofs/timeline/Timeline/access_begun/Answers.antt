@@ -5,7 +5,7 @@ use Rattle.mesh_fields.specs.Commands.{plain_command}
 use Rattle.mesh_history.specs.RecordedWords.{plain_entry}
 use Rattle.mesh_number_set.specs.Ranges.{Has}
 use Rattle.mesh_linearizability.specs.Standing.{lives_of, starts_of}
-use Rattle.mesh_linearizability.specs.declared.flaws.Flaw.TheVariants.{NotAfterNew, NotBeforeFree}
+use Rattle.mesh_linearizability.specs.declared.flaws.OutsideLife.TheVariants.{NotAfterNew, NotBeforeFree}
 use Rattle.mesh_linearizability.specs.declared.life.Life.{Life}
 use Rattle.mesh_linearizability.proofs.BeginSteps.{access_so, few_begun_in, few_more, stray_so}
 use Rattle.mesh_linearizability.proofs.StateAccess.{access_is_no_new}

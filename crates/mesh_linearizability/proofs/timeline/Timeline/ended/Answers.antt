@@ -48,4 +48,4 @@ returns-in-Access-clause-flawed c = IfOk-weaker c.access_ended.result _ (λ flaw
 
 pub returns-in-Wrong-clause-flawed : goal.returns-in-Wrong-clause-flawed
 returns-in-Wrong-clause-flawed c =
-    subst (λ (p : Pending). IsFlawed c.args.self.now c.args.number p) (sym c.in-Wrong.is) (wrong_ended c.args.self.now c.args.number c.in-Wrong.flaw)
+    subst (λ (p : Pending). IsFlawed c.args.self.now c.args.number p) (sym c.in-Wrong.is) (wrong_ended c.args.self.now c.args.number c.in-Wrong.outside)
