@@ -114,11 +114,12 @@ sessions_are_asked :
 unfolding clap_on_literals asked is_taken
 sessions_are_asked = ((refl, refl), (refl, refl))
 
--- a history is judged with at most 100,000 configurations of an object, or with as many as are given; `-` is a file's name to the command line
+-- a history is judged with at most 100,000 configurations of an object, or with as many as are given, and an order may be asked for; `-` is a file's name to
+-- the command line
 judgements_are_asked :
-    Asks (codes "check a.history") (check_of (codes "a.history") (record { configurations = 100000 }))
-    × Asks (codes "check --configurations=4294967295 -") (check_of (codes "-") (record { configurations = 4294967295 }))
-    × Asks (codes "check a.history --configurations 1") (check_of (codes "a.history") (record { configurations = 1 }))
+    Asks (codes "check a.history") (check_of (codes "a.history") (record { configurations = 100000; is_ordered = false }))
+    × Asks (codes "check --configurations=4294967295 -") (check_of (codes "-") (record { configurations = 4294967295; is_ordered = false }))
+    × Asks (codes "check --order a.history --configurations 1") (check_of (codes "a.history") (record { configurations = 1; is_ordered = true }))
 unfolding clap_on_literals asked is_taken
 judgements_are_asked = ((refl, refl), (refl, refl), (refl, refl))
 

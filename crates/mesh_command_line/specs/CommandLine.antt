@@ -90,9 +90,10 @@ explore_app = with_rule (with_rule (with_rule (with_rule (with_rule (with_rule (
     (number_rule (codes "cancel") 0 1000)) (number_or (codes "states") 1 10000000 (codes "100000"))) (number_rule (codes "witness") 0 4294967295))
     (text_rule (codes "show"))) (text_rule (codes "expect"))) (texts_rule (codes "never"))) (flag_rule (codes "progress"))
 
--- `check FILE [--configurations N]`
+-- `check FILE [--configurations N] [--order]`
 abbrev pub check_app : App
-check_app = with_rule (with_rule (new_app (codes "check")) file_rule) (number_or (codes "configurations") 1 4294967295 (codes "100000"))
+check_app = with_rule (with_rule (with_rule (new_app (codes "check")) file_rule) (number_or (codes "configurations") 1 4294967295 (codes "100000")))
+    (flag_rule (codes "order"))
 
 -- `savings FILE [--every F] [--probe T] [--seed S] [--first-fit] [--from CALL] [--to CALL] [--svg]`
 abbrev pub savings_app : App
@@ -163,9 +164,11 @@ pub record Explored : Type 0 where
   pub told : ToldOf
   pub is_watched : Bool
 
--- how a recorded history is judged: the most configurations that an object of a history of overlapping calls may have
+-- how a recorded history is judged: the most configurations that an object of a history of overlapping calls may have, and whether an order that explains
+-- the calls is printed in place of the verdict
 pub record Checked : Type 0 where
   pub configurations : ℕ
+  pub is_ordered : Bool
 
 -- how a recorded history is followed on two heaps, and what is printed of it: how many objects are freed between two rounds of meshing, how many rounds of
 -- tries a search makes at most, what the words of the objects are made from, 0 being each of them without it, the first and the last call of the figures,
@@ -341,7 +344,9 @@ in_order compared = if nat_le compared.from compared.to then Some compared else 
 
 -- what the matches have for `check`
 abbrev pub checked_in : List Row → Option Checked
-checked_in rows = option_map (λ configurations. record { configurations = configurations }) (number_in (codes "configurations") 1 4294967295 rows)
+checked_in rows =
+    option_and_then (λ configurations. option_map (λ is_ordered. record { configurations = configurations; is_ordered = is_ordered })
+    (flag_in (codes "order") rows)) (number_in (codes "configurations") 1 4294967295 rows)
 
 -- what the matches have for `savings`
 abbrev pub compared_in : List Row → Option Compared
@@ -419,7 +424,7 @@ explored_of never args =
 
 -- what was read of how a history is judged
 abbrev pub checked_of : CheckArgs → Checked
-checked_of args = record { configurations = args.configurations }
+checked_of args = record { configurations = args.configurations; is_ordered = args.is_ordered }
 
 -- what was read of how a history is followed
 abbrev pub compared_of : SavingsArgs → Compared

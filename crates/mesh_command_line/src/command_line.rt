@@ -11,9 +11,9 @@ ghost use Rattle.mesh_command_line.specs.CommandLine.{IsAllowedOf, IsAsked, IsNo
 use crate::meshes::MOST_MESHES;
 use crate::options::{
     Argument, CANCEL, COLUMNS, CONFIGURATIONS, EVERY, EXPECT, EXPLORE, FILE, FIRST_CALL, FIRST_FIT,
-    FROM, GROUPS, HISTORY, LAST_CALL, MESH, MESHERS, NEVER, NumberOption, OBJECT_SEED, PAGES,
-    PROBE, PROGRESS, RECORDED, ROUNDS, SAVINGS, SEED, SESSION_WORKERS, SHOW, STATES, SUBCOMMANDS,
-    SVG, Subcommand, TO, TextOption, WITNESS, WORKERS,
+    FROM, GROUPS, HISTORY, LAST_CALL, MESH, MESHERS, NEVER, NumberOption, OBJECT_SEED, ORDER,
+    PAGES, PROBE, PROGRESS, RECORDED, ROUNDS, SAVINGS, SEED, SESSION_WORKERS, SHOW, STATES,
+    SUBCOMMANDS, SVG, Subcommand, TO, TextOption, WITNESS, WORKERS,
 };
 use crate::patterns::MOST_PATTERNS;
 use crate::status::{DONE, FAILED, FAULTY};
@@ -433,12 +433,15 @@ fn patterns<'a>(texts: &[&'a str]) -> Patterns<'a>
     patterns
 }
 
-/// How many configurations an object of a history may have.
+/// How a history is to be judged, and what is to be printed.
 fn checked<'a>(matches: &ArgMatches<'a>) -> Option<CheckArgs>
     ensures { option_map checked_of result ≡ checked_in (rows_of (found_of matches.now)) }
 {
+    let configurations = number(matches, CONFIGURATIONS)? as u32;
+    let is_ordered = is_given(matches, ORDER)?;
     Some(CheckArgs {
-        configurations: number(matches, CONFIGURATIONS)? as u32,
+        configurations,
+        is_ordered,
     })
 }
 

@@ -12,6 +12,9 @@ pub(crate) const FIRST_FIT: &str = "first-fit";
 /// The flag that asks for a plot.
 pub(crate) const SVG: &str = "svg";
 
+/// The flag that asks for an order of effects in place of a verdict.
+pub(crate) const ORDER: &str = "order";
+
 /// The option that asks for a mesh.
 pub(crate) const MESH: &str = "mesh";
 
@@ -337,6 +340,10 @@ pub(crate) const SUBCOMMANDS: &[Subcommand] = &[
         arguments: &[
             Argument::File(HISTORY_FILE),
             Argument::Default(CONFIGURATIONS, "100000"),
+            Argument::Flag(
+                ORDER,
+                "Print calls that overlap in an order that explains them, as a history of version 1, in place of the verdict",
+            ),
         ],
     },
     SAVINGS,

@@ -6,7 +6,8 @@ use Rattle.mesh_linearizability.specs.declared.flaws.Flaw.{Flaw}
 use Rattle.mesh_linearizability.specs.declared.flaws.Flaw.TheVariants.{Overlaps}
 use Rattle.mesh_linearizability.specs.declared.verdicts.CallVerdict.{CallVerdict}
 use Rattle.mesh_linearizability.specs.declared.verdicts.CallVerdict.TheVariants.{Undecided}
-use Rattle.mesh_judge.specs.JudgementTexts.{call_text, flaw_text, undecided_text}
+use Rattle.mesh_judge.specs.FlawTexts.{flaw_text}
+use Rattle.mesh_judge.specs.JudgementTexts.{call_text, undecided_text}
 
 four : (old a b c d : List ℕ) → (((old ++ a) ++ b) ++ c) ++ d ≡ old ++ (a ++ (b ++ (c ++ d)))
 four old a b c d = append_assoc ((old ++ a) ++ b) c d ∙ append_assoc (old ++ a) b (c ++ d) ∙ append_assoc old a (b ++ (c ++ d))

@@ -1,2 +1,3 @@
 mod BegunReads
+mod CallsCome
 mod JudgementTexts

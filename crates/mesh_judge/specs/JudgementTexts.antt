@@ -1,25 +1,14 @@
 -- The text of a judgement. This project's own choice.
-use Rattle.std.specs.Prelude.{ℕ, ◌+◌, List, ◌++◌, codes}
+use Rattle.std.specs.Prelude.{ℕ, List, ◌++◌, codes}
 use Rattle.model_jobs.specs.Texts.{ended, number_field}
 use Rattle.mesh_configurations.specs.declared.faults.JudgeFault.{JudgeFault}
 use Rattle.mesh_configurations.specs.declared.faults.JudgeFault.TheVariants.{TooManyPending}
 use Rattle.mesh_check.specs.VerdictTexts.{verdict_text}
-use Rattle.mesh_linearizability.specs.declared.flaws.Flaw.{Flaw}
-use Rattle.mesh_linearizability.specs.declared.flaws.Flaw.TheVariants.{NotAfterNew, NotBeforeFree, CellAgain, SerialAgain, UnfairNew, Overlaps, NoOrder}
 use Rattle.mesh_linearizability.specs.declared.verdicts.CallVerdict.{CallVerdict}
 use Rattle.mesh_linearizability.specs.declared.verdicts.CallVerdict.TheVariants.{Linearizable, Flawed, Undecided}
+use Rattle.mesh_judge.specs.FlawTexts.{flaw_text}
 use Rattle.mesh_judge.specs.declared.judging.Judgement.{Judgement}
 use Rattle.mesh_judge.specs.declared.judging.Judgement.TheVariants.{InOrder, Overlapping}
-
--- why no order explains a history
-abbrev pub flaw_text : Flaw → List ℕ
-flaw_text NotAfterNew = codes "not after its new"
-flaw_text NotBeforeFree = codes "not before its free"
-flaw_text CellAgain = codes "cell again"
-flaw_text SerialAgain = codes "serial again"
-flaw_text UnfairNew = codes "no order explains the answer"
-flaw_text (Overlaps serial number) = codes "overlaps object" ++ number_field serial ++ codes ", made at line" ++ number_field (number + 2)
-flaw_text NoOrder = codes "no order explains the answer"
 
 -- why the judge stopped, where at most so many configurations may be met
 abbrev pub undecided_text : ℕ → JudgeFault → List ℕ

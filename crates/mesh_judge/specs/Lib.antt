@@ -1,3 +1,5 @@
 pub mod Beginnings
+pub mod FlawTexts
 pub mod Judgements
 pub mod JudgementTexts
+pub mod OrderedHistories

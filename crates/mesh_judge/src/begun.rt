@@ -1,5 +1,5 @@
 //! `Begun`, a source of which a beginning was looked at.
-ghost use Rattle.std.specs.Prelude.{◌≡◌, IfErr, IfOk, OnOk, false, is_err, length, true};
+ghost use Rattle.std.specs.Prelude.{◌≡◌, [], IfErr, IfOk, OnOk, false, is_err, length, true};
 ghost use Rattle.std.specs.Io.KnownBytes.{Keeps, prepend_known};
 ghost use Rattle.mesh_devices.specs.Devices.{is_read_fault};
 ghost use Rattle.mesh_judge.specs.Beginnings.{StartsOtherwise, StartsWith};
@@ -21,7 +21,8 @@ pub struct Begun<I: Drop> {
 impl<I: Source + Drop> Begun<I> {
     /// A source at which nobody has looked.
     pub fn new(inner: I) -> Begun<I>
-        ensures fresh { I.has_failed inner ≡ false → I.has_failed result.inner ≡ false }
+        ensures inner { result.inner ≡ inner }
+        ensures unread { result.begun.items ≡ [] }
     {
         Begun {
             inner,

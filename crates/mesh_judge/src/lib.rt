@@ -5,7 +5,9 @@
 #![tactic(auto)]
 
 mod begun;
+mod flaw_texts;
 mod judging;
+mod ordered;
 mod texts;
 
 pub use begun::Begun;
@@ -13,4 +15,5 @@ pub use judging::{Judgement, judge};
 pub use mesh_calls::CallError;
 pub use mesh_check::Verdict;
 pub use mesh_linearizability::CallVerdict;
+pub use ordered::ordered_history;
 pub use texts::judgement_line;

@@ -1,11 +1,12 @@
 //! The line of a judgement.
 ghost use Rattle.std.specs.Prelude.{◌≡◌, ◌++◌, IfOk, OnOk};
-ghost use Rattle.mesh_judge.specs.JudgementTexts.{call_text, flaw_text, judgement_text, undecided_text};
+ghost use Rattle.mesh_judge.specs.JudgementTexts.{call_text, judgement_text, undecided_text};
 
+use crate::flaw_texts::add_flaw;
 use crate::judging::Judgement;
 use mesh_check::verdict_line;
 use mesh_configurations::JudgeFault;
-use mesh_linearizability::{CallVerdict, Flaw};
+use mesh_linearizability::CallVerdict;
 use mesh_spelling::add_decimal;
 use std::alloc::{AllocError, Global};
 
@@ -22,7 +23,7 @@ pub fn judgement_line(
         Judgement::InOrder(verdict) => verdict_line(alloc, verdict),
         Judgement::Overlapping(verdict) => {
             let mut text = Vec::new(alloc);
-            add_verdict(&mut text, *verdict, most)?;
+            add_verdict(&mut text, verdict, most)?;
             text.extend_from_slice(b"\n")?;
             Ok(text)
         }
@@ -30,47 +31,27 @@ pub fn judgement_line(
 }
 
 /// Adds what is found of calls that overlap.
-fn add_verdict(text: &mut Vec<u8>, verdict: CallVerdict, most: u32) -> Result<(), AllocError>
-    ensures { OnOk result (text.new.items ≡ text.old.items ++ call_text most verdict) }
+fn add_verdict(text: &mut Vec<u8>, verdict: &CallVerdict, most: u32) -> Result<(), AllocError>
+    ensures { OnOk result (text.new.items ≡ text.old.items ++ call_text most verdict.now) }
 {
     match verdict {
         CallVerdict::Linearizable(entries) => {
             text.extend_from_slice(b"linearizable ")?;
-            add_decimal(text, u64::from(entries))?;
+            add_decimal(text, u64::from(*entries))?;
             text.extend_from_slice(b" entries")
         }
         CallVerdict::Flawed(line, flaw) => {
             text.extend_from_slice(b"line ")?;
-            add_decimal(text, u64::from(line))?;
+            add_decimal(text, u64::from(*line))?;
             text.extend_from_slice(b": ")?;
             add_flaw(text, flaw)
         }
         CallVerdict::Undecided(line, fault) => {
             text.extend_from_slice(b"undecided at line ")?;
-            add_decimal(text, u64::from(line))?;
+            add_decimal(text, u64::from(*line))?;
             text.extend_from_slice(b": ")?;
-            add_undecided(text, fault, most)
+            add_undecided(text, *fault, most)
         }
-    }
-}
-
-/// Adds why no order explains a history.
-fn add_flaw(text: &mut Vec<u8>, flaw: Flaw) -> Result<(), AllocError>
-    ensures { OnOk result (text.new.items ≡ text.old.items ++ flaw_text flaw) }
-{
-    match flaw {
-        Flaw::NotAfterNew => text.extend_from_slice(b"not after its new"),
-        Flaw::NotBeforeFree => text.extend_from_slice(b"not before its free"),
-        Flaw::CellAgain => text.extend_from_slice(b"cell again"),
-        Flaw::SerialAgain => text.extend_from_slice(b"serial again"),
-        Flaw::UnfairNew => text.extend_from_slice(b"no order explains the answer"),
-        Flaw::Overlaps(serial, number) => {
-            text.extend_from_slice(b"overlaps object ")?;
-            add_decimal(text, u64::from(serial))?;
-            text.extend_from_slice(b", made at line ")?;
-            add_decimal(text, u64::from(number) + 2)
-        }
-        Flaw::NoOrder => text.extend_from_slice(b"no order explains the answer"),
     }
 }
 

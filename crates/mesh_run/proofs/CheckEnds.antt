@@ -9,7 +9,7 @@ use Rattle.mesh_run.specs.declared.check_error.CheckError.{CheckError}
 use Rattle.mesh_run.specs.declared.check_error.CheckError.TheVariants.{Replay, Order}
 
 -- no error has the status 0, and 2 is the greatest
-status_bounds : (error : CheckError) → (1 ≤ status_of_check error) × (status_of_check error ≤ 2)
+pub status_bounds : (error : CheckError) → (1 ≤ status_of_check error) × (status_of_check error ≤ 2)
 status_bounds (Replay Read) = (omega arith, omega arith)
 status_bounds (Replay Write) = (omega arith, omega arith)
 status_bounds (Replay Memory) = (omega arith, omega arith)

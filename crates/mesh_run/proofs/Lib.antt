@@ -2,6 +2,7 @@ pub mod CheckEnds
 pub mod ExploreEnds
 pub mod FirstWords
 pub mod Messages
+mod OrderEnds
 pub mod PatternsSpelt
 pub mod SavingsEnds
 pub mod ThreadEnds

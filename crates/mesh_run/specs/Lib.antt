@@ -2,6 +2,7 @@ pub mod Checks
 pub mod Draws
 pub mod Explores
 pub mod LiveSizes
+pub mod Orders
 pub mod Runs
 pub mod Savings
 pub mod Seen

@@ -40,7 +40,7 @@ pub fn check_run<I: Source + Drop, O: Sink, E: Sink>(
 }
 
 /// Judges the history that the input gives, writes the verdict, and returns its exit status.
-fn write_verdict<I: Source + Drop, O: Sink>(
+pub(crate) fn write_verdict<I: Source + Drop, O: Sink>(
     alloc: Global,
     most: u32,
     input: &mut Begun<I>,
@@ -75,7 +75,7 @@ fn status_of_judgement(judgement: &Judgement) -> u8
 }
 
 /// The line of an error, with its end.
-fn check_line_of(error: CheckError) -> Line
+pub(crate) fn check_line_of(error: CheckError) -> Line
     ensures { result.items ≡ ended (check_error_text error) }
 {
     match error {
@@ -85,7 +85,7 @@ fn check_line_of(error: CheckError) -> Line
 }
 
 /// The exit status where a history isn't judged.
-fn status_of_check(error: CheckError) -> u8
+pub(crate) fn status_of_check(error: CheckError) -> u8
     ensures { result ≡ status_of_check error }
 {
     match error {

@@ -12,6 +12,7 @@ mod draw;
 mod explore;
 mod fault_line;
 mod live;
+mod order;
 mod printed;
 mod progress;
 mod runs;
@@ -38,6 +39,7 @@ pub use mesh_command_line::{
 pub use mesh_devices::{DeviceFault, Input, Output, Sink, Source};
 pub use mesh_judge::Begun;
 pub use mesh_reach::{Unwatched, Watch};
+pub use order::order_run;
 pub use progress::Progress;
 pub use runs::{replay_history_run, replay_run, stop_run, unopened_run};
 pub use savings::savings_run;

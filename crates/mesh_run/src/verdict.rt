@@ -4,16 +4,16 @@ ghost use Rattle.model_jobs.specs.Texts.{ended};
 ghost use Rattle.mesh_devices.specs.declared.faults.ReplayError.{ReplayError};
 ghost use Rattle.mesh_run.specs.Explores.{AreSpelt, EndsVerdict, HasFailedVerdict, HasJudgedBy, HasStoppedVerdict, IsUnread, verdict_status, verdict_text};
 ghost use Rattle.mesh_run.specs.Runs.{HasTold, IsSound};
-ghost use Rattle.mesh_verdict.specs.Runs.{HasReadAll};
+ghost use Rattle.mesh_devices.specs.Transfer.{HasReadAll};
 
 use crate::explore::{explore_line_of, explore_status_of};
 use crate::fault_line::{Line, number_line};
 use crate::runs::{status_of, tell, tell_error};
 use crate::{Criteria, Devices, ExploreArgs, VerdictError};
 use mesh_command_line::status::{DONE, FAILED, FAULTY};
-use mesh_devices::{Sink, Source};
+use mesh_devices::{Sink, Source, read_all};
 use mesh_reach::Watch;
-use mesh_verdict::{Pattern, VerdictOptions, read_expected, verdict};
+use mesh_verdict::{Pattern, VerdictOptions, verdict};
 use std::alloc::{AllocError, Global};
 
 /// Reads the outcomes that are expected, or writes to `errors` why it can't, and gives the exit status then.
@@ -25,7 +25,7 @@ pub fn expected_run<I: Source, E: Sink>(
     requires { I.has_failed input.old ≡ false }
     ensures { IfOk result (λ text. HasReadAll (I.remaining input.old) (I.remaining input.new) text.items) }
 {
-    match read_expected(alloc, input) {
+    match read_all(alloc, input) {
         Ok(text) => Ok(text),
         Err(error) => {
             tell_error(errors, error);

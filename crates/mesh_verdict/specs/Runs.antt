@@ -1,6 +1,6 @@
 -- What a run that gives a verdict has read and found where it ends.
 use Rattle.std.specs.Prelude.{◌≡◌, ◌↔◌, ◌≤◌, ◌++◌, ℕ, Bool, true, List, Option, Some, None, codes, decimal, length}
-use Rattle.std.specs.Io.KnownBytes.{Appends, Consumes, IsAtEnd}
+use Rattle.std.specs.Io.KnownBytes.{Appends}
 use Rattle.model_jobs.specs.Jobs.{Job}
 use Rattle.model_jobs.specs.Texts.{ended}
 use Rattle.mesh_explore.specs.ExploreStates.{ExploreState}
@@ -50,8 +50,3 @@ pub record HasJudged (pairs : List MeshPair) (cancel : Option ℕ) (most : ℕ) 
   pub text : List ℕ
   pub is_verdict : IsVerdictOf pairs cancel most never expected job well text
   pub wrote : Appends written written' text
-
--- the input was read to its end
-pub record HasReadAll (left left' : Option (List ℕ)) (text : List ℕ) : Type 0 where
-  pub taken : Consumes left left' text
-  pub whole : IsAtEnd left'

@@ -7,7 +7,6 @@ mod expected;
 mod judging;
 mod never;
 mod pattern;
-mod reading;
 mod report;
 mod run;
 
@@ -15,7 +14,6 @@ pub use block::Block;
 pub use judging::{Verdict, judged};
 pub use never::first_match;
 pub use pattern::Pattern;
-pub use reading::read_expected;
 pub use run::{VerdictOptions, verdict};
 
 #[cfg(test)]

@@ -12,7 +12,7 @@ ghost use Rattle.mesh_run.specs.Runs.{IsSound};
 
 use mesh_run::{
     Args, Begun, Criteria, Devices, ExploreArgs, Input, Output, Parsed, Patterns, Progress, Sink,
-    Source, Told, arguments, check_run, draw_run, expected_run, explore_run, live_run,
+    Source, Told, arguments, check_run, draw_run, expected_run, explore_run, live_run, order_run,
     replay_history_run, replay_run, savings_run, stop_run, threads_history_run, threads_run,
     unopened_run, unread_words,
 };
@@ -113,6 +113,10 @@ fn run_on<R: Threads + Wait + Sync, I: Source + Drop, O: Sink + Drop, E: Sink + 
             &mut Devices::new(input, output, errors),
         ),
         Args::Live(args) => live_run(alloc, args, &mut Devices::new(input, output, errors)),
+        Args::Check(_, args) if args.is_ordered => {
+            let mut devices = Devices::new(input, output, errors);
+            order_run(alloc, args.configurations, &mut devices)
+        }
         Args::Check(_, args) => {
             let mut devices = Devices::new(Begun::new(input), output, errors);
             check_run(alloc, args.configurations, &mut devices)

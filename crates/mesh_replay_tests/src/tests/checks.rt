@@ -28,30 +28,30 @@ the byte before one|history 1\n0 new 3 4 7 -> object 9 at 1000\n0 new 4 1 7 -> o
 the address of a freed one|history 1\n0 new 3 4 7 -> object 9 at 1000\n0 free 3 -> done\n0 new 4 4 7 -> object 8 at 1000\n|legal 3 entries\n#\
 no byte|history 1\n0 new 3 0 7 -> refused 1 ZERO\n|legal 1 entries\n#\
 a refusal that an allocator may have|history 1\n0 new 3 1 7 -> refused 3 NO_PAGES\n0 new 3 1 7 -> refused 4 NO_ADDRESSES\n0 new 3 1 7 -> refused 2 TOO_LARGE\n|legal 3 entries\n#\
-the greatest object|history 1\n0 new 0 4294967295 7 -> object 4294967295 at ffffffffffff\n0 put 0 4294967294 ff -> done\n0 get 0 4294967293 2 -> bytes 00ff\n|legal 3 entries\n";
+the greatest object|history 1\n0 new 0 140737488355328 7 -> object 4294967295 at ffffffffffff\n0 put 0 140737488355327 ff -> done\n0 get 0 140737488355326 2 -> bytes 00ff\n|legal 3 entries\n";
 
 /// Histories that it doesn't take, in such rows too.
 static ILLEGAL: &str = "\
-the new byte and then the old one|history 2\n0 1 2 new 3 4 7 -> object 9 at 1000\n0 3 9 put 3 0 68 -> done\n1 4 5 get 3 0 1 -> bytes 68\n1 6 7 get 3 0 1 -> bytes 00\n|line 5: no order explains the answer\n#\
+the new byte and then the old one|history 2\n0 1 2 new 3 4 7 -> object 9 at 1000\n0 3 9 put 3 0 68 -> done\n1 4 5 get 3 0 1 -> bytes 68\n1 6 7 get 3 0 1 -> bytes 00\n|line 5: no order explains bytes 00; possible: bytes 68\n#\
 a range that is live|history 2\n0 1 2 new 3 4 7 -> object 9 at 1000\n1 2 3 new 4 4 7 -> object 8 at 1003\n0 4 9 free 3 -> done\n|line 3: overlaps object 9, made at line 2\n#\
 a call in its new|history 2\n0 1 3 new 3 4 7 -> object 9 at 1000\n1 3 4 get 3 0 1 -> bytes 00\n|line 3: not after its new\n#\
 a call in its free|history 2\n0 1 2 new 3 4 7 -> object 9 at 1000\n1 3 4 get 3 0 1 -> bytes 00\n0 4 5 free 3 -> done\n|line 3: not before its free\n#\
-another byte|history 1\n0 new 3 4 7 -> object 9 at 1000\n1 put 3 1 6869 -> done\n2 get 3 1 2 -> bytes 6868\n0 oops\n|line 4: answer differs: bytes 6869 wanted\n#\
-fewer bytes|history 1\n0 new 3 4 7 -> object 9 at 1000\n0 get 3 0 4 -> bytes 000000\n|line 3: answer differs: bytes 00000000 wanted\n#\
-a store that is lost|history 1\n0 new 3 4 7 -> object 9 at 1000\n0 poke 1003 ff -> done\n0 peek 1003 -> byte 00\n|line 4: answer differs: byte ff wanted\n#\
-another address|history 1\n0 new 3 4 7 -> object 9 at 1000\n0 addr 3 -> at 1001\n|line 3: answer differs: at 1000 wanted\n#\
-an empty cell that is told freed|history 1\n0 get 4 0 1 -> refused 6 FREED\n|line 2: answer differs: refused 5 EMPTY wanted\n#\
-a load of a freed object|history 1\n0 new 3 4 7 -> object 9 at 1000\n0 free 3 -> done\n0 get 3 0 1 -> bytes 00\n|line 4: answer differs: refused 6 FREED wanted\n#\
-a free of a freed object|history 1\n0 new 3 4 7 -> object 9 at 1000\n0 free 3 -> done\n0 free 3 -> done\n|line 4: answer differs: refused 6 FREED wanted\n#\
-a store past the object|history 1\n0 new 3 4 7 -> object 9 at 1000\n0 put 3 3 6869 -> done\n|line 3: answer differs: refused 7 OUTSIDE wanted\n#\
-a refused live object|history 1\n0 new 3 4 7 -> object 9 at 1000\n0 get 3 0 1 -> refused 6 FREED\n|line 3: live object is refused\n#\
-the last byte of one is the first of another|history 1\n0 new 3 4 7 -> object 9 at 1000\n0 new 4 1 7 -> object 8 at 1003\n|line 3: overlaps object 9\n#\
-one around another|history 1\n0 new 3 4 7 -> object 9 at 1000\n0 new 4 64 7 -> object 8 at ff0\n|line 3: overlaps object 9\n#\
-one within another|history 1\n0 new 3 4 7 -> object 9 at 1000\n0 new 4 2 7 -> object 8 at 1001\n|line 3: overlaps object 9\n#\
+another byte|history 1\n0 new 3 4 7 -> object 9 at 1000\n1 put 3 1 6869 -> done\n2 get 3 1 2 -> bytes 6868\n0 oops\n|line 4: answer differs: bytes 6868, wanted bytes 6869; byte 2 was last stored at line 3\n#\
+fewer bytes|history 1\n0 new 3 4 7 -> object 9 at 1000\n0 get 3 0 4 -> bytes 000000\n|line 3: answer differs: bytes 000000, wanted bytes 00000000\n#\
+a store that is lost|history 1\n0 new 3 4 7 -> object 9 at 1000\n0 poke 1003 ff -> done\n0 peek 1003 -> byte 00\n|line 4: answer differs: byte 00, wanted byte ff; byte 3 was last stored at line 3\n#\
+another address|history 1\n0 new 3 4 7 -> object 9 at 1000\n0 addr 3 -> at 1001\n|line 3: answer differs: at 1001, wanted at 1000\n#\
+an empty cell that is told freed|history 1\n0 get 4 0 1 -> refused 6 FREED\n|line 2: answer differs: refused 6 FREED, wanted refused 5 EMPTY\n#\
+a load of a freed object|history 1\n0 new 3 4 7 -> object 9 at 1000\n0 free 3 -> done\n0 get 3 0 1 -> bytes 00\n|line 4: answer differs: bytes 00, wanted refused 6 FREED\n#\
+a free of a freed object|history 1\n0 new 3 4 7 -> object 9 at 1000\n0 free 3 -> done\n0 free 3 -> done\n|line 4: answer differs: done, wanted refused 6 FREED\n#\
+a store past the object|history 1\n0 new 3 4 7 -> object 9 at 1000\n0 put 3 3 6869 -> done\n|line 3: answer differs: done, wanted refused 7 OUTSIDE\n#\
+a refused live object|history 1\n0 new 3 4 7 -> object 9 at 1000\n0 get 3 0 1 -> refused 6 FREED\n|line 3: live object is refused: refused 6 FREED, wanted bytes 00\n#\
+the last byte of one is the first of another|history 1\n0 new 3 4 7 -> object 9 at 1000\n0 new 4 1 7 -> object 8 at 1003\n|line 3: overlaps object 9, made at line 2: addresses 1003..1004 and 1000..1004\n#\
+one around another|history 1\n0 new 3 4 7 -> object 9 at 1000\n0 new 4 64 7 -> object 8 at ff0\n|line 3: overlaps object 9, made at line 2: addresses ff0..1030 and 1000..1004\n#\
+one within another|history 1\n0 new 3 4 7 -> object 9 at 1000\n0 new 4 2 7 -> object 8 at 1001\n|line 3: overlaps object 9, made at line 2: addresses 1001..1003 and 1000..1004\n#\
 the serial of a freed one|history 1\n0 new 3 4 7 -> object 9 at 1000\n0 free 3 -> done\n0 new 4 4 7 -> object 9 at 2000\n|line 4: serial again\n#\
-no byte, and an object|history 1\n0 new 3 0 7 -> object 9 at 1000\n|line 2: answer differs: refused 1 ZERO wanted\n#\
-a refusal that no new has|history 1\n0 new 3 1 7 -> refused 5 EMPTY\n|line 2: answer differs: object wanted\n#\
-a new that is done|history 1\n0 new 3 1 7 -> done\n|line 2: answer differs: object wanted\n";
+no byte, and an object|history 1\n0 new 3 0 7 -> object 9 at 1000\n|line 2: answer differs: object 9 at 1000, wanted refused 1 ZERO\n#\
+a refusal that no new has|history 1\n0 new 3 1 7 -> refused 5 EMPTY\n|line 2: answer differs: refused 5 EMPTY, wanted object\n#\
+a new that is done|history 1\n0 new 3 1 7 -> done\n|line 2: answer differs: done, wanted object\n";
 
 /// Texts that are no histories, in such rows too: the line of each is that of its fault.
 static FAULTS: &str = "\

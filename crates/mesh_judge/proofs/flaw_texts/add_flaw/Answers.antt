@@ -1,9 +1,9 @@
 use Rattle.std.proofs.Common.{ℕ, ◌+◌, ◌++◌, ◌∙◌, ap, sym, decimal}
 use Rattle.std.proofs.lemmas.Result.{on_ok_weaker}
 use Rattle.mesh_linearizability.specs.declared.flaws.Flaw.{Flaw}
-use Rattle.mesh_judge.specs.JudgementTexts.{flaw_text}
+use Rattle.mesh_judge.specs.FlawTexts.{flaw_text}
 use Rattle.mesh_judge.proofs.JudgementTexts.{overlap_told, told_if_ok}
-use Rattle.mesh_judge.proofs.texts.add_flaw.Goals as goal
+use Rattle.mesh_judge.proofs.flaw_texts.add_flaw.Goals as goal
 
 pub returns-in_ok-extend_from_slice-in-Overlaps-2 : goal.returns-in_ok-extend_from_slice-in-Overlaps-2
 returns-in_ok-extend_from_slice-in-Overlaps-2 c =
@@ -14,9 +14,3 @@ returns-in_ok-extend_from_slice-in-Overlaps-2 c =
     (c.in_ok-add_decimal-in-Overlaps.ensures ∙ ap (λ (n : ℕ). one ++ decimal n) c.from.ensures)
     c.in_ok-extend_from_slice-in-Overlaps-2.ensures.items
     (told ∙ ap (λ (n : ℕ). three ++ decimal (n + 2)) c.from-in-Overlaps.ensures)) c.add_decimal-in-Overlaps.ensures
-
-pub returns-in-NoOrder : goal.returns-in-NoOrder
-returns-in-NoOrder c =
-    let result = c.extend_from_slice-in-NoOrder.result in
-    on_ok_weaker result (λ told. told ∙ ap (λ (f : Flaw). c.args.text.now.items ++ flaw_text f) (sym c.in-NoOrder.is))
-    (told_if_ok result _ _ c.args.text.now.items c.extend_from_slice-in-NoOrder.ensures.items)

@@ -1,0 +1,34 @@
+use Rattle.std.proofs.Common.{Option, refl, subst}
+use Rattle.std.specs.Prelude.{IfSome, IsNone, map}
+use Rattle.mesh_calls.specs.CallInputs.{HasEnded, HasNext}
+use Rattle.mesh_calls.specs.CallWords.{IsReadCall, plain_call}
+use Rattle.mesh_calls.specs.declared.words.TimedCall.{TimedCall}
+use Rattle.mesh_judge.proofs.CallsCome.{all_came, none_came, one_came}
+use Rattle.mesh_judge.proofs.ordered.read_calls.Goals as goal
+
+pub loop-calls-init : goal.loop-calls-init
+loop-calls-init g c = record {
+  open_input = c.requires.unread;
+  come = none_came c.args.history.now (g.I.Source.remaining c.args.input.now) c.new-calls.result.items c.new-calls.ensures.items c.requires.fresh;
+}
+
+pub loop-calls-preserved : goal.loop-calls-preserved
+loop-calls-preserved g c =
+    let left = g.I.Source.remaining c.args.input.now in let left' = g.I.Source.remaining c.next.new.input in
+    let far = c.loop-calls.invariant.come in
+    let next = subst (λ (o : Option TimedCall). IfSome o (HasNext c.next.new.self left left' (map plain_call c.loop-calls.calls.items))) c.in-Some.is
+    (c.in_ok-call.ensures.call left (map plain_call c.loop-calls.calls.items) far.come) in
+    let read = subst (λ (o : Option TimedCall). IfSome o IsReadCall) c.in-Some.is c.in_ok-call.ensures.is_read in
+    record {
+      open_input = c.in_ok-call.ensures.ok;
+      come = one_came c.loop-calls.history c.next.new.self left (g.I.Source.remaining c.loop-calls.input) left' c.loop-calls.calls.items c.add.new.calls.items c.in-Some.call far next read
+          c.in_ok-add.ensures;
+    }
+
+pub returns : goal.returns
+returns g c =
+    let left = g.I.Source.remaining c.args.input.now in let left' = g.I.Source.remaining c.next.new.input in
+    let far = c.loop-calls.invariant.come in
+    let ended = subst (λ (o : Option TimedCall). IsNone o → HasEnded c.next.new.self left left' (map plain_call c.loop-calls.calls.items)) c.in_default.is
+    (c.in_ok-call.ensures.ended left (map plain_call c.loop-calls.calls.items) far.come) refl in
+    all_came c.loop-calls.history c.next.new.self left (g.I.Source.remaining c.loop-calls.input) left' c.loop-calls.calls.items far ended

@@ -1,0 +1,3 @@
+mod InOrder
+mod OrderTexts
+mod SoFar

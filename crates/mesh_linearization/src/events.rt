@@ -1,0 +1,49 @@
+//! The begins and ends of calls in time.
+use mesh_calls::TimedCall;
+use std::alloc::{AllocError, Global};
+
+/// What happens to a call: of two at one moment, a begin comes before an end.
+#[derive(Clone, Copy, PartialEq, Eq, PartialOrd, Ord)]
+pub enum EventKind {
+    /// The call begins.
+    Begin,
+    /// The call ends.
+    End,
+}
+
+/// A begin or an end of a call, ordered by time.
+#[derive(Clone, Copy, PartialEq, Eq, PartialOrd, Ord)]
+pub struct Event {
+    /// When it happens.
+    pub moment: u64,
+    /// What happens.
+    pub kind: EventKind,
+    /// The number of the call.
+    pub number: u32,
+}
+
+/// The begins and ends of the calls of these numbers, in the order of time. An error is an allocation failure.
+pub fn events_of(
+    alloc: Global,
+    calls: &[TimedCall],
+    numbers: &[u32],
+) -> Result<Vec<Event>, AllocError> {
+    let mut events = Vec::new(alloc);
+    for number in numbers {
+        let number = *number;
+        if let Some(call) = calls.get(number as usize) {
+            events.push(Event {
+                moment: call.begin,
+                kind: EventKind::Begin,
+                number,
+            })?;
+            events.push(Event {
+                moment: call.end,
+                kind: EventKind::End,
+                number,
+            })?;
+        }
+    }
+    events.sort_unstable();
+    Ok(events)
+}

@@ -1,0 +1,91 @@
+//! The calls sorted by their points.
+ghost use Rattle.std.specs.Prelude.{◌≡◌, ◌<◌, ◌^◌, IfOk, length, map};
+ghost use Rattle.std.specs.List.{range_with_len};
+ghost use Rattle.std.specs.List.Sorted.{IsPermutation};
+
+use crate::points::Point;
+use mesh_calls::TimedCall;
+use mesh_history::SpeltCommand;
+use std::alloc::{AllocError, Global};
+
+/// Which of the calls at one moment come first: ranges of objects are freed before they are taken again.
+#[derive(Clone, Copy, PartialEq, Eq, PartialOrd, Ord)]
+pub enum Rank {
+    /// A `free`.
+    Free,
+    /// An access of an object.
+    Access,
+    /// A `new`.
+    New,
+}
+
+/// What a call is sorted by. Keys of two calls differ.
+#[derive(Clone, Copy, PartialEq, Eq, PartialOrd, Ord)]
+pub struct Key {
+    /// The moment of its effect.
+    pub moment: u64,
+    /// Which of the calls at one moment it is.
+    pub rank: Rank,
+    /// The place of an access in the order of its object's accesses.
+    pub place: u64,
+    /// Its number.
+    pub number: u32,
+}
+
+/// The numbers of the calls in the order of their points. An error is an allocation failure, here and below.
+pub fn order_by(
+    alloc: Global,
+    calls: &[TimedCall],
+    points: &[Point],
+) -> Result<Vec<u32>, AllocError>
+    requires { length calls.now < 2 ^ 32 }
+    ensures { IfOk result (λ order. IsPermutation (range_with_len 0 (length calls.now)) order.items) }
+{
+    let mut keys = keys_of(alloc, calls, points)?;
+    keys.sort_unstable();
+    numbers_of(alloc, keys.as_slice())
+}
+
+/// The keys of the calls, in the order of their numbers.
+fn keys_of(alloc: Global, calls: &[TimedCall], points: &[Point]) -> Result<Vec<Key>, AllocError>
+    requires { length calls.now < 2 ^ 32 }
+    ensures { IfOk result (λ keys. map (λ key. key.number) keys.items ≡ range_with_len 0 (length calls.now)) }
+{
+    let mut keys = Vec::new(alloc);
+    for (number, call) in calls.iter().enumerate() {
+        keys.push(key_of(number as u32, call, points))?;
+    }
+    Ok(keys)
+}
+
+/// The key of a call, from its point.
+fn key_of(number: u32, call: &TimedCall, points: &[Point]) -> Key
+    ensures { result.number ≡ number }
+{
+    let (moment, place) = match points.get(number as usize) {
+        Some(point) => (point.moment, point.place),
+        None => (call.begin, 0),
+    };
+    Key {
+        moment,
+        rank: rank_of(&call.entry.command),
+        place,
+        number,
+    }
+}
+
+/// The rank of a command.
+fn rank_of(command: &SpeltCommand) -> Rank {
+    match command {
+        SpeltCommand::Free(_) => Rank::Free,
+        SpeltCommand::New(_, _, _) => Rank::New,
+        _ => Rank::Access,
+    }
+}
+
+/// The numbers of the calls of keys.
+fn numbers_of(alloc: Global, keys: &[Key]) -> Result<Vec<u32>, AllocError>
+    ensures { IfOk result (λ numbers. numbers.items ≡ map (λ key. key.number) keys.now) }
+{
+    keys.iter().map(|key| key.number).collect(alloc)
+}

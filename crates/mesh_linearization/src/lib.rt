@@ -1,0 +1,27 @@
+//! An order of effects that explains a linearizable history of overlapping calls, and the text of the calls in it.
+//!
+//! `linearize` finds the order, checks it, and returns it as the numbers of the calls. `history_in_order` writes the
+//! calls in that order as a `history 1`.
+//!
+//! From the bottom up: `objects` has the accesses of each object, `events` their begins and ends in time. `kept` and
+//! `search` find an order of effects of one object's accesses, and `points` gives each call a moment of effect. `keys`
+//! sorts the calls by these moments, `certificates` checks the order, and `orders` does all of it. `commands` and
+//! `texts` write the lines.
+#![tactic(auto)]
+
+mod certificates;
+mod commands;
+mod events;
+mod kept;
+mod keys;
+mod objects;
+mod orders;
+mod points;
+mod search;
+mod texts;
+
+pub use orders::linearize;
+pub use texts::history_in_order;
+
+#[cfg(test)]
+mod tests;

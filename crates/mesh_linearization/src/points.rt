@@ -1,0 +1,77 @@
+//! The moments at which calls have their effects.
+ghost use Rattle.std.specs.Prelude.{◌<◌, ◌^◌, length};
+
+use crate::objects::objects_of;
+use crate::search::order_of;
+use mesh_calls::TimedCall;
+use mesh_history::SpeltCommand;
+use std::alloc::{AllocError, Global};
+
+/// When a call has its effect.
+#[derive(Clone, Copy)]
+pub struct Point {
+    /// The moment.
+    pub moment: u64,
+    /// The place of an access in the order of its object's accesses.
+    pub place: u64,
+}
+
+/// The points of the calls, `None` if no order of some object's accesses was found.
+///
+/// A `new` has its effect at its end, and any other call at its begin, but an access no earlier than those before it in
+/// the order of its object's accesses. At the end of an access at most
+/// `most` configurations may be met. An error is an allocation failure, here and below.
+pub fn points_of(
+    alloc: Global,
+    calls: &[TimedCall],
+    most: usize,
+) -> Result<Option<Vec<Point>>, AllocError>
+    requires { length calls.now < 2 ^ 32 }
+{
+    let Some(objects) = objects_of(alloc, calls)? else {
+        return Ok(None);
+    };
+    let mut points = own_points(alloc, calls)?;
+    for (_cell, object) in &objects {
+        let Some(order) = order_of(alloc, calls, object, most)? else {
+            return Ok(None);
+        };
+        place_accesses(calls, order.as_slice(), &mut points);
+    }
+    Ok(Some(points))
+}
+
+/// The points of the calls by themselves.
+fn own_points(alloc: Global, calls: &[TimedCall]) -> Result<Vec<Point>, AllocError> {
+    let mut points = Vec::new(alloc);
+    for call in calls {
+        points.push(own_point(call))?;
+    }
+    Ok(points)
+}
+
+/// The point of a call by itself.
+fn own_point(call: &TimedCall) -> Point {
+    let moment = match &call.entry.command {
+        SpeltCommand::New(_, _, _) => call.end,
+        _ => call.begin,
+    };
+    Point { moment, place: 0 }
+}
+
+/// Gives the accesses of an object, which are in their order, points in this order.
+fn place_accesses(calls: &[TimedCall], order: &[u32], points: &mut Vec<Point>) {
+    let mut moment = 0;
+    for (place, number) in order.iter().enumerate() {
+        let number = *number as usize;
+        if let Some(call) = calls.get(number) {
+            moment = call.begin.max(moment);
+        }
+        if let Some(point) = points.get_mut(number) {
+            *point = Point {
+                moment,
+                place: place as u64,
+            };
+        }
+    }
+}

@@ -1,0 +1,48 @@
+//! Calls in an order, as the text of a recorded history.
+ghost use Rattle.std.specs.Prelude.{◌≡◌, ◌<◌, ◌++◌, IfOk, OnOk, length};
+ghost use Rattle.std.specs.List.{All};
+ghost use Rattle.mesh_calls.specs.CallWords.{IsReadCall};
+ghost use Rattle.mesh_history.specs.RecordedWords.{plain_entry};
+ghost use Rattle.mesh_fields.specs.Commands.{plain_command};
+ghost use Rattle.mesh_linearization.specs.OrderTexts.{NamesObject, entry_line, ordered_text};
+ghost use Rattle.mesh_linearization.specs.Orders.{calls_in_order};
+
+use crate::commands::add_call_command;
+use mesh_calls::TimedCall;
+use mesh_check::add_recorded;
+use mesh_history::RecordedEntry;
+use mesh_spelling::add_decimal;
+use std::alloc::{AllocError, Global};
+
+/// The history of these calls in this order, of the calls' numbers: the line `history 1`, and for each call
+/// `W COMMAND -> ANSWER`, each line with its end. An error is an allocation failure, here and below.
+pub fn history_in_order(
+    alloc: Global,
+    calls: &[TimedCall],
+    order: &[u32],
+) -> Result<Vec<u8>, AllocError>
+    requires read { All IsReadCall calls.now }
+    requires places { All (λ number. number < length calls.now) order.now }
+    ensures { IfOk result (λ text. text.items ≡ ordered_text (calls_in_order calls.now order.now)) }
+{
+    let mut text = Vec::new(alloc);
+    text.extend_from_slice(b"history 1\n")?;
+    for number in order {
+        let call = &calls[*number as usize];
+        add_entry(&mut text, &call.entry)?;
+    }
+    Ok(text)
+}
+
+/// Adds the line of a call.
+fn add_entry(text: &mut Vec<u8>, entry: &RecordedEntry) -> Result<(), AllocError>
+    requires { NamesObject (plain_command entry.now.command) }
+    ensures { OnOk result (text.new.items ≡ text.old.items ++ entry_line (plain_entry entry.now)) }
+{
+    add_decimal(text, u64::from(entry.worker))?;
+    text.extend_from_slice(b" ")?;
+    add_call_command(text, &entry.command)?;
+    text.extend_from_slice(b" -> ")?;
+    add_recorded(text, &entry.reply)?;
+    text.extend_from_slice(b"\n")
+}

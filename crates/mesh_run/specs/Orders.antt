@@ -1,0 +1,44 @@
+-- What a run writes that is asked for an order of calls that overlap.
+use Rattle.std.specs.Prelude.{◌≡◌, ◌<◌, ◌≤◌, ◌⊎◌, ℕ, List, Option}
+use Rattle.std.specs.Io.KnownBytes.{Appends}
+use Rattle.model_jobs.specs.Texts.{ended}
+use Rattle.mesh_devices.specs.Transfer.{HasReadAll}
+use Rattle.mesh_judge.specs.OrderedHistories.{IsOrderedHistory}
+use Rattle.mesh_judge.specs.JudgementTexts.{judgement_text}
+use Rattle.mesh_judge.specs.declared.judging.Judgement.{Judgement}
+use Rattle.mesh_run.specs.Checks.{check_error_text, judgement_status, status_of_check}
+use Rattle.mesh_run.specs.Runs.{HasTold, IsDone}
+use Rattle.mesh_run.specs.Seen.{Seen}
+use Rattle.mesh_run.specs.declared.check_error.CheckError.{CheckError}
+
+-- the calls of a text were written in an order that explains them
+pub record HasWrittenOrder (text : List ℕ) (written written' : Option (List ℕ)) (status : ℕ) : Type 0 where
+  pub history : List ℕ
+  pub is_ordered : IsOrderedHistory text history
+  pub wrote : Appends written written' history
+  pub done : status ≡ 0
+
+-- the line of a judgement was written, which has this status
+abbrev pub HasWrittenVerdict : ℕ → Option (List ℕ) → Option (List ℕ) → ℕ → Type 0
+HasWrittenVerdict most written written' status =
+    (judgement : Judgement) × Appends written written' (judgement_text most judgement) × (status ≡ judgement_status judgement)
+
+-- the input was read to its end, and an order of the calls of its text, or a judgement, was written
+abbrev pub HasToldOrder : ℕ → Option (List ℕ) → Option (List ℕ) → Option (List ℕ) → Option (List ℕ) → ℕ → Type 0
+HasToldOrder most left left' written written' status =
+    (text : List ℕ) × HasReadAll left left' text × (HasWrittenOrder text written written' status ⊎ HasWrittenVerdict most written written' status)
+
+-- an order or a judgement of this status was written, and nothing was told
+abbrev pub HasEndedWell : ℕ → Seen → Seen → ℕ → Type 0
+HasEndedWell most before after status = IsDone (λ left left' written written'. HasToldOrder most left left' written written' status) before after
+
+-- why neither was written: the line of this error was told, which has this status
+abbrev pub HasEndedFor : Seen → Seen → ℕ → CheckError → Type 0
+HasEndedFor before after status error =
+    (status ≡ status_of_check error) × HasTold after.errors_failed before.told after.told (ended (check_error_text error))
+
+-- a run that is asked for an order ends: with status 0 an order or a judgement was written, and with another one a judgement was, or it stopped for an error
+pub record EndsOrder (most : ℕ) (before after : Seen) (status : ℕ) : Type 0 where
+  pub done : status ≡ 0 → HasEndedWell most before after status
+  pub found : 0 < status → HasEndedWell most before after status ⊎ ((error : CheckError) × HasEndedFor before after status error)
+  pub small : status ≤ 2
