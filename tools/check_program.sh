@@ -398,17 +398,18 @@ check "live: what was found, as a job" 0 any "$room/nothing" replay "$room/found
 histories=jobs/histories
 check "check: each kind of command and answer" 0 "$(line 'legal 33 entries')" "$room/nothing" check $histories/each_command.history
 check "check: the ends of the ranges" 0 "$(line 'legal 17 entries')" "$room/nothing" check $histories/wide.history
-check "check: an overlap of one byte" 1 "$(line 'line 6: overlaps object 0')" "$room/nothing" check $histories/overlap_of_one_byte.history
-check "check: a load of a freed object" 1 "$(line 'line 5: answer differs: refused 6 FREED wanted')" "$room/nothing" \
+check "check: an overlap of one byte" 1 "$(line 'line 6: overlaps object 0, made at line 2: addresses 7f55000000f0..7f5500000101 and 7f5500000100..7f5500000140')" "$room/nothing" check $histories/overlap_of_one_byte.history
+check "check: a load of a freed object" 1 "$(line 'line 5: answer differs: bytes 6d657368, wanted refused 6 FREED')" "$room/nothing" \
     check $histories/load_of_a_freed_object.history
 check "check: a serial again" 1 "$(line 'line 5: serial again')" "$room/nothing" check $histories/serial_again.history
-check "check: a refused live object" 1 "$(line 'line 6: live object is refused')" "$room/nothing" check $histories/refused_live_object.history
+check "check: a refused live object" 1 "$(line 'line 6: live object is refused: refused 6 FREED, wanted done')" "$room/nothing" check $histories/refused_live_object.history
 
 # checked NAME STATUS OUTPUT ERRORS: the history on standard input.
 checked() {
     "$program" check - >"$room/output" 2>"$room/errors"
     ended "$1" $? "$2" "$3" "$4"
 }
+check "check --order: a history in order" 0 "$(line 'legal 33 entries')" "$room/nothing" check $histories/each_command.history --order
 checked "check: standard input" 0 "$(line 'legal 33 entries')" "$room/nothing" <$histories/each_command.history
 checked "check: a wrong entry on standard input" 1 "$(line 'line 5: serial again')" "$room/nothing" <$histories/serial_again.history
 checked "check: a directory as standard input" 1 "$room/nothing" "$(line 'read fault')" <./jobs
@@ -418,9 +419,20 @@ ended "an allocator in C that records" $? 0 "$room/nothing" "$room/nothing"
 "$room/slots" 3 >"$room/slots.history"
 check "check: its history" 0 "$(line 'legal 18089 entries')" "$room/nothing" check "$room/slots.history"
 "$room/slots" 3 --bug >"$room/bug.history"
-lost='line 306: answer differs: bytes a287dc00000000000000000000000000 wanted'
+lost='line 306: answer differs: bytes 00000000000000000000000000000000, wanted bytes a287dc00000000000000000000000000; byte 132 was last stored at line 285'
 check "check: its history with a bug" 1 "$(line "$lost")" "$room/nothing" check "$room/bug.history"
 checked "check: its history with a bug, on standard input" 1 "$(line "$lost")" "$room/nothing" <"$room/bug.history"
+
+# is_ordered NAME HISTORY: calls that overlap and are linearizable, printed in an order that explains them.
+is_ordered() {
+    "$program" check "$2" --order >"$room/ordered.history" 2>"$room/errors" </dev/null
+    status=$?
+    tools/linearize/is_order.py "$2" "$room/ordered.history" >"$room/output" 2>&1
+    [ "$status" -eq 0 ] && [ ! -s "$room/errors" ]
+    ended "check --order: $1" $? 0 "$room/nothing" "$room/nothing"
+    check "check --order: $1, are legal in that order" 0 "$(line "legal $(($(wc -l <"$2") - 1)) entries")" "$room/nothing" \
+        check "$room/ordered.history"
+}
 
 # histories of calls that overlap, judged by another engine (tools/linearize/reference.py), which also tells what the call of an
 # unexplained answer could have answered; and those of threads that race
@@ -432,11 +444,16 @@ for history in $histories/overlapping/*.history; do
     # shellcheck disable=SC2086 # the words of the options
     if [ -f "$golden.err" ]; then
         check "$name" 2 "$room/nothing" "$golden.err" check "$history" $options
+        check "check --order: $(basename "$golden")" 2 "$room/nothing" "$golden.err" check "$history" --order $options
     else
-        sed 's/no order explains .*/no order explains the answer/' "$golden.out" >"$room/wanted"
         wanted=1
-        ! grep -q '^linearizable' "$room/wanted" || wanted=0
-        check "$name" $wanted "$room/wanted" "$room/nothing" check "$history" $options
+        ! grep -q '^linearizable' "$golden.out" || wanted=0
+        check "$name" $wanted "$golden.out" "$room/nothing" check "$history" $options
+        if [ "$wanted" -eq 0 ]; then
+            is_ordered "$(basename "$golden")" "$history"
+        else
+            check "check --order: $(basename "$golden")" 1 "$golden.out" "$room/nothing" check "$history" --order $options
+        fi
     fi
 done
 gcc -std=gnu11 -O2 -Wall -Wextra -Werror -pthread -o "$room/racing" examples/racing_slots.c >"$room/output" 2>"$room/errors"
@@ -445,6 +462,7 @@ for racers in 2 4; do
     "$room/racing" --threads $racers >"$room/racing.history"
     check "check: the history of $racers threads that race" 0 "$(line "linearizable $(($(wc -l <"$room/racing.history") - 1)) entries")" "$room/nothing" \
         check "$room/racing.history"
+    is_ordered "the calls of $racers threads that race" "$room/racing.history"
     "$room/racing" --threads $racers --bug >"$room/racing.history"
     check "check: the history of $racers threads that race, with a bug" 1 any "$room/nothing" check "$room/racing.history"
 done
@@ -472,23 +490,23 @@ faulty() {
 made='0 new 0 16 0 -> object 0 at 1000'
 entries "no entry" 0 "$(line 'legal 0 entries')" "$room/nothing"
 entries "one entry" 0 "$(line 'legal 1 entries')" "$room/nothing" "$made"
-entries "nothing behind a wrong entry" 1 "$(line 'line 3: answer differs: done wanted')" "$room/nothing" "$made" '0 free 0 -> at 1000' '' 'free'
-wrong "other bytes" 'answer differs: bytes 0000 wanted' "$made" '0 get 0 0 2 -> bytes 0001'
-wrong "fewer bytes" 'answer differs: bytes 0000 wanted' "$made" '0 get 0 0 2 -> bytes 00'
-wrong "another byte" 'answer differs: byte 00 wanted' "$made" '0 peek 100f -> byte 01'
-wrong "another address" 'answer differs: at 1000 wanted' "$made" '0 addr 0 -> at 1010'
-wrong "a store past the object" 'answer differs: refused 7 OUTSIDE wanted' "$made" '0 put 0 15 0000 -> done'
-wrong "an alias of an empty cell" 'answer differs: refused 5 EMPTY wanted' "$made" '0 alias 0 1 -> done'
-wrong "another refusal" 'answer differs: refused 5 EMPTY wanted' "$made" '0 free 0 -> done' '0 copy 0 0 1 0 1 -> refused 6 FREED'
-wrong "a store at a freed address" 'answer differs: refused 8 STRAY wanted' "$made" '0 free 0 -> done' '0 poke 1000 00 -> done'
-wrong "a refused load by address" 'live object is refused' "$made" '0 peek 1000 -> refused 8 STRAY'
-wrong "an object of no byte" 'answer differs: refused 1 ZERO wanted' '0 new 0 0 0 -> object 0 at 1000'
-wrong "no byte too large" 'answer differs: refused 1 ZERO wanted' '0 new 0 0 0 -> refused 2 TOO_LARGE'
-wrong "some bytes refused as none" 'answer differs: object wanted' '0 new 0 1 0 -> refused 1 ZERO'
-wrong "a new object done" 'answer differs: object wanted' '0 new 0 1 0 -> done'
+entries "nothing behind a wrong entry" 1 "$(line 'line 3: answer differs: at 1000, wanted done')" "$room/nothing" "$made" '0 free 0 -> at 1000' '' 'free'
+wrong "other bytes" 'answer differs: bytes 0001, wanted bytes 0000; byte 1 was never stored' "$made" '0 get 0 0 2 -> bytes 0001'
+wrong "fewer bytes" 'answer differs: bytes 00, wanted bytes 0000' "$made" '0 get 0 0 2 -> bytes 00'
+wrong "another byte" 'answer differs: byte 01, wanted byte 00; byte 15 was never stored' "$made" '0 peek 100f -> byte 01'
+wrong "another address" 'answer differs: at 1010, wanted at 1000' "$made" '0 addr 0 -> at 1010'
+wrong "a store past the object" 'answer differs: done, wanted refused 7 OUTSIDE' "$made" '0 put 0 15 0000 -> done'
+wrong "an alias of an empty cell" 'answer differs: done, wanted refused 5 EMPTY' "$made" '0 alias 0 1 -> done'
+wrong "another refusal" 'answer differs: refused 6 FREED, wanted refused 5 EMPTY' "$made" '0 free 0 -> done' '0 copy 0 0 1 0 1 -> refused 6 FREED'
+wrong "a store at a freed address" 'answer differs: done, wanted refused 8 STRAY' "$made" '0 free 0 -> done' '0 poke 1000 00 -> done'
+wrong "a refused load by address" 'live object is refused: refused 8 STRAY, wanted byte 00' "$made" '0 peek 1000 -> refused 8 STRAY'
+wrong "an object of no byte" 'answer differs: object 0 at 1000, wanted refused 1 ZERO' '0 new 0 0 0 -> object 0 at 1000'
+wrong "no byte too large" 'answer differs: refused 2 TOO_LARGE, wanted refused 1 ZERO' '0 new 0 0 0 -> refused 2 TOO_LARGE'
+wrong "some bytes refused as none" 'answer differs: refused 1 ZERO, wanted object' '0 new 0 1 0 -> refused 1 ZERO'
+wrong "a new object done" 'answer differs: done, wanted object' '0 new 0 1 0 -> done'
 wrong "a serial of a live object" 'serial again' "$made" '0 new 1 16 0 -> object 0 at 1000'
-wrong "an object around another" 'overlaps object 0' "$made" '0 new 1 4096 0 -> object 1 at 800'
-wrong "an object within another" 'overlaps object 0' "$made" '0 new 1 1 0 -> object 1 at 1008'
+wrong "an object around another" 'overlaps object 0, made at line 2: addresses 800..1800 and 1000..1010' "$made" '0 new 1 4096 0 -> object 1 at 800'
+wrong "an object within another" 'overlaps object 0, made at line 2: addresses 1008..1009 and 1000..1010' "$made" '0 new 1 1 0 -> object 1 at 1008'
 faulty "an empty line" WORD "$made" ''
 faulty "two spaces" WORD "$made" '0 free  0 -> done'
 faulty "no arrow" WORD "$made" '0 free 0 done'
@@ -503,7 +521,11 @@ faulty "a leading zero" NUMBER '0 new 0 016 0 -> object 0 at 1000'
 faulty "a worker above 16 bits" NUMBER '65536 new 0 16 0 -> object 0 at 1000'
 faulty "a worker before a command" NUMBER '65536 step 16 -> done'
 faulty "a cell above 32 bits" NUMBER '0 new 4294967296 16 0 -> object 0 at 1000'
-faulty "a length above 32 bits" NUMBER '0 new 0 4294967296 0 -> object 0 at 1000'
+entries "a length of 2^47" 0 "$(line 'legal 3 entries')" "$room/nothing" '0 new 0 140737488355328 0 -> object 0 at 1000' \
+    '0 put 0 140737488355327 aa -> done' '0 get 0 140737488355326 2 -> bytes 00aa'
+faulty "a length above 2^47" NUMBER '0 new 0 140737488355329 0 -> object 0 at 1000'
+faulty "an offset above 2^47" NUMBER "$made" '0 get 0 140737488355329 1 -> refused 7 OUTSIDE'
+wrong "an offset past the object" 'answer differs: bytes 00, wanted refused 7 OUTSIDE' "$made" '0 get 0 140737488355328 1 -> bytes 00'
 faulty "a word above 64 bits" NUMBER '0 new 0 16 18446744073709551616 -> object 0 at 1000'
 faulty "an address above 48 bits" NUMBER '0 new 0 16 0 -> object 0 at 1000000000000'
 faulty "an address in upper case" NUMBER '0 new 0 16 0 -> object 0 at 100A'

@@ -106,6 +106,18 @@ replay_fault() {
     [ "$refused" -eq 1 ] || [ "$status" -eq 0 ] || echo " a fault though nothing was refused"
 }
 
+# How a run of a judgement may end whose verdict, the file $wanted, has status 1.
+verdict_fault() {
+    [ "$status" -eq 1 ] || echo " status $status"
+    if [ -s "$room/errors" ]; then
+        is_line "$room/errors" "out of memory" || echo " another line of fault"
+        begins "$wanted" || echo " an output that isn't whole lines of the beginning"
+        [ "$refused" -eq 1 ] || echo " a fault though nothing was refused"
+    else
+        cmp -s "$room/output" "$wanted" || echo " another output"
+    fi
+}
+
 # How a run of the scripts in threads may end: an allocation that is refused inside the end of the run is `run fault`, and one before it is `out of
 # memory` or `thread fault`.
 threads_fault() {
@@ -214,6 +226,16 @@ echo 'legal 33 entries' >"$room/legal.out"
 wanted=$room/legal.out
 spare "$meshrun" check "$room/no file"
 refuse_each "meshrun check" replay_fault "$meshrun" check jobs/histories/each_command.history
+overlapping=jobs/histories/overlapping
+wanted=$overlapping/calls_that_touch.out
+refuse_each "meshrun check of calls that overlap" replay_fault "$meshrun" check $overlapping/calls_that_touch.history
+wanted=$overlapping/new_byte_then_old.out
+refuse_each "meshrun check of a lost store" verdict_fault "$meshrun" check $overlapping/new_byte_then_old.history
+"$meshrun" check $overlapping/calls_that_touch.history --order >"$room/ordered.history"
+wanted=$room/ordered.history
+# A list that can't grow by as much as it asks for asks for less, so a run may end well though an allocation was refused.
+spared=$most
+refuse_each "meshrun check --order" replay_fault "$meshrun" check $overlapping/calls_that_touch.history --order
 savings=jobs/histories/savings/more_with_meshing
 wanted=$savings.out
 spare "$meshrun" savings "$room/no file"

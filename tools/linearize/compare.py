@@ -64,8 +64,8 @@ def possible_answers(call, calls):
     moment = call.end + 0.5
     every = itertools.product(random_histories.ALPHABET, repeat=int(call.fields[1]))
     answers = (f"bytes {bytes(loaded).hex()}" for loaded in every)
-    return " | ".join(answer for answer in answers
-                      if is_explained_at_end(call, calls, (moment, moment, words_of(call, answer)[2])))
+    return reference.listed([answer for answer in answers
+                             if is_explained_at_end(call, calls, (moment, moment, words_of(call, answer)[2]))])
 
 
 def difference(calls, verdict):

@@ -93,9 +93,18 @@ def moments(calls):
         yield False, heapq.heappop(pending)[2]
 
 
+# How many possible answers are named.
+MOST_NAMED = 8
+
+
+def listed(possible):
+    """Possible answers as a text: the first of them in their order, and two dots if there are more."""
+    return " | ".join(sorted(possible)[:MOST_NAMED] + [".."] * (len(possible) > MOST_NAMED))
+
+
 def unexplained(answer, possible):
     """The reason of a call whose answer is none of the possible ones."""
-    return f"no order explains {answer}; possible: {' | '.join(sorted(possible))}"
+    return f"no order explains {answer}; possible: {listed(possible)}"
 
 
 # ---- The calls that make objects ----
