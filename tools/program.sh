@@ -3,12 +3,12 @@
 # find_program PROGRAM: sets program to this path, or to crates/meshrun/out/meshrun where there is none given, and goes to the top of the repository.
 # Ends the tool with status 2 where there is no such program.
 find_program() {
-    program=${1:-$(dirname "$0")/../crates/meshrun/out/meshrun}
+    program=${1:-$(dirname "$0")/../../crates/meshrun/out/meshrun}
     case $program in
         /*) ;;
         *) program=$PWD/$program ;;
     esac
-    cd "$(dirname "$0")/.." || exit 2
+    cd "$(dirname "$0")/../.." || exit 2
     if [ ! -x "$program" ]; then
         echo "there is no program at $program: run \`rt ci\`, or \`rt run\` in crates/meshrun" >&2
         exit 2

@@ -1,4 +1,4 @@
-"""Judges histories by the program and by the plain engine, for tools/check_times.sh."""
+"""Judges histories by the program and by the plain engine, for tools/bench/check.sh."""
 import random
 import subprocess
 import sys

@@ -1,4 +1,4 @@
-"""Runs explorations by the program and by the plain engine, for tools/explore_times.sh."""
+"""Runs explorations by the program and by the plain engine, for tools/bench/explore.sh."""
 import subprocess
 import sys
 

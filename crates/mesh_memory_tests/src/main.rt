@@ -1,6 +1,6 @@
 //! Cases in which each allocation is refused once, and what is left is what the contracts say.
 //!
-//! The program is made to be run with a library that refuses one allocation, which `tools/refuse_memory.sh` does. A word names the case; with
+//! The program is made to be run with a library that refuses one allocation, which `tools/test/oom.sh` does. A word names the case; with
 //! none, all cases run. For each case there is one line that says how it ended: done, with how many calls were refused memory and
 //! made again, out of memory, or a thread fault. A line that begins with `WRONG` tells what isn't as the contracts say; then the status is 1.
 #![tactic(auto)]

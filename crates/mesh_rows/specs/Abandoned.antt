@@ -1,4 +1,4 @@
--- Worked rows: abandoned. Written by tools/write_rows.py from jobs/rows/abandoned.
+-- Worked rows: abandoned. Written by tools/gen/rows.py from jobs/golden/abandoned.
 use Rattle.std.specs.Prelude.{Ok, codes}
 use Rattle.mesh_rows.specs.Rows.{Row}
 

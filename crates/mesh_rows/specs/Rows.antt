@@ -1,4 +1,4 @@
--- A worked row, written by tools/write_rows.py: a file, and what it is replayed to.
+-- A worked row, written by tools/gen/rows.py: a file, and what it is replayed to.
 use Rattle.std.specs.Prelude.{◌≡◌, ℕ, List, Result}
 -- (the proofs of the rows open it, to compute what is written in decimal)
 pub use Rattle.std.specs.Fmt.{digits}

@@ -1,4 +1,4 @@
--- Worked rows: whole meshes. Written by tools/write_rows.py from jobs/rows/whole_meshes.
+-- Worked rows: whole meshes. Written by tools/gen/rows.py from jobs/golden/whole_meshes.
 use Rattle.std.specs.Prelude.{Ok, codes}
 use Rattle.mesh_rows.specs.Rows.{Row}
 

@@ -1,7 +1,7 @@
-//! The worked rows as theorems: what the definitions of `model_jobs` give for each file under `jobs/rows`.
+//! The worked rows as theorems: what the definitions of `model_jobs` give for each file under `jobs/golden`.
 //!
 //! Each function does nothing; its clauses say that a file is replayed to the lines that were worked out by hand.
-//! Written by `tools/write_rows.py`.
+//! Written by `tools/gen/rows.py`.
 #![tactic(auto)]
 
 mod rows;

@@ -1,4 +1,4 @@
-//! A function for each subject of the worked rows. Written by `tools/write_rows.py`.
+//! A function for each subject of the worked rows. Written by `tools/gen/rows.py`.
 #![tactic(auto, unfolding(model_words::specs::Classes::pages_of, model_words::specs::Classes::slots_of, crate::specs::Rows::digits))]
 
 ghost use Rattle.mesh_rows.specs.Rows.{IsReplayed};

@@ -1,5 +1,5 @@
 //! The worked rows, each table one text: `#` stands between two rows, and `|` between two fields of a row. Written by
-//! `tools/write_rows.py`.
+//! `tools/gen/rows.py`.
 
 /// The file of the row `mutators/first_bytes`.
 pub const FIRST_FILE: &str =

@@ -1,4 +1,4 @@
-//! Recorded histories, and what meshing would save for them. The tables come from another engine (`tools/savings`).
+//! Recorded histories, and what meshing would save for them. The tables come from another engine (`tools/engines/savings`).
 ghost use Rattle.std.specs.Prelude.{◌≡◌, false};
 
 use crate::tests::check;

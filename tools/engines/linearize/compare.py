@@ -1,0 +1,111 @@
+#!/usr/bin/env python3
+"""Compares reference.py with searches of all orders on tiny random histories.
+
+    tools/engines/linearize/compare.py [COUNT [SEED]]
+
+COUNT histories of 2 to 7 calls of 2 to 4 threads, from SEED on (1,000 from 1 if none is given). Those that orders.py can
+judge are compared: each `new` has a cell of its own, and each other call is between the `new` and the `free` of its cell.
+Of the others it is checked only that reference.py finds a flaw. Compared are
+
+- whether the history is linearizable;
+- the line of a flaw: the first call, in the order of ends, at whose end no order of the calls that ended by then, with or
+  without some of those that are pending, is right;
+- the possible answers of a `get`: those with which there is such an order that has it behind all calls that ended before
+  it. It could have had others if it was earlier: before a store that began and ended while it was pending.
+
+Each history that differs is a line of the output, and the last line counts them. The status is 1 if one differs.
+"""
+import collections
+import itertools
+import sys
+
+import orders
+import random_histories
+import reference
+
+LIMIT = 100000
+
+
+def is_in_life(call, calls):
+    """Whether a call that isn't a `new` begins after the end of its `new` and ends before its `free` begins."""
+    own = [other for other in calls if other.cell == call.cell and other is not call]
+    made = any(new.word == "new" and new.answer.startswith("object ") and new.end < call.begin for new in own)
+    return made and not any(free.word == "free" and free.begin <= call.end for free in own)
+
+
+def is_history(calls):
+    """Whether the history is one that orders.py can judge."""
+    cells = [call.cell for call in calls if call.word == "new"]
+    return len(cells) == len(set(cells)) and all(call.word == "new" or is_in_life(call, calls) for call in calls)
+
+
+def words_of(call, answer):
+    """A call with this answer, as orders.py has it."""
+    return call.begin, call.end, [call.word, str(call.cell), *call.fields, *answer.split(" ")]
+
+
+def is_explained_at_end(call, calls, changed):
+    """Whether some order explains what is known at the end of a call, if that is changed so."""
+    ended = [words_of(other, other.answer) for other in calls if (other.end, other.line) < (call.end, call.line)]
+    pending = [words_of(other, other.answer) for other in calls
+               if other.begin <= call.end and (other.end, other.line) > (call.end, call.line)]
+    return any(orders.is_linearizable([*ended, changed, *some])
+               for count in range(len(pending) + 1) for some in itertools.combinations(pending, count))
+
+
+def unexplained(calls):
+    """The first call, in the order of ends, that no order explains, or None."""
+    in_time = sorted(calls, key=lambda call: (call.end, call.line))
+    return next((call for call in in_time if not is_explained_at_end(call, calls, words_of(call, call.answer))), None)
+
+
+def possible_answers(call, calls):
+    """The answers of a `get` that some order explains if the call is as short as can be, at its end."""
+    moment = call.end + 0.5
+    every = itertools.product(random_histories.ALPHABET, repeat=int(call.fields[1]))
+    answers = (f"bytes {bytes(loaded).hex()}" for loaded in every)
+    return reference.listed([answer for answer in answers
+                             if is_explained_at_end(call, calls, (moment, moment, words_of(call, answer)[2]))])
+
+
+def difference(calls, verdict):
+    """How the verdict on a history differs from what all orders have, or None."""
+    call = unexplained(calls)
+    is_linearizable = orders.is_linearizable([words_of(other, other.answer) for other in calls])
+    if is_linearizable != (verdict == f"linearizable {len(calls)} entries") or is_linearizable != (call is None):
+        return "not whether it is linearizable"
+    if call and not verdict.startswith(f"line {call.line}: "):
+        return f"line {call.line}"
+    if call and call.word == "get" and not verdict.endswith(f"; possible: {possible_answers(call, calls)}"):
+        return f"possible: {possible_answers(call, calls)}"
+    return None
+
+
+def kind_of_verdict(verdict):
+    """A verdict without its numbers and answers."""
+    return next(kind for kind in ("linearizable", "no order", "serial", "overlaps", "cell", "not") if kind in verdict)
+
+
+def main():
+    count, first = list(map(int, sys.argv[1:])) + [1000, 1][len(sys.argv) - 1:]
+    differing, kinds = 0, collections.Counter()
+    for seed in range(first, first + count):
+        text = random_histories.history(seed, 2 + seed % 6, 2 + seed % 3)
+        calls, _ = reference.calls_of_text(text)
+        verdict = reference.judged(text, LIMIT)[1]
+        if is_history(calls):
+            kinds[kind_of_verdict(verdict)] += 1
+            told = difference(calls, verdict)
+        else:
+            kinds["left out"] += 1
+            told = "no history" if verdict.startswith("linearizable") else None
+        if told:
+            differing += 1
+            print(f"seed {seed}: {verdict}, but {told}")
+    numbers = ", ".join(f"{number} {kind}" for kind, number in sorted(kinds.items()))
+    print(f"{count} histories, {differing} differ: {numbers}")
+    return 1 if differing else 0
+
+
+if __name__ == "__main__":
+    sys.exit(main())

@@ -1,0 +1,126 @@
+#!/usr/bin/env python3
+"""Prints a long history of calls that overlap, which some order explains, to measure `meshrun check` by.
+
+    tools/engines/linearize/long_history.py CALLS THREADS OBJECTS
+    tools/engines/linearize/long_history.py CALLS THREADS --pending
+
+With OBJECTS, threads store to and load from at most so many objects of 16 bytes at a time, and free one or make one in a
+tenth of their calls. With --pending all threads' calls on one object are pending at once, again and again: the most
+configurations that so many threads can make. Each call takes effect at a moment between its begin and its end, and its
+answer is what it finds there.
+"""
+
+import heapq
+import random
+import sys
+
+LEN = 16
+
+
+def store_or_load(source):
+    """A command on an object's byte, without its cell: `put` or `get`, the offset, and the byte that is stored."""
+    return source.choice(["put", "get"]), source.randrange(LEN), source.randrange(256)
+
+
+def spelt(cell, command):
+    """The command on this cell, as it stands in a line."""
+    name, offset, byte = command
+    return f"put {cell} {offset} {byte:02x}" if name == "put" else f"get {cell} {offset} 1"
+
+
+def answer(memory, command):
+    """The answer where the command takes effect in these bytes."""
+    name, offset, byte = command
+    if name == "put":
+        memory[offset] = byte
+        return "done"
+    return f"bytes {memory[offset]:02x}"
+
+
+def pending(calls, threads, source):
+    """The lines of rounds in which all threads' calls on one object overlap."""
+    memory = [0] * LEN
+    yield f"0 0 1 new 1 {LEN} 0 -> object 1 at 1000"
+    for moment in range(2, 2 + 3 * (calls // threads), 3):
+        commands = [store_or_load(source) for _ in range(threads)]
+        answers = {}
+        for thread in source.sample(range(threads), threads):
+            answers[thread] = answer(memory, commands[thread])
+        for thread, command in enumerate(commands):
+            yield f"{thread} {moment} {moment + 1 + thread % 2} {spelt(1, command)} -> {answers[thread]}"
+
+
+class Lives:
+    """The objects that live, in the slots of 16 bytes that are free or taken."""
+
+    def __init__(self, most):
+        self.slots = list(range(most))
+        self.living = {}
+        self.made = 0
+
+    def make(self, end):
+        """A `new` that ends then: its line's command and answer."""
+        self.made += 1
+        slot = self.slots.pop(0)
+        self.living[self.made] = [slot, end, 0]
+        return f"new {self.made} {LEN} 0", f"object {self.made} at {4096 + LEN * slot:x}"
+
+    def free(self, cell):
+        """A `free` of this object: its line's command and answer."""
+        self.slots.append(self.living.pop(cell)[0])
+        return f"free {cell}", "done"
+
+
+def racing(calls, threads, most, source):
+    """The lines of threads that race on at most so many objects."""
+    lives = Lives(most)
+    memories, effects, lines = {}, [], []
+    free_threads = [(source.randrange(5), thread) for thread in range(threads)]
+    heapq.heapify(free_threads)
+
+    def take_effects(before):
+        while effects and effects[0][0] < before:
+            _, line, cell, command = heapq.heappop(effects)
+            lines[line][2] = answer(memories[cell], command)
+
+    while len(lines) < calls:
+        begin, thread = heapq.heappop(free_threads)
+        take_effects(begin)
+        end = begin + 2 + source.randrange(6)
+        usable = [cell for cell, life in lives.living.items() if life[1] < begin]
+        idle = [cell for cell in usable if lives.living[cell][2] < begin]
+        chance = source.random()
+        stamps = f"{thread} {begin} {end}"
+        if lives.slots and (chance < 0.05 or not usable):
+            command, told = lives.make(end)
+            memories[lives.made] = [0] * LEN
+            lines.append([stamps, command, told])
+        elif chance > 0.95 and idle and len(lives.living) > most // 2:
+            lines.append([stamps, *lives.free(source.choice(idle))])
+        elif usable:
+            cell, command = source.choice(usable), store_or_load(source)
+            lives.living[cell][2] = max(lives.living[cell][2], end)
+            heapq.heappush(effects, (source.randint(begin, end), len(lines), cell, command))
+            lines.append([stamps, spelt(cell, command), None])
+        else:
+            end = begin
+        heapq.heappush(free_threads, (end + 1 + source.randrange(4), thread))
+    take_effects(float("inf"))
+    return (f"{stamps} {command} -> {told}" for stamps, command, told in lines)
+
+
+def main():
+    if len(sys.argv) != 4:
+        sys.exit(__doc__)
+    calls, threads, source = int(sys.argv[1]), int(sys.argv[2]), random.Random(1)
+    if sys.argv[3] == "--pending":
+        lines = pending(calls, threads, source)
+    else:
+        lines = racing(calls, threads, int(sys.argv[3]), source)
+    print("history 2")
+    for line in lines:
+        print(line)
+
+
+if __name__ == "__main__":
+    main()

@@ -1,0 +1,103 @@
+#!/usr/bin/env python3
+"""Searches all orders of a tiny history of overlapping calls, straight from the definition.
+
+    tools/engines/linearize/orders.py FILE
+
+FILE is a history of version 2 of up to 7 calls, or `-` for standard input. It is linearizable if some order of its calls
+respects real time (no call is behind one that began after it ended) and is a legal history of separate objects, as
+`history 1` has it. A `new` of 1 byte or more may be refused for a fair reason at any time. Printed is `linearizable`
+with status 0, or `not linearizable` with status 1.
+
+It takes for granted that each `new` has a cell of its own, and that a call of a cell begins after the end of its `new`
+and ends before the beginning of its `free`.
+"""
+import itertools
+import sys
+
+MOST_CALLS = 7
+FAIR_REFUSALS = ("refused 2 TOO_LARGE", "refused 3 NO_PAGES", "refused 4 NO_ADDRESSES")
+
+
+def calls_of_text(text):
+    """The calls of a history, each a triple (begin, end, words of the command and the answer)."""
+    calls = []
+    for line in text.splitlines()[1:]:
+        _, begin, end, *words = line.replace(" -> ", " ").split(" ")
+        calls.append((int(begin), int(end), words))
+    return calls
+
+
+def respects_time(order):
+    """Whether no call is behind one that began after it ended."""
+    return not any(later[1] < earlier[0] for earlier, later in itertools.combinations(order, 2))
+
+
+class Memory:
+    """Separate objects, each reached by its cell: its address, its length, and the bytes that were stored to."""
+
+    def __init__(self):
+        self.live = {}
+        self.serials = set()
+
+    def new(self, cell, length, _, *answer):
+        if answer[0] == "refused":
+            fair = FAIR_REFUSALS if int(length) else ("refused 1 ZERO",)
+            return " ".join(answer) in fair
+        serial, first, length = answer[1], int(answer[3], 16), int(length)
+        apart = all(first + length <= other or other + size <= first for other, size, _ in self.live.values())
+        if length == 0 or serial in self.serials or not apart:
+            return False
+        self.serials.add(serial)
+        self.live[cell] = first, length, {}
+        return True
+
+    def free(self, cell, *answer):
+        return self.live.pop(cell, None) is not None and answer == ("done",)
+
+    def addr(self, cell, *answer):
+        return cell in self.live and answer == ("at", f"{self.live[cell][0]:x}")
+
+    def put(self, cell, offset, data, *answer):
+        if cell not in self.live:
+            return False
+        _, length, stored = self.live[cell]
+        data = bytes.fromhex(data)
+        stored.update(enumerate(data, int(offset)))
+        return int(offset) + len(data) <= length and answer == ("done",)
+
+    def get(self, cell, offset, count, *answer):
+        if cell not in self.live:
+            return False
+        _, length, stored = self.live[cell]
+        offsets = range(int(offset), int(offset) + int(count))
+        loaded = bytes(stored.get(at, 0) for at in offsets)
+        return offsets.stop <= length and answer == ("bytes", loaded.hex())
+
+
+def is_legal(order):
+    """Whether these calls, one after the other, are a legal history of separate objects."""
+    memory = Memory()
+    return all(getattr(memory, word)(*fields) for _, _, (word, *fields) in order)
+
+
+def is_linearizable(calls):
+    """Whether some order of all calls respects real time and is legal."""
+    return any(respects_time(order) and is_legal(order) for order in itertools.permutations(calls))
+
+
+def main():
+    if len(sys.argv) != 2:
+        print("Usage: tools/engines/linearize/orders.py FILE", file=sys.stderr)
+        return 2
+    with sys.stdin if sys.argv[1] == "-" else open(sys.argv[1], encoding="ascii") as file:
+        calls = calls_of_text(file.read())
+    if len(calls) > MOST_CALLS:
+        print(f"more than {MOST_CALLS} calls", file=sys.stderr)
+        return 2
+    found = is_linearizable(calls)
+    print("linearizable" if found else "not linearizable")
+    return 0 if found else 1
+
+
+if __name__ == "__main__":
+    sys.exit(main())

@@ -1,0 +1,24 @@
+#!/bin/sh
+# Builds the reference engine and rewrites the golden files in jobs/explore.
+#
+#     tools/gen/explore_golden.sh
+#
+# Each NAME.args is a run on NAME.job: the options, a word a line. The .out file beside it is the standard output of that
+# run. The engine is plain C++ and shares no code with the program. The status is 1 if a run ends with a status other
+# than 0.
+
+cd "$(dirname "$0")/../.." || exit 2
+room=$(mktemp -d) || exit 2
+trap 'rm -rf "$room"' EXIT
+"${CXX:-g++}" -O2 -std=c++17 -o "$room/reference" tools/engines/explore/reference.cpp || exit 2
+
+failed=0
+for args in jobs/explore/*.args; do
+    golden=${args%.args}
+    # shellcheck disable=SC2046 # the words of the options
+    if ! "$room/reference" "$golden.job" $(cat "$args") >"$golden.out" 2>"$room/errors"; then
+        echo "$args: $(cat "$room/errors")" >&2
+        failed=1
+    fi
+done
+exit $failed

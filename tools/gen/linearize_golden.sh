@@ -1,0 +1,37 @@
+#!/bin/sh
+# Rewrites the golden files in histories/overlapping by tools/engines/linearize/reference.py.
+#
+#     tools/gen/linearize_golden.sh
+#
+# Each NAME.history without a NAME.err is judged, with the options of NAME.options if there is one, and NAME.out is the
+# standard output of that run. NAME.err, the standard error of a history with a fault of its text, is written by hand.
+# The random histories are those of random_histories.py:
+#
+# - random_200_right: 7 --calls 200 --right
+# - random_1000_right: 2 --calls 1000 --right
+# - random_300_overlap: 187 --calls 300
+# - random_500_other_bytes: 90 --calls 500
+# - random_500_not_before_its_free: 136 --calls 500
+#
+# The status is 1 if a run ends with a status other than 0 or 1, or with a fault that isn't the one written by hand.
+
+cd "$(dirname "$0")/../.." || exit 2
+failed=0
+for history in histories/overlapping/*.history; do
+    golden=${history%.history}
+    options=
+    [ ! -f "$golden.options" ] || options=$(cat "$golden.options")
+    # shellcheck disable=SC2086 # the words of the options
+    output=$(python3 tools/engines/linearize/reference.py "$history" $options 2>&1)
+    status=$?
+    if [ -f "$golden.err" ]; then
+        [ "$status" -eq 2 ] && [ "$output" = "$(cat "$golden.err")" ]
+    else
+        echo "$output" >"$golden.out"
+        [ "$status" -le 1 ]
+    fi || {
+        echo "$history: status $status, $output" >&2
+        failed=1
+    }
+done
+exit $failed

@@ -1,0 +1,35 @@
+#!/bin/sh
+# Builds the reference engine and rewrites the golden files in histories/savings.
+#
+#     tools/gen/savings_golden.sh
+#
+# Each NAME.args and NAME.CASE.args is a run on NAME.history: the options, a word a line. The .out file beside it is the
+# standard output of that run, and the .err file, if there is one, its standard error (status 1). The histories:
+#
+# - shell_cache: dash, recorded while it sets 290 variables of 100 to 800 bytes and unsets most of them, in three waves.
+#   Meshing saves pages.
+# - tar: GNU tar, recorded while it archives a folder of some 30 files. Meshing saves nothing.
+# - aliases: printed by write_trace.py; has aliases, refused entries, loads, stores and objects above 2,048 bytes.
+# - more_with_meshing, large, empty, no_bytes, freed_again: by hand. In the first, the meshing heap ends with more pages.
+#
+# In the recorded histories cells and addresses are renumbered to shorten the lines. All but no_bytes and freed_again are
+# legal for `meshrun check`. The status is 1 if a run ends with a status other than 0 or 1.
+
+cd "$(dirname "$0")/../.." || exit 2
+room=$(mktemp -d) || exit 2
+trap 'rm -rf "$room"' EXIT
+"${CXX:-g++}" -O2 -std=c++17 -Wall -Wextra -o "$room/reference" tools/engines/savings/reference.cpp || exit 2
+
+failed=0
+for args in histories/savings/*.args; do
+    golden=${args%.args}
+    # shellcheck disable=SC2046 # the words of the options
+    "$room/reference" "${args%%.*}.history" $(cat "$args") >"$golden.out" 2>"$golden.err"
+    if [ $? -gt 1 ]; then
+        echo "$args: $(cat "$golden.err")" >&2
+        failed=1
+    fi
+    [ -s "$golden.out" ] || rm "$golden.out"
+    [ -s "$golden.err" ] || rm "$golden.err"
+done
+exit $failed
