@@ -1,11 +1,13 @@
 #!/bin/sh
-# Builds the reference engine and rewrites the golden files in jobs/explore.
+# Builds the reference engine, and rewrites the golden files in jobs/explore.
 #
 #     tools/gen/explore_golden.sh
 #
-# Each NAME.args is a run on NAME.job: the options, a word a line. The .out file beside it is the standard output of that
-# run. The engine is plain C++ and shares no code with the program. The status is 1 if a run ends with a status other
-# than 0.
+# For each NAME.args, it runs tools/engines/explore/reference.cpp on NAME.job with the options in NAME.args, a word a
+# line, and writes the standard output to NAME.out. The engine is plain C++ and shares no code with the program.
+#
+# A line is printed only for a run that fails: NAME.args and its standard error. The status is 1 if a run ends with a
+# status other than 0, and 2 if the engine can't be compiled. It needs a C++ compiler (CXX, by default g++).
 
 cd "$(dirname "$0")/../.." || exit 2
 room=$(mktemp -d) || exit 2

@@ -1,8 +1,13 @@
 #!/usr/bin/env python3
-"""Writes the tables of docs/INTERLEAVINGS.md from the answers of the rows under jobs/golden/interleavings.
+"""Writes the tables of docs/INTERLEAVINGS.md from the golden files in jobs/golden/interleavings.
 
-Each row there makes the same commands and the same calls of the mesher in one phase of a mesh, so what the tables say of a phase is what its row
-is answered, and mesh_rows proves that the definitions answer so. Run it from the top of the repository after a row was changed.
+    tools/gen/interleavings.py
+
+Each of these worked examples makes the same commands and the same calls of the mesher, in one phase of a mesh. A table
+has a line for each example, with its answers. `mesh_rows` proves that the definitions give these answers.
+
+The status is 1 if the lines that a cell covers have different answers. Run it from the top of the repository after one
+of these files was changed; what it writes is committed.
 """
 import pathlib
 
@@ -13,7 +18,7 @@ BEGIN, END = "<!-- written by tools/gen/interleavings.py -->", "<!-- end of what
 # The first virtual page of the group that is in no mesh.
 FIRST_PAGE_OF_ANOTHER = 7
 
-# The phases in their order: the row, and what has been done by then.
+# The phases in their order: the example, and what the mesh has done by then.
 PHASES = [
     ("begun", "begun"),
     ("one_page_protected", "one of three pages protected"),
@@ -29,16 +34,18 @@ PHASES = [
     ("one_page_unwound", "cancelled, one page unprotected"),
 ]
 
-# What each column of the first two tables asks: its head, and the line that asks it.
+# The columns of the three tables: the head, and the lines of the plan or of a script whose answers it shows.
 STORES = [
-    ("`put`, `poke` or `copy` to the first page of the source's object", ["put 10 0 a1", "poke 4c00 a3", "copy 10 8 0 0 4"]),
+    ("`put`, `poke` or `copy` to the first page of the source's object",
+     ["put 10 0 a1", "poke 4c00 a3", "copy 10 8 0 0 4"]),
     ("the same to its second page", ["put 10 1024 a2", "poke 5000 a4", "copy 10 1032 0 0 4"]),
     ("`put` across both", ["put 10 1020 0102030405060708"]),
     ("`put`, `poke` or `copy` to the destination", ["put 0 0 b1", "poke 1000 b2", "copy 0 8 10 0 4"]),
     ("the same to another group", ["put 16 0 c1", "poke 7000 c2", "copy 16 8 10 0 4"]),
 ]
 OTHERS = [
-    ("`get`, `peek` of each group", ["get 10 0 1", "get 10 1024 1", "get 0 0 1", "get 16 0 1", "peek 4c00", "peek 5000", "peek 1000", "peek 7000"]),
+    ("`get`, `peek` of each group",
+     ["get 10 0 1", "get 10 1024 1", "get 0 0 1", "get 16 0 1", "peek 4c00", "peek 5000", "peek 1000", "peek 7000"]),
     ("`addr`, `alias` of each group", ["addr 10", "addr 0", "addr 16", "alias 20 10", "alias 21 0", "alias 22 16"]),
     ("`new` of the class", ["new 23 1500 0"]),
     ("`free` in each group", ["free 10", "free 0", "free 16"]),
@@ -55,7 +62,7 @@ CALLS = [
 
 
 def asked_and_answered(name):
-    """For each line that the row's plan asks, once the phase was reached, its answer; the first, where it is asked again."""
+    """The answer of each line of an example's plan after its phase is reached; of a repeated line, the first answer."""
     lines = (ROWS / f"{name}.job").read_text().splitlines()
     plan = lines.index("plan")
     scripts = []
@@ -67,7 +74,7 @@ def asked_and_answered(name):
     answers = (ROWS / f"{name}.out").read_text().splitlines()
     steps = list(zip(lines[plan + 1:-1], answers, strict=True))
     reached = max(i for i, (line, _) in enumerate(steps) if line == "begin 1 2")
-    told = {}
+    found = {}
     for line, answer in steps[:reached]:
         if line.startswith("run "):
             scripts[int(line[4:])].pop(0)
@@ -78,12 +85,12 @@ def asked_and_answered(name):
             asked = script[0]
             if answer != "blocked":
                 script.pop(0)
-        told.setdefault(asked, answer)
-    return told
+        found.setdefault(asked, answer)
+    return found
 
 
 def said(answer):
-    """The answer in words."""
+    """An answer in the words of the tables."""
     if answer.startswith("object "):
         page = int(answer.split()[3], 16) // 4096
         return "in another group" if page >= FIRST_PAGE_OF_ANOTHER else "in one of the two"
@@ -97,18 +104,20 @@ def said(answer):
     return answer
 
 
-def cell(told, lines):
-    words = {said(told[line]) for line in lines}
+def cell(answers, lines):
+    """The cell of these lines, which all have the same answer."""
+    words = {said(answers[line]) for line in lines}
     assert len(words) == 1, (lines, words)
     return words.pop()
 
 
 def table(columns):
-    head = "| Phase | " + " | ".join(name for name, _ in columns) + " | Row |"
+    """The lines of a table."""
+    head = "| Phase | " + " | ".join(name for name, _ in columns) + " | Example |"
     lines = [head, "|---" * (len(columns) + 2) + "|"]
     for name, phase in PHASES:
-        told = asked_and_answered(name)
-        lines.append(f"| {phase} | " + " | ".join(cell(told, asked) for _, asked in columns) + f" | `{name}` |")
+        answers = asked_and_answered(name)
+        lines.append(f"| {phase} | " + " | ".join(cell(answers, asked) for _, asked in columns) + f" | `{name}` |")
     return lines
 
 

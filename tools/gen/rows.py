@@ -1,10 +1,16 @@
 #!/usr/bin/env python3
-"""Writes the crate mesh_rows, and the tables of mesh_program_tests and mesh_explore_tests, from the files under jobs/golden and jobs/explore.
+"""Writes the crate mesh_rows, and the tables of mesh_program_tests and mesh_explore_tests, from jobs/golden and
+jobs/explore.
 
-Each folder there is a subject, and each NAME.job in it a row: NAME.out has the lines that the job is answered, or NAME.err the fault of a file
-that is no job. In mesh_rows a subject becomes a spec file, and a function whose clauses are its rows; in mesh_program_tests the rows become tables, one
-a subject. The smaller explorations under jobs/explore become a table of mesh_explore_tests. Run it from the top of the repository after a row was
-added or changed; what it writes is committed.
+    tools/gen/rows.py
+
+Each folder of jobs/golden is a subject, and each NAME.job in it a worked example. NAME.out has the expected output; or
+NAME.err has the expected fault, if the file is no job. In mesh_rows a subject becomes a spec file, and a function with
+a clause for each example. In mesh_program_tests a subject becomes a table of its examples. The explorations of
+jobs/explore with few interleavings become a table of mesh_explore_tests.
+
+Nothing is printed. The status is 1 if a file has a form that this tool doesn't know, or if `rt fmt` fails. It needs
+`rt`. Run it from the top of the repository after an example was added or changed; what it writes is committed.
 """
 import pathlib
 import re
@@ -14,21 +20,22 @@ import subprocess
 ROWS = pathlib.Path("jobs/golden")
 CRATE = pathlib.Path("crates/mesh_rows")
 TABLES = pathlib.Path("crates/mesh_program_tests")
-# The definitions are computed on files below this length; the longer one is there for the program alone.
+# The theorems are about files below this length. Longer ones are only for the program.
 MAX_BYTES = 100_000
 
-# Subjects whose rows are too long for the tests' tables: the built program runs them, as it does all (tools/test/cli.sh).
+# Subjects whose examples are too long for the tests' tables. Like all examples, they are run by the built program
+# (tools/test/cli.sh).
 UNTABLED = {"interleavings"}
 
 EXPLORATIONS = pathlib.Path("jobs/explore")
 TREES = pathlib.Path("crates/mesh_explore_tests")
-# Explorations of at most so many interleavings are followed one by one as well.
+# The tests make each interleaving of an exploration by itself if there are at most this many.
 FEW_INTERLEAVINGS = 400
 
-# What stands between two rows of a table, and between two fields of a row.
+# What separates the examples of a table, and the fields of an example.
 ROW_END, FIELD_END = "#", "|"
 
-# Rows whose file and answers the tests name by themselves.
+# Examples that the tests use by name.
 NAMED = {
     ROWS / "mutators" / "first_bytes.job": "FIRST",
     ROWS / "small_steps" / "worked_mesh.job": "MESH",
@@ -39,12 +46,16 @@ KINDS = {
 }
 
 
-# What has to be opened so that a row computes: each is proved by computing it.
-OPENED = ["model_words::specs::Classes::pages_of", "model_words::specs::Classes::slots_of", "crate::specs::Rows::digits"]
+# What the prover must unfold: each theorem is proved by computation.
+OPENED = [
+    "model_words::specs::Classes::pages_of",
+    "model_words::specs::Classes::slots_of",
+    "crate::specs::Rows::digits",
+]
 
-ROW = """-- A worked row, written by tools/gen/rows.py: a file, and what it is replayed to.
+ROW = """-- A worked example, written by tools/gen/rows.py: a file, and what it is replayed to.
 use Rattle.std.specs.Prelude.{◌≡◌, ℕ, List, Result}
--- (the proofs of the rows open it, to compute what is written in decimal)
+-- (the proofs of the examples open it, to compute what is written in decimal)
 pub use Rattle.std.specs.Fmt.{digits}
 use Rattle.model_jobs.specs.JobFiles.{replayed}
 use Rattle.model_words.specs.declared.faults.TextFault.{TextFault}
@@ -61,18 +72,18 @@ IsReplayed row = replayed row.file ≡ row.answer
 
 
 def literal(content):
-    """The text as a string of Rust, and of antt."""
+    """The text as a string literal of Rust and of antt."""
     escaped = content.replace("\\", "\\\\").replace('"', '\\"').replace("\n", "\\n")
     return '"' + re.sub("[^ -~]", lambda byte: f"\\x{ord(byte[0]):02x}", escaped) + '"'
 
 
 def file_text(row):
-    """The file's bytes, a character each."""
+    """The bytes of an example's file, each as a character."""
     return row.read_bytes().decode("latin-1")
 
 
 def expected(row):
-    """What the row's file is replayed to, as an antt term."""
+    """The expected result of an example's replay, as an antt term."""
     fault = row.with_suffix(".err")
     if not fault.exists():
         return f"Ok (codes {literal(row.with_suffix('.out').read_text())})"
@@ -81,73 +92,85 @@ def expected(row):
 
 
 def camel(name):
+    """A name in camel case."""
     return "".join(part.capitalize() for part in name.split("_"))
 
 
 def rows_of(folder):
-    """The rows of a subject that the definitions are computed on."""
+    """The examples of a subject that become theorems."""
     return [row for row in sorted(folder.glob("*.job")) if row.stat().st_size < MAX_BYTES]
 
 
 def write_subject(name, rows):
+    """Writes the spec file of a subject."""
     faults = any(row.with_suffix(".err").exists() for row in rows)
-    spec = [f"-- Worked rows: {name.replace('_', ' ')}. Written by tools/gen/rows.py from jobs/golden/{name}.",
+    spec = [f"-- Worked examples: {name.replace('_', ' ')}. Written by tools/gen/rows.py from jobs/golden/{name}.",
             f"use Rattle.std.specs.Prelude.{{{'Err' if faults else 'Ok'}, codes}}",
             "use Rattle.mesh_rows.specs.Rows.{Row}"]
     if faults:
         used = sorted({KINDS[row.with_suffix(".err").read_text().strip().split(": ")[1]] for row in rows})
         spec.append(f"use Rattle.model_words.specs.declared.faults.FaultKind.TheVariants.{{{', '.join(used)}}}")
     for row in rows:
-        spec += ["", f"abbrev pub {row.stem} : Row", f"{row.stem} = record {{ file = codes {literal(file_text(row))}; answer = {expected(row)} }}"]
+        spec += ["", f"abbrev pub {row.stem} : Row",
+                 f"{row.stem} = record {{ file = codes {literal(file_text(row))}; answer = {expected(row)} }}"]
     (CRATE / "specs" / f"{camel(name)}.antt").write_text("\n".join(spec) + "\n")
 
 
 def write_functions(subjects):
-    """A function for each subject, with a clause for each of its rows."""
-    lines = ["//! A function for each subject of the worked rows. Written by `tools/gen/rows.py`.",
+    """Writes a function for each subject, with a clause for each of its examples."""
+    lines = ["//! A function for each subject of the worked examples. Written by `tools/gen/rows.py`.",
              f"#![tactic(auto, unfolding({', '.join(OPENED)}))]", "",
              "ghost use Rattle.mesh_rows.specs.Rows.{IsReplayed};"]
     for name, rows in subjects.items():
         lines.append(f"ghost use Rattle.mesh_rows.specs.{camel(name)}.{{{', '.join(row.stem for row in rows)}}};")
     for name, rows in subjects.items():
         named = len(rows) > 1
-        lines += ["", f"/// Worked rows: {name.replace('_', ' ')}.", f"pub fn {name}()"]
+        lines += ["", f"/// Worked examples: {name.replace('_', ' ')}.", f"pub fn {name}()"]
         lines += [f"    ensures {row.stem + ' ' if named else ''}{{ IsReplayed {row.stem} }}" for row in rows] + ["{}"]
     (CRATE / "src" / "rows.rt").write_text("\n".join(lines) + "\n")
 
 
 def table(name, doc, rows, suffix):
-    """These rows as one text of Rust: name, file, and what is expected. A proof that goes through an array of strings takes a time that grows with the
-    square of their number."""
+    """The examples as one string of Rust: of each its name, its file and what is expected.
+
+    They aren't an array, because the time of a proof about an array of strings grows with the square of its length.
+    """
     texts = [(f"{row.parent.name}/{row.stem}", file_text(row), row.with_suffix(suffix).read_text()) for row in rows]
     assert not any(mark in text for fields in texts for text in fields for mark in (ROW_END, FIELD_END))
     lines = [literal(FIELD_END.join(fields))[1:-1] for fields in texts]
-    return [f"/// {doc}", f'pub static {name}: &str = "\\', *[line + ROW_END + "\\" for line in lines[:-1]], f'{lines[-1]}";', ""]
+    return [f"/// {doc}", f'pub static {name}: &str = "\\',
+            *[line + ROW_END + "\\" for line in lines[:-1]], f'{lines[-1]}";', ""]
 
 
 def write_tables():
-    lines = [f"//! The worked rows, each table one text: `{ROW_END}` stands between two rows, and `{FIELD_END}` between two fields of a row. Written by",
-             "//! `tools/gen/rows.py`.", ""]
+    """Writes the examples as tables of Rust: one for each subject, and one for the short files with a fault."""
+    lines = [f"//! The worked examples. Each table is one text: `{ROW_END}` separates its rows, "
+             f"and `{FIELD_END}` the fields of a row.",
+             "//!", "//! Written by `tools/gen/rows.py`.", ""]
     for row, name in NAMED.items():
-        lines += [f"/// The file of the row `{row.parent.name}/{row.stem}`.", f"pub const {name}_FILE: &str = {literal(file_text(row))};", "",
-                  "/// Its answers.", f"pub const {name}_ANSWERS: &str = {literal(row.with_suffix('.out').read_text())};", ""]
+        lines += [f"/// The file of the example `{row.parent.name}/{row.stem}`.",
+                  f"pub const {name}_FILE: &str = {literal(file_text(row))};", "",
+                  "/// Its answers.",
+                  f"pub const {name}_ANSWERS: &str = {literal(row.with_suffix('.out').read_text())};", ""]
     for folder in sorted(folder for folder in ROWS.iterdir() if folder.is_dir() and folder.name not in UNTABLED):
         rows = sorted(row for row in folder.glob("*.job") if row.with_suffix(".out").exists())
         if rows:
-            lines += table(folder.name.upper(), f"Rows of {folder.name.replace('_', ' ')}: of each its name, its file and its answers.", rows, ".out")
-    faults = [row for row in sorted(ROWS.glob("*/*.job")) if row.with_suffix(".err").exists() and len(file_text(row)) < 1000]
-    lines += table("FAULTS", "Of each short file that is no job its name, its bytes and the line of its fault.", faults, ".err")
+            doc = f"Name, file and answers of each example of {folder.name.replace('_', ' ')}."
+            lines += table(folder.name.upper(), doc, rows, ".out")
+    faults = [row for row in sorted(ROWS.glob("*/*.job"))
+              if row.with_suffix(".err").exists() and len(file_text(row)) < 1000]
+    lines += table("FAULTS", "Name, bytes and fault line of each short file that is no job.", faults, ".err")
     (TABLES / "src" / "memory" / "files.rt").write_text("\n".join(lines))
 
 
 def is_few(job):
-    """Whether the exploration has few interleavings, by its first line."""
+    """Whether an exploration has few interleavings, by the first line of its output."""
     count = job.with_suffix(".out").read_text().split(" states ")[0].removeprefix("interleavings ")
     return count.isdecimal() and int(count) <= FEW_INTERLEAVINGS
 
 
 def case(job):
-    """An exploration as a line of a table of Rust: name, meshes, after how many steps they are cancelled, and file."""
+    """An exploration as a line of Rust: name, meshes, the steps after which they are cancelled, and file."""
     words = job.with_suffix(".args").read_text().split()
     options = list(zip(words[::2], words[1::2]))
     meshes = [value.split(":") for option, value in options if option == "--mesh"]
@@ -157,10 +180,11 @@ def case(job):
 
 
 def write_trees():
-    """The smaller explorations as a table of Rust."""
+    """Writes the explorations of few interleavings as a table of Rust."""
     jobs = [job for job in sorted(EXPLORATIONS.glob("*.job")) if is_few(job)]
-    lines = ["//! Explorations of few interleavings. Written by `tools/gen/rows.py`.", "", "use mesh_explore::MeshPair;", "",
-             "/// For each its name, its meshes, after how many steps they are cancelled, and its file.",
+    lines = ["//! Explorations of few interleavings. Written by `tools/gen/rows.py`.", "",
+             "use mesh_explore::MeshPair;", "",
+             "/// Name, meshes, number of steps after which they are cancelled, and file of each exploration.",
              f"pub(crate) static CASES: [(&str, &[MeshPair], Option<u32>, &str); {len(jobs)}] = ["]
     (TREES / "src" / "tests" / "cases.rt").write_text("\n".join(lines + list(map(case, jobs)) + ["];", ""]))
 
@@ -174,12 +198,15 @@ def main():
         write_subject(name, rows)
     write_functions(subjects)
     (CRATE / "src" / "lib.rt").write_text(
-        "//! The worked rows as theorems: what the definitions of `model_jobs` give for each file under `jobs/golden`.\n//!\n"
-        "//! Each function does nothing; its clauses say that a file is replayed to the lines that were worked out by hand.\n"
+        "//! The worked examples as theorems: what the definitions of `model_jobs` give for each golden file "
+        "under `jobs/golden`.\n//!\n"
+        "//! Each function does nothing. Its clauses state that a file is replayed "
+        "to the lines that were worked out by hand.\n"
         "//! Written by `tools/gen/rows.py`.\n"
         f"#![tactic(auto)]\n\nmod rows;\n\npub use rows::{{{', '.join(subjects)}}};\n")
     (CRATE / "specs" / "Rows.antt").write_text(ROW)
-    (CRATE / "specs" / "Lib.antt").write_text("\n".join(f"pub mod {name}" for name in sorted([camel(name) for name in subjects] + ["Rows"])) + "\n")
+    modules = sorted([camel(name) for name in subjects] + ["Rows"])
+    (CRATE / "specs" / "Lib.antt").write_text("\n".join(f"pub mod {name}" for name in modules) + "\n")
     write_tables()
     write_trees()
     for crate in (CRATE, TABLES, TREES):

@@ -1,19 +1,27 @@
 #!/bin/sh
-# Builds the reference engine and rewrites the golden files in histories/savings.
+# Builds the reference engine, and rewrites the golden files in histories/savings.
 #
 #     tools/gen/savings_golden.sh
 #
-# Each NAME.args and NAME.CASE.args is a run on NAME.history: the options, a word a line. The .out file beside it is the
-# standard output of that run, and the .err file, if there is one, its standard error (status 1). The histories:
+# For each NAME.args and NAME.CASE.args, it runs tools/engines/savings/reference.cpp on NAME.history with the options in
+# that file, a word a line. The standard output is written to NAME.out or NAME.CASE.out, and the standard error to the
+# .err file; an empty file is removed.
+#
+# A line is printed only for a run that fails: the .args file and its standard error. The status is 1 if a run ends with
+# a status other than 0 or 1, and 2 if the engine can't be compiled. It needs a C++ compiler (CXX, by default g++).
+#
+# The histories:
 #
 # - shell_cache: dash, recorded while it sets 290 variables of 100 to 800 bytes and unsets most of them, in three waves.
 #   Meshing saves pages.
 # - tar: GNU tar, recorded while it archives a folder of some 30 files. Meshing saves nothing.
-# - aliases: printed by write_trace.py; has aliases, refused entries, loads, stores and objects above 2,048 bytes.
-# - more_with_meshing, large, empty, no_bytes, freed_again: by hand. In the first, the meshing heap ends with more pages.
+# - aliases: printed by tools/engines/savings/write_trace.py; has aliases, refused entries, loads, stores and objects
+#   above 2,048 bytes.
+# - more_with_meshing, large, empty, no_bytes, freed_again: written by hand. In the first, the meshing heap ends with
+#   more pages.
 #
-# In the recorded histories cells and addresses are renumbered to shorten the lines. All but no_bytes and freed_again are
-# legal for `meshrun check`. The status is 1 if a run ends with a status other than 0 or 1.
+# In the recorded histories cells and addresses are renumbered to shorten the lines. All but no_bytes and freed_again
+# are legal for `meshrun check`.
 
 cd "$(dirname "$0")/../.." || exit 2
 room=$(mktemp -d) || exit 2

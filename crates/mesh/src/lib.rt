@@ -1,6 +1,7 @@
-//! A heap that is compacted by meshing while mutators use it: everything that a user of the library needs.
+//! A heap that is compacted by meshing while mutators use it. This crate is the public API of the library.
 //!
-//! Two groups of one size class with no common occupied slot are put on one physical span, and the virtual pages of both are mapped there. No address changes:
+//! Two groups of one size class with no common occupied slot are put on one physical span, and the virtual pages of
+//! both are mapped there. Addresses don't change, and no pointer needs updating:
 //!
 //! ```text
 //! let mut heap = Heap::open(alloc, 16)?;
@@ -10,18 +11,22 @@
 //! heap.free(freed)?;
 //! heap.write(high, 0, b"high".as_slice());
 //! heap.write(low, 0, b"low".as_slice());
-//! let pages = heap.mesh_whole(1, 0)?;         // 1: both stand on one physical page
-//! let bytes = heap.read(low, 0, 3)?;          // "low", at the address that it had
+//! let pages = heap.mesh_whole(1, 0)?;         // 1: both are on one physical page
+//! let bytes = heap.read(low, 0, 3)?;          // "low", at the same address as before
 //! ```
 //!
-//! `is_full` comes before each `new`, and tells whether there is a serial left. The programs of `mesh_uses` are whole, proved and run.
+//! Call `is_full` before each `new`: it returns whether all serial numbers are used up, and `new` requires that one is
+//! left. The programs of `mesh_uses` are complete, proved and run.
 //!
-//! - A `Heap` makes, reads, writes, copies and frees objects by their `Ref`. A mesher's `begin`, `step` and `cancel` put two groups together one step at a
-//!   time, `mesh_whole` at once; a store that meets a page which a mesh made read-only is `Blocked`, and a load never waits.
-//! - A `ClassView` has the groups of one size class that may be paired, and `search_one` and `search` find pairs among them, on one thread or by many.
-//! - A `Book` is a heap with 256 root cells, driven by `Command`s; its `Journal` is a legal history of a plain memory of separate objects.
-//! - A `Shared` is a book behind a lock. Each mutator has a `Seat`, and `finish` makes one history of all seats' calls. `run_threads` runs whole scripts on
-//!   threads, beside threads that search and mesh.
+//! - A `Heap` makes, reads, writes, copies and frees objects by their `Ref`. A mesher's `begin`, `step` and `cancel`
+//!   mesh two groups one step at a time, and `mesh_whole` meshes them at once. A store to a page that a mesh made
+//!   read-only is `Blocked`, and a load never waits.
+//! - A `ClassView` lists the groups of one size class that may be paired. `search_one` and `search` find pairs among
+//!   them, on one thread or on several.
+//! - A `Book` is a heap with 256 root cells, driven by `Command`s. Its `Journal` is a legal history of a reference
+//!   memory of separate objects (called plain memory in the code).
+//! - A `Shared` is a book behind a lock. Each mutator has a `Seat`, and `finish` makes one history of all seats' calls.
+//!   `run_threads` runs whole scripts on threads, while other threads search and mesh.
 #![tactic(auto)]
 
 pub use mesh_class::{Class, all_classes, class_of};

@@ -1,4 +1,4 @@
--- The pages that frames stand for: those that were made, and behind them those that were not.
+-- The pages that frames represent: those that were made, followed by those that were not.
 use Rattle.std.specs.Prelude.{◌≡◌, ℕ, ◌-◌, ◌<◌, ◌++◌, true, if◌then◌else◌, List, [], Option, Some, None, length, map, replicate, slice_index_or}
 use Rattle.std.specs.List.{range_with_len}
 use Rattle.std.specs.Ordering.{nat_cmp}

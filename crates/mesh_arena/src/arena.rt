@@ -7,10 +7,10 @@ use crate::page::Page;
 use std::alloc::{AllocError, Global};
 use std::marker::Model;
 
-/// How many pages an arena has at most: 16 MiB. This project's own choice.
+/// The greatest number of pages of an arena: 16 MiB. This project's own choice.
 pub const MAX_PAGES: u32 = 4096;
 
-/// Contracts name the number.
+/// Contracts use the number itself.
 const _: () = prove!(MAX_PAGES == 4096);
 
 /// An arena of physical pages, each free or taken.
@@ -35,9 +35,9 @@ impl Model for Arena {
 }
 
 impl Arena {
-    /// An arena of `pages` free pages, from 1 to 4,096.
+    /// Makes an arena of `pages` free pages, from 1 to 4,096.
     ///
-    /// It takes all the memory that it will ever use.
+    /// It allocates all the memory that the arena will ever use. An error is an allocation failure.
     pub fn new(alloc: Global, pages: u32) -> Result<Arena, AllocError>
         requires some { 1 ≤ pages }
         requires few { pages ≤ 4096 }
@@ -52,9 +52,9 @@ impl Arena {
         })
     }
 
-    /// Takes the free page with the lowest number, and clears its bytes to zeros.
+    /// Takes the free page with the lowest number, and fills it with zeros.
     ///
-    /// `None` exactly where no page is free; nothing changes then.
+    /// Returns `None` if and only if no page is free. Nothing changes then.
     pub fn take(&mut self) -> Option<Page>
         ensures page { result ≡ lowest_free self.old }
         ensures taken { IfSome result (λ page.
@@ -83,7 +83,7 @@ impl Arena {
         self.free += 1;
     }
 
-    /// Reads the bytes of a taken page from an offset on, as many as `out` has.
+    /// Reads bytes of a taken page from an offset on, and fills `out` with them.
     pub fn read(&self, page: Page, off: u32, out: &mut [u8])
         requires taken { IsTaken self.now page }
         requires fits { off + length out.old ≤ 4096 }
@@ -130,7 +130,7 @@ impl Arena {
         );
     }
 
-    /// Whether a page is taken, by its number. No number from the arena's size on is.
+    /// Whether the page with this number is taken. `false` for every number from the arena's size on.
     pub fn is_taken(&self, number: u32) -> bool
         ensures { result ≡ is_taken self.now number }
     {

@@ -4,10 +4,10 @@ ghost use Rattle.mesh_arena.specs.Pages.{blank_page, with_run};
 
 use std::marker::Model;
 
-/// How many bytes a page has, physical or virtual. This project's own choice.
+/// The number of bytes of a page, physical or virtual. This project's own choice.
 pub const PAGE_BYTES: usize = 4096;
 
-/// A page's memory. What a free page's memory holds is nobody's concern.
+/// A page's memory. The content of a free page's memory is unspecified.
 #[derive(Drop)]
 pub(crate) struct Frame {
     bytes: [u8; PAGE_BYTES],

@@ -8,10 +8,11 @@ use mesh_bins::Bin;
 use std::alloc::{AllocError, Global};
 use std::marker::Model;
 
-/// The frames of an arena, in the order of their pages' numbers. A frame's memory is first touched where the frame is first taken.
+/// The frames of an arena, in the order of their pages' numbers. A frame's memory is first touched when the frame is
+/// first taken.
 #[derive(Drop)]
 pub(crate) struct Frames {
-    /// The frames up to the last that was ever taken.
+    /// The frames up to the last one that was ever taken.
     made: Vec<Frame>,
     /// The numbers of those that are free again.
     given: Bin,
@@ -75,7 +76,7 @@ fn copy_between(
 
 #[tactic(auto, using(crate::proofs::Given::given_frames))]
 impl Frames {
-    /// So many free frames. It takes all the memory that they will ever use, and touches none of a frame's.
+    /// Makes `count` free frames. It allocates all the memory that they will ever use, and touches no frame's memory.
     pub(crate) fn new(alloc: Global, count: usize) -> Result<Frames, AllocError>
         requires { count ≤ 4096 }
         ensures { IfOk result (λ frames. frames ≡ replicate count None) }
@@ -92,15 +93,15 @@ impl Frames {
         self.count
     }
 
-    /// Whether the frame at a place is taken. No frame is past the last.
+    /// Whether the frame at a place is taken. `false` for places past the last frame.
     pub(crate) fn is_taken(&self, place: usize) -> bool
         ensures { result ≡ is_taken self.now place }
     {
         place < self.made.len() && !self.given.has(place as u32)
     }
 
-    /// The place of the lowest free frame: the least that was given back, or else the first that was never made. How many frames there
-    /// are where all are taken.
+    /// The place of the lowest free frame: the lowest that was given back, or else the first that was never made. If
+    /// all frames are taken, the number of frames.
     pub(crate) fn first_free(&self) -> usize
         ensures within { result ≤ length self.now }
         ensures passed { (k : ℕ) → k < result → IsTaken self.now k }
@@ -148,7 +149,8 @@ impl Frames {
     pub(crate) fn write(&mut self, place: usize, off: usize, bytes: &[u8])
         requires taken { IsTaken self.old place }
         requires fits { off + length bytes.now ≤ 4096 }
-        ensures written { self.new ≡ slice_set self.old place (Some (with_run (bytes_of self.old place) off bytes.now)) }
+        ensures written { self.new
+            ≡ slice_set self.old place (Some (with_run (bytes_of self.old place) off bytes.now)) }
         ensures sized { length (bytes_of self.old place) ≡ 4096 }
     {
         self.made[place].write(off, bytes);

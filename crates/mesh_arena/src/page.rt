@@ -5,7 +5,7 @@ use std::marker::Model;
 
 /// The number of a physical page, counted from 0.
 ///
-/// An arena gives pages out; the default, page 0, only fills places that are not in use.
+/// An arena returns pages. The default, page 0, only fills places that are not in use.
 #[derive(Clone, Copy, Default, PartialEq, Eq)]
 pub struct Page(u16);
 

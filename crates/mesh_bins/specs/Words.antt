@@ -29,7 +29,7 @@ abbrev pub IsLeast : (ℕ → Bool) → ℕ → ℕ → Option ℕ → Type 0
 IsLeast test from end None = (m : ℕ) → from ≤ m → m < end → test m ≡ false
 IsLeast test from end (Some n) = IsFirst test from end n
 
--- the new words have bit `n` as told, and every other bit as the old ones
+-- bit `n` of the new words is `value`, and every other bit is unchanged
 pub record PutsBit (old new : List ℕ) (n : ℕ) (value : Bool) : Type 0 where
   pub here : has new n ≡ value
   pub others : (m : ℕ) → m ≢ n → has new m ≡ has old m

@@ -43,7 +43,7 @@ impl Model for Bin {
 }
 
 impl Bin {
-    /// The empty set. It takes all the memory that it will ever use.
+    /// Creates an empty set. Allocates all the memory that the set will ever use.
     pub fn new(alloc: Global) -> Result<Bin, AllocError>
         ensures { IfOk result (λ bin. bin ≡ set.empty) }
     {
@@ -64,7 +64,7 @@ impl Bin {
         mark(&mut self.summary, &mut self.top, n / WORD_BITS);
     }
 
-    /// Takes a number out of the set.
+    /// Removes a number from the set.
     pub fn remove(&mut self, n: u32)
         requires { n < 65536 }
         ensures { self.new ≡ set.remove self.old n }
@@ -83,7 +83,7 @@ impl Bin {
         has_bit(self.words.as_slice(), n)
     }
 
-    /// The least member at or above `from`. None only where there is none.
+    /// The least member at or above `from`. `None` only if there is no such member.
     pub fn least(&self, from: u32) -> Option<u32>
         ensures { IsLeast (set.contains self.now) from 65536 result }
     {

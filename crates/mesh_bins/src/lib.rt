@@ -1,6 +1,7 @@
-//! A set of numbers below 65,536 whose least member from a number on is found by looking at a handful of words.
+//! A set of numbers below 65,536 that finds its least member from a number on by reading a handful of words.
 //!
-//! All memory is taken when the set is made. A contract sees it as a finite set; no crate above knows a mask or a shift.
+//! All memory is allocated when the set is created. A contract sees it as a finite set; no crate above uses masks or
+//! shifts.
 #![tactic(auto)]
 
 mod bin;

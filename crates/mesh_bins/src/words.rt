@@ -46,7 +46,7 @@ pub(crate) fn mark(words: &mut [u64], marks: &mut [u64], n: u32)
     set_bit(marks, n / WORD_BITS);
 }
 
-/// Clears bit `n` of the words, and the mark of its word where that is zero then.
+/// Clears bit `n` of the words, and clears the mark of its word if the word is then zero.
 pub(crate) fn unmark(words: &mut [u64], marks: &mut [u64], n: u32)
     requires { MayMark words.old marks.old n }
     ensures { PutsMarked words.old marks.old words.new marks.new n false }

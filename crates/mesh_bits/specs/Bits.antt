@@ -46,7 +46,7 @@ pub record IsBitmap (words : List ℕ) (width : ℕ) : Type 0 where
   pub most : width ≤ 256
   pub clear_above : (i : ℕ) → width ≤ i → i < 256 → has words i ≡ false
 
--- the new words have bit `i` as told, and every other bit as the old ones
+-- bit `i` of the new words is `bit`, and every other bit is unchanged
 pub record PutsBit (old new : List ℕ) (i : ℕ) (bit : Bool) : Type 0 where
   pub here : has new i ≡ bit
   pub others : (j : ℕ) → j < 256 → j ≢ i → has new j ≡ has old j

@@ -46,7 +46,7 @@ impl Bits {
         }
     }
 
-    /// The same set, as a value of its own.
+    /// A copy of the set.
     pub fn copied(&self) -> Bits
         ensures { result ≡ self.now }
     {
@@ -83,7 +83,7 @@ impl Bits {
         set_bit(&mut self.words, i);
     }
 
-    /// Takes `i` out of the set.
+    /// Removes `i` from the set.
     #[tactic(auto, using(crate::proofs::BitsLemmas::bit_put))]
     pub fn clear(&mut self, i: u32)
         requires { i < length self.old }
@@ -92,7 +92,8 @@ impl Bits {
         clear_bit(&mut self.words, i);
     }
 
-    /// The number at place `place`, from 0, among those that are not in the set, ascending. None where there are too few.
+    /// Returns the number at index `place`, from 0, of the ascending list of the numbers that are not in the set.
+    /// `None` if that list has no such index.
     pub fn nth_clear(&self, place: u32) -> Option<u32>
         ensures clear { IfSome result (λ i. (i < length self.now) × (is_member self.now i ≡ false)) }
         ensures place { IfSome result (λ i. clear_count (take i self.now) ≡ place) }
@@ -108,7 +109,7 @@ impl Bits {
         count_bits(&self.words)
     }
 
-    /// Whether no number is in both sets, which are below one width.
+    /// Whether no number is in both sets. The sets must have the same width.
     pub fn disjoint(&self, other: &Bits) -> bool
         requires { length self.now ≡ length other.now }
         ensures meshable { result ≡ are_meshable self.now other.now }
@@ -117,7 +118,7 @@ impl Bits {
         share_no_bit(&self.words, &other.words)
     }
 
-    /// The numbers that are in either set, where both are below one width.
+    /// The numbers that are in either set. The sets must have the same width.
     pub fn union(&self, other: &Bits) -> Bits
         requires { length self.now ≡ length other.now }
         ensures union { result ≡ union_of self.now other.now }
@@ -158,7 +159,7 @@ fn clear_bit(words: &mut [u64; WORDS], i: u32)
     words[at] &= !(1 << (i % WORD_BITS));
 }
 
-/// The bit at place `place` among the clear bits below the width.
+/// Returns the clear bit at index `place`, from 0, among the clear bits below the width.
 fn nth_clear_bit(words: &[u64; WORDS], width: u32, place: u32) -> Option<u32>
     requires { width ≤ 256 }
     ensures clear { IfSome result (λ i. (i < width) × (has words.now i ≡ false)) }
@@ -170,8 +171,9 @@ fn nth_clear_bit(words: &[u64; WORDS], width: u32, place: u32) -> Option<u32>
     if i < width { Some(i) } else { None }
 }
 
-/// The first bit of the word in which the clear bit at place `place` is, where it is below the width, and its place
-/// in that word. Each word that ends before that bit is passed by the count of its clear bits.
+/// Finds the word that contains the clear bit at index `place`, if that bit is below the width. Returns the number of
+/// the word's first bit, and the index of the clear bit among the clear bits of that word. A word that ends before that
+/// bit is skipped by the count of its clear bits.
 fn skip_words(words: &[u64; WORDS], width: u32, place: u32) -> (u32, u32)
     requires { width ≤ 256 }
     ensures word { result.0 % 64 ≡ 0 }
@@ -192,7 +194,7 @@ fn skip_words(words: &[u64; WORDS], width: u32, place: u32) -> (u32, u32)
     (first, left)
 }
 
-/// The bit at place `place`, from 0, among the set bits of a word, ascending.
+/// Returns the bit at index `place`, from 0, among the set bits of a word, ascending.
 fn nth_one(word: u64, place: u32) -> Option<u32>
     ensures one { IfSome result (λ k. (k < 64) × (bit_at word k ≡ 1)) }
     ensures place { IfSome result (λ k. low_ones k word ≡ place) }
@@ -220,7 +222,8 @@ fn count_bits(words: &[u64; WORDS]) -> u32
     a.count_ones() + b.count_ones() + c.count_ones() + d.count_ones()
 }
 
-/// Whether no bit is set in both: the first words tell most sets that share one, and all four lanes at once the others.
+/// Whether no bit is set in both. The first words settle most pairs that share a bit; the other pairs are compared in
+/// all four lanes at once.
 fn share_no_bit(words: &[u64; WORDS], others: &[u64; WORDS]) -> bool
     ensures { IsTrue result ↔ HaveNoBitInBoth words.now others.now }
 {
@@ -237,7 +240,7 @@ fn both_lanes(words: [u64; WORDS], others: [u64; WORDS]) -> [u64; WORDS]
     (u64x4::from_array(words) & u64x4::from_array(others)).to_array()
 }
 
-/// The bits that are set in a lane.
+/// The bits that are set in any lane.
 fn any_lane(lanes: [u64; WORDS]) -> u64
     ensures { result ≡ fold_l bit_or 0 lanes }
 {

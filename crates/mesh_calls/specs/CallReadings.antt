@@ -60,7 +60,8 @@ read_on (Ok Head) calls later = later calls
 read_on (Ok (OfCall call)) calls later = later (calls ++ call ∷ [])
 read_on (Err fault) calls later = record { calls = calls; fault = Some fault }
 
--- what is read of the lines that are left behind so many lines and these calls; the last of them is what follows the last line end
+-- what is read of the lines that are left behind so many lines and these calls; the last of them is what follows the
+-- last line end
 abbrev pub calls_from : ℕ → List Call → List (List ℕ) → CallReading
 calls_from lines calls [] = record { calls = calls; fault = None }
 calls_from lines calls (rest ∷ []) = record { calls = calls; fault = option_map OfText (end_fault lines rest) }

@@ -15,7 +15,8 @@ use Rattle.mesh_calls.specs.declared.words.TimedCall.{TimedCall}
 abbrev pub plain_call : TimedCall → Call
 plain_call call = record { begin = call.begin; end = call.end; entry = plain_entry call.entry }
 
--- a call that was read ends no earlier than it begins, its command and its answer are in their ranges, and the answer tells the command's effect
+-- a call that was read ends no earlier than it begins, its command and its answer are in their ranges, and the answer
+-- shows the command's effect
 pub record IsReadCall (call : TimedCall) : Type 0 where
   pub takes_time : call.begin ≤ call.end
   pub ends : call.end < 2 ^ 64

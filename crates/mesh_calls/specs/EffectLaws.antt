@@ -5,6 +5,6 @@ use Rattle.model_words.specs.declared.commands.Command.{Command}
 use Rattle.model_words.specs.declared.commands.Reply.{Reply}
 use Rattle.mesh_calls.specs.CallFiles.{has_effect}
 
--- an answer passes the test of a command just where it tells the command's effect
+-- an answer passes the test of a command if and only if it shows the command's effect
 abbrev pub TestsTellEffects : Type 0
 TestsTellEffects = (command : Command) (reply : Reply) → has_effect command reply ≡ true ↔ HasEffect command reply

@@ -1,4 +1,4 @@
-//! `W BEGIN END COMMAND`: what a worker asked, and from when to when it took.
+//! `W BEGIN END COMMAND`: a worker's command, and when its call began and ended.
 ghost use Rattle.std.specs.Prelude.{◌≡◌};
 ghost use Rattle.mesh_calls.specs.CallFiles.{call_asked_in, is_object_word, object_command_in};
 ghost use Rattle.mesh_calls.specs.CallWords.{IsAskedRead};
@@ -14,7 +14,7 @@ use model_words::FaultKind;
 /// The greatest number of a worker.
 const MAX_WORKER: u32 = 65_535;
 
-/// A command of a worker, and from when to when it took.
+/// A worker's command, and when its call began and ended.
 #[derive(Drop)]
 pub(crate) struct AskedCall {
     pub worker: u32,
@@ -25,7 +25,7 @@ pub(crate) struct AskedCall {
 
 /// Reads the fields before a call's arrow.
 ///
-/// WORD where a worker, a begin, an end and a word are not all there; else the leftmost fault.
+/// WORD if a worker, a begin, an end and a word are not all there; otherwise the leftmost fault.
 pub(crate) fn call_asked_of(fields: &[&[u8]]) -> Result<AskedCall, FaultKind>
     ensures { IsAskedRead (call_asked_in (texts fields.now)) result }
 {
@@ -44,7 +44,7 @@ pub(crate) fn call_asked_of(fields: &[&[u8]]) -> Result<AskedCall, FaultKind>
     })
 }
 
-/// The command with this word and these fields. WORD where it doesn't name one object by its cell.
+/// Reads the command with this word and these fields. WORD if the command doesn't name one object by its cell.
 fn object_command_of(word: &[u8], fields: &[&[u8]]) -> Result<SpeltCommand, FaultKind>
     ensures { IsReadAs Dialect.History (object_command_in word.now (texts fields.now)) result }
 {

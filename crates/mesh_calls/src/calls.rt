@@ -21,7 +21,7 @@ use model_words::FaultKind;
 /// The version of a history of overlapping calls.
 const VERSION: u32 = 2;
 
-/// The most fields of a call's line.
+/// The greatest number of fields of a call's line.
 const MAX_CALL_FIELDS: usize = 37;
 
 /// The fields of a call's line.
@@ -29,9 +29,12 @@ type CallFields<'a> = ArrayVec<&'a [u8], MAX_CALL_FIELDS>;
 
 /// Reads the first line of a history of overlapping calls, `history 2`, without its end.
 ///
-/// The first kind of fault that holds for the line is returned: LONG_LINE where it has more than 1,024 bytes, BYTE
-/// where one of them isn't from 20 to 7e, WORD where it isn't the word `history` and one field behind it, and NUMBER
-/// where that field isn't `2`.
+/// The first kind of fault that holds for the line is returned:
+///
+/// - LONG_LINE if it has more than 1,024 bytes
+/// - BYTE if one of them isn't from 20 to 7e
+/// - WORD if it isn't the word `history` and one field after it
+/// - NUMBER if that field isn't `2`
 pub fn read_call_head(line: &[u8]) -> Result<(), FaultKind>
     ensures { result ≡ call_head_in line.now }
 {
@@ -46,10 +49,11 @@ pub fn read_call_head(line: &[u8]) -> Result<(), FaultKind>
 
 /// Reads the line of a call, `W BEGIN END COMMAND -> ANSWER`, without its end.
 ///
-/// LONG_LINE where the line has more than 1,024 bytes, BYTE where one of them isn't from 20 to 7e, and WORD where a
-/// field is empty, where there are more than 37, or where none is `->`. Else the leftmost fault, as in `history 1`:
-/// NUMBER also where END is below BEGIN, and WORD also where the command doesn't name one object by its cell, or where
-/// the answer isn't one that the command may have. Only a `new` may be refused.
+/// LONG_LINE if the line has more than 1,024 bytes, and BYTE if one of them isn't from 20 to 7e. WORD if a field is
+/// empty, if there are more than 37 fields, or if none is `->`. Otherwise the leftmost fault, as in `history 1`.
+///
+/// NUMBER comes also if END is below BEGIN. WORD comes also if the command doesn't name one object by its cell, or if
+/// the command can't have the answer. Only a `new` may be refused.
 pub fn read_call(line: &[u8]) -> Result<TimedCall, FaultKind>
     ensures ok { IfOk result (λ call. call_in line.now ≡ Ok (plain_call call)) }
     ensures err { IfErr result (λ kind. call_in line.now ≡ Err kind) }
@@ -61,12 +65,13 @@ pub fn read_call(line: &[u8]) -> Result<TimedCall, FaultKind>
     call_of(before, behind)
 }
 
-/// Splits a call's line into its fields. WORD where one of them is empty, or where they are too many for any call.
+/// Splits a call's line into its fields. WORD if one of them is empty, or if there are too many for any call.
 fn call_fields_of(line: &[u8]) -> Result<CallFields<'_>, FaultKind>
     ensures fields { IfOk result (λ fields. texts fields.items ≡ line_fields line.now) }
     ensures filled { OnOk result (list_any is_empty (line_fields line.now) ≡ false) }
     ensures kind { IfErr result (λ kind. kind ≡ FaultKind.Word) }
-    ensures err { OnErr result ((list_any is_empty (line_fields line.now) ≡ true) ⊎ (37 < length (line_fields line.now))) }
+    ensures err { OnErr result
+        ((list_any is_empty (line_fields line.now) ≡ true) ⊎ (37 < length (line_fields line.now))) }
 {
     let mut fields = CallFields::new();
     let mut rest = line;
@@ -78,7 +83,7 @@ fn call_fields_of(line: &[u8]) -> Result<CallFields<'_>, FaultKind>
     Ok(fields)
 }
 
-/// Adds a field that isn't empty, where there is room. WORD where it is empty or there is no room.
+/// Adds a field. WORD if the field is empty or there is no room.
 fn add_field<'a>(fields: &mut CallFields<'a>, field: &'a [u8]) -> Result<(), FaultKind>
     ensures ok { OnOk result (texts fields.new.items ≡ texts fields.old.items ++ field.now ∷ []) }
     ensures filled { OnOk result (is_empty field.now ≡ false) }
@@ -91,16 +96,17 @@ fn add_field<'a>(fields: &mut CallFields<'a>, field: &'a [u8]) -> Result<(), Fau
     fields.try_push(field).map_err(|_| FaultKind::Word)
 }
 
-/// The fields before the first arrow, and those behind it. None where no field is an arrow.
+/// The fields before the first arrow, and those after it. `None` if no field is an arrow.
 fn arrow_split<'a, 'b>(fields: &'b [&'a [u8]]) -> Option<(&'b [&'a [u8]], &'b [&'a [u8]])>
-    ensures some { IfSome result (λ parts. arrow_split (texts fields.now) ≡ Some (texts parts.0.now, texts parts.1.now)) }
+    ensures some { IfSome result
+        (λ parts. arrow_split (texts fields.now) ≡ Some (texts parts.0.now, texts parts.1.now)) }
     ensures none { IsNone result → arrow_split (texts fields.now) ≡ None }
 {
     let place = fields.iter().position(|field| is_word(*field, b"->"))?;
     Some((&fields[..place], &fields[place + 1..]))
 }
 
-/// The call with these fields before its arrow and these behind it.
+/// Reads the call with these fields before its arrow and these after it.
 fn call_of(before: &[&[u8]], behind: &[&[u8]]) -> Result<TimedCall, FaultKind>
     ensures { IsCallRead (call_of (texts before.now) (texts behind.now)) result }
 {
@@ -117,7 +123,7 @@ fn call_of(before: &[&[u8]], behind: &[&[u8]]) -> Result<TimedCall, FaultKind>
     })
 }
 
-/// What was answered to a command. WORD where it isn't an answer that the command may have.
+/// Reads the answer to a command. WORD if the command can't have that answer.
 fn effect_of(command: &SpeltCommand, fields: &[&[u8]]) -> Result<RecordedReply, FaultKind>
     ensures read { IsReplyRead (effect_in (plain_command command.now) (texts fields.now)) result }
     ensures effect { IfOk result (λ reply. has_effect (plain_command command.now) (plain_reply reply) ≡ true) }
@@ -132,7 +138,7 @@ fn effect_of(command: &SpeltCommand, fields: &[&[u8]]) -> Result<RecordedReply, 
     Ok(reply)
 }
 
-/// Whether the answer is one that the command may have, by which its effect is known.
+/// Whether the command may have this answer, so that its effect is known.
 fn has_effect(command: &SpeltCommand, reply: &RecordedReply) -> bool
     ensures { result ≡ has_effect (plain_command command.now) (plain_reply reply.now) }
 {

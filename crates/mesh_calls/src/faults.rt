@@ -11,7 +11,7 @@ use thiserror::Error;
 /// Why a history of overlapping calls was read no further.
 #[derive(Clone, Copy, Debug, PartialEq, Eq, Error)]
 pub enum CallError {
-    /// The text has a fault; this is its first.
+    /// The text has a fault; this is its first one.
     #[error("{0}")]
     Text(TextFault),
     /// The call of this line is out of order: it began before an earlier line's call, or no later than an earlier call

@@ -16,17 +16,17 @@ use mesh_line_input::LineInput;
 use model_words::{FaultKind, TextFault};
 use std::alloc::{AllocError, Global};
 
-/// A history of overlapping calls that comes from a device, of which a beginning was read.
+/// A history of overlapping calls that comes from a device, of which a prefix was read.
 #[derive(Drop)]
 pub struct CallInput {
     /// The lines of the text.
     lines: LineInput,
-    /// What is kept of the calls so far.
+    /// What must be known of the calls so far.
     order: CallOrder,
 }
 
 impl CallInput {
-    /// A history of which nothing was read, with the memory for one read. An error is an allocation failure.
+    /// A history of which nothing was read. It allocates the memory for one read. An error is an allocation failure.
     pub fn new(alloc: Global) -> Result<CallInput, AllocError>
         ensures { IfOk result IsFresh }
     {
@@ -43,20 +43,23 @@ impl CallInput {
         self.lines.lines()
     }
 
-    /// The next call of the history that the input gives. None at its end.
+    /// Returns the next call of the history that the input gives, or `None` at its end.
     ///
-    /// Errors: Text if a line has a fault, or the text ends in a line; Order if a call is out of order; Read exactly if
-    /// the input failed; Memory if an allocation failed. The history is of no use behind an error.
+    /// Errors: `Text` if a line has a fault, or the text ends in a line; `Order` if a call is out of order; `Read` if
+    /// and only if the input failed; `Memory` if an allocation failed. The history must not be used after an error.
     pub fn next<I: Source>(&mut self, input: &mut I) -> Result<Option<TimedCall>, CallError>
         requires { I.has_failed input.old ≡ false }
         ensures ok { OnOk result (I.has_failed input.new ≡ false) }
-        ensures call { (left : Option (List ℕ)) (calls : List Call) → HasCome self.old left (I.remaining input.old) calls
+        ensures call { (left : Option (List ℕ)) (calls : List Call)
+            → HasCome self.old left (I.remaining input.old) calls
             → IfOk result (λ next. IfSome next (HasNext self.new left (I.remaining input.new) calls)) }
         ensures later { IfOk result (λ next. IfSome next (λ _. lines_before self.old < lines_before self.new)) }
         ensures is_read { IfOk result (λ next. IfSome next IsReadCall) }
-        ensures ended { (left : Option (List ℕ)) (calls : List Call) → HasCome self.old left (I.remaining input.old) calls
+        ensures ended { (left : Option (List ℕ)) (calls : List Call)
+            → HasCome self.old left (I.remaining input.old) calls
             → IfOk result (λ next. IsNone next → HasEnded self.new left (I.remaining input.new) calls) }
-        ensures stopped { (left : Option (List ℕ)) (calls : List Call) → HasCome self.old left (I.remaining input.old) calls
+        ensures stopped { (left : Option (List ℕ)) (calls : List Call)
+            → HasCome self.old left (I.remaining input.old) calls
             → IfErr result (HasStopped left (I.remaining input.new) calls) }
         ensures read { result ≡ Err CallError.Read → I.has_failed input.new ≡ true }
         ensures failed { I.has_failed input.new ≡ true → result ≡ Err CallError.Read }
@@ -71,11 +74,12 @@ impl CallInput {
         }
     }
 
-    /// Takes the line that was read last, and returns its call. None where it is the head.
+    /// Takes the line that was read last, and returns its call, or `None` if the line is the head.
     fn take_line(&mut self) -> Result<Option<TimedCall>, CallError>
         requires { 1 ≤ lines_before self.old }
         ensures same { self.new.lines ≡ self.old.lines }
-        ensures taken { (lines : ℕ) (calls : List Call) → lines + 1 ≡ lines_before self.old → IsOrderOf self.old.order calls
+        ensures taken { (lines : ℕ) (calls : List Call) → lines + 1 ≡ lines_before self.old
+            → IsOrderOf self.old.order calls
             → IsTaken self.new lines calls (line_of self.old.lines) result }
         ensures head { IfOk result (λ next. IsNone next → lines_before self.old ≡ 1) }
         ensures call { IfOk result (λ next. IfSome next (λ _. 2 ≤ lines_before self.old)) }
@@ -106,7 +110,7 @@ fn head_at(line: &[u8]) -> Result<(), CallError>
     }
 }
 
-/// Reads the line of a call, which has this number.
+/// Reads the line of a call, which has this line number.
 fn call_at(number: u32, line: &[u8]) -> Result<TimedCall, CallError>
     ensures ok { IfOk result (λ call. call_in line.now ≡ Ok (plain_call call)) }
     ensures is_read { IfOk result IsReadCall }

@@ -1,7 +1,7 @@
-//! What the definitions mean. The law is the contract of a function that does nothing.
+//! What the definitions mean. A law is the contract of a function that does nothing.
 ghost use Rattle.mesh_calls.specs.EffectLaws.{TestsTellEffects};
 
-/// A call's answer is taken just where it tells the effect of its command, as a history of the model has it.
+/// A call's answer is accepted if and only if it shows the effect of its command, as in a history of the model.
 pub fn tests_tell_effects()
     ensures { TestsTellEffects }
 {}

@@ -1,6 +1,6 @@
-//! The lines of a history of overlapping calls, read: commands and answers, and from when to when each call took.
+//! Reads the lines of a history of overlapping calls: commands and answers, and when each call began and ended.
 //!
-//! `read_call_head` and `read_call` read one line, without its end. A `CallInput` gives the calls of a history that
+//! `read_call_head` and `read_call` read one line, without its end. A `CallInput` returns the calls of a history that
 //! comes from a device, one by one, each of them in order. A contract sees what was read as calls of `model_intervals`.
 #![tactic(auto)]
 

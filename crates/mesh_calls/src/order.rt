@@ -9,17 +9,17 @@ use crate::TimedCall;
 use std::alloc::{AllocError, Global};
 use std::collections::BTreeMap;
 
-/// What is kept of the calls so far, to know whether the next one is in order.
+/// What must be known of the calls so far to decide whether the next one is in order.
 #[derive(Drop)]
 pub(crate) struct CallOrder {
-    /// When the last call began: none of the others began later.
+    /// When the last call began. No earlier call began later.
     last_begin: u64,
     /// When the last call of each worker ended.
     ends: BTreeMap<u32, u64>,
 }
 
 impl CallOrder {
-    /// The order of no calls. It takes no memory.
+    /// The order of no calls. It allocates nothing.
     pub(crate) fn new(alloc: Global) -> CallOrder
         ensures { IsOrderOf result [] }
     {
@@ -33,7 +33,8 @@ impl CallOrder {
     /// worker ended before it begins. An error is an allocation failure.
     pub(crate) fn add(&mut self, call: &TimedCall) -> Result<bool, AllocError>
         requires { call.now.begin ≤ call.now.end }
-        ensures tested { (calls : List Call) → IsOrderOf self.old calls → IfOk result (λ in_order. in_order ≡ is_in_order calls (plain_call call.now)) }
+        ensures tested { (calls : List Call) → IsOrderOf self.old calls
+            → IfOk result (λ in_order. in_order ≡ is_in_order calls (plain_call call.now)) }
         ensures added { (calls : List Call) → IsOrderOf self.old calls
             → IfOk result (λ in_order. in_order ≡ true → IsOrderOf self.new (calls ++ plain_call call.now ∷ [])) }
         ensures unchanged { IfOk result (λ in_order. in_order ≡ false → self.new ≡ self.old) }
@@ -46,7 +47,7 @@ impl CallOrder {
         Ok(true)
     }
 
-    /// Whether the calls of a worker ended before this moment.
+    /// Whether all calls of a worker ended before this moment.
     fn may_begin(&self, worker: u32, begin: u64) -> bool
         ensures { result ≡ may_begin (end_of self.now worker) begin }
     {

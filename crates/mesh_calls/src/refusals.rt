@@ -1,4 +1,4 @@
-//! The refusals of a recorded history, each told by its number and its name.
+//! The refusals of a recorded history, each written as its number and its name.
 ghost use Rattle.std.specs.Prelude.{◌≡◌};
 ghost use Rattle.mesh_history.specs.HistoryFiles.{refusal_in, refusal_of};
 
@@ -9,8 +9,8 @@ use model_words::{FaultKind, Refusal};
 /// The greatest number of a refusal.
 const MAX_REFUSAL: u32 = 17;
 
-/// The refusal of this number and this name. NUMBER where the number isn't from 1 to 17, and WORD where the name is
-/// that of another refusal or of none.
+/// The refusal of this number and this name. NUMBER if the number isn't from 1 to 17, and WORD if the name is that of
+/// another refusal or of none.
 pub(crate) fn refusal_named(number: &[u8], name: &[u8]) -> Result<Refusal, FaultKind>
     ensures { result ≡ refusal_in number.now name.now }
 {

@@ -164,7 +164,7 @@ fn the_head_is_history_2(rt: HostRuntime) {
     assert_eq!(rt; read_call_head(b"mesh 2"), Err(FaultKind::Word));
 }
 
-/// How many calls a text has, how many of its lines were read, and why no more.
+/// How many calls a text has, how many of its lines were read, and why reading stopped.
 fn read(rt: &(impl Abort + AllocGlobal), text: &[u8]) -> (u32, u32, Option<CallError>) {
     let mut history = CallInput::new(rt.alloc()).expect(rt, "memory");
     let mut input = Input::new(text);

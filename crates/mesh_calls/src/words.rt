@@ -1,13 +1,13 @@
-//! A call as a history of overlapping calls tells it.
+//! A call as it is in a history of overlapping calls.
 use mesh_history::RecordedEntry;
 
-/// One answered command, and from when to when it took.
+/// One answered command, and when its call began and ended.
 #[derive(Drop)]
 pub struct TimedCall {
     /// When the call began.
     pub begin: u64,
     /// When it ended, no earlier.
     pub end: u64,
-    /// Who asked, what was asked and what was answered.
+    /// The worker, the command and the answer.
     pub entry: RecordedEntry,
 }

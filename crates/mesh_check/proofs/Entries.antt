@@ -24,7 +24,8 @@ use Rattle.mesh_check.specs.Stands.{Stands}
 use Rattle.mesh_check.specs.declared.memory.Tracked.{Tracked}
 use Rattle.mesh_check.proofs.Laws.{entry_of_read, head_of_read}
 
--- what is found of the entries that are left, of which the next one stands at this line, and of the text's fault behind them
+-- what is found of the entries that are left, of which the next one stands at this line, and of the text's fault behind
+-- them
 abbrev pub IsFound : Recorded → ℕ → List Entry → Option TextFault → Outcome → Type 0
 IsFound r line [] None o = o ≡ Legal (line - 2)
 IsFound r line [] (Some fault) o = o ≡ Faulty fault

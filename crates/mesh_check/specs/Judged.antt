@@ -19,11 +19,11 @@ abbrev pub is_new : Command → Bool
 is_new (New cell len word) = true
 is_new command = false
 
--- the plain memory answers so, and the trees stand for what it leaves
+-- the reference memory gives this answer, and the trees represent the memory after it
 abbrev pub IsAnswered : Tracked → Tracked → Command → Reply → Type 0
 IsAnswered old new command reply = (r : Recorded) → Stands old r → (m : Memory) × Follows (plain r.memory 0 command) r.memory reply m × Stands new (with_memory r m)
 
--- the entry is a step of a recorded history, and the trees stand for what it leaves
+-- the entry is a step of a recorded history, and the trees represent the memory after it
 abbrev pub IsTaken : Tracked → Tracked → Command → Reply → Type 0
 IsTaken old new command reply = (r : Recorded) → Stands old r → (n : Recorded) × RecordedStep any_allocator r command reply n × Stands new n
 
@@ -31,7 +31,7 @@ IsTaken old new command reply = (r : Recorded) → Stands old r → (n : Recorde
 abbrev pub IsWrong : Tracked → Command → Reply → Type 0
 IsWrong old command reply = (r : Recorded) → Stands old r → (n : Recorded) → RecordedStep any_allocator r command reply n → ⊥
 
--- what is told of a command that is done or refused; where memory was refused, an error
+-- the reply to a command that is done or refused; out of memory, an error
 abbrev pub IsTold : Result (Unit {0}) CommandError → Result RecordedReply AllocError → Type 0
 IsTold (Ok _) (Ok reply) = reply ≡ Done
 IsTold (Err (IsRefused refusal)) (Ok reply) = reply ≡ Refused refusal

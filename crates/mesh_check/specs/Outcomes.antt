@@ -9,13 +9,14 @@ use Rattle.mesh_history.specs.Readings.{Head, LineRead, OfEntry, end_fault, is_f
 use Rattle.mesh_check.specs.declared.verdicts.Verdict.{Verdict}
 use Rattle.mesh_check.specs.declared.verdicts.Verdict.TheVariants.{Legal as IsLegal, Wrong as IsWrong}
 
--- a text is a legal history of so many entries, or the entry of a line is the first that isn't taken, or there is a fault before one
+-- a text is a legal history of so many entries, or the entry of a line is the first that isn't taken, or there is a
+-- fault before one
 pub data Outcome : Type 0 where
   Legal : ℕ → Outcome
   Wrong : ℕ → Outcome
   Faulty : TextFault → Outcome
 
--- the outcome that a verdict tells
+-- the outcome that a verdict reports
 abbrev pub outcome_of : Verdict → Outcome
 outcome_of (IsLegal entries) = Legal entries
 outcome_of (IsWrong line reason) = Wrong line
@@ -41,7 +42,8 @@ IsWrongLine lines r line o = (is_full lines ≡ false) × ((read : LineRead) × 
 abbrev pub IsStopLine : ℕ → Recorded → List ℕ → Outcome → Type 0
 IsStopLine lines r line o = IsFaultyLine lines r line o ⊎ (IsWrongLine lines r line o ⊎ ((is_full lines ≡ true) × (o ≡ Faulty too_long)))
 
--- what is found where a text ends behind so many lines, all of them entries but the first: it is legal where it has no fault there
+-- what is found where a text ends behind so many lines, all of them entries but the first: it is legal where it has no
+-- fault there
 abbrev pub ended : ℕ → Option TextFault → Outcome
 ended lines None = Legal (lines - 1)
 ended lines (Some fault) = Faulty fault

@@ -100,6 +100,6 @@ IsReason r command reply (LiveRefused refusal) =
 IsReason r command reply SerialAgain = MakesSome command × IsGiven r reply
 IsReason r command reply (Overlaps overlap) = IsCrowded r command reply overlap
 
--- it is so of whatever the trees stand for
+-- this holds of every memory that the trees represent
 abbrev pub Tells : Tracked → Command → Reply → Reason → Type 0
 Tells old command reply reason = (r : Recorded) → Stands old r → IsReason r command reply reason

@@ -59,7 +59,7 @@ IsGone m Freed = Unit {0}
 abbrev pub IsSetAt : {X : Type 0} → (ℕ → Option X) → (ℕ → Option X) → ℕ → Option X → Type 0
 IsSetAt f g k v = (g k ≡ v) × ((q : ℕ) → q ≢ k → g q ≡ f q)
 
--- what stands at the greatest address that is at most this one
+-- the number at the greatest address that is at most this one
 abbrev pub IsNearest : (ℕ → Option ℕ) → ℕ → Option ℕ → Type 0
 IsNearest starts address None = (q : ℕ) → q ≤ address → starts q ≡ None
 IsNearest starts address (Some n) =
@@ -69,7 +69,7 @@ IsNearest starts address (Some n) =
 abbrev pub with_memory : Recorded → Memory → Recorded
 with_memory r m = record { memory = m; serials = r.serials }
 
--- the command is done, and the trees stand for what it leaves
+-- the command is done, and the trees represent the memory after it
 abbrev pub IsDone : Tracked → Tracked → Command → Type 0
 IsDone old new command =
     (r : Recorded) → Stands old r → (m : Memory) × (plain r.memory 0 command ≡ Ok (Done, m)) × Stands new (with_memory r m)

@@ -12,7 +12,8 @@ AreEntries [] [] = Unit {0}
 AreEntries (line ∷ lines) (entry ∷ entries) = (entry_in line ≡ Ok entry) × AreEntries lines entries
 AreEntries lines entries = ⊥
 
--- the text is the head of a history and the lines of these entries, each with its end, and they are fewer than 4,294,967,295
+-- the text is the head of a history and the lines of these entries, each with its end, and they are fewer than
+-- 4,294,967,295
 pub record IsHistory (text : List ℕ) (entries : List Entry) : Type 0 where
   pub head : List ℕ
   pub lines : List (List ℕ)
@@ -21,7 +22,7 @@ pub record IsHistory (text : List ℕ) (entries : List Entry) : Type 0 where
   pub are_entries : AreEntries lines entries
   pub few : length entries < 4294967295
 
--- `legal` is told of legal histories, and of no others
+-- `legal` is reported of legal histories, and of no others
 abbrev pub LegalIsLegal : Type 0
 LegalIsLegal = (text : List ℕ) (n : ℕ)
     → IsVerdict text (Legal n) ↔ ((entries : List Entry) × IsHistory text entries × (length entries ≡ n) × ((end : Recorded) × IsRecorded any_allocator entries end))
@@ -43,7 +44,7 @@ pub record IsFirstWrong (text : List ℕ) (line : ℕ) : Type 0 where
   pub no_step : (n : Recorded) → RecordedStep any_allocator left entry.command entry.reply n → ⊥
   pub number : line ≡ length lines + 2
 
--- where a line is told, it is that of the first entry that isn't taken
+-- if a line is reported, it is that of the first entry that is rejected
 abbrev pub WrongIsFirst : Type 0
 WrongIsFirst = (text : List ℕ) (line : ℕ) → IsVerdict text (Wrong line) → IsFirstWrong text line
 

@@ -1,4 +1,4 @@
-//! `Cells`: what each cell holds.
+//! `Cells`: the contents of each cell.
 ghost use Rattle.std.specs.Prelude.{◌≡◌, ◌≢◌, ◌↔◌, ℕ, IsSome, OnOk, OnErr};
 ghost use Rattle.mesh_number_set.specs.Ranges.{Has};
 ghost use Rattle.mesh_check.specs.Cells.{IsFreedAt, IsHeld, IsNew, IsPointed, number_at};
@@ -9,7 +9,7 @@ use std::alloc::{AllocError, Global};
 use std::collections::BTreeMap;
 use std::marker::Model;
 
-/// What a cell holds in which a number was stored.
+/// The content of a cell in which a number was stored.
 #[derive(Clone, Copy)]
 pub enum Held {
     /// This number. Its object may have been freed through another cell.
@@ -18,9 +18,9 @@ pub enum Held {
     Freed,
 }
 
-/// What each cell holds. No cell is kept twice.
+/// The contents of each cell. No cell is kept twice.
 ///
-/// The cells of freed objects are kept as ranges, so those that follow one another take no more memory than one.
+/// The cells of freed objects are kept as ranges, so adjacent ones take no more memory than a single one.
 #[derive(Drop)]
 pub struct Cells {
     // The numbers that cells hold.
@@ -42,7 +42,7 @@ impl Model for Cells {
 }
 
 impl Cells {
-    /// No cell holds a number. It takes no memory.
+    /// Returns cells without numbers. It allocates nothing.
     pub fn new(alloc: Global) -> Cells
         ensures { IsNew result }
     {
@@ -52,7 +52,7 @@ impl Cells {
         }
     }
 
-    /// What a cell holds. None where no number was stored in it.
+    /// The content of a cell. `None` if no number was stored in it.
     pub fn held(&self, cell: u32) -> Option<Held>
         ensures { IsHeld self.now cell result }
     {
@@ -65,7 +65,7 @@ impl Cells {
         None
     }
 
-    /// Stores a number in a cell. An error is an allocation failure; then it isn't known what the cell holds.
+    /// Stores a number in a cell. An error is an allocation failure; then the cell's content is unspecified.
     pub fn point(&mut self, cell: u32, number: u32) -> Result<(), AllocError>
         ensures { OnOk result (IsPointed self.old self.new cell number) }
     {
@@ -74,8 +74,7 @@ impl Cells {
         Ok(())
     }
 
-    /// Keeps of a cell that the object of the number that it holds is no longer live. An error is an allocation
-    /// failure.
+    /// Records that the object whose number a cell holds is no longer live. An error is an allocation failure.
     pub fn free(&mut self, cell: u32) -> Result<(), AllocError>
         requires { IsSome (number_at self.old cell) }
         ensures { OnOk result (IsFreedAt self.old self.new cell) }

@@ -1,4 +1,4 @@
-//! The chunks of an object's bytes that are kept, by number.
+//! The kept chunks of an object's bytes, by number.
 ghost use Rattle.std.specs.Prelude.{◌≡◌, ◌+◌, ◌≤◌, ◌<◌, None, IfOk, OnOk, OnErr, length};
 ghost use Rattle.std.specs.Ordering.{nat_cmp};
 ghost use Rattle.std.specs.BTreeMap.{IsUnchanged, get};
@@ -12,26 +12,26 @@ use std::marker::Model;
 /// How many bytes a chunk has. This project's own choice.
 pub const CHUNK_BYTES: usize = 64;
 
-/// Contracts name the number.
+/// Contracts contain the number itself.
 const _: () = prove!(CHUNK_BYTES == 64);
 
 /// The bytes of a chunk that is not kept.
 static ZEROS: [u8; CHUNK_BYTES] = [0; CHUNK_BYTES];
 
-/// A chunk that is kept. Contracts see its bytes.
+/// A kept chunk. Contracts see its bytes.
 ///
-/// What was stored is in a box of its own, since a node of a tree has room for several values, also where it has one.
+/// The stores are in a box of their own, because a node of a tree has room for several values even if it has only one.
 #[derive(Drop)]
 pub struct Chunk {
     stores: Box<Stores>,
 }
 
-/// What was stored in a chunk.
+/// The bytes that were stored in a chunk, and the lines that stored them.
 #[derive(Drop)]
 struct Stores {
     /// The bytes.
     bytes: [u8; CHUNK_BYTES],
-    /// For each byte the line of the last entry that stored it, 0 where none did.
+    /// For each byte the line of the last entry that stored it, 0 if none did.
     lines: [u32; CHUNK_BYTES],
 }
 
@@ -47,7 +47,7 @@ impl Model for Chunk {
 }
 
 impl Chunk {
-    /// A chunk in which nothing was stored. An error is an allocation failure.
+    /// Returns a chunk in which nothing was stored. An error is an allocation failure.
     fn new(alloc: Global) -> Result<Chunk, AllocError>
         ensures { IfOk result (λ chunk. chunk ≡ chunk_bytes None) }
     {
@@ -68,7 +68,7 @@ impl Chunk {
         &self.stores.bytes
     }
 
-    /// Writes bytes from a place on, as the entry of a line does.
+    /// Writes bytes from a place on, for the entry on a line.
     fn write(&mut self, place: usize, bytes: &[u8], line: u32)
         requires { place + length bytes.now ≤ 64 }
         ensures written { self.new ≡ overwritten self.old place bytes.now }
@@ -78,7 +78,7 @@ impl Chunk {
         mark(&mut self.stores.lines, place, bytes.len(), line);
     }
 
-    /// The line of the last entry that stored the byte at a place. None if none did.
+    /// The line of the last entry that stored the byte at a place. `None` if none did.
     fn stored_at(&self, place: usize) -> Option<u32>
         requires { place < 64 }
     {
@@ -100,15 +100,15 @@ pub fn chunk_bytes(chunks: &BTreeMap<u64, Chunk>, number: u64) -> &[u8]
     }
 }
 
-/// The line of the last entry that stored the byte at a place of a chunk. None if none did.
+/// The line of the last entry that stored the byte at a place of a chunk. `None` if none did.
 pub fn stored_at(chunks: &BTreeMap<u64, Chunk>, number: u64, place: usize) -> Option<u32>
     requires { place < 64 }
 {
     chunks.get(&number)?.stored_at(place)
 }
 
-/// Stores bytes in a chunk from a place on, as the entry of a line does. An error is an allocation failure, and comes
-/// only of a chunk that was not kept.
+/// Stores bytes in a chunk from a place on, for the entry on a line. An error is an allocation failure, and comes only
+/// for a chunk that was not kept.
 pub fn store_in(
     alloc: Global,
     chunks: &mut BTreeMap<u64, Chunk>,
@@ -118,7 +118,9 @@ pub fn store_in(
     line: u32,
 ) -> Result<(), AllocError>
     requires { place + length bytes.now ≤ 64 }
-    ensures stored { OnOk result (IsSetAt (get nat_cmp chunks.old) (get nat_cmp chunks.new) number (overwritten (chunk_bytes (get nat_cmp chunks.old number)) place bytes.now)) }
+    ensures stored { OnOk result
+        (IsSetAt (get nat_cmp chunks.old) (get nat_cmp chunks.new) number
+        (overwritten (chunk_bytes (get nat_cmp chunks.old number)) place bytes.now)) }
     ensures unchanged { OnErr result (IsUnchanged chunks.old chunks.new) }
     ensures kept { OnErr result (get nat_cmp chunks.old number ≡ None) }
     ensures sized { length (chunk_bytes (get nat_cmp chunks.old number)) ≡ 64 }
@@ -144,7 +146,7 @@ fn write(chunk: &mut [u8; CHUNK_BYTES], place: usize, bytes: &[u8])
     chunk[place..place + bytes.len()].copy_from_slice(bytes);
 }
 
-/// Keeps a line for so many bytes from a place on.
+/// Records a line for `len` bytes from a place on.
 fn mark(lines: &mut [u32; CHUNK_BYTES], place: usize, len: usize, line: u32)
     requires { place + len ≤ 64 }
 {

@@ -1,4 +1,4 @@
-//! How an answer differs from the one that is wanted.
+//! How an answer differs from the expected one.
 ghost use Rattle.std.specs.Prelude.{◌≡◌, ◌≢◌, ◌↔◌, IfSome, IsTrue, IsNone, IsSome};
 ghost use Rattle.mesh_history.specs.RecordedWords.{plain_reply};
 ghost use Rattle.mesh_check.specs.Differences.{IsFirst, bytes_of};
@@ -10,7 +10,7 @@ use mesh_history::RecordedReply;
 use model_words::MAX_BYTES;
 use std::array;
 
-/// Why an answer is not taken which is another than the one that is wanted.
+/// The reason why an answer that differs from the expected one is rejected.
 pub fn difference(
     answered: RecordedReply,
     wanted: RecordedReply,
@@ -42,7 +42,7 @@ fn is_refusal(reply: &RecordedReply) -> bool
     matches!(reply, RecordedReply::Refused(_))
 }
 
-/// The same reply. It takes no memory.
+/// Returns a copy of a reply. It allocates nothing.
 pub fn copied(reply: &RecordedReply) -> RecordedReply
     ensures { result ≡ reply.now }
 {
@@ -56,7 +56,7 @@ pub fn copied(reply: &RecordedReply) -> RecordedReply
     }
 }
 
-/// The same bytes. It takes no memory.
+/// Returns a copy of bytes. It allocates nothing.
 fn copied_bytes(bytes: &ArrayVec<u8, MAX_BYTES>) -> ArrayVec<u8, MAX_BYTES>
     ensures { result ≡ bytes.now }
 {
@@ -65,7 +65,7 @@ fn copied_bytes(bytes: &ArrayVec<u8, MAX_BYTES>) -> ArrayVec<u8, MAX_BYTES>
     copy
 }
 
-/// The bytes that a reply gives: none, but for that of a load.
+/// The bytes of a reply: empty unless it is the reply to a load.
 pub fn bytes_of(reply: &RecordedReply) -> &[u8]
     ensures { result.now ≡ bytes_of (plain_reply reply.now) }
 {
@@ -76,7 +76,7 @@ pub fn bytes_of(reply: &RecordedReply) -> &[u8]
     }
 }
 
-/// The place of the first byte that differs, of those that both have.
+/// The place of the first byte that differs, among the places that both have.
 pub fn first_difference(one: &[u8], other: &[u8]) -> Option<usize>
     ensures { IsFirst one.now other.now result }
 {

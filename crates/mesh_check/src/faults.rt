@@ -1,13 +1,13 @@
-//! Why a command changed nothing in the memory.
+//! The errors of a command.
 use model_words::Refusal;
 use std::alloc::AllocError;
 
-/// Why a command changed nothing in the memory.
+/// The reason why a command failed.
 #[derive(Clone, Copy, PartialEq, Eq)]
 pub enum CommandError {
-    /// The plain memory refuses it.
+    /// The reference memory refuses the command. Nothing has changed.
     Refused(Refusal),
-    /// Memory was refused. Some bytes may have been stored.
+    /// An allocation failed. Some bytes may have been stored.
     Memory,
 }
 

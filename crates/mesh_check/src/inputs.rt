@@ -1,4 +1,4 @@
-//! The verdict on the history that a device gives.
+//! The verdict on a history that is read from a device.
 ghost use Rattle.std.specs.Prelude.{◌≡◌, Err, false, true, IfErr, IfOk, OnOk};
 ghost use Rattle.model_history.specs.Recorded.{any_allocator, nothing_recorded};
 ghost use Rattle.mesh_check.specs.Checks.{HasJudged, HasNotJudged};
@@ -13,14 +13,18 @@ use mesh_devices::{ReplayError, Source};
 use mesh_history::HistoryInput;
 use std::alloc::Global;
 
-/// Judges the recorded history that the input gives.
+/// Judges the recorded history that is read from `input`.
 ///
-/// The input is read to its end, or until a verdict is found: what stands behind the first entry that isn't taken, or behind the first fault, is
-/// not looked at. Text comes where a line has a fault, Read exactly where the input failed, and Memory where memory was refused; Write never comes.
+/// The input is read to its end, or until a verdict is found: nothing after the first rejected entry, or after the
+/// first fault, is looked at.
+///
+/// Errors: Text if a line has a fault, Read if and only if the input failed, and Memory if an allocation failed. Write
+/// is never returned.
 pub fn check<I: Source>(alloc: Global, input: &mut I) -> Result<Verdict, ReplayError>
     requires { I.has_failed input.old ≡ false }
     ensures ok { OnOk result (I.has_failed input.new ≡ false) }
-    ensures judged { IfOk result (λ verdict. HasJudged (I.remaining input.old) (I.remaining input.new) (outcome_of verdict)) }
+    ensures judged { IfOk result
+        (λ verdict. HasJudged (I.remaining input.old) (I.remaining input.new) (outcome_of verdict)) }
     ensures fault { IfErr result (HasNotJudged (I.remaining input.old) (I.remaining input.new)) }
     ensures read { result ≡ Err ReplayError.Read → I.has_failed input.new ≡ true }
     ensures failed { I.has_failed input.new ≡ true → result ≡ Err ReplayError.Read }
@@ -30,7 +34,8 @@ pub fn check<I: Source>(alloc: Global, input: &mut I) -> Result<Verdict, ReplayE
     judge_input(&mut history, &mut memory, input)
 }
 
-/// Judges the entries that the input gives, of which none has come. Returns the verdict, with the errors of `check`.
+/// Judges the entries that are read from `input`, of which none has been read yet. Returns the verdict, with the errors
+/// of `check`.
 fn judge_input<I: Source>(
     history: &mut HistoryInput,
     memory: &mut Tracked,
@@ -41,7 +46,8 @@ fn judge_input<I: Source>(
     requires stands { Stands memory.old (nothing_recorded any_allocator) }
     requires made { memory.old.made ≡ 0 }
     ensures ok { OnOk result (I.has_failed input.new ≡ false) }
-    ensures judged { IfOk result (λ verdict. HasJudged (I.remaining input.old) (I.remaining input.new) (outcome_of verdict)) }
+    ensures judged { IfOk result
+        (λ verdict. HasJudged (I.remaining input.old) (I.remaining input.new) (outcome_of verdict)) }
     ensures fault { IfErr result (HasNotJudged (I.remaining input.old) (I.remaining input.new)) }
     ensures read { result ≡ Err ReplayError.Read → I.has_failed input.new ≡ true }
     ensures failed { I.has_failed input.new ≡ true → result ≡ Err ReplayError.Read }

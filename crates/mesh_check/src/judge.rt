@@ -1,4 +1,4 @@
-//! Entries, judged one by one.
+//! Judging entries one by one.
 ghost use Rattle.std.specs.Prelude.{◌≡◌, ◌≢◌, ◌^◌, ◌+◌, ◌-◌, ◌≤◌, ◌<◌, ◌↔◌, ◌∷◌, ◌++◌, ℕ, List, [], false, true, IfErr, IfOk, IfSome, IsNone, IsTrue, length};
 ghost use Rattle.model_memory.specs.Memory.{Memory};
 ghost use Rattle.model_memory.specs.Plain.{Entry, Follows, plain};
@@ -25,20 +25,28 @@ use model_words::{MAX_BYTES, Refusal};
 use std::alloc::AllocError;
 
 impl Tracked {
-    /// Takes the entry of a line, or returns why the plain memory doesn't take it; then the memory is that of no
-    /// history. An error is an allocation failure.
+    /// Accepts the entry on a line, or returns the reason why the reference memory rejects it; then the memory is that
+    /// of no history. An error is an allocation failure.
     pub fn judge(&mut self, line: u32, entry: &RecordedEntry) -> Result<Option<Reason>, AllocError>
         requires range { IsInRange (plain_command entry.now.command) }
         requires sized { IsSized (plain_command entry.now.command) }
         requires narrow { IsNarrow entry.now.reply }
         requires few { self.old.made < 2 ^ 32 - 1 }
-        ensures taken { IfOk result (λ reason. IsNone reason → IsTaken self.old self.new (plain_command entry.now.command) (plain_reply entry.now.reply)) }
-        ensures wrong { IfOk result (λ reason. IfSome reason (λ _. IsWrong self.old (plain_command entry.now.command) (plain_reply entry.now.reply))) }
-        ensures told { IfOk result (λ reason. IfSome reason (Tells self.old (plain_command entry.now.command) (plain_reply entry.now.reply))) }
+        ensures taken { IfOk result
+            (λ reason. IsNone reason
+            → IsTaken self.old self.new (plain_command entry.now.command) (plain_reply entry.now.reply)) }
+        ensures wrong { IfOk result
+            (λ reason. IfSome reason
+            (λ _. IsWrong self.old (plain_command entry.now.command) (plain_reply entry.now.reply))) }
+        ensures told { IfOk result
+            (λ reason. IfSome reason (Tells self.old (plain_command entry.now.command) (plain_reply entry.now.reply))) }
         ensures made { self.new.made ≤ self.old.made + 1 }
-        ensures lined { IfOk result (λ reason. IsNone reason → (entries : List Entry) → length entries + 2 ≡ line → AreLined entries self.old
+        ensures lined { IfOk result
+            (λ reason. IsNone reason → (entries : List Entry) → length entries + 2 ≡ line → AreLined entries self.old
             → AreLined (entries ++ plain_entry entry.now ∷ []) self.new) }
-        ensures maker { IfOk result (λ reason. IfSome reason (λ why. (entries : List Entry) → AreLined entries self.old → HasLine entries why)) }
+        ensures maker { IfOk result
+            (λ reason. IfSome reason
+            (λ why. (entries : List Entry) → AreLined entries self.old → HasLine entries why)) }
     {
         match &entry.command {
             SpeltCommand::New(cell, len, _) => { self.judge_new(line, *cell, *len, &entry.reply) }
@@ -46,7 +54,7 @@ impl Tracked {
         }
     }
 
-    /// Takes a command that is no `new` with its answer, or returns why the answer is wrong.
+    /// Accepts a command other than `new` with its answer, or returns why the answer is wrong.
     fn judge_answer(
         &mut self,
         line: u32,
@@ -55,9 +63,12 @@ impl Tracked {
     ) -> Result<Option<Reason>, AllocError>
         requires range { IsInRange (plain_command command.now) }
         requires other { is_new (plain_command command.now) ≡ false }
-        ensures taken { IfOk result (λ reason. IsNone reason → IsTaken self.old self.new (plain_command command.now) (plain_reply reply.now)) }
-        ensures wrong { IfOk result (λ reason. IfSome reason (λ _. IsWrong self.old (plain_command command.now) (plain_reply reply.now))) }
-        ensures told { IfOk result (λ reason. IfSome reason (Tells self.old (plain_command command.now) (plain_reply reply.now))) }
+        ensures taken { IfOk result
+            (λ reason. IsNone reason → IsTaken self.old self.new (plain_command command.now) (plain_reply reply.now)) }
+        ensures wrong { IfOk result
+            (λ reason. IfSome reason (λ _. IsWrong self.old (plain_command command.now) (plain_reply reply.now))) }
+        ensures told { IfOk result
+            (λ reason. IfSome reason (Tells self.old (plain_command command.now) (plain_reply reply.now))) }
         ensures made { self.new.made ≡ self.old.made }
         ensures lined { IfOk result (λ reason. IsNone reason → MakesNone self.old self.new) }
         ensures maker { IfOk result (λ reason. IfSome reason (λ why. (entries : List Entry) → HasLine entries why)) }
@@ -70,15 +81,17 @@ impl Tracked {
         Ok(Some(difference(copied(reply), wanted, byte)))
     }
 
-    /// Does a command that is no `new`, and returns what the plain memory answers.
+    /// Runs a command other than `new`, and returns the answer of the reference memory.
     fn answer(&mut self, line: u32, command: &SpeltCommand) -> Result<RecordedReply, AllocError>
         requires range { IsInRange (plain_command command.now) }
         requires other { is_new (plain_command command.now) ≡ false }
-        ensures answered { IfOk result (λ reply. IsAnswered self.old self.new (plain_command command.now) (plain_reply reply)) }
+        ensures answered { IfOk result
+            (λ reply. IsAnswered self.old self.new (plain_command command.now) (plain_reply reply)) }
         ensures made { self.new.made ≡ self.old.made }
         ensures lined { IfOk result (λ _. MakesNone self.old self.new) }
         ensures loads { is_load (plain_command command.now) ≡ true → self.new ≡ self.old }
-        ensures changes { IfOk result (λ reply. is_load (plain_command command.now) ≡ false → bytes_of (plain_reply reply) ≡ []) }
+        ensures changes { IfOk result
+            (λ reply. is_load (plain_command command.now) ≡ false → bytes_of (plain_reply reply) ≡ []) }
     {
         match command {
             SpeltCommand::New(_, _, _) => Ok(RecordedReply::Done),
@@ -104,15 +117,16 @@ impl Tracked {
         }
     }
 
-    /// The first byte by which the answer to a load differs from the one that is wanted. None if no byte differs that
-    /// both answers have.
+    /// The first byte in which the answer to a load differs from the expected one, among the bytes that both answers
+    /// have. `None` if there is no such byte.
     fn different_byte(
         &self,
         command: &SpeltCommand,
         answered: &RecordedReply,
         wanted: &RecordedReply,
     ) -> Option<DifferentByte>
-        ensures byte { is_load (plain_command command.now) ≡ true → (r : Recorded) (m : Memory) → Stands self.now r → Follows (plain r.memory 0 (plain_command command.now)) r.memory (plain_reply wanted.now) m
+        ensures byte { is_load (plain_command command.now) ≡ true → (r : Recorded) (m : Memory) → Stands self.now r
+            → Follows (plain r.memory 0 (plain_command command.now)) r.memory (plain_reply wanted.now) m
             → IsByte r (plain_command command.now) (plain_reply answered.now) (plain_reply wanted.now) result }
         ensures none { bytes_of (plain_reply wanted.now) ≡ [] → IsNone result }
     {
@@ -125,11 +139,13 @@ impl Tracked {
         })
     }
 
-    /// The object of which a `get` or a `peek` loads bytes, and the offset of the first. None for other commands, and
-    /// where the load is refused.
+    /// The object from which a `get` or a `peek` loads bytes, and the offset of the first byte. `None` for other
+    /// commands, and if the load is refused.
     fn loaded_from(&self, command: &SpeltCommand) -> Option<(&Stored, u64)>
-        ensures from { IfSome result (λ found. (r : Recorded) → Stands self.now r → LoadsFrom r (plain_command command.now) found.1) }
-        ensures none { IsNone result → is_load (plain_command command.now) ≡ true → (r : Recorded) (m : Memory) (wanted : Reply) → Stands self.now r
+        ensures from { IfSome result
+            (λ found. (r : Recorded) → Stands self.now r → LoadsFrom r (plain_command command.now) found.1) }
+        ensures none { IsNone result → is_load (plain_command command.now) ≡ true
+            → (r : Recorded) (m : Memory) (wanted : Reply) → Stands self.now r
             → Follows (plain r.memory 0 (plain_command command.now)) r.memory wanted m → bytes_of wanted ≡ [] }
     {
         match command {
@@ -145,7 +161,7 @@ impl Tracked {
         }
     }
 
-    /// Takes a `new` with its answer, or returns why the answer is wrong.
+    /// Accepts a `new` with its answer, or returns why the answer is wrong.
     fn judge_new(
         &mut self,
         line: u32,
@@ -156,12 +172,21 @@ impl Tracked {
         requires long { len ≤ any_allocator.longest }
         requires narrow { IsNarrow reply.now }
         requires few { self.old.made < 2 ^ 32 - 1 }
-        ensures taken { IfOk result (λ reason. IsNone reason → (word : ℕ) → IsTaken self.old self.new (Command.New cell len word) (plain_reply reply.now)) }
-        ensures wrong { IfOk result (λ reason. IfSome reason (λ _. (word : ℕ) → IsWrong self.old (Command.New cell len word) (plain_reply reply.now))) }
-        ensures told { IfOk result (λ reason. IfSome reason (λ why. (word : ℕ) → Tells self.old (Command.New cell len word) (plain_reply reply.now) why)) }
+        ensures taken { IfOk result
+            (λ reason. IsNone reason → (word : ℕ)
+            → IsTaken self.old self.new (Command.New cell len word) (plain_reply reply.now)) }
+        ensures wrong { IfOk result
+            (λ reason. IfSome reason
+            (λ _. (word : ℕ) → IsWrong self.old (Command.New cell len word) (plain_reply reply.now))) }
+        ensures told { IfOk result
+            (λ reason. IfSome reason
+            (λ why. (word : ℕ) → Tells self.old (Command.New cell len word) (plain_reply reply.now) why)) }
         ensures made { self.new.made ≤ self.old.made + 1 }
-        ensures lined { IfOk result (λ reason. IsNone reason → MakesAtMost self.old self.new line (plain_reply reply.now)) }
-        ensures maker { IfOk result (λ reason. IfSome reason (λ why. (entries : List Entry) → AreLined entries self.old → HasLine entries why)) }
+        ensures lined { IfOk result
+            (λ reason. IsNone reason → MakesAtMost self.old self.new line (plain_reply reply.now)) }
+        ensures maker { IfOk result
+            (λ reason. IfSome reason
+            (λ why. (entries : List Entry) → AreLined entries self.old → HasLine entries why)) }
     {
         match reply {
             RecordedReply::Object(serial, address) => {
@@ -184,12 +209,21 @@ impl Tracked {
         requires long { len ≤ any_allocator.longest }
         requires narrow { address < 2 ^ 48 }
         requires few { self.old.made < 2 ^ 32 - 1 }
-        ensures taken { IfOk result (λ reason. IsNone reason → (word : ℕ) → IsTaken self.old self.new (Command.New cell len word) (Reply.Object serial address)) }
-        ensures wrong { IfOk result (λ reason. IfSome reason (λ _. (word : ℕ) → IsWrong self.old (Command.New cell len word) (Reply.Object serial address))) }
-        ensures told { IfOk result (λ reason. IfSome reason (λ why. (word : ℕ) → Tells self.old (Command.New cell len word) (Reply.Object serial address) why)) }
+        ensures taken { IfOk result
+            (λ reason. IsNone reason → (word : ℕ)
+            → IsTaken self.old self.new (Command.New cell len word) (Reply.Object serial address)) }
+        ensures wrong { IfOk result
+            (λ reason. IfSome reason
+            (λ _. (word : ℕ) → IsWrong self.old (Command.New cell len word) (Reply.Object serial address))) }
+        ensures told { IfOk result
+            (λ reason. IfSome reason
+            (λ why. (word : ℕ) → Tells self.old (Command.New cell len word) (Reply.Object serial address) why)) }
         ensures made { self.new.made ≤ self.old.made + 1 }
-        ensures lined { IfOk result (λ reason. IsNone reason → MakesAtMost self.old self.new line (Reply.Object serial address)) }
-        ensures maker { IfOk result (λ reason. IfSome reason (λ why. (entries : List Entry) → AreLined entries self.old → HasLine entries why)) }
+        ensures lined { IfOk result
+            (λ reason. IsNone reason → MakesAtMost self.old self.new line (Reply.Object serial address)) }
+        ensures maker { IfOk result
+            (λ reason. IfSome reason
+            (λ why. (entries : List Entry) → AreLined entries self.old → HasLine entries why)) }
     {
         if len == 0 {
             return Ok(Some(no_object(len, RecordedReply::Object(serial, address))));
@@ -205,7 +239,8 @@ impl Tracked {
     }
 }
 
-/// Why a `new` is not taken that is answered by no object, or is answered by one and should not be.
+/// The reason why a `new` is rejected that was not answered with an object, or was answered with one and should not
+/// have been.
 fn no_object(len: u64, answered: RecordedReply) -> Reason
     ensures { result ≡ no_object len answered }
 {
@@ -220,7 +255,7 @@ fn no_object(len: u64, answered: RecordedReply) -> Reason
     }
 }
 
-/// Whether an allocator may refuse a `new` of this length so.
+/// Whether an allocator may refuse a `new` of this length with this refusal.
 fn is_own_refusal(len: u64, refusal: Refusal) -> bool
     requires { len ≤ any_allocator.longest }
     ensures { IsTrue result ↔ IsOwnRefusal any_allocator len refusal }
@@ -232,7 +267,8 @@ fn is_own_refusal(len: u64, refusal: Refusal) -> bool
     }
 }
 
-/// The answer to a command that changes the memory, where it is done or refused.
+/// The answer to a command that changes the memory, from its outcome: done or refused. The error is an allocation
+/// failure.
 fn done(outcome: Result<(), CommandError>) -> Result<RecordedReply, AllocError>
     ensures { IsTold outcome result }
 {

@@ -1,13 +1,18 @@
-//! Recorded histories, judged by the plain memory.
+//! Judges recorded histories by the reference memory (called plain memory in the code).
 //!
-//! `check` judges the history that a device gives: it is legal, or the entry of a line is the first that isn't taken,
-//! and why. From the bottom up: `chunks` and `sparse` have the bytes of one object, of which only those that were
-//! stored take memory. `stored`, `maps`, `cells` and `memory` keep the plain memory of the entries so far in trees,
-//! `Tracked`, and do its commands; `faults` says why one changed nothing. `reasons` are what is told of an entry that
-//! isn't taken, `differences` says how two answers differ, and `judge` compares an entry with what the plain memory
-//! answers. `verdicts` has the verdict, `inputs` finds it entry by entry, and `texts` has its line. `verdict_laws` says
-//! what a verdict means of the whole text. Contracts see a text as a list of bytes, and speak of any memory that the
-//! trees stand for.
+//! `check` judges a history that is read from a device: either it is legal, or the entry on some line is the first that
+//! is rejected, and there is a reason.
+//!
+//! The modules from the bottom up: `chunks` and `sparse` keep the bytes of one object, of which only those that were
+//! stored take memory. `stored`, `maps`, `cells` and `memory` keep the reference memory of the entries so far in trees,
+//! `Tracked`, and run its commands; `faults` defines why a command changed nothing. `reasons` defines the reasons for a
+//! rejected entry, `differences` how two answers differ, and `judge` compares an entry with the answer of the reference
+//! memory.
+//!
+//! `verdicts` defines the verdict, `inputs` finds it entry by entry, and `texts` has its line. `verdict_laws` states
+//! what a verdict means for the whole text.
+//!
+//! Contracts see a text as a list of bytes, and quantify over every memory that the trees represent.
 #![tactic(auto)]
 
 mod cells;

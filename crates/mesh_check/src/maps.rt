@@ -1,4 +1,4 @@
-//! What the commands do to the trees of a memory.
+//! Updates of the trees of a memory.
 ghost use Rattle.std.specs.Prelude.{◌≡◌, ℕ, ◌+◌, ◌≤◌, ◌<◌, Some, None, IfSome, IsNone, OnErr, OnOk, length};
 ghost use Rattle.std.specs.Ordering.{nat_cmp};
 ghost use Rattle.std.specs.BTreeMap.{IsUnchanged, get};
@@ -10,7 +10,7 @@ use crate::stored::Stored;
 use std::alloc::AllocError;
 use std::collections::BTreeMap;
 
-/// The number that stands at the greatest address that is at most this one.
+/// The number at the greatest address that is at most this one.
 pub fn nearest(starts: &BTreeMap<u64, u32>, address: u64) -> Option<u32>
     ensures { IsNearest (get nat_cmp starts.now) address result }
 {
@@ -18,7 +18,7 @@ pub fn nearest(starts: &BTreeMap<u64, u32>, address: u64) -> Option<u32>
     Some(*number)
 }
 
-/// Stores bytes from an offset of an object on, as the entry of a line does. An error is an allocation failure.
+/// Stores bytes from an offset of an object on, for the entry on a line. An error is an allocation failure.
 pub fn store(
     objects: &mut BTreeMap<u32, Stored>,
     number: u32,
@@ -26,10 +26,12 @@ pub fn store(
     bytes: &[u8],
     line: u32,
 ) -> Result<(), AllocError>
-    requires fits { (o : LiveObject) → get nat_cmp objects.old number ≡ Some o → off + length bytes.now ≤ length o.object.bytes }
+    requires fits { (o : LiveObject) → get nat_cmp objects.old number ≡ Some o
+        → off + length bytes.now ≤ length o.object.bytes }
     requires few { length bytes.now ≤ 32 }
     ensures { OnOk result ((o : LiveObject) → get nat_cmp objects.old number ≡ Some o
-        → IsSetAt (get nat_cmp objects.old) (get nat_cmp objects.new) number (Some (with_bytes o (overwritten o.object.bytes off bytes.now)))) }
+        → IsSetAt (get nat_cmp objects.old) (get nat_cmp objects.new) number
+        (Some (with_bytes o (overwritten o.object.bytes off bytes.now)))) }
 {
     match objects.get_mut(&number) {
         Some(object) => object.bytes.store(off, bytes, line),
@@ -37,7 +39,8 @@ pub fn store(
     }
 }
 
-/// Puts a value under a number: an object under its own, or the number that a cell holds. An error is an allocation failure.
+/// Sets the value of a number: an object under its own number, or the number that a cell holds. An error is an
+/// allocation failure.
 pub fn set<T: Drop>(map: &mut BTreeMap<u32, T>, key: u32, value: T) -> Result<(), AllocError>
     ensures set { OnOk result (IsSetAt (get nat_cmp map.old) (get nat_cmp map.new) key (Some value)) }
     ensures unchanged { OnErr result (IsUnchanged map.old map.new) }
@@ -46,7 +49,7 @@ pub fn set<T: Drop>(map: &mut BTreeMap<u32, T>, key: u32, value: T) -> Result<()
     Ok(())
 }
 
-/// Lets an object's address lead to its number. An error is an allocation failure.
+/// Maps an object's address to its number. An error is an allocation failure.
 pub fn set_start(
     starts: &mut BTreeMap<u64, u32>,
     address: u64,

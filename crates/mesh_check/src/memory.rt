@@ -1,4 +1,4 @@
-//! `Tracked`: the plain memory of a history, kept in trees.
+//! `Tracked`: the reference memory of a history, kept in trees.
 ghost use Rattle.std.specs.Prelude.{◌≡◌, true, ◌^◌, ◌+◌, ◌-◌, ◌≤◌, ◌<◌, Ok, Err, Some, None, IfOk, IfErr, OnOk, OnErr, IfSome, IsNone, [], ◌∷◌, ◌++◌, length};
 ghost use Rattle.std.specs.Ordering.{nat_cmp};
 ghost use Rattle.std.specs.BTreeMap.{get};
@@ -26,19 +26,19 @@ use model_words::{MAX_BYTES, Refusal};
 use std::alloc::{AllocError, Global};
 use std::collections::BTreeMap;
 
-/// The plain memory of the entries so far.
+/// The reference memory after the entries so far.
 ///
-/// Objects have numbers, in the order of their making, and a cell holds the number of one. No live object has an
-/// address of another. What it takes in memory depends on the live objects and on how many ranges serials and cells
-/// are, and not on how many objects were made.
+/// Objects are numbered in the order in which they were made, and a cell holds the number of one. No live object has an
+/// address of another. Its memory depends on the live objects and on the number of ranges of serials and cells, not on
+/// the count of objects made.
 pub struct Tracked {
     /// The live objects by number.
     pub(crate) objects: BTreeMap<u32, Stored>,
     /// The number of each live object, by its address.
     pub(crate) starts: BTreeMap<u64, u32>,
-    /// What each cell holds.
+    /// The contents of each cell.
     pub(crate) cells: Cells,
-    /// The serials that were given.
+    /// The serials that were used.
     pub(crate) serials: NumberSet,
     /// How many objects were made.
     pub(crate) made: u32,
@@ -51,7 +51,7 @@ impl Drop for Tracked {
 }
 
 impl Tracked {
-    /// The memory where nothing was recorded. It takes no memory.
+    /// Returns the memory before any entry. It allocates nothing.
     pub fn new(alloc: Global) -> Tracked
         ensures stands { Stands result (nothing_recorded any_allocator) }
         ensures none { result.made ≡ 0 }
@@ -66,7 +66,7 @@ impl Tracked {
         }
     }
 
-    /// What a cell holds. EMPTY where no number was stored in it.
+    /// The content of a cell. The error is EMPTY if no number was stored in it.
     fn root(&self, cell: u32) -> Result<Held, Refusal>
         ensures held { IfOk result (λ held. IsHeld self.now.cells cell (Some held)) }
         ensures none { OnErr result (IsHeld self.now.cells cell None) }
@@ -78,7 +78,7 @@ impl Tracked {
         }
     }
 
-    /// The live object of what a cell holds, with its number. FREED where it is no longer live.
+    /// The live object of a cell's content, with its number. The error is FREED if the object is no longer live.
     fn object(&self, held: Held) -> Result<(u32, &Stored), Refusal>
         ensures live { IfOk result (λ found. get nat_cmp self.now.objects found.0 ≡ Some found.1.now) }
         ensures number { IfOk result (λ found. held ≡ Held.Number found.0) }
@@ -94,24 +94,30 @@ impl Tracked {
         }
     }
 
-    /// The live object that a cell names, with its number. EMPTY and FREED, in this order.
+    /// The live object that a cell names, with its number. The error is the first of EMPTY and FREED that holds.
     pub(crate) fn named(&self, cell: u32) -> Result<(u32, &Stored), Refusal>
-        ensures named { IfOk result (λ found. (r : Recorded) → Stands self.now r → named_by r.memory cell ≡ Ok (record { serial = found.0; object = found.1.now.object })) }
+        ensures named { IfOk result
+            (λ found. (r : Recorded) → Stands self.now r
+            → named_by r.memory cell ≡ Ok (record { serial = found.0; object = found.1.now.object })) }
         ensures live { IfOk result (λ found. get nat_cmp self.now.objects found.0 ≡ Some found.1.now) }
         ensures number { IfOk result (λ found. number_at self.now.cells cell ≡ Some found.0) }
-        ensures refusal { IfErr result (λ refusal. (r : Recorded) → Stands self.now r → named_by r.memory cell ≡ Err refusal) }
+        ensures refusal { IfErr result
+            (λ refusal. (r : Recorded) → Stands self.now r → named_by r.memory cell ≡ Err refusal) }
     {
         let held = self.root(cell)?;
         let (number, object) = self.object(held)?;
         Ok((number, object))
     }
 
-    /// The live object that has an address, with its number. STRAY where none has it.
+    /// The live object that contains an address, with its number. The error is STRAY if no object contains it.
     pub(crate) fn holding(&self, address: u64) -> Result<(u32, &Stored), Refusal>
-        ensures held { IfOk result (λ found. (r : Recorded) → Stands self.now r → holding r.memory address ≡ Ok (record { serial = found.0; object = found.1.now.object })) }
+        ensures held { IfOk result
+            (λ found. (r : Recorded) → Stands self.now r
+            → holding r.memory address ≡ Ok (record { serial = found.0; object = found.1.now.object })) }
         ensures live { IfOk result (λ found. get nat_cmp self.now.objects found.0 ≡ Some found.1.now) }
         ensures within { IfOk result (λ found. has_address found.1.now.object address ≡ true) }
-        ensures refusal { IfErr result (λ refusal. (r : Recorded) → Stands self.now r → holding r.memory address ≡ Err refusal) }
+        ensures refusal { IfErr result
+            (λ refusal. (r : Recorded) → Stands self.now r → holding r.memory address ≡ Err refusal) }
     {
         let Some(number) = nearest(&self.starts, address) else {
             return Err(Refusal::Stray);
@@ -125,11 +131,16 @@ impl Tracked {
         Ok((number, object))
     }
 
-    /// Loads `len` bytes from offset `off` of the object that `cell` names. EMPTY, FREED and OUTSIDE, in this order.
+    /// Loads `len` bytes from offset `off` of the object that `cell` names. The error is the first of EMPTY, FREED and
+    /// OUTSIDE that holds.
     pub fn get(&self, cell: u32, off: u64, len: u32) -> Result<ArrayVec<u8, MAX_BYTES>, Refusal>
         requires { len ≤ 32 }
-        ensures bytes { IfOk result (λ bytes. (r : Recorded) → Stands self.now r → plain r.memory 0 (Command.Get cell off len) ≡ Ok (Reply.Bytes bytes, r.memory)) }
-        ensures refusal { IfErr result (λ refusal. (r : Recorded) → Stands self.now r → plain r.memory 0 (Command.Get cell off len) ≡ Err refusal) }
+        ensures bytes { IfOk result
+            (λ bytes. (r : Recorded) → Stands self.now r
+            → plain r.memory 0 (Command.Get cell off len) ≡ Ok (Reply.Bytes bytes, r.memory)) }
+        ensures refusal { IfErr result
+            (λ refusal. (r : Recorded) → Stands self.now r
+            → plain r.memory 0 (Command.Get cell off len) ≡ Err refusal) }
     {
         let (_, object) = self.named(cell)?;
         if object.ends_outside(off, len) {
@@ -138,26 +149,32 @@ impl Tracked {
         Ok(object.bytes.load(off, len))
     }
 
-    /// The address of the object that `cell` names. EMPTY and FREED, in this order.
+    /// The address of the object that `cell` names. The error is the first of EMPTY and FREED that holds.
     pub fn addr(&self, cell: u32) -> Result<u64, Refusal>
-        ensures address { IfOk result (λ address. (r : Recorded) → Stands self.now r → plain r.memory 0 (Command.Addr cell) ≡ Ok (Reply.At address, r.memory)) }
-        ensures refusal { IfErr result (λ refusal. (r : Recorded) → Stands self.now r → plain r.memory 0 (Command.Addr cell) ≡ Err refusal) }
+        ensures address { IfOk result
+            (λ address. (r : Recorded) → Stands self.now r
+            → plain r.memory 0 (Command.Addr cell) ≡ Ok (Reply.At address, r.memory)) }
+        ensures refusal { IfErr result
+            (λ refusal. (r : Recorded) → Stands self.now r → plain r.memory 0 (Command.Addr cell) ≡ Err refusal) }
     {
         let (_, object) = self.named(cell)?;
         Ok(object.address)
     }
 
-    /// Loads the byte at an address. STRAY where no live object has it.
+    /// Loads the byte at an address. The error is STRAY if no live object contains it.
     pub fn peek(&self, address: u64) -> Result<u8, Refusal>
-        ensures byte { IfOk result (λ byte. (r : Recorded) → Stands self.now r → plain r.memory 0 (Command.Peek address) ≡ Ok (Reply.Byte byte, r.memory)) }
-        ensures refusal { IfErr result (λ refusal. (r : Recorded) → Stands self.now r → plain r.memory 0 (Command.Peek address) ≡ Err refusal) }
+        ensures byte { IfOk result
+            (λ byte. (r : Recorded) → Stands self.now r
+            → plain r.memory 0 (Command.Peek address) ≡ Ok (Reply.Byte byte, r.memory)) }
+        ensures refusal { IfErr result
+            (λ refusal. (r : Recorded) → Stands self.now r → plain r.memory 0 (Command.Peek address) ≡ Err refusal) }
     {
         let (_, object) = self.holding(address)?;
         Ok(object.byte(object.offset_of(address)))
     }
 
-    /// Stores bytes from offset `off` of the object that `cell` names, as the entry of a line does. EMPTY, FREED and
-    /// OUTSIDE, in this order, and then Memory.
+    /// Stores bytes from offset `off` of the object that `cell` names, for the entry on a line. The error is the first
+    /// of EMPTY, FREED and OUTSIDE that holds, or else Memory.
     pub fn put(
         &mut self,
         line: u32,
@@ -179,7 +196,8 @@ impl Tracked {
         Ok(())
     }
 
-    /// Frees the object that `cell` names. The cell keeps its number. EMPTY and FREED, in this order, and then Memory.
+    /// Frees the object that `cell` names. The cell keeps its number. The error is the first of EMPTY and FREED that
+    /// holds, or else Memory.
     pub fn free(&mut self, cell: u32) -> Result<(), CommandError>
         ensures done { OnOk result (IsDone self.old self.new (Command.Free cell)) }
         ensures refused { IfErr result (IsRefused self.old self.new (Command.Free cell)) }
@@ -195,7 +213,8 @@ impl Tracked {
         Ok(())
     }
 
-    /// Stores in `to` the number that `from` holds. EMPTY and FREED of `from`, in this order, and then Memory.
+    /// Stores in `to` the number that `from` holds. The error is the first of EMPTY and FREED of `from` that holds, or
+    /// else Memory.
     pub fn alias(&mut self, to: u32, from: u32) -> Result<(), CommandError>
         ensures done { OnOk result (IsDone self.old self.new (Command.Alias to from)) }
         ensures refused { IfErr result (IsRefused self.old self.new (Command.Alias to from)) }
@@ -208,7 +227,8 @@ impl Tracked {
         Ok(())
     }
 
-    /// Stores a byte at an address, as the entry of a line does. STRAY where no live object has it, and then Memory.
+    /// Stores a byte at an address, for the entry on a line. The error is STRAY if no live object contains the address,
+    /// or else Memory.
     pub fn poke(&mut self, line: u32, address: u64, byte: u8) -> Result<(), CommandError>
         ensures done { OnOk result (IsDone self.old self.new (Command.Poke address byte)) }
         ensures refused { IfErr result (IsRefused self.old self.new (Command.Poke address byte)) }
@@ -222,11 +242,12 @@ impl Tracked {
         Ok(())
     }
 
-    /// Copies `len` bytes from offset `from_off` of the object that `from` names to offset `to_off` of the one that
-    /// `to` names, as the entry of a line does. Where the two ranges overlap, each byte is the one that was there
+    /// Copies `len` bytes from offset `from_off` of the object that `from` names to offset `to_off` of the object that
+    /// `to` names, for the entry on a line. If the two ranges overlap, each copied byte is the one that was there
     /// before.
     ///
-    /// EMPTY, of either cell, FREED, of either object, and OUTSIDE, of either range, in this order, and then Memory.
+    /// The error is the first that holds of EMPTY (either cell), FREED (either object) and OUTSIDE (either range), or
+    /// else Memory.
     pub fn copy(
         &mut self,
         line: u32,
@@ -239,7 +260,8 @@ impl Tracked {
         requires { len ≤ 32 }
         ensures done { OnOk result (IsDone self.old self.new (Command.Copy to to_off from from_off len)) }
         ensures refused { IfErr result (IsRefused self.old self.new (Command.Copy to to_off from from_off len)) }
-        ensures memory { result ≡ Err CommandError.Memory → IsPossible self.old (Command.Copy to to_off from from_off len) }
+        ensures memory { result ≡ Err CommandError.Memory
+            → IsPossible self.old (Command.Copy to to_off from from_off len) }
         ensures made { self.new.made ≡ self.old.made }
         ensures lined { OnOk result (MakesNone self.old self.new) }
     {
@@ -248,7 +270,7 @@ impl Tracked {
         Ok(())
     }
 
-    /// The number of the object that a copy stores in, and the bytes that it stores: `to` and `from` are a cell and an
+    /// The number of the object that a copy stores in, and the bytes that it stores. `to` and `from` are a cell and an
     /// offset each.
     fn copied(
         &self,
@@ -257,9 +279,12 @@ impl Tracked {
         len: u32,
     ) -> Result<(u32, ArrayVec<u8, MAX_BYTES>), Refusal>
         requires { len ≤ 32 }
-        ensures copied { IfOk result (λ found. IsCopied self.now (Command.Copy to.0 to.1 from.0 from.1 len) found.0 to.1 found.1.items) }
+        ensures copied { IfOk result
+            (λ found. IsCopied self.now (Command.Copy to.0 to.1 from.0 from.1 len) found.0 to.1 found.1.items) }
         ensures few { IfOk result (λ found. length found.1.items ≤ 32) }
-        ensures refusal { IfErr result (λ refusal. (r : Recorded) → Stands self.now r → plain r.memory 0 (Command.Copy to.0 to.1 from.0 from.1 len) ≡ Err refusal) }
+        ensures refusal { IfErr result
+            (λ refusal. (r : Recorded) → Stands self.now r
+            → plain r.memory 0 (Command.Copy to.0 to.1 from.0 from.1 len) ≡ Err refusal) }
     {
         let target = self.root(to.0)?;
         let source = self.root(from.0)?;
@@ -271,14 +296,16 @@ impl Tracked {
         Ok((number, out_of.bytes.load(from.1, len)))
     }
 
-    /// A live object that has an address of the range; of several, the one with the greatest start.
+    /// A live object that has an address of the range. If there are several, the one with the greatest start.
     pub fn overlapped(&self, address: u64, len: u64) -> Option<Overlap>
         requires some { 1 ≤ len }
         requires narrow { address < 2 ^ 48 }
         requires long { len ≤ 2 ^ 47 }
         ensures none { IsNone result → (r : Recorded) → Stands self.now r → IsVacantRange r.memory address len }
-        ensures some { IfSome result (λ overlap. (r : Recorded) → Stands self.now r → IsVacantRange r.memory address len → ⊥) }
-        ensures told { IfSome result (λ overlap. (r : Recorded) → Stands self.now r → IsOverlapped r address len overlap) }
+        ensures some { IfSome result
+            (λ overlap. (r : Recorded) → Stands self.now r → IsVacantRange r.memory address len → ⊥) }
+        ensures told { IfSome result
+            (λ overlap. (r : Recorded) → Stands self.now r → IsOverlapped r address len overlap) }
         ensures live { IfSome result (IsOfLive self.now) }
     {
         let last = address + (len - 1);
@@ -296,8 +323,8 @@ impl Tracked {
         })
     }
 
-    /// Makes an object of `len` zeros at a vacant range, as the `new` of a line does, and stores its number in `cell`.
-    /// The only error is an allocation failure.
+    /// Makes an object of `len` zeros at a vacant range, for the `new` on a line, and stores its number in `cell`. The
+    /// only error is an allocation failure.
     pub fn make(
         &mut self,
         line: u32,
@@ -312,7 +339,8 @@ impl Tracked {
         requires long { len ≤ 2 ^ 47 }
         requires new { Has self.old.serials serial → ⊥ }
         ensures made { OnOk result ((r : Recorded) → Stands self.old r → IsVacantRange r.memory address len
-            → Stands self.new (record { memory = made r.memory cell len address; serials = r.serials ++ serial ∷ [] })) }
+            → Stands self.new
+            (record { memory = made r.memory cell len address; serials = r.serials ++ serial ∷ [] })) }
         ensures made_one { self.new.made ≤ self.old.made + 1 }
         ensures lined { OnOk result (MakesAtMost self.old self.new line (Reply.Object serial address)) }
     {

@@ -1,14 +1,14 @@
-//! Why an entry is not taken.
+//! The reasons for which an entry is rejected.
 use mesh_history::RecordedReply;
 
-/// Why the plain memory doesn't take an entry.
+/// The reason why the reference memory rejects an entry.
 #[derive(Clone, Drop, PartialEq, Eq)]
 pub enum Reason {
-    /// The answer is another than the only one that the plain memory may give.
+    /// The answer differs from the only one that the reference memory allows.
     Differs(Difference),
     /// The answer to a `new` of one byte or more, which is neither an object nor a refusal of such a `new`.
     NoObject(RecordedReply),
-    /// The command is refused, and the plain memory does it.
+    /// The command was refused, but the reference memory does it.
     LiveRefused(LiveRefusal),
     /// The serial was given to another object before.
     SerialAgain,
@@ -19,30 +19,30 @@ pub enum Reason {
 /// Two answers, and how they differ.
 #[derive(Clone, Drop, PartialEq, Eq)]
 pub struct Difference {
-    /// What was answered.
+    /// The recorded answer.
     pub answered: RecordedReply,
-    /// What the plain memory answers.
+    /// The answer of the reference memory.
     pub wanted: RecordedReply,
-    /// The first byte that differs, of a `get` or a `peek` where both answers are bytes. None where no byte differs
+    /// The first byte that differs, for a `get` or a `peek` of which both answers are bytes. `None` if no byte differs
     /// that both have.
     pub byte: Option<DifferentByte>,
 }
 
-/// A byte that is not the one that was stored last.
+/// A byte that differs from the one that was stored last.
 #[derive(Clone, Copy, PartialEq, Eq)]
 pub struct DifferentByte {
     /// The offset in its object.
     pub offset: u64,
-    /// The line of the last `put`, `poke` or `copy` that stored it. None where none did.
+    /// The line of the last `put`, `poke` or `copy` that stored the byte. `None` if none did.
     pub stored_at: Option<u32>,
 }
 
-/// A refusal of a command that the plain memory does.
+/// A refusal of a command that the reference memory does.
 #[derive(Clone, Drop, PartialEq, Eq)]
 pub struct LiveRefusal {
     /// The refusal.
     pub answered: RecordedReply,
-    /// What the plain memory answers.
+    /// The answer of the reference memory.
     pub wanted: RecordedReply,
 }
 
@@ -59,11 +59,11 @@ pub struct Overlap {
     pub other: AddressRange,
 }
 
-/// The addresses of an object: those from `from` on that are below `to`.
+/// The addresses of an object: from `from` on, below `to`.
 #[derive(Clone, Copy, PartialEq, Eq)]
 pub struct AddressRange {
     /// The first address.
     pub from: u64,
-    /// The address behind the last.
+    /// The address after the last.
     pub to: u64,
 }

@@ -13,8 +13,8 @@ use std::marker::Model;
 #[cfg(test)]
 mod tests;
 
-/// The bytes of one object, and which line stored each last. Those that were never stored are 0 and take no memory, but
-/// for the rest of a chunk in which one was stored.
+/// The bytes of one object, and the line that last stored each. Bytes that were never stored are 0. They take no
+/// memory, except in a chunk in which some byte was stored.
 #[derive(Drop)]
 pub struct SparseBytes {
     // How many bytes there are.
@@ -39,7 +39,7 @@ impl Model for SparseBytes {
 }
 
 impl SparseBytes {
-    /// So many zeros. It takes no memory.
+    /// Returns `len` zeros. It allocates nothing.
     pub fn new(alloc: Global, len: u64) -> Self
         ensures { result ≡ replicate len 0 }
     {
@@ -57,7 +57,7 @@ impl SparseBytes {
         self.len
     }
 
-    /// The bytes from an offset on.
+    /// Returns the `len` bytes from offset `start` on.
     pub fn load(&self, start: u64, len: u32) -> ArrayVec<u8, MAX_BYTES>
         requires fits { start + len ≤ length self.now }
         requires few { len ≤ 32 }
@@ -69,7 +69,7 @@ impl SparseBytes {
         bytes
     }
 
-    /// Copies the bytes from an offset on, as many as `out` has.
+    /// Fills `out` with the bytes from offset `start` on.
     fn read(&self, start: u64, out: &mut [u8])
         requires fits { start + length out.old ≤ length self.now }
         requires few { length out.old ≤ 32 }
@@ -83,17 +83,17 @@ impl SparseBytes {
         }
     }
 
-    /// The line of the last entry that stored the byte at an offset. None if none did. No clause says so.
+    /// The line of the last entry that stored the byte at an offset. `None` if none did. No clause states this.
     pub fn stored_at(&self, off: u64) -> Option<u32> {
         let (number, place) = chunk_and_place(off);
         stored_at(&self.chunks, number, place)
     }
 
-    /// Stores bytes from an offset on, as the entry of a line does. Lines are numbered from 1.
+    /// Stores bytes from an offset on, for the entry on a line. Lines are numbered from 1.
     ///
     /// The only error is an allocation failure. Then some of the bytes, from the first on, are stored, and all others
-    /// are as they were. It comes only where a chunk of 64 bytes that the range lies in had no byte stored before; no
-    /// clause says so, since the list of bytes doesn't tell which chunks take memory.
+    /// are unchanged. It comes only if a chunk of 64 bytes that the range touches had no byte stored before. No clause
+    /// states this, because the list of bytes doesn't show which chunks take memory.
     pub fn store(&mut self, start: u64, bytes: &[u8], line: u32) -> Result<(), AllocError>
         requires fits { start + length bytes.now ≤ length self.old }
         requires few { length bytes.now ≤ 32 }
@@ -113,7 +113,7 @@ impl SparseBytes {
         self.store_run(number + 1, 0, rest, line)
     }
 
-    /// A run of one chunk's bytes, from a place in it on.
+    /// The `len` bytes of one chunk from `place` on.
     fn run(&self, number: u64, place: usize, len: usize) -> &[u8]
         requires one_chunk { place + len ≤ 64 }
         requires fits { number * 64 + place + len ≤ length self.now }
@@ -122,8 +122,8 @@ impl SparseBytes {
         &chunk_bytes(&self.chunks, number)[place..place + len]
     }
 
-    /// Stores a run of bytes in one chunk, from a place in it on, as the entry of a line does. The only error is an
-    /// allocation failure, and comes only of a chunk that was not kept (`store_in`).
+    /// Stores bytes in one chunk, from a place in it on, for the entry on a line. The only error is an allocation
+    /// failure, and comes only for a chunk that was not kept (`store_in`).
     fn store_run(
         &mut self,
         number: u64,
@@ -140,7 +140,7 @@ impl SparseBytes {
     }
 }
 
-/// The chunk in which an offset lies, and the place in that chunk.
+/// The number of the chunk that contains an offset, and the offset's place in that chunk.
 fn chunk_and_place(offset: u64) -> (u64, usize)
     ensures offset { result.0 * 64 + result.1 ≡ offset }
     ensures place { result.1 < 64 }
@@ -150,7 +150,7 @@ fn chunk_and_place(offset: u64) -> (u64, usize)
     (offset / chunk, (offset % chunk) as usize)
 }
 
-/// How many of so many bytes from a place on lie in that place's chunk.
+/// How many of `len` bytes from `place` on are in that place's chunk.
 fn first_run(place: usize, len: usize) -> usize
     requires { place ≤ 64 }
     ensures within { result ≤ len }

@@ -8,12 +8,12 @@ use crate::reasons::AddressRange;
 use crate::sparse::SparseBytes;
 use std::marker::Model;
 
-/// A live object: the serial that it was given, the line that made it, its address and its bytes.
+/// A live object: its serial, the line that made it, its address and its bytes.
 #[derive(Drop)]
 pub struct Stored {
     /// The serial.
     pub serial: u32,
-    /// The line of the `new` that made it.
+    /// The line of the `new` that made the object.
     pub made_at: u32,
     /// The address.
     pub address: u64,
@@ -28,7 +28,8 @@ impl Model for Stored {
 
     ghost coded = { live_code };
 
-    ghost view = { λ s. record { object = record { address = s.address; bytes = s.bytes }; serial = s.serial; made_at = s.made_at } };
+    ghost view = { λ s.
+        record { object = record { address = s.address; bytes = s.bytes }; serial = s.serial; made_at = s.made_at } };
 }
 
 impl Stored {
@@ -39,10 +40,11 @@ impl Stored {
         self.address <= address && address - self.address < self.bytes.len()
     }
 
-    /// Its addresses. The sum is exact: no object has an address of more than 64 bits.
+    /// The object's addresses. The sum is exact: no object has an address of more than 64 bits.
     pub fn range(&self) -> AddressRange
         ensures from { result.from ≡ self.now.object.address }
-        ensures range { self.now.object.address + length self.now.object.bytes < 2 ^ 64 → result ≡ addresses_from self.now.object.address (length self.now.object.bytes) }
+        ensures range { self.now.object.address + length self.now.object.bytes < 2 ^ 64
+            → result ≡ addresses_from self.now.object.address (length self.now.object.bytes) }
     {
         AddressRange {
             from: self.address,
@@ -50,7 +52,7 @@ impl Stored {
         }
     }
 
-    /// Whether the object ends behind an address.
+    /// Whether the object ends after an address.
     pub fn ends_behind(&self, address: u64) -> bool
         ensures { result ≡ nat_lt address (self.now.object.address + length self.now.object.bytes) }
     {
@@ -67,7 +69,7 @@ impl Stored {
         address - self.address
     }
 
-    /// Whether a range of the object ends past it.
+    /// Whether the range of `len` bytes from `off` on ends past the object.
     pub fn ends_outside(&self, off: u64, len: u32) -> bool
         ensures { result ≡ ends_outside self.now.object off len }
     {

@@ -18,7 +18,7 @@ pub fn verdict_line(alloc: Global, verdict: &Verdict) -> Result<Vec<u8>, AllocEr
     Ok(text)
 }
 
-/// Adds what a verdict says.
+/// Appends the text of a verdict.
 fn add_verdict(text: &mut Vec<u8>, verdict: &Verdict) -> Result<(), AllocError>
     ensures { OnOk result (text.new.items ≡ text.old.items ++ found_text verdict.now) }
 {
@@ -37,7 +37,7 @@ fn add_verdict(text: &mut Vec<u8>, verdict: &Verdict) -> Result<(), AllocError>
     }
 }
 
-/// Adds why an entry is not taken.
+/// Appends the reason why an entry is rejected.
 fn add_reason(text: &mut Vec<u8>, reason: &Reason) -> Result<(), AllocError>
     ensures { OnOk result (text.new.items ≡ text.old.items ++ reason_text reason.now) }
 {
@@ -64,7 +64,7 @@ fn add_reason(text: &mut Vec<u8>, reason: &Reason) -> Result<(), AllocError>
     }
 }
 
-/// Adds an answer and the one that is wanted.
+/// Appends an answer and the expected one.
 fn add_answers(
     text: &mut Vec<u8>,
     answered: &RecordedReply,
@@ -77,7 +77,7 @@ fn add_answers(
     add_recorded(text, wanted)
 }
 
-/// Adds which byte differs, if one is known.
+/// Appends which byte differs, if it is known.
 fn add_byte(text: &mut Vec<u8>, byte: Option<DifferentByte>) -> Result<(), AllocError>
     ensures { OnOk result (text.new.items ≡ text.old.items ++ byte_text byte) }
 {

@@ -1,11 +1,11 @@
-//! What is found of a text.
+//! The verdict on a text.
 use crate::reasons::Reason;
 
-/// What is found of a text that has no fault as far as it was read.
+/// The verdict on a text that has no fault as far as it was read.
 #[derive(Clone, Drop, PartialEq, Eq)]
 pub enum Verdict {
-    /// It is a legal history of so many entries.
+    /// The text is a legal history with this number of entries.
     Legal(u32),
-    /// The entry of this line, numbered from 1, is the first that the plain memory doesn't take, and why.
+    /// The entry on this line, numbered from 1, is the first that the reference memory rejects, for this reason.
     Wrong(u32, Reason),
 }

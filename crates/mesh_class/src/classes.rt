@@ -6,7 +6,7 @@ ghost use Rattle.model_words.specs.Classes.{row, row_of, pages_of, slots_of, cla
 use model_words::Refusal;
 use std::marker::Model;
 
-/// A size class: its slots have one size, and its spans one number of pages and of slots.
+/// A size class. All slots of a class have one size, and all its spans have the same number of pages and of slots.
 #[derive(Clone, Copy, Debug, PartialEq, Eq)]
 pub struct Class {
     // The place in the class table.
@@ -36,7 +36,7 @@ impl Model for Class {
 }
 
 impl Class {
-    /// The row of a place of the class table.
+    /// Returns the class with these values, which are one row of the class table.
     fn row(index: u32, size: u32, pages: u32, slots: u32) -> Class
         requires row { row_of size ≡ Some (row size pages slots) }
         requires index { class_index size ≡ index }
@@ -50,7 +50,7 @@ impl Class {
         }
     }
 
-    /// The class at a place of the class table. This is the table.
+    /// The class at a place of the class table. This function is the table in code.
     #[tactic(auto, unfolding(crate::specs::Class::class_index))]
     fn at(index: u32) -> Class
         requires { index < 10 }
@@ -70,7 +70,7 @@ impl Class {
         }
     }
 
-    /// The place in the table of the classes by size, 0 to 9.
+    /// The place of the class in the table by size, 0 to 9.
     pub fn index(self) -> u32
         ensures value { result ≡ class_index self }
         ensures few { result < 10 }
@@ -104,16 +104,16 @@ impl Class {
     }
 }
 
-/// The default, the least class, only fills places that are not in use.
+/// The default is the least class. It only fills unused places.
 impl Default for Class {
     fn default() -> Class {
         Class::at(0)
     }
 }
 
-/// The class of a request of `len` bytes: the least one whose size is at least that.
+/// Returns the class of a request of `len` bytes: the least class whose size is at least `len`.
 ///
-/// Refused with ZERO where `len` is 0, and with TOO_LARGE where it is above 2,048.
+/// The error is ZERO if `len` is 0, and TOO_LARGE if it is above 2,048.
 pub fn class_of(len: u32) -> Result<Class, Refusal>
     ensures least { IfOk result (λ class. class_for len ≡ Some class) }
     ensures some { OnOk result (1 ≤ len) }

@@ -100,7 +100,8 @@ threads_are_asked :
 unfolding clap_on_literals asked is_taken
 threads_are_asked = ((refl, refl), (refl, refl))
 
--- a picture is of the whole plan, in as many columns as fit, or of a part of it from a line to another, in the most columns
+-- a picture is of the whole plan, in as many columns as fit, or of a part of it from a line to another, in the most
+-- columns
 pictures_are_asked :
     Asks (codes "draw a.job") (draw_of (codes "a.job") (record { from = 1; to = 1048576; columns = 0 }))
     × Asks (codes "draw --to=1048576 a.job --columns=64 --from 12") (draw_of (codes "a.job") (record { from = 12; to = 1048576; columns = 64 }))
@@ -114,8 +115,8 @@ sessions_are_asked :
 unfolding clap_on_literals asked is_taken
 sessions_are_asked = ((refl, refl), (refl, refl))
 
--- a history is judged with at most 100,000 configurations of an object, or with as many as are given, and an order may be asked for; `-` is a file's name to
--- the command line
+-- a history is judged with at most 100,000 configurations of an object, or with as many as are given, and an order may
+-- be asked for; `-` is a file's name to the command line
 judgements_are_asked :
     Asks (codes "check a.history") (check_of (codes "a.history") (record { configurations = 100000; is_ordered = false }))
     × Asks (codes "check --configurations=4294967295 -") (check_of (codes "-") (record { configurations = 4294967295; is_ordered = false }))
@@ -123,8 +124,8 @@ judgements_are_asked :
 unfolding clap_on_literals asked is_taken
 judgements_are_asked = ((refl, refl), (refl, refl), (refl, refl))
 
--- one mesh is never cancelled, and explored for all outcomes, of at most 100,000 states; two meshes come in their order,
--- between other options, and their numbers may have a plus and leading zeros
+-- one mesh is never cancelled, and explored for all outcomes, of at most 100,000 states; two meshes come in their
+-- order, between other options, and their numbers may have a plus and leading zeros
 explorations_are_asked :
     Asks (codes "explore a.job --mesh 1:0")
     (explore_of (codes "a.job") (record { meshes = record { source = 1; destination = 0 } ∷ []; cancel = None; states = 100000; told = tells_all; is_watched = false }))
@@ -168,7 +169,8 @@ two_tellings_ask_nothing :
 unfolding clap_on_literals asked
 two_tellings_ask_nothing = (refl, refl, refl)
 
--- a history is followed with a round behind every 10,000 frees, 64 rounds of tries, words of the seed 1, and figures of all calls; or with what is given
+-- a history is followed with a round behind every 10,000 frees, 64 rounds of tries, words of the seed 1, and figures of
+-- all calls; or with what is given
 savings_are_asked :
     Asks (codes "savings a.history")
     (savings_of (codes "a.history") (record { every = 10000; probe = 64; seed = Some 1; from = 1; to = 4294967295; is_plot = false }))
@@ -185,8 +187,8 @@ apart_asks_nothing :
 unfolding clap_on_literals asked
 apart_asks_nothing = (refl, refl)
 
--- the flag has no value, 17 threads make no search, there is no line 0, a session has no file, a picture isn't of a history, a mesh has to be given, no
--- round comes behind 0 frees, and an object has a configuration or more
+-- the flag has no value, 17 threads make no search, there is no line 0, a session has no file, a picture isn't of a
+-- history, a mesh has to be given, no round comes behind 0 frees, and an object has a configuration or more
 are_refused :
     (is_taken (spoken (codes "replay hello.job --history=no")) ≡ false)
     × (is_taken (spoken (codes "threads a.job --probe=2 --rounds=3 --workers=17 --seed=5")) ≡ false)

@@ -84,7 +84,8 @@ abbrev pub live_app : App
 live_app = with_rule (with_rule (with_rule (new_app (codes "live")) (number_or (codes "pages") 1 4096 (codes "4096")))
     (number_or (codes "history") 0 65536 (codes "65536"))) (number_or (codes "workers") 1 64 (codes "64"))
 
--- `explore FILE --mesh SRC:DST [--mesh ..] [--cancel AFTER] [--states N] [--witness K | --show LINE:ANSWER:PHASE | [--expect FILE] [--never PATTERN ..]] [--progress]`
+-- `explore FILE --mesh SRC:DST [--mesh ..] [--cancel AFTER] [--states N] [--witness K | --show LINE:ANSWER:PHASE |
+-- [--expect FILE] [--never PATTERN ..]] [--progress]`
 abbrev pub explore_app : App
 explore_app = with_rule (with_rule (with_rule (with_rule (with_rule (with_rule (with_rule (with_rule (with_rule (new_app (codes "explore")) file_rule) mesh_rule)
     (number_rule (codes "cancel") 0 1000)) (number_or (codes "states") 1 10000000 (codes "100000"))) (number_rule (codes "witness") 0 4294967295))
@@ -102,13 +103,14 @@ savings_app = with_rule (with_rule (with_rule (with_rule (with_rule (with_rule (
     (number_rule (codes "seed") 0 18446744073709551615)) (flag_rule (codes "first-fit"))) (number_or (codes "from") 1 4294967295 (codes "1")))
     (number_or (codes "to") 1 4294967295 (codes "4294967295"))) (flag_rule (codes "svg"))
 
--- the program alone: it has a version, whose text `clap`'s model of a command doesn't see, wants a subcommand, and shows its help without a word
+-- the program alone: it has a version, whose text `clap`'s model of a command doesn't see, wants a subcommand, and
+-- shows its help without a word
 abbrev pub bare_app : App
 bare_app = let app = new_app (codes "meshrun") in
     record app { top = record app.top { has_version = true; subcommand_required = true; arg_required_else_help = true } }
 
--- `meshrun replay FILE ..`, `meshrun threads FILE ..`, `meshrun draw FILE ..`, `meshrun live ..`, `meshrun explore FILE ..`, `meshrun check FILE ..` and
--- `meshrun savings FILE ..`
+-- `meshrun replay FILE ..`, `meshrun threads FILE ..`, `meshrun draw FILE ..`, `meshrun live ..`, `meshrun explore FILE
+-- ..`, `meshrun check FILE ..` and `meshrun savings FILE ..`
 abbrev pub meshrun_app : App
 meshrun_app =
     with_subcommand (with_subcommand (with_subcommand (with_subcommand (with_subcommand (with_subcommand (with_subcommand bare_app replay_app.top)
@@ -116,8 +118,9 @@ meshrun_app =
 
 -- ---- what words ask for
 
--- the numbers that threads are asked for: how many rounds of tries a search makes at most, how many times each mesher searches and meshes, how many
--- threads make a search, what the words of the shuffles are made from, and how many threads mesh
+-- the numbers that threads are asked for: how many rounds of tries a search makes at most, how many times each mesher
+-- searches and meshes, how many threads make a search, what the words of the shuffles are made from, and how many
+-- threads mesh
 pub record Numbers : Type 0 where
   pub probe : ℕ
   pub rounds : ℕ
@@ -125,7 +128,8 @@ pub record Numbers : Type 0 where
   pub seed : ℕ
   pub meshers : ℕ
 
--- what of a plan is to be drawn: its lines from the first to the last of these, in so many columns, 0 being as many as fit
+-- what of a plan is to be drawn: its lines from the first to the last of these, in so many columns, 0 being as many as
+-- fit
 pub record Shown : Type 0 where
   pub from : ℕ
   pub to : ℕ
@@ -148,15 +152,15 @@ pub record Judged : Type 0 where
   pub expect : Option Text
   pub never : List Text
 
--- what is told of an exploration: all, an outcome or an answer as a job file, or a verdict
+-- what is printed of an exploration: all, an outcome or an answer as a job file, or a verdict
 pub data ToldOf : Type 0 where
   tells_all : ToldOf
   tells_outcome : ℕ → ToldOf
   tells_answer : ShownAnswer → ToldOf
   tells_verdict : Judged → ToldOf
 
--- the meshes that are to be explored, after how many steps each is cancelled, how many states are kept at most, what is told, and whether how many states
--- were found is
+-- the meshes that are explored, after how many steps each is cancelled, how many states are kept at most, what is
+-- printed, and whether the number of states found is printed
 pub record Explored : Type 0 where
   pub meshes : List MeshPair
   pub cancel : Option ℕ
@@ -164,15 +168,16 @@ pub record Explored : Type 0 where
   pub told : ToldOf
   pub is_watched : Bool
 
--- how a recorded history is judged: the most configurations that an object of a history of overlapping calls may have, and whether an order that explains
--- the calls is printed in place of the verdict
+-- how a recorded history is judged: the most configurations that an object of a history of overlapping calls may have,
+-- and whether an order that explains the calls is printed in place of the verdict
 pub record Checked : Type 0 where
   pub configurations : ℕ
   pub is_ordered : Bool
 
--- how a recorded history is followed on two heaps, and what is printed of it: how many objects are freed between two rounds of meshing, how many rounds of
--- tries a search makes at most, what the words of the objects are made from, 0 being each of them without it, the first and the last call of the figures,
--- and whether a plot is printed in place of the table
+-- how a recorded history is followed on two heaps, and what is printed of it: how many objects are freed between two
+-- rounds of meshing, how many rounds of tries a search makes at most, what the words of the objects are made from, 0
+-- being each of them without it, the first and the last call of the figures, and whether a plot is printed in place of
+-- the table
 pub record Compared : Type 0 where
   pub every : ℕ
   pub probe : ℕ
@@ -181,9 +186,9 @@ pub record Compared : Type 0 where
   pub to : ℕ
   pub is_plot : Bool
 
--- a replay of the job file at this path or the recorded history of one, its scripts run by threads with these numbers or the recorded history of such a
--- run, a picture of what is shown of its plan, or what is left of its scripts explored; a session of these sizes; a judgement of the recorded history
--- at this path, or what meshing saves for it
+-- a replay of the job file at this path or the recorded history of one, its scripts run by threads with these numbers
+-- or the recorded history of such a run, a picture of what is shown of its plan, or what is left of its scripts
+-- explored; a session of these sizes; a judgement of the recorded history at this path, or what meshing saves for it
 pub data Asked : Type 0 where
   replay_of : Text → Asked
   replay_history_of : Text → Asked
@@ -300,7 +305,7 @@ never_in rows = few_texts (all_of (codes "never") rows)
 abbrev pub asks_verdict : Option Text → List Text → Bool
 asks_verdict expect never = is_some expect || not (length never == 0)
 
--- what is told: one of these at most
+-- what is printed: at most one of these
 abbrev pub told_by : Option ℕ → Option ShownAnswer → Bool → Judged → Option ToldOf
 told_by None None true judged = Some (tells_verdict judged)
 told_by None None false judged = Some tells_all
@@ -310,11 +315,11 @@ told_by (Some number) None true judged = None
 told_by None (Some shown) true judged = None
 told_by (Some number) (Some shown) is_verdict judged = None
 
--- what is told where these outcomes may be expected, and there are these patterns
+-- what is printed if these outcomes may be expected, and there are these patterns
 abbrev pub told_where : Option Text → List Text → Option ℕ → Option ShownAnswer → Option ToldOf
 told_where expect never witness shown = told_by witness shown (asks_verdict expect never) (record { expect = expect; never = never })
 
--- what the matches have of what is told, where they have these patterns
+-- what is printed according to the matches, with these patterns
 abbrev pub told_in : List Text → List Row → Option ToldOf
 told_in never rows =
     option_and_then (λ witness. option_and_then (told_where (first_of (codes "expect") rows) never witness) (shown_given_in rows))
@@ -327,7 +332,8 @@ explored_in never rows =
     option_map (λ is_watched. record { meshes = meshes; cancel = cancel; states = states; told = told; is_watched = is_watched })
     (flag_in (codes "progress") rows)) (told_in never rows)) (number_in (codes "states") 1 10000000 rows)) (given_in (codes "cancel") 0 1000 rows)) (meshes_in rows)
 
--- the seed that the matches have for `savings`: 1 where neither it nor `--first-fit` is given, and none with `--first-fit`, beside which it may not stand
+-- the seed that the matches have for `savings`: 1 if neither it nor `--first-fit` is given, and none with
+-- `--first-fit`, which excludes a seed
 abbrev pub seed_by : Bool → List Row → Option (Option ℕ)
 seed_by first_fit rows =
     if is_some (first_of (codes "seed") rows)
@@ -410,7 +416,7 @@ shown_of args = record { from = args.from; to = args.to; columns = args.columns 
 abbrev pub shown_answer_of : ShownArgs → ShownAnswer
 shown_answer_of args = record { line = args.line; answer = args.answer.now; phase = args.phase.now }
 
--- what was read of what is told, beside these patterns
+-- what was read of what is printed, with these patterns
 abbrev pub told_of : List Text → Told → ToldOf
 told_of never All = tells_all
 told_of never (Outcome number) = tells_outcome number
@@ -434,7 +440,7 @@ compared_of args = record { every = args.every; probe = args.probe; seed = args.
 abbrev pub sizes_of : LiveArgs → SessionSizes
 sizes_of args = record { pages = args.pages; history = args.history; workers = args.workers }
 
--- what the program was told to do, with these patterns
+-- what the program was asked to do, with these patterns
 abbrev pub asking : List Text → Args → Asked
 asking never (Replay path) = replay_of path.now
 asking never (ReplayHistory path) = replay_history_of path.now
@@ -446,7 +452,7 @@ asking never (Live args) = live_of (sizes_of args)
 asking never (Check path args) = check_of path.now (checked_of args)
 asking never (Savings path args) = savings_of path.now (compared_of args)
 
--- what the program was told to do
+-- what the program was asked to do
 abbrev pub asking_of : Parsed → Asked
 asking_of parsed = asking (texts_of parsed.never) parsed.args
 
@@ -454,12 +460,13 @@ asking_of parsed = asking (texts_of parsed.never) parsed.args
 abbrev pub IsAsked : List Text → Parsed → Type 0
 IsAsked words parsed = asked words ≡ Some (asking_of parsed)
 
--- what may be said of the words: want of memory, a fault of theirs or a call for help, or, where they ask for nothing, that a value can't be read
+-- what may be reported of the words: out of memory, a fault of theirs or a request for help, or, if they ask for
+-- nothing, that a value can't be read
 abbrev pub IsSaidOf : List Text → ErrorKind → Type 0
 IsSaidOf words kind =
     (kind ≡ OutOfMemory) ⊎ (IsAmong kind (kinds_of words) ⊎ ((asked words ≡ None) × (kind ≡ ValueValidation)))
 
--- of words that are a command line of the program it says only want of memory, or that they ask for nothing
+-- for words that are a command line of the program, only out of memory is reported, or that they ask for nothing
 abbrev pub IsAllowedOf : List Text → ErrorKind → Type 0
 IsAllowedOf words kind = is_taken words ≡ true → (kind ≡ OutOfMemory) ⊎ (asked words ≡ None)
 
@@ -472,7 +479,7 @@ status_of_kind DisplayHelp = 0
 status_of_kind DisplayVersion = 0
 status_of_kind other = 2
 
--- the program stops for want of memory
+-- the program stops because it is out of memory
 pub record IsOutOfMemory (stop : Stop) : Type 0 where
   pub status : stop.status ≡ 1
   pub text : cow_str_bytes stop.text ≡ ended (codes "out of memory")
@@ -482,6 +489,6 @@ pub record IsNoText (stop : Stop) : Type 0 where
   pub status : stop.status ≡ 2
   pub text : cow_str_bytes stop.text ≡ ended (codes "error: the command line is not UTF-8 text")
 
--- the program stops for want of memory, or with the status for what `clap` says of the words
+-- the program stops because it is out of memory, or with the status for what `clap` reports of the words
 abbrev pub IsStopAt : List Text → Stop → Type 0
 IsStopAt words stop = IsOutOfMemory stop ⊎ ((kind : ErrorKind) × IsSaidOf words kind × (stop.status ≡ status_of_kind kind))

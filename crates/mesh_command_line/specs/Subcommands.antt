@@ -1,4 +1,4 @@
--- The table of the subcommands, as `clap` is told it.
+-- The table of the subcommands, as it is passed to `clap`.
 use Rattle.std.specs.Prelude.{List, [], ◌∷◌}
 use Rattle.clap.specs.Words.{App, Rule, new_app, with_rule, with_subcommand}
 use Rattle.mesh_command_line.specs.CommandLine.{file_rule, flag_rule, mesh_rule, number_or, number_rule, required_number, text_rule, texts_rule}
@@ -6,7 +6,7 @@ use Rattle.mesh_command_line.specs.declared.options.Argument.{Argument}
 use Rattle.mesh_command_line.specs.declared.options.Argument.TheVariants.{Default, File, Flag, Meshes, Optional, Required, Text, Texts}
 use Rattle.mesh_command_line.specs.declared.options.Subcommand.{Subcommand}
 
--- what `clap` is told of what may stand behind a subcommand's name
+-- the rule that is passed to `clap` for what may follow a subcommand's name
 abbrev pub argument_rule : Argument → Rule
 argument_rule (File help) = file_rule
 argument_rule Meshes = mesh_rule

@@ -1,12 +1,12 @@
-//! What `check` is asked for.
+//! The arguments of `check`.
 ghost use Rattle.mesh_command_line.specs.CheckArgs.{IsInRange};
 
-/// What `check` is asked for beside its file. Its type keeps the range.
+/// The arguments of `check` other than its file. The type guarantees that `configurations` is in its range.
 #[derive(Clone, Copy, PartialEq, Eq)]
 pub struct CheckArgs {
-    /// The most configurations that an object of a history of overlapping calls may have, 1 or more.
+    /// The limit on the number of configurations of an object in a history of overlapping calls, 1 or more.
     pub configurations: u32,
-    /// Whether an order of effects that explains the calls is printed in place of the verdict.
+    /// Whether an order of effects that explains the calls is printed instead of the verdict.
     pub is_ordered: bool,
     pub ghost range: { IsInRange configurations },
 }

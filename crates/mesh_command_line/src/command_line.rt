@@ -1,4 +1,4 @@
-//! The command line.
+//! How the words of a command line are read.
 ghost use Rattle.std.specs.Prelude.{◌≡◌, ◌≢◌, ◌⊎◌, ◌≤◌, ◌<◌, ◌^◌, ℕ, List, None, Some, true, IfErr, IfOk, IfSome, codes, find, length, map, option_and_then, option_map};
 ghost use Rattle.std.specs.IoError.{error_kind};
 ghost use Rattle.std.specs.declared.io.ErrorKind.TheVariants.{OutOfMemory as IoOutOfMemory};
@@ -30,35 +30,35 @@ use std::borrow::CowStr;
 use std::convert::AsStr;
 use std::io;
 
-/// The program, where no word tells how it is called.
+/// The name of the program if the command line has no words.
 const PROGRAM: &str = "meshrun";
 
-/// The fault of what is told twice.
+/// The message about options of `explore` that exclude each other.
 const TOLD_TWICE: &str = "--witness, --show and a verdict (--expect, --never) exclude each other";
 
-/// The fault of more than ten patterns.
+/// The message about more than ten patterns.
 const MANY_PATTERNS: &str = "the argument '--never <PATTERN>' cannot be used more than 10 times";
 
-/// The fault of more than ten meshes.
+/// The message about more than ten meshes.
 const MANY_MESHES: &str = "the argument '--mesh <SRC:DST>' cannot be used more than 10 times";
 
-/// The fault of options of `savings` that don't go together.
+/// The message about options of `savings` that can't be combined.
 const UNREAD_SAVINGS: &str =
     "--seed and --first-fit exclude each other, and --from is at most --to";
 
-/// What stands between the two groups of a mesh, and around an answer.
+/// The separator between the two groups of a mesh, and between the line, the answer and the phase of `--show`.
 const BETWEEN: char = ':';
 
-/// The greatest number of a group.
+/// The greatest group number.
 const LAST_GROUP: u64 = 65535;
 
-/// The greatest number of a line.
+/// The greatest line number.
 const LAST_LINE: u64 = 4294967295;
 
-/// The seed where none is given.
+/// The default seed.
 const SEED_NOT_GIVEN: u64 = 1;
 
-/// The version that `--version` tells.
+/// The version that `--version` prints.
 const VERSION: &str = "0.1.0";
 
 /// What the command line asks for.
@@ -68,23 +68,27 @@ pub enum Args<'a> {
     Replay(&'a str),
     /// `replay FILE --history`: replay the job file at this path, and print the journal as a recorded history.
     ReplayHistory(&'a str),
-    /// `threads FILE ..`: run the scripts of the job file at this path by threads, with these numbers, and print each worker's answers.
+    /// `threads FILE ..`: run the scripts of the job file at this path in threads, with these numbers, and print each
+    /// worker's answers.
     Threads(&'a str, ThreadsArgs),
-    /// `threads FILE .. --history`: the same, and print the journal as a recorded history.
+    /// `threads FILE .. --history`: run the scripts in the same way, and print the journal as a recorded history.
     ThreadsHistory(&'a str, ThreadsArgs),
     /// `draw FILE ..`: draw the plan of the job file at this path, with these lines and columns.
     Draw(&'a str, DrawArgs),
     /// `live ..`: answer the lines of standard input, on a heap of these sizes.
     Live(LiveArgs),
-    /// `explore FILE --mesh SRC:DST ..`: explore what is left of the scripts of the job file at this path, with these meshes and numbers.
+    /// `explore FILE --mesh SRC:DST ..`: explore what is left of the scripts of the job file at this path, with these
+    /// meshes and numbers.
     Explore(&'a str, ExploreArgs<'a>),
-    /// `check FILE ..`: judge the recorded history at this path, or at `-` that of standard input, with this number of configurations.
+    /// `check FILE ..`: judge the recorded history at this path, or that of standard input for `-`, with this number of
+    /// configurations.
     Check(&'a str, CheckArgs),
-    /// `savings FILE ..`: follow the recorded history at this path, or at `-` that of standard input, and print what meshing saves.
+    /// `savings FILE ..`: follow the recorded history at this path, or that of standard input for `-`, and print what
+    /// meshing saves.
     Savings(&'a str, SavingsArgs),
 }
 
-/// Why the program ends before it begins, and what it says.
+/// How the program ends if it starts no run: its exit status, and what it prints.
 #[derive(Drop)]
 pub struct Stop {
     /// The exit status: 0 for help and for the version, 2 for a fault of the command line, 1 for an allocation failure.
@@ -93,24 +97,25 @@ pub struct Stop {
     pub text: CowStr<'static, Global>,
 }
 
-/// What a command line asks for, and the patterns of a verdict. These stand beside the rest since no variant of an enum may
-/// hold them.
+/// What a command line asks for, and the patterns of a verdict. The patterns are a separate field because no variant of
+/// an enum may hold them.
 #[derive(Clone, Copy)]
 pub struct Parsed<'a> {
     pub args: Args<'a>,
-    /// The patterns that no outcome of an exploration is to match: none where no verdict is asked for.
+    /// The patterns that no outcome of an exploration may match. Empty if no verdict is asked for.
     pub never: Patterns<'a>,
 }
 
-/// What the words of a command line ask for, the program's name first.
+/// Reads what the words of a command line ask for. The first word is the program's name.
 ///
-/// The words are read by `clap`, which words the texts of help, version and faults. The file is the word as it was given, a
-/// number is what `clap` reads as a `u64`: decimal digits, perhaps after a plus; and a mesh is two such numbers with a
-/// colon between them.
+/// The words are read by `clap`, which writes the texts of help, version and faults. The file is the word as it was
+/// given. A number is what `clap` reads as a `u64`: decimal digits, with an optional plus before them. A mesh is two
+/// such numbers with a colon between them.
 pub fn arguments<'a, S: AsStr>(alloc: Global, words: &'a [S]) -> Result<Parsed<'a>, Stop>
     ensures asked { IfOk result (IsAsked (map S.text words.now)) }
     ensures stop { IfErr result (IsStopAt (map S.text words.now)) }
-    ensures passes { IfErr result (λ stop. is_taken (map S.text words.now) ≡ true → IsOutOfMemory stop ⊎ (asked (map S.text words.now) ≡ None)) }
+    ensures passes { IfErr result
+        (λ stop. is_taken (map S.text words.now) ≡ true → IsOutOfMemory stop ⊎ (asked (map S.text words.now) ≡ None)) }
     ensures small { IfErr result (λ stop. stop.status ≤ 2) }
 {
     match read_words(alloc, words) {
@@ -119,7 +124,8 @@ pub fn arguments<'a, S: AsStr>(alloc: Global, words: &'a [S]) -> Result<Parsed<'
     }
 }
 
-/// What the words ask for, or what `clap` says of them.
+/// Returns what the words ask for, or the error of `clap`. An error for options that `clap` accepts and the program
+/// doesn't has the form of those of `clap`.
 fn read_words<'a, S: AsStr>(alloc: Global, words: &'a [S]) -> Result<Parsed<'a>, Error>
     ensures asked { IfOk result (IsAsked (map S.text words.now)) }
     ensures kinds { IfErr result (λ error. IsSaidOf (map S.text words.now) (kind_of error)) }
@@ -129,7 +135,7 @@ fn read_words<'a, S: AsStr>(alloc: Global, words: &'a [S]) -> Result<Parsed<'a>,
     read_by(alloc, &mut command, words)
 }
 
-/// The same, by the program's command.
+/// Does the same as `read_words`. `command` must be the program's command.
 fn read_by<'a, S: AsStr>(
     alloc: Global,
     command: &mut Command<'a>,
@@ -147,7 +153,8 @@ fn read_by<'a, S: AsStr>(
     }
 }
 
-/// What usage calls the program, as that of `clap` does: the last part of the path that is the first word.
+/// Returns the name of the program for usage lines. As in those of `clap`, it is the last part of the path that is the
+/// first word.
 fn program_name<'a, S: AsStr>(words: &'a [S]) -> &'a str {
     let Some(word) = words.first() else {
         return PROGRAM;
@@ -159,8 +166,7 @@ fn program_name<'a, S: AsStr>(words: &'a [S]) -> &'a str {
     }
 }
 
-/// The fault of matches that ask for nothing: options of `explore` or `savings` that `clap` takes and the program
-/// doesn't.
+/// Returns the error for options of `explore` or `savings` that `clap` accepts and the program doesn't.
 fn unread<'a>(alloc: Global, program: &str, matches: &ArgMatches<'a>) -> Result<Error, AllocError>
     ensures { IfOk result (λ error. kind_of error ≡ ErrorKind.ValueValidation) }
 {
@@ -173,7 +179,7 @@ fn unread<'a>(alloc: Global, program: &str, matches: &ArgMatches<'a>) -> Result<
     }
 }
 
-/// A fault of a subcommand, in the form of those of `clap`: the message, and the subcommand's usage.
+/// Returns an error about a subcommand in the form of those of `clap`: the message, and the subcommand's usage.
 fn fault_of(
     alloc: Global,
     program: &str,
@@ -187,8 +193,8 @@ fn fault_of(
     command.error(ErrorKind::ValueValidation, message)
 }
 
-/// The fault of matches of `explore` that ask for nothing: meshes, an answer or patterns that can't be read, or things
-/// that are told together.
+/// Returns the message about options of `explore` that the program doesn't accept: meshes or an answer that can't be
+/// read, more than ten patterns, or options that exclude each other.
 fn explore_fault<'a>(alloc: Global, matches: &ArgMatches<'a>) -> Result<String, AllocError> {
     if meshes(matches).is_none() {
         return mesh_fault(alloc, matches);
@@ -204,8 +210,8 @@ fn explore_fault<'a>(alloc: Global, matches: &ArgMatches<'a>) -> Result<String, 
     }
 }
 
-/// The fault of meshes that can't be read: it names the first word that is no pair of groups, or else says that they are
-/// too many.
+/// Returns the message about meshes that can't be read. It names the first word that is no pair of groups. If there is
+/// no such word, the message is that there are too many meshes.
 fn mesh_fault<'a>(alloc: Global, matches: &ArgMatches<'a>) -> Result<String, AllocError> {
     let unread = match matches.get_strs(MESH) {
         Some(texts) => first_unread(texts),
@@ -219,7 +225,7 @@ fn mesh_fault<'a>(alloc: Global, matches: &ArgMatches<'a>) -> Result<String, All
     }
 }
 
-/// What `clap` makes of the words.
+/// The matches of `clap` for the words.
 fn matches_of<'a, S: AsStr>(
     command: &mut Command<'a>,
     words: &'a [S],
@@ -232,7 +238,7 @@ fn matches_of<'a, S: AsStr>(
     command.try_get_matches_from_mut(words)
 }
 
-/// The command that the matches name, and its patterns.
+/// Returns what the matches ask for, and the patterns. `None` if the program doesn't accept the matches.
 fn asked_for<'a>(matches: &ArgMatches<'a>) -> Option<Parsed<'a>>
     ensures { option_map asking_of result ≡ asked_in (subcommand_rows_of matches.now) }
 {
@@ -242,9 +248,10 @@ fn asked_for<'a>(matches: &ArgMatches<'a>) -> Option<Parsed<'a>>
     Some(Parsed { args, never })
 }
 
-/// The command of this name with its file and its numbers. A session has no file.
+/// Returns what the subcommand with this name asks for, from its matches. `live` has no file.
 fn asked_by<'a>(name: &str, matches: &ArgMatches<'a>, never: &Patterns<'a>) -> Option<Args<'a>>
-    ensures { option_map (asking (texts_of never.now)) result ≡ asked_with (texts_of never.now) name.now (rows_of (found_of matches.now)) }
+    ensures { option_map (asking (texts_of never.now)) result
+        ≡ asked_with (texts_of never.now) name.now (rows_of (found_of matches.now)) }
 {
     match name {
         "live" => Some(Args::Live(sizes(matches)?)),
@@ -252,10 +259,11 @@ fn asked_by<'a>(name: &str, matches: &ArgMatches<'a>, never: &Patterns<'a>) -> O
     }
 }
 
-/// The command of this name with the file that its matches have, its numbers and its flag.
+/// Returns what a subcommand with a file asks for, from its name and its matches.
 fn asked_of<'a>(name: &str, matches: &ArgMatches<'a>, never: &Patterns<'a>) -> Option<Args<'a>>
     ensures { option_map (asking (texts_of never.now)) result
-        ≡ option_and_then (asked_of (texts_of never.now) name.now (rows_of (found_of matches.now))) (first_of (codes "FILE") (rows_of (found_of matches.now))) }
+        ≡ option_and_then (asked_of (texts_of never.now) name.now (rows_of (found_of matches.now)))
+        (first_of (codes "FILE") (rows_of (found_of matches.now))) }
 {
     let file = matches.get_str(FILE)?;
     match name {
@@ -276,7 +284,7 @@ fn is_recorded<'a>(matches: &ArgMatches<'a>) -> Option<bool>
     is_given(matches, RECORDED)
 }
 
-/// Whether a flag is given. Its value is `true` where it is, and `false` where it isn't.
+/// Whether a flag is given. `clap` gives a flag the value `true` if it is given, and `false` otherwise.
 fn is_given<'a>(matches: &ArgMatches<'a>, flag: &str) -> Option<bool>
     ensures { result ≡ flag_in flag.now (rows_of (found_of matches.now)) }
 {
@@ -284,7 +292,7 @@ fn is_given<'a>(matches: &ArgMatches<'a>, flag: &str) -> Option<bool>
     Some(value == "true")
 }
 
-/// A replay of a file, whose recorded history or answers are printed.
+/// Returns the request for a replay of a file, which prints a recorded history or else the answers.
 fn replay_of(file: &str, is_recorded: bool) -> Args<'_>
     ensures { (never : List (List ℕ)) → asking never result ≡ replay_by file.now is_recorded }
 {
@@ -295,7 +303,7 @@ fn replay_of(file: &str, is_recorded: bool) -> Args<'_>
     }
 }
 
-/// A run of a file's scripts in threads, whose recorded history or answers are printed.
+/// Returns the request for a run of a file's scripts in threads, which prints a recorded history or else the answers.
 fn threads_of(file: &str, args: ThreadsArgs, is_recorded: bool) -> Args<'_>
     ensures { (never : List (List ℕ)) → asking never result ≡ threads_by file.now (numbers_of args) is_recorded }
 {
@@ -306,7 +314,7 @@ fn threads_of(file: &str, args: ThreadsArgs, is_recorded: bool) -> Args<'_>
     }
 }
 
-/// The numbers that threads are asked for.
+/// The numbers of `threads`.
 fn numbers<'a>(matches: &ArgMatches<'a>) -> Option<ThreadsArgs>
     ensures { option_map numbers_of result ≡ numbers_in (rows_of (found_of matches.now)) }
 {
@@ -319,7 +327,7 @@ fn numbers<'a>(matches: &ArgMatches<'a>) -> Option<ThreadsArgs>
     })
 }
 
-/// What of a plan is to be drawn, and in how many columns.
+/// Returns which lines of a plan are drawn, and in how many columns.
 fn shown<'a>(matches: &ArgMatches<'a>) -> Option<DrawArgs>
     ensures { option_map shown_of result ≡ shown_in (rows_of (found_of matches.now)) }
 {
@@ -330,9 +338,10 @@ fn shown<'a>(matches: &ArgMatches<'a>) -> Option<DrawArgs>
     })
 }
 
-/// The meshes that are to be explored, with what numbers, and what is told.
+/// Returns the arguments of `explore`: the meshes, the numbers, and what is printed.
 fn explored<'a>(matches: &ArgMatches<'a>, never: &Patterns<'a>) -> Option<ExploreArgs<'a>>
-    ensures { option_map (explored_of (texts_of never.now)) result ≡ explored_in (texts_of never.now) (rows_of (found_of matches.now)) }
+    ensures { option_map (explored_of (texts_of never.now)) result
+        ≡ explored_in (texts_of never.now) (rows_of (found_of matches.now)) }
 {
     Some(ExploreArgs {
         meshes: meshes(matches)?,
@@ -343,9 +352,11 @@ fn explored<'a>(matches: &ArgMatches<'a>, never: &Patterns<'a>) -> Option<Explor
     })
 }
 
-/// What is told of an exploration: one thing at most of an outcome, an answer and a verdict.
+/// Returns what an exploration prints. `None` if more than one of an outcome, an answer and a verdict is asked for, or
+/// if one can't be read.
 fn told<'a>(matches: &ArgMatches<'a>, never: &Patterns<'a>) -> Option<Told<'a>>
-    ensures { option_map (told_of (texts_of never.now)) result ≡ told_in (texts_of never.now) (rows_of (found_of matches.now)) }
+    ensures { option_map (told_of (texts_of never.now)) result
+        ≡ told_in (texts_of never.now) (rows_of (found_of matches.now)) }
 {
     let witness = number_if_given(matches, WITNESS)?;
     let shown = shown_if_given(matches)?;
@@ -360,7 +371,8 @@ fn is_verdict<'a>(expect: Option<&'a str>, never: &Patterns<'a>) -> bool
     expect.is_some() || !never.as_slice().is_empty()
 }
 
-/// What is told where these are asked for.
+/// Returns what is printed for these options. `None` if more than one of an outcome, an answer and a verdict is asked
+/// for.
 fn told_by<'a>(
     witness: Option<u32>,
     shown: Option<ShownArgs<'a>>,
@@ -368,7 +380,8 @@ fn told_by<'a>(
     expect: Option<&'a str>,
 ) -> Option<Told<'a>>
     ensures { (never : List (List ℕ)) → option_map (told_of never) result
-        ≡ told_by witness (option_map shown_answer_of shown.entry) is_verdict (record { expect = option_map (λ path. path.now) expect.entry; never = never }) }
+        ≡ told_by witness (option_map shown_answer_of shown.entry) is_verdict
+        (record { expect = option_map (λ path. path.now) expect.entry; never = never }) }
 {
     match (witness, shown, is_verdict) {
         (None, None, true) => Some(Told::Verdict(expect)),
@@ -379,7 +392,7 @@ fn told_by<'a>(
     }
 }
 
-/// The answer that is to be shown, where one is named. None where it can't be read.
+/// Returns the answer that `--show` names, or `Some(None)` without that option. `None` if its text can't be read.
 fn shown_if_given<'a>(matches: &ArgMatches<'a>) -> Option<Option<ShownArgs<'a>>>
     ensures { option_map (option_map shown_answer_of) result ≡ shown_given_in (rows_of (found_of matches.now)) }
 {
@@ -406,7 +419,7 @@ fn shown_answer(text: &str) -> Option<ShownArgs<'_>>
     })
 }
 
-/// The patterns that are given: at most ten.
+/// Returns the patterns that are given. `None` if there are more than ten.
 fn never<'a>(matches: &ArgMatches<'a>) -> Option<Patterns<'a>>
     ensures { option_map texts_of result ≡ never_in (rows_of (found_of matches.now)) }
 {
@@ -419,7 +432,7 @@ fn never<'a>(matches: &ArgMatches<'a>) -> Option<Patterns<'a>>
     Some(patterns(texts))
 }
 
-/// These patterns.
+/// The patterns of these texts.
 fn patterns<'a>(texts: &[&'a str]) -> Patterns<'a>
     requires { length texts.now ≤ 10 }
     ensures { texts_of result ≡ map (λ text. text.now) texts.now }
@@ -433,7 +446,7 @@ fn patterns<'a>(texts: &[&'a str]) -> Patterns<'a>
     patterns
 }
 
-/// How a history is to be judged, and what is to be printed.
+/// Returns the arguments of `check`: how a history is judged, and what is printed.
 fn checked<'a>(matches: &ArgMatches<'a>) -> Option<CheckArgs>
     ensures { option_map checked_of result ≡ checked_in (rows_of (found_of matches.now)) }
 {
@@ -445,7 +458,7 @@ fn checked<'a>(matches: &ArgMatches<'a>) -> Option<CheckArgs>
     })
 }
 
-/// How a history is to be followed, and what is to be printed.
+/// Returns the arguments of `savings`: how a history is followed, and what is printed.
 fn compared<'a>(matches: &ArgMatches<'a>) -> Option<SavingsArgs>
     ensures { option_map compared_of result ≡ compared_in (rows_of (found_of matches.now)) }
 {
@@ -468,7 +481,8 @@ fn compared<'a>(matches: &ArgMatches<'a>) -> Option<SavingsArgs>
     })
 }
 
-/// What the words of the objects are to be made from: None inside where they are to be 0.
+/// Returns the seed of the objects' words, or `Some(None)` if all words are to be 0. `None` if the options exclude each
+/// other or the seed can't be read.
 fn seed<'a>(matches: &ArgMatches<'a>) -> Option<Option<u64>>
     ensures { result ≡ seed_in (rows_of (found_of matches.now)) }
 {
@@ -481,7 +495,7 @@ fn seed<'a>(matches: &ArgMatches<'a>) -> Option<Option<u64>>
     }
 }
 
-/// The meshes that are asked for: one to ten, each of which is a pair of groups.
+/// The meshes that are asked for: one to ten pairs of groups.
 fn meshes<'a>(matches: &ArgMatches<'a>) -> Option<Meshes>
     ensures value { option_map pairs_of result ≡ meshes_in (rows_of (found_of matches.now)) }
     ensures some { IfSome result (λ meshes. 1 ≤ meshes.count) }
@@ -493,7 +507,7 @@ fn meshes<'a>(matches: &ArgMatches<'a>) -> Option<Meshes>
     pairs(texts)
 }
 
-/// The pairs of groups that these texts are.
+/// The pairs of groups that these texts spell.
 fn pairs(texts: &[&str]) -> Option<Meshes>
     requires { length texts.now ≤ 10 }
     ensures pairs { option_map pairs_of result ≡ pairs_in (map (λ text. text.now) texts.now) }
@@ -522,7 +536,7 @@ fn first_unread<'t>(texts: &[&'t str]) -> Option<&'t str>
     None
 }
 
-/// The pair of groups that a text is: two numbers with a colon between them.
+/// The pair of groups that a text spells: two numbers with a colon between them.
 fn pair(text: &str) -> Option<MeshPair>
     ensures { result ≡ pair_of text.now }
 {
@@ -533,21 +547,21 @@ fn pair(text: &str) -> Option<MeshPair>
     })
 }
 
-/// The number of a group, 0 to 65535, spelt as `clap` takes that of an option.
+/// Reads the number of a group, 0 to 65535, in the form of a number option of `clap`.
 fn group(text: &str) -> Option<u32>
     ensures { result ≡ group_of text.now }
 {
     spelt_number(text, 0, LAST_GROUP)
 }
 
-/// The number of a line, 1 to 4294967295, spelt in the same way.
+/// Reads the number of a line, 1 to 4294967295, in the form of a number option of `clap`.
 fn line_number(text: &str) -> Option<u32>
     ensures { result ≡ number_of 1 4294967295 text.now }
 {
     spelt_number(text, 1, LAST_LINE)
 }
 
-/// The number of a text, spelt as `clap` takes that of an option, where it is in a range.
+/// Reads a number from `least` to `most`, in the form of a number option of `clap`.
 fn spelt_number(text: &str, least: u64, most: u64) -> Option<u32>
     requires { most < 2 ^ 32 }
     ensures { result ≡ number_of least most text.now }
@@ -560,7 +574,7 @@ fn spelt_number(text: &str, least: u64, most: u64) -> Option<u32>
     }
 }
 
-/// The sizes of the session that is asked for.
+/// Returns the sizes of a live session.
 fn sizes<'a>(matches: &ArgMatches<'a>) -> Option<LiveArgs>
     ensures { option_map sizes_of result ≡ sizes_in (rows_of (found_of matches.now)) }
 {
@@ -571,7 +585,7 @@ fn sizes<'a>(matches: &ArgMatches<'a>) -> Option<LiveArgs>
     })
 }
 
-/// The number that an option was given, where it is one that the option takes.
+/// Returns the number of an option, if it is in the option's range.
 fn number<'a>(matches: &ArgMatches<'a>, option: NumberOption) -> Option<u64>
     ensures value { result ≡ number_in option.name.now option.least option.most (rows_of (found_of matches.now)) }
     ensures range { IfSome result (λ number. (option.least ≤ number) × (number ≤ option.most)) }
@@ -584,7 +598,8 @@ fn number<'a>(matches: &ArgMatches<'a>, option: NumberOption) -> Option<u64>
     }
 }
 
-/// The number that an option was given, where it was given one. None where that is no number that the option takes.
+/// The number that was given for an option, or `Some(None)` if none was given. `None` if the number isn't in the
+/// option's range.
 fn number_if_given<'a>(matches: &ArgMatches<'a>, option: NumberOption) -> Option<Option<u32>>
     requires { option.most < 2 ^ 32 }
     ensures value { result ≡ given_in option.name.now option.least option.most (rows_of (found_of matches.now)) }
@@ -603,7 +618,7 @@ fn meshrun_command<'a>(alloc: Global) -> Result<Command<'a>, AllocError>
     with_subcommands(alloc, bare_command(alloc), SUBCOMMANDS)
 }
 
-/// The same without its subcommands.
+/// The program's command without its subcommands.
 fn bare_command<'a>(alloc: Global) -> Command<'a>
     ensures { app_of result ≡ bare_app }
 {
@@ -614,7 +629,7 @@ fn bare_command<'a>(alloc: Global) -> Command<'a>
         .arg_required_else_help(true)
 }
 
-/// A command with these subcommands behind those that it has.
+/// Returns the command with these subcommands added after those that it has.
 fn with_subcommands<'a>(
     alloc: Global,
     command: Command<'a>,
@@ -631,11 +646,13 @@ fn with_subcommands<'a>(
     Ok(command)
 }
 
-/// What `clap` is told of a subcommand.
+/// The `clap` command of a subcommand.
 fn subcommand_of<'a>(alloc: Global, subcommand: &Subcommand) -> Result<Command<'a>, AllocError>
     ensures { IfOk result (λ command. app_of command ≡ subcommand_app subcommand.now) }
 {
-    let mut command = Command::new(alloc, subcommand.name).about(subcommand.about);
+    let mut command = Command::new(alloc, subcommand.name)
+        .about(subcommand.about)
+        .after_help(subcommand.example);
     let mut rest = subcommand.arguments;
     while let [argument, behind @ ..] = rest {
         command = command.arg(argument_of(alloc, argument))?;
@@ -644,7 +661,7 @@ fn subcommand_of<'a>(alloc: Global, subcommand: &Subcommand) -> Result<Command<'
     Ok(command)
 }
 
-/// What `clap` is told of what may stand behind a subcommand's name.
+/// Returns the `clap` argument for one of the arguments of a subcommand.
 fn argument_of<'a>(alloc: Global, argument: &Argument) -> Arg<'a>
     ensures { rule_of result ≡ argument_rule argument.now }
 {
@@ -660,14 +677,14 @@ fn argument_of<'a>(alloc: Global, argument: &Argument) -> Arg<'a>
     }
 }
 
-/// A flag.
+/// Returns the `clap` argument for a flag.
 fn flag<'a>(alloc: Global, name: &'static str) -> Arg<'a>
     ensures { rule_of result ≡ flag_rule name.now }
 {
     Arg::new(alloc, name).long(name).action(ArgAction::SetTrue)
 }
 
-/// The option that asks for a mesh, and has to be given once or more.
+/// Returns the `clap` argument for the option `--mesh`, which must be given once or more.
 fn mesh<'a>(alloc: Global) -> Arg<'a>
     ensures { rule_of result ≡ mesh_rule }
 {
@@ -679,7 +696,7 @@ fn mesh<'a>(alloc: Global) -> Arg<'a>
         .help("A mesh of group SRC into group DST, each 0 to 65535; 1 to 10 times")
 }
 
-/// An option with a text.
+/// Returns the `clap` argument for an option with a text.
 fn text_option<'a>(alloc: Global, option: TextOption) -> Arg<'a>
     ensures { rule_of result ≡ text_rule option.name.now }
 {
@@ -689,7 +706,7 @@ fn text_option<'a>(alloc: Global, option: TextOption) -> Arg<'a>
         .help(option.help)
 }
 
-/// An option with a number.
+/// Returns the `clap` argument for an option with a number.
 fn number_option<'a>(alloc: Global, option: NumberOption) -> Arg<'a>
     ensures { rule_of result ≡ number_rule option.name.now option.least option.most }
 {
@@ -700,7 +717,8 @@ fn number_option<'a>(alloc: Global, option: NumberOption) -> Arg<'a>
         .help(option.help)
 }
 
-/// How the program stops where the system doesn't give it the words of its command line: they are no text, or memory was refused.
+/// Returns how the program stops if the system doesn't return the words of its command line. The reason is that the
+/// words are no text, or an allocation failure.
 pub fn unread_words(error: &io::Error) -> Stop
     ensures memory { error_kind error.now ≡ IoOutOfMemory → IsOutOfMemory result }
     ensures other { error_kind error.now ≢ IoOutOfMemory → IsNoText result }
@@ -732,7 +750,7 @@ fn stop_of(alloc: Global, error: &Error) -> Stop
     }
 }
 
-/// How the program stops where an allocation failed.
+/// How the program stops after an allocation failure.
 fn out_of_memory() -> Stop
     ensures { IsOutOfMemory result }
 {

@@ -1,12 +1,13 @@
-//! What `draw` is asked for.
+//! The arguments of `draw`.
 ghost use Rattle.mesh_command_line.specs.DrawArgs.{AreInRange};
 
-/// What `draw` is asked for beside its file. Its type keeps the ranges.
+/// The arguments of `draw` other than its file. The type guarantees that `from`, `to` and `columns` are in their
+/// ranges.
 #[derive(Clone, Copy, PartialEq, Eq)]
 pub struct DrawArgs {
     /// The first line of the plan that is drawn, 1 to 1,048,576.
     pub from: u32,
-    /// The last line of the plan that is drawn, 1 to 1,048,576. Lines past the plan's end are none.
+    /// The last line of the plan that is drawn, 1 to 1,048,576. Lines past the plan's end are ignored.
     pub to: u32,
     /// How many columns the picture has, 1 to 64, or 0 for as many as fit.
     pub columns: u32,

@@ -1,25 +1,26 @@
-//! What `explore` is asked for.
+//! The arguments of `explore`.
 ghost use Rattle.mesh_command_line.specs.ExploreArgs.{AreInRange};
 
 use crate::Meshes;
 
-/// What `explore` is asked for beside its file. Its type keeps the ranges.
+/// The arguments of `explore` other than its file. The type guarantees that `meshes`, `cancel` and `states` are in
+/// their ranges.
 #[derive(Clone, Copy, PartialEq, Eq)]
 pub struct ExploreArgs<'a> {
     /// The meshes, one to ten.
     pub meshes: Meshes,
-    /// After how many steps a mesh is cancelled, 0 to 1,000; none is where it isn't given.
+    /// The number of steps after which a mesh is cancelled, 0 to 1,000. `None` if meshes aren't cancelled.
     pub cancel: Option<u32>,
-    /// The most states that are kept, 1 to 10,000,000.
+    /// The greatest number of states that are kept, 1 to 10,000,000.
     pub states: u32,
-    /// What is told.
+    /// What is printed.
     pub told: Told<'a>,
-    /// Whether it is told on standard error how many states were found, also where that is no terminal.
+    /// Whether the number of states found is printed on standard error even if that is no terminal.
     pub is_watched: bool,
     pub ghost ranges: { AreInRange meshes cancel states },
 }
 
-/// What is told of an exploration.
+/// What is printed of an exploration.
 #[derive(Clone, Copy, PartialEq, Eq)]
 pub enum Told<'a> {
     /// All answers and outcomes.
@@ -28,8 +29,8 @@ pub enum Told<'a> {
     Outcome(u32),
     /// An answer in a phase of a mesh, as a job file.
     Answer(ShownArgs<'a>),
-    /// Whether the outcomes are those that are wanted: all that the file at this path lists, if there is one, and none that
-    /// a pattern matches.
+    /// A verdict on the outcomes. They are compared with those that the file at this path lists, if there is one, and
+    /// none may match a pattern.
     Verdict(Option<&'a str>),
 }
 

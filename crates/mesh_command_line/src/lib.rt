@@ -1,6 +1,7 @@
 //! The command line of the program `meshrun`: what its words ask for.
 //!
-//! `arguments` reads the words by `clap`, and gives what they ask for (`Args`) or why the program stops (`Stop`). Nothing here opens a file or prints.
+//! `arguments` reads the words with `clap`, and returns what they ask for (`Args`) or why the program stops (`Stop`).
+//! Nothing here opens a file or prints.
 #![tactic(auto)]
 
 mod check_args;

@@ -1,7 +1,8 @@
-//! What `live` is asked for.
+//! The arguments of `live`.
 ghost use Rattle.mesh_command_line.specs.LiveArgs.{AreFairSizes};
 
-/// The sizes of the session that `live` is asked for, as the header of a job file has them. Its type keeps the ranges.
+/// The sizes of the session of `live`, as in the header of a job file. The type guarantees that they are in their
+/// ranges.
 #[derive(Clone, Copy, PartialEq, Eq)]
 pub struct LiveArgs {
     /// How many physical pages the arena has, 1 to 4,096.

@@ -3,20 +3,20 @@ ghost use Rattle.std.specs.Prelude.{◌≡◌, ◌+◌, ◌<◌, ◌≤◌, [], 
 
 use mesh_explore::MeshPair;
 
-/// The most meshes of an exploration.
+/// The greatest number of meshes of an exploration.
 pub(crate) const MOST_MESHES: usize = 10;
 
-/// Up to ten meshes that are to be made, in the order in which they were asked for.
+/// Up to ten meshes, in the order in which they were asked for.
 #[derive(Clone, Copy, PartialEq, Eq)]
 pub struct Meshes {
-    // Those behind the count are all of group 0 into group 0.
+    // Entries from the count on are all of group 0 into group 0.
     pairs: [MeshPair; MOST_MESHES],
     count: usize,
     pub ghost fits: { count ≤ 10 },
 }
 
 impl Meshes {
-    /// No mesh.
+    /// Returns an empty list of meshes.
     pub(crate) fn none() -> Meshes
         ensures pairs { take result.count result.pairs ≡ [] }
         ensures count { result.count ≡ 0 }
@@ -31,14 +31,14 @@ impl Meshes {
         }
     }
 
-    /// The meshes.
+    /// Returns the meshes in their order.
     pub fn as_slice(&self) -> &[MeshPair]
         ensures { result.now ≡ take self.now.count self.now.pairs }
     {
         &self.pairs[..self.count]
     }
 
-    /// Adds a mesh behind the others.
+    /// Appends a mesh.
     pub(crate) fn add(&mut self, pair: MeshPair)
         requires { self.old.count < 10 }
         ensures pairs { take self.new.count self.new.pairs ≡ take self.old.count self.old.pairs ++ pair ∷ [] }

@@ -1,34 +1,34 @@
 //! The options of the command line, and the table of its subcommands.
 
-/// The file, as the command line and the help call it.
+/// The name of the file argument, on the command line and in the help.
 pub(crate) const FILE: &str = "FILE";
 
 /// The flag that asks for a recorded history.
 pub(crate) const RECORDED: &str = "history";
 
-/// The flag that asks for words that are all 0.
+/// The flag that makes all words of objects 0.
 pub(crate) const FIRST_FIT: &str = "first-fit";
 
 /// The flag that asks for a plot.
 pub(crate) const SVG: &str = "svg";
 
-/// The flag that asks for an order of effects in place of a verdict.
+/// The flag that asks for an order of effects instead of a verdict.
 pub(crate) const ORDER: &str = "order";
 
 /// The option that asks for a mesh.
 pub(crate) const MESH: &str = "mesh";
 
-/// What help calls the two groups of a mesh.
+/// The placeholder in the help for the two groups of a mesh.
 pub(crate) const GROUPS: &str = "SRC:DST";
 
-/// The flag that asks for how many states were found.
+/// The flag that asks for the number of states found.
 pub(crate) const PROGRESS: &str = "progress";
 
 /// An option with a number.
 #[derive(Clone, Copy)]
 pub(crate) struct NumberOption {
     pub(crate) name: &'static str,
-    // What help calls the number.
+    // The name in the help of the number.
     pub(crate) value: &'static str,
     pub(crate) least: u64,
     pub(crate) most: u64,
@@ -64,7 +64,7 @@ pub(crate) const SEED: NumberOption = NumberOption {
     value: "S",
     least: 0,
     most: u64::MAX,
-    help: "What the words of the shuffles are made from, 0 to 18446744073709551615",
+    help: "The seed of the random words that shuffle, 0 to 18446744073709551615",
 };
 
 pub(crate) const MESHERS: NumberOption = NumberOption {
@@ -144,14 +144,14 @@ pub(crate) const WITNESS: NumberOption = NumberOption {
     value: "K",
     least: 0,
     most: 4294967295,
-    help: "Print a job file that leads to outcome K, 0 to 4294967295, in place of what is told of all",
+    help: "Print a job file that leads to outcome K, 0 to 4294967295, instead of the listing",
 };
 
 /// An option with a text.
 #[derive(Clone, Copy)]
 pub(crate) struct TextOption {
     pub(crate) name: &'static str,
-    // What help calls the text.
+    // The name in the help of the text.
     pub(crate) value: &'static str,
     pub(crate) help: &'static str,
 }
@@ -159,19 +159,19 @@ pub(crate) struct TextOption {
 pub(crate) const SHOW: TextOption = TextOption {
     name: "show",
     value: "LINE:ANSWER:PHASE",
-    help: "Print a job file that ends with an answer to the command at a line of FILE in a phase of a mesh, as 12:done:unprotect 1",
+    help: "Print a job file in which the command at LINE of FILE gets ANSWER in PHASE of a mesh, such as 12:done:unprotect 1",
 };
 
 pub(crate) const EXPECT: TextOption = TextOption {
     name: "expect",
     value: "OUTCOMES",
-    help: "Compare the outcomes with those that a file lists, as a listing does, and say whether they are the same",
+    help: "Compare the outcomes with those listed in a file, and print those that are missing or unexpected",
 };
 
 pub(crate) const NEVER: TextOption = TextOption {
     name: "never",
     value: "PATTERN",
-    help: "Say whether an outcome matches 'worker W: ANSWER | ANSWER ..', where * is any answer; up to 10 times",
+    help: "Print the first outcome that matches 'worker W: ANSWER | ANSWER ..', where * is any answer; up to 10 times",
 };
 
 pub(crate) const CONFIGURATIONS: NumberOption = NumberOption {
@@ -195,7 +195,7 @@ pub(crate) const OBJECT_SEED: NumberOption = NumberOption {
     value: "S",
     least: 0,
     most: u64::MAX,
-    help: "What the words of the objects are made from, 0 to 18446744073709551615; 1 if not given",
+    help: "The seed of the random words that place objects, 0 to 18446744073709551615; 1 by default",
 };
 
 pub(crate) const FIRST_CALL: NumberOption = NumberOption {
@@ -203,7 +203,7 @@ pub(crate) const FIRST_CALL: NumberOption = NumberOption {
     value: "CALL",
     least: 1,
     most: 4294967295,
-    help: "The first call that the figures are of, 1 to 4294967295",
+    help: "The first call that the figures count, 1 to 4294967295",
 };
 
 pub(crate) const LAST_CALL: NumberOption = NumberOption {
@@ -211,47 +211,49 @@ pub(crate) const LAST_CALL: NumberOption = NumberOption {
     value: "CALL",
     least: 1,
     most: 4294967295,
-    help: "The last call that the figures are of, 1 to 4294967295",
+    help: "The last call that the figures count, 1 to 4294967295",
 };
 
-/// What may stand behind the name of a subcommand.
+/// An argument that may follow the name of a subcommand.
 #[derive(Clone, Copy)]
 pub(crate) enum Argument {
-    /// The file, with what help says of it.
+    /// The file, with its help text.
     File(&'static str),
     /// The meshes.
     Meshes,
-    /// An option with a number that has to be given.
+    /// An option with a number. The option must be given.
     Required(NumberOption),
-    /// An option with a number that is the default where it isn't given.
+    /// An option with a number, and its default.
     Default(NumberOption, &'static str),
-    /// An option with a number that may be left out.
+    /// An optional option with a number.
     Optional(NumberOption),
-    /// The flag of this name, with what help says of it.
+    /// The flag with this name, and its help text.
     Flag(&'static str, &'static str),
-    /// An option with a text, that may be left out.
+    /// An optional option with a text.
     Text(TextOption),
-    /// The same, that may be given several times.
+    /// An optional option with a text. It may be given several times.
     Texts(TextOption),
 }
 
-/// A subcommand: its name, what help says of it, and what may stand behind it.
+/// A subcommand: its name, its help, and what may follow it.
 #[derive(Clone, Copy)]
 pub(crate) struct Subcommand {
     pub(crate) name: &'static str,
     pub(crate) about: &'static str,
+    pub(crate) example: &'static str,
     pub(crate) arguments: &'static [Argument],
 }
 
-/// What help says of the file of a subcommand that reads a recorded history.
+/// The help text of the file argument, for subcommands that read a recorded history.
 pub(crate) const HISTORY_FILE: &str = "The recorded history, or - for standard input";
 
-/// The subcommand that explores.
+/// The subcommand `explore`.
 pub(crate) const EXPLORE: Subcommand = Subcommand {
     name: "explore",
-    about: "Run what a job file's plan leaves of its scripts in every interleaving with meshes, and print all answers, or a verdict over them",
+    about: "Run the commands that a job file's plan leaves in every interleaving with meshes, and print all answers or a verdict",
+    example: "Example: meshrun explore jobs/explore/store_and_copy.job --mesh 1:0",
     arguments: &[
-        Argument::File("The job file, whose plan is the setting; - is standard input"),
+        Argument::File("The job file, whose plan leads to the initial state; - is standard input"),
         Argument::Meshes,
         Argument::Optional(CANCEL),
         Argument::Default(STATES, "100000"),
@@ -261,15 +263,16 @@ pub(crate) const EXPLORE: Subcommand = Subcommand {
         Argument::Texts(NEVER),
         Argument::Flag(
             PROGRESS,
-            "Print how many states were found on standard error, once a second, also where that is no terminal",
+            "Print the number of states found on standard error, once a second, even if it is no terminal",
         ),
     ],
 };
 
-/// The subcommand that compares two heaps.
+/// The subcommand `savings`.
 pub(crate) const SAVINGS: Subcommand = Subcommand {
     name: "savings",
     about: "Follow a recorded history on a heap that meshes and on one that doesn't, and compare their pages",
+    example: "Example: meshrun savings histories/savings/shell_cache.history --every 50",
     arguments: &[
         Argument::File(HISTORY_FILE),
         Argument::Default(EVERY, "10000"),
@@ -277,11 +280,11 @@ pub(crate) const SAVINGS: Subcommand = Subcommand {
         Argument::Optional(OBJECT_SEED),
         Argument::Flag(
             FIRST_FIT,
-            "Put each object into the first free slot of its group, in place of a random one",
+            "Put each object into the first free slot of its group instead of a random one",
         ),
         Argument::Default(FIRST_CALL, "1"),
         Argument::Default(LAST_CALL, "4294967295"),
-        Argument::Flag(SVG, "Print a plot as an SVG picture in place of the table"),
+        Argument::Flag(SVG, "Print a plot as an SVG picture instead of the table"),
     ],
 };
 
@@ -290,17 +293,19 @@ pub(crate) const SUBCOMMANDS: &[Subcommand] = &[
     Subcommand {
         name: "replay",
         about: "Run a job file's plan and print one answer a line",
+        example: "Example: meshrun replay jobs/examples/mesh.job",
         arguments: &[
             Argument::File("The job file to replay; - is standard input"),
             Argument::Flag(
                 RECORDED,
-                "Print the journal as a recorded history in place of the answers",
+                "Print the journal as a recorded history instead of the answers",
             ),
         ],
     },
     Subcommand {
         name: "threads",
-        about: "Run a job file's scripts, a thread each, while others mesh, and print their answers",
+        about: "Run each script of a job file on a thread of its own while other threads mesh, and print the answers",
+        example: "Example: meshrun threads jobs/examples/threads.job --probe 8 --rounds 3 --workers 2 --seed 1 --meshers 2",
         arguments: &[
             Argument::File("The job file, whose plan is not used; - is standard input"),
             Argument::Required(PROBE),
@@ -310,13 +315,14 @@ pub(crate) const SUBCOMMANDS: &[Subcommand] = &[
             Argument::Default(MESHERS, "1"),
             Argument::Flag(
                 RECORDED,
-                "Print the history of all threads as a recorded history in place of each worker's answers",
+                "Print the history of all threads as a recorded history instead of each worker's answers",
             ),
         ],
     },
     Subcommand {
         name: "draw",
         about: "Draw a job file's plan as an SVG picture and print it",
+        example: "Example: meshrun draw jobs/examples/mesh.job > mesh.svg",
         arguments: &[
             Argument::File("The job file to draw; - is standard input"),
             Argument::Default(FROM, "1"),
@@ -326,7 +332,8 @@ pub(crate) const SUBCOMMANDS: &[Subcommand] = &[
     },
     Subcommand {
         name: "live",
-        about: "Answer the lines of standard input one by one, on a fresh heap",
+        about: "Answer the lines of standard input one by one, on a new heap",
+        example: "Example: printf 'run 0 new 0 16 0\\nreport\\n' | meshrun live",
         arguments: &[
             Argument::Default(PAGES, "4096"),
             Argument::Default(HISTORY, "65536"),
@@ -337,12 +344,13 @@ pub(crate) const SUBCOMMANDS: &[Subcommand] = &[
     Subcommand {
         name: "check",
         about: "Judge a recorded history, of calls in the order of their effects or of calls that overlap",
+        example: "Example: meshrun check histories/overlapping/lost_store.history",
         arguments: &[
             Argument::File(HISTORY_FILE),
             Argument::Default(CONFIGURATIONS, "100000"),
             Argument::Flag(
                 ORDER,
-                "Print calls that overlap in an order that explains them, as a history of version 1, in place of the verdict",
+                "Print calls that overlap in an order that explains them, as a history of version 1, instead of the verdict",
             ),
         ],
     },

@@ -1,20 +1,20 @@
-//! The patterns that no outcome is to match.
+//! The patterns that no outcome may match.
 ghost use Rattle.std.specs.Prelude.{◌≡◌, ◌<◌, ◌≤◌, ◌+◌, [], ◌∷◌, ◌++◌, length, map, take};
 
-/// The most patterns of a verdict.
+/// The greatest number of patterns of a verdict.
 pub(crate) const MOST_PATTERNS: usize = 10;
 
 /// Up to ten patterns, as texts, in the order in which they were given.
 #[derive(Clone, Copy)]
 pub struct Patterns<'a> {
-    // Those behind the count are empty.
+    // Entries from the count on are empty.
     texts: [&'a str; MOST_PATTERNS],
     count: usize,
     pub ghost fits: { count ≤ 10 },
 }
 
 impl<'a> Patterns<'a> {
-    /// No pattern.
+    /// Returns an empty list of patterns.
     pub(crate) fn none() -> Patterns<'a>
         ensures texts { take result.count result.texts ≡ [] }
         ensures count { result.count ≡ 0 }
@@ -25,7 +25,7 @@ impl<'a> Patterns<'a> {
         }
     }
 
-    /// The texts.
+    /// Returns the texts of the patterns in their order.
     pub fn as_slice(&self) -> &[&'a str]
         ensures texts { result.now ≡ take self.now.count self.now.texts }
         ensures few { length result.now ≤ 10 }
@@ -33,7 +33,7 @@ impl<'a> Patterns<'a> {
         &self.texts[..self.count]
     }
 
-    /// Adds a pattern behind the others.
+    /// Appends a pattern.
     pub(crate) fn add(&mut self, text: &'a str)
         requires { self.old.count < 10 }
         ensures texts { take self.new.count self.new.texts ≡ take self.old.count self.old.texts ++ text.entry ∷ [] }

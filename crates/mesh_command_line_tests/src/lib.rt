@@ -1,6 +1,6 @@
 //! Tests of the program's command line.
 //!
-//! The crate has no function of its own, so nothing of it but its tests is proved.
+//! The crate has no function of its own, so only its tests are proved.
 #![tactic(auto)]
 
 #[cfg(test)]

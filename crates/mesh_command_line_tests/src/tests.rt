@@ -1,4 +1,5 @@
-//! Command lines, and what they ask for. Each expected text was worked out by hand from the rules, and none was copied from a run.
+//! Command lines, and what they ask for. All expected texts were worked out by hand from the rules; none was copied
+//! from a run.
 
 use mesh_command_line::{
     Args, CheckArgs, DrawArgs, ExploreArgs, LiveArgs, Parsed, SavingsArgs, ThreadsArgs, Told,
@@ -7,10 +8,11 @@ use mesh_command_line::{
 use std::alloc::{AllocError, Global};
 use std::process::Abort;
 
-/// What stands between two rows of a table, each a command line and what it asks for.
+/// Separates two rows of a table. Each row is a command line and what it asks for.
 const ROW_END: char = '#';
 
-/// Command lines that replay `a.job`, or run its scripts in threads, and what each asks for: the numbers, and whether answers are printed or a history.
+/// Command lines that replay `a.job` or run its scripts in threads, and what each asks for: the numbers, and whether it
+/// prints answers or a history.
 static PRINTED: &str = "\
 meshrun replay a.job|replay a.job answers#\
 meshrun threads a.job --probe 2 --rounds 3 --workers 4 --seed 5|threads a.job 2 3 4 5 1 answers#\
@@ -20,8 +22,8 @@ meshrun threads a.job --probe 2 --rounds 3 --workers 4 --seed 5 --history|thread
 meshrun threads --history a.job --probe 2 --rounds 3 --workers 4 --seed 5|threads a.job 2 3 4 5 1 history#\
 meshrun threads --probe=2 --rounds=3 --history --workers=4 --seed=5 --meshers=1 a.job|threads a.job 2 3 4 5 1 history";
 
-/// Command lines that judge a history, and what each asks for, in such rows too: the file, and the most configurations of
-/// an object.
+/// Command lines that judge a history, and what each asks for, in the same format: the file, and the most
+/// configurations of an object.
 static CHECKED: &str = "\
 meshrun check a.history|check a.history 100000#\
 meshrun check -|check - 100000#\
@@ -32,7 +34,8 @@ meshrun check --configurations=1 -|check - 1#\
 meshrun check a.history --configurations=4294967295|check a.history 4294967295#\
 meshrun check a.history --configurations +0012|check a.history 12";
 
-/// Command lines that run scripts in threads, and the numbers that they ask for: probe, rounds, workers, seed and meshers.
+/// Command lines that run scripts in threads, and the numbers that they ask for: probe, rounds, workers, seed and
+/// meshers.
 static NUMBERS: &str = "\
 meshrun threads a.job --probe 2 --rounds 3 --workers 4 --seed 5 --meshers 6|threads a.job 2 3 4 5 6 answers#\
 meshrun threads a.job --probe 2 --rounds 3 --workers 4 --seed 5|threads a.job 2 3 4 5 1 answers#\
@@ -49,7 +52,7 @@ meshrun threads a.job --probe 2 --rounds 3 --workers 4 --seed 5 --meshers 10|thr
 meshrun threads --meshers=6 --seed=5 a.job --workers=4 --rounds=3 --probe=2|threads a.job 2 3 4 5 6 answers#\
 meshrun threads a.job --probe +2 --rounds 003 --workers 4 --seed 5 --meshers 6|threads a.job 2 3 4 5 6 answers";
 
-/// Command lines, and what they ask for to be drawn of `a.job`: the first line, the last one, and columns.
+/// Command lines that draw `a.job`, and what each asks for: the first line, the last line, and the columns.
 static SHOWN: &str = "\
 meshrun draw a.job|draw a.job 1 1048576 0#\
 meshrun draw a.job --from 12 --to 34 --columns 5|draw a.job 12 34 5#\
@@ -60,15 +63,15 @@ meshrun draw --columns=64 --to=1048576 a.job --from=1048576|draw a.job 1048576 1
 meshrun draw a.job --from 1 --to 1 --columns 0|draw a.job 1 1 0#\
 meshrun draw a.job --from +34 --to 0012 --columns 5|draw a.job 34 12 5";
 
-/// Command lines, and the sizes of the session that they ask for: pages, entries and workers.
+/// Command lines, and the sizes of the session that each asks for: pages, entries and workers.
 static SIZES: &str = "\
 meshrun live|live 4096 65536 64#\
 meshrun live --pages 1 --history 0 --workers 1|live 1 0 1#\
 meshrun live --workers=2|live 4096 65536 2#\
 meshrun live --history=65536 --pages=4096 --workers=64|live 4096 65536 64";
 
-/// Command lines, and what they ask for to be explored of `a.job`: the meshes, and behind them their steps before a cancel, the most states, and the
-/// outcome that is printed, `-` where there is none.
+/// Command lines that explore `a.job`, and what each asks for: the meshes, then their steps before a cancel, the most
+/// states, and the outcome that is printed, `-` if there is none.
 static EXPLORED: &str = "\
 meshrun explore a.job --mesh 1:0|explore a.job 1:0 - 100000 -#\
 meshrun explore --mesh=1:0 a.job --mesh=3:2|explore a.job 1:0 3:2 - 100000 -#\
@@ -97,8 +100,8 @@ meshrun explore a.job --mesh 1:0 --progress|explore a.job 1:0 - 100000 - watched
 meshrun explore a.job --mesh 1:0 --progress --witness 3|explore a.job 1:0 - 100000 3 watched#\
 meshrun explore a.job --mesh 9:0 --mesh 8:1 --mesh 7:2 --mesh 6:3 --mesh 5:4 --mesh 4:5 --mesh 3:6 --mesh 2:7 --mesh 1:8 --mesh 0:9|explore a.job 9:0 8:1 7:2 6:3 5:4 4:5 3:6 2:7 1:8 0:9 - 100000 -";
 
-/// Command lines that follow `a.history` on two heaps, and what each asks for: frees between two rounds, tries of a search, the seed, `-` where all
-/// words are 0, the first call, the last one, and whether a table is printed or a plot.
+/// Command lines that follow `a.history` on two heaps, and what each asks for: frees between two rounds, tries of a
+/// search, the seed (`-` if all words are 0), the first call, the last one, and whether it prints a table or a plot.
 static FOLLOWED: &str = "\
 meshrun savings a.history|savings a.history 10000 64 1 1 4294967295 table#\
 meshrun savings -|savings - 10000 64 1 1 4294967295 table#\
@@ -109,7 +112,7 @@ meshrun savings a.history --every 1 --probe 0 --seed 0 --from 1 --to 1|savings a
 meshrun savings --every=4294967295 --seed=18446744073709551615 a.history --from=4294967295|savings a.history 4294967295 64 18446744073709551615 4294967295 4294967295 table#\
 meshrun savings a.history --seed 1 --svg|savings a.history 10000 64 1 1 4294967295 plot";
 
-/// Command lines with a fault, each of a command that has numbers or a flag, or of a history.
+/// Command lines with a fault. Each is of a command that takes numbers or a flag, or of a history.
 static FAULTY: &str = "\
 meshrun threads a.job --probe 65 --rounds 3 --workers 4 --seed 5 --meshers 6\n\
 meshrun threads a.job --probe 2 --rounds 1001 --workers 4 --seed 5 --meshers 6\n\
@@ -237,17 +240,17 @@ meshrun savings a.history --svg=true\n\
 meshrun savings a.history --history\n\
 meshrun savings a.history --version";
 
-/// Words that are no meshes, with `|` between them.
+/// Words that aren't meshes, separated by `|`.
 static NO_MESHES: &str =
     "|1|:|1:|:1|:0|1:2:3|1:0:|::|1::0|1 :0|1: 0| 1:0|+:1|1:+|++1:0|1:++0|+-1:0|1:-0|65536:0|1:65536|+65536:0|\
 99999999999999999999:0|0:18446744073709551616|0x1:0|1,0|1-0|a:0|1:0.0";
 
-/// How a fault of `explore` ends.
+/// The end of the message of a fault of `explore`.
 static USAGE: &str =
     "\n\nUsage: meshrun explore [OPTIONS] --mesh <SRC:DST> <FILE>\n\nFor more information, try '--help'.\n";
 
-/// Command lines of `explore` with meshes that aren't read, and the first word of each that is no mesh, if there is one:
-/// where there is none, the meshes are too many.
+/// Command lines of `explore` with faulty meshes, and the first word of each that is no mesh. If there is no such word,
+/// there are too many meshes.
 static MESH_FAULTS: &str = "\
 meshrun explore a.job --mesh 1-0|1-0#\
 meshrun explore a.job --mesh=-1:0|-1:0#\
@@ -257,7 +260,7 @@ bin/meshrun explore a.job --mesh 1:0 --mesh 1:0:2|1:0:2#\
 meshrun explore a.job --mesh 1:0 --mesh 1:0 --mesh 1:0 --mesh 1:0 --mesh 1:0 --mesh 1:0 --mesh 1:0 --mesh 1:0 --mesh 1:0 --mesh 1:0 --mesh 1:x|1:x#\
 meshrun explore a.job --mesh 1:0 --mesh 1:0 --mesh 1:0 --mesh 1:0 --mesh 1:0 --mesh 1:0 --mesh 1:0 --mesh 1:0 --mesh 1:0 --mesh 1:0 --mesh 1:0|";
 
-/// Command lines of `explore` whose meshes are read, and what isn't, and what is said of each.
+/// Command lines of `explore` with other faults, and the message of each.
 static EXPLORE_FAULTS: [(&str, &str); 6] = [
     (
         "meshrun explore a.job --mesh 1:0 --show 12",
@@ -290,12 +293,12 @@ static APART: &str = "\
 meshrun savings a.history --seed 5 --first-fit\n\
 meshrun savings a.history --from 3 --to 2";
 
-/// What is said of those.
+/// The message of those command lines.
 static APART_FAULT: &str =
     "error: --seed and --first-fit exclude each other, and --from is at most --to\n\n\
 Usage: meshrun savings [OPTIONS] <FILE>\n\nFor more information, try '--help'.\n";
 
-/// What a command line asks for, as the tables write it.
+/// What a command line asks for, in the format of the tables.
 fn asked(rt: &(impl Abort + AllocGlobal), line: &str) -> String {
     let words: Vec<&str> = line.split(' ').collect(rt.alloc()).expect(rt, "memory");
     match arguments(rt.alloc(), words.as_slice()) {
@@ -304,7 +307,7 @@ fn asked(rt: &(impl Abort + AllocGlobal), line: &str) -> String {
     }
 }
 
-/// What is asked for, written so.
+/// The result of parsing, in the format of the tables.
 fn written(alloc: Global, parsed: &Parsed<'_>) -> Result<String, AllocError> {
     let mut text = String::new(alloc);
     match parsed.args {
@@ -376,7 +379,7 @@ fn add_exploration(
     Ok(())
 }
 
-/// Writes what is told of an exploration.
+/// Writes what an exploration reports.
 fn add_told(text: &mut String, told: &Told<'_>) -> Result<(), AllocError> {
     match told {
         Told::All => text.push_str(" -"),
@@ -402,7 +405,7 @@ fn add_savings(text: &mut String, path: &str, args: &SavingsArgs) -> Result<(), 
     text.push_str(if args.is_plot { " plot" } else { " table" })
 }
 
-/// Writes a number that may be asked for.
+/// Writes an optional number.
 fn add_if_given(text: &mut String, number: Option<u32>) -> Result<(), AllocError> {
     match number {
         Some(number) => write!(text, " {number}"),
@@ -426,7 +429,7 @@ fn reads_what_each_line_asks_for(rt: HostRuntime) {
     }
 }
 
-/// Asserts that a command line is refused for an error.
+/// Asserts that a command line is refused with an error.
 fn check_refused(rt: &(impl Abort + AllocGlobal), line: &str) {
     let words: Vec<&str> = line.split(' ').collect(rt.alloc()).expect(rt, "memory");
     let is_refused = match arguments(rt.alloc(), words.as_slice()) {
@@ -443,7 +446,7 @@ fn refuses_faulty_numbers(rt: HostRuntime) {
     }
 }
 
-/// What is said of meshes of which this word is the first that is none; or else of too many.
+/// The message about meshes whose first faulty word is this one. Without a word, the message about too many meshes.
 fn fault_of_meshes(alloc: Global, unread: Option<&str>) -> Result<String, AllocError> {
     match unread {
         Some(word) => format!(in alloc;
@@ -455,7 +458,7 @@ fn fault_of_meshes(alloc: Global, unread: Option<&str>) -> Result<String, AllocE
     }
 }
 
-/// Asserts that words are refused, and that this is said of them.
+/// Asserts that words are refused with this message.
 fn check_fault(rt: &(impl Abort + AllocGlobal), words: &[&str], fault: &str) {
     match arguments(rt.alloc(), words) {
         Ok(_) => panic!(rt; "no fault: {fault}"),
@@ -466,7 +469,8 @@ fn check_fault(rt: &(impl Abort + AllocGlobal), words: &[&str], fault: &str) {
     }
 }
 
-/// Asserts that words are refused for their meshes, of which this is the first that is none; or else for too many.
+/// Asserts that words are refused for their meshes: this word is the first that is no mesh, or, without a word, there
+/// are too many.
 fn check_mesh_fault(rt: &(impl Abort + AllocGlobal), words: &[&str], unread: Option<&str>) {
     let fault = fault_of_meshes(rt.alloc(), unread).expect(rt, "memory");
     check_fault(rt, words, fault.as_str());

@@ -8,12 +8,13 @@ pub data NumberedEvent : Type 0 where
   CallBegins : NumberedEvent
   CallEnds : ℕ → NumberedEvent
 
--- the call stands in the order, and it and all in front of it had begun
+-- the order contains the call, and it and every call before it in the order had begun
 abbrev pub HasItBegun : ℕ → ℕ → List ℕ → Type 0
 HasItBegun calls i [] = ⊥
 HasItBegun calls i (n ∷ order) = (n < calls) × ((n ≡ i) ⊎ HasItBegun calls i order)
 
--- an order respects time: it is of calls that have begun, and each call that ended stands in it, behind none that had not begun when it ended
+-- an order respects time: it is of calls that have begun, and it contains each call that ended, after no call that had
+-- not begun when it ended
 abbrev pub RespectsTime : ℕ → List NumberedEvent → List ℕ → Type 0
 RespectsTime calls [] order = AreBelow calls order
 RespectsTime calls (CallBegins ∷ events) order = RespectsTime (suc calls) events order
@@ -24,12 +25,13 @@ abbrev pub IsIn : ℕ → List ℕ → Type 0
 IsIn i [] = ⊥
 IsIn i (n ∷ order) = (n ≡ i) ⊎ IsIn i order
 
--- each call stands there once
+-- each call occurs in the list once
 abbrev pub IsEachOnce : List ℕ → Type 0
 IsEachOnce [] = Unit {0}
 IsEachOnce (n ∷ order) = (IsIn n order → ⊥) × IsEachOnce order
 
--- an order of effects that explains a history: each call at most once, in an order that respects time, and each answers as was recorded
+-- an order of effects that explains a history: each call at most once, in an order that respects time, and each answers
+-- as was recorded
 abbrev pub Explains : {S : Type 0} → (S → ℕ → Option S) → S → List NumberedEvent → List ℕ → Type 0
 Explains {S} effect start events order = IsEachOnce order × RespectsTime 0 events order × ((last : S) × (after_all effect order start ≡ Some last))
 
@@ -55,16 +57,16 @@ EndsBefore calls (CallEnds k ∷ events) i other = ((k ≡ i) × (calls ≤ othe
 abbrev pub TakeTime : List NumberedEvent → Type 0
 TakeTime events = (i : ℕ) → EndsBefore 0 events i i → ⊥
 
--- no call stands behind one that began after it ended
+-- no call comes after one that began after it ended
 abbrev pub NoneIsBehindLater : List NumberedEvent → List ℕ → Type 0
 NoneIsBehindLater events order = AllPairs (λ front back. EndsBefore 0 events back front → ⊥) order
 
--- each call that ended stands in the order
+-- the order contains each call that ended
 abbrev pub HasAllEnded : List NumberedEvent → List ℕ → Type 0
 HasAllEnded events order = (i : ℕ) → HasEnded events i → IsIn i order
 
--- where no call ended before it began: an order in which each call stands once respects time just where it is of calls that have begun, has each that
--- ended, and has none behind one that began after it ended
+-- if no call ended before it began: an order with each call at most once respects time if and only if it is of calls
+-- that have begun, contains each call that ended, and has no call after one that began after it ended
 abbrev pub TimeIsPairwise : Type 0
 TimeIsPairwise = (events : List NumberedEvent) (order : List ℕ) → TakeTime events → IsEachOnce order
     → RespectsTime 0 events order ↔ (AreBelow (begun_behind 0 events) order × HasAllEnded events order × NoneIsBehindLater events order)

@@ -1,10 +1,10 @@
--- The events of a history by places, and what a judge of them tells of the orders that explain the history.
+-- The events of a history by places, and what a judge of them reports about the orders that explain the history.
 use Rattle.std.specs.Prelude.{◌≡◌, ◌↔◌, ℕ, suc, List, [], ◌∷◌, Option, Some, None, replicate, slice_get, slice_set}
 use Rattle.mesh_configurations.specs.Orders.{Explains, NumberedEvent, CallBegins, CallEnds}
 use Rattle.mesh_configurations.specs.Standings.{CanGoOn, Event, Begins, Ends, HasPassed, Standing, effect_of, first_standing}
 
--- the events by places are those by numbers, of these calls. So many calls have begun, and a place is taken by the call of a number or by none: a call
--- takes a place that is free, and has it until its end
+-- the events by places are those by numbers, of these calls. So many calls have begun, and a place is taken by the call
+-- of a number or by none: a call takes a place that is free, and has it until its end
 abbrev pub ArePlaced : {C : Type 0} → List C → ℕ → List (Option ℕ) → List NumberedEvent → List (Event C) → Type 0
 ArePlaced calls begun taken [] [] = Unit {0}
 ArePlaced calls begun taken (CallBegins ∷ events) (Begins place call ∷ placed) =
@@ -32,7 +32,8 @@ HavePassed effect [] standing standing' = standing ≡ standing'
 HavePassed {S} {C} effect (event ∷ events) standing standing' =
     (next : Standing S C) × HasPassed effect event standing next × HavePassed effect events next standing'
 
--- a judge that has taken the events of a history has a configuration left just where some order of effects explains the history
+-- a judge that has taken the events of a history has a configuration left just where some order of effects explains the
+-- history
 abbrev pub JudgeExplains : {S C : Type 0} → (S → C → Option S) → Type 0
 JudgeExplains {S} {C} effect = (start : S) (calls : List C) (events : List NumberedEvent) (placed : List (Event C)) (standing : Standing S C)
     → ArePlaced calls 0 none_taken events placed → HavePassed effect placed (first_standing start) standing

@@ -31,8 +31,8 @@ abbrev pub with_marks : {S : Type 0} → List Bool → Option S → Option (Conf
 with_marks done None = None
 with_marks done (Some s) = Some (record { state = s; done = done })
 
--- what the effect of the call at a place makes of a configuration: None where it had its effect already, where no call is pending there, and where the
--- call would answer otherwise than was recorded
+-- what the effect of the call at a place makes of a configuration: None where it had its effect already, where no call
+-- is pending there, and where the call would answer otherwise than was recorded
 abbrev pub effect_at : {S C : Type 0} → (S → C → Option S) → List (Option C) → Configuration S → ℕ → Option (Configuration S)
 effect_at effect pending c place =
     if had_effect c place then None else with_marks (slice_set c.done place true) (effect_of effect c.state (call_at pending place))
@@ -41,8 +41,9 @@ effect_at effect pending c place =
 abbrev pub forgot_at : {S : Type 0} → Configuration S → ℕ → Configuration S
 forgot_at c place = record { state = c.state; done = slice_set c.done place false }
 
--- the configuration can pass these events. A begin adds a pending call. At the end of a call, effects of pending calls, up to that of the call, carry
--- the configuration to one in which the call had its effect, and this one, without the mark of the call, can pass the events behind
+-- the configuration can pass these events. A begin adds a pending call. At the end of a call, effects of pending calls,
+-- up to that of the call, carry the configuration to one in which the call had its effect, and this one, without the
+-- mark of the call, can pass the events behind
 abbrev pub CanPass : {S C : Type 0} → (S → C → Option S) → List (Option C) → Configuration S → List (Event C) → Type 0
 CanPass effect pending c [] = Unit {0}
 CanPass effect pending c (Begins place call ∷ events) = CanPass effect (slice_set pending place (Some call)) c events

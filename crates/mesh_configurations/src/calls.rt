@@ -4,18 +4,18 @@ ghost use Rattle.std.specs.Prelude.{◌≡◌, Option, IfOk};
 use mesh_pool::Value;
 use std::alloc::{AllocError, Global};
 
-/// What calls do to the state of an object.
+/// How calls change the state of an object.
 pub trait Calls {
-    /// What an object is like between effects.
+    /// The state of an object between effects.
     type State: Value;
 
-    /// What a call was recorded to do and to answer.
+    /// A call with its recorded answer.
     type Call: Drop;
 
-    /// The state that the effect of a call leads to, `None` if it would answer otherwise than was recorded.
+    /// The state after the effect of a call. `None` if the answer would differ from the recorded one.
     ghost effect: { Self.State → Self.Call → Option Self.State };
 
-    /// The state that the effect of a call leads to, `None` if it would answer otherwise than was recorded.
+    /// Returns the state after the effect of a call. `None` if the answer would differ from the recorded one.
     ///
     /// An error is an allocation failure.
     fn effect(

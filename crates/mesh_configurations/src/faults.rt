@@ -8,7 +8,7 @@ pub enum JudgeFault {
     /// More configurations are met at the end of a call than are allowed.
     #[error("too many configurations")]
     TooMany,
-    /// As many calls are pending as can be.
+    /// The most calls that can be pending are pending.
     #[error("too many pending calls")]
     TooManyPending,
     /// An allocation failed.

@@ -4,7 +4,7 @@ ghost use Rattle.mesh_configurations.specs.Placed.{JudgeExplains, JudgeTells};
 
 use crate::calls::Calls;
 
-/// A new judge can go on with the events of a history if and only if some order of effects explains the history.
+/// A new judge can accept the events of a history if and only if some order of effects explains the history.
 pub fn judge_tells<O: Calls>()
     ensures { JudgeTells O.effect }
 {}
@@ -15,8 +15,8 @@ pub fn judge_explains<O: Calls>()
     ensures { JudgeExplains O.effect }
 {}
 
-/// An order of calls respects time if and only if it has each call that ended, and none behind one that began after it
-/// ended.
+/// An order of calls respects time if and only if it contains each call that ended, and no call after one that began
+/// after it ended.
 pub fn time_is_pairwise()
     ensures { TimeIsPairwise }
 {}

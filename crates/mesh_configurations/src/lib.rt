@@ -1,8 +1,8 @@
 //! A judge of the overlapping calls of one object, which takes their begins and ends one at a time.
 //!
-//! It says whether some order of effects explains them. A configuration is a state of the object, and which of the
-//! pending calls had their effect in it already. A judge keeps the configurations that the events so far allow, and
-//! forgets a call at its end.
+//! The judge reports whether some order of effects explains the calls. A configuration is a state of the object,
+//! together with which of the pending calls have already had their effect. A judge keeps the configurations that the
+//! events so far allow, and forgets a call at its end.
 #![tactic(auto)]
 
 mod calls;

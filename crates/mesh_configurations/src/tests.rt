@@ -5,7 +5,7 @@ use crate::{Calls, Configuration, Judge, Refutation};
 use mesh_pool::{Pool, Value};
 use std::alloc::{AllocError, Global};
 
-/// What the word holds.
+/// The value of the word.
 #[derive(Clone, Copy)]
 struct Word {
     value: u64,
@@ -162,7 +162,7 @@ fn at_most_64_calls_are_pending(rt: HostRuntime) {
     assert_eq!(rt; judge.begin(load(0)).ok(), Some(7));
 }
 
-/// In how many of these configurations the word holds a value.
+/// In how many of these configurations the word has a value.
 fn count_of(configurations: &Pool<Configuration<Word>>, value: u64) -> usize {
     let mut count: usize = 0;
     for number in 0..configurations.len() {
@@ -238,7 +238,7 @@ fn is_time(calls: &[Timed], done: &[bool; 6], began: usize) -> bool {
     true
 }
 
-/// What the word holds after an access, `None` if a load would find another value.
+/// The value of the word after an access. `None` if a load would find another value.
 fn behind(value: u64, access: Access) -> Option<u64> {
     if access.stores || access.value == value {
         Some(access.value)
@@ -247,8 +247,8 @@ fn behind(value: u64, access: Access) -> Option<u64> {
     }
 }
 
-/// Whether the calls that had no effect yet can have theirs in some order, where the word holds this value: each one
-/// that ended, and as many of the others as there are steps for.
+/// Whether the calls without an effect so far can have theirs in some order, starting from this value of the word: each
+/// one that ended, and any of the others, in at most `steps` steps.
 fn has_order(calls: &[Timed], done: &[bool; 6], value: u64, steps: u8) -> bool {
     if is_finished(calls, done) {
         return true;

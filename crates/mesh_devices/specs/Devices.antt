@@ -2,12 +2,12 @@
 use Rattle.std.specs.Prelude.{◌&&◌, ◌||◌, ◌==◌, ℕ, Bool, true, Result, Ok, Err, nat_lt}
 use Rattle.mesh_devices.specs.declared.devices.Device.{Device}
 
--- a read into so much room failed, or told of more bytes than there was room for
+-- a read into a buffer of size `room` failed, or reported more bytes than that
 abbrev pub is_read_fault : {E : Type 0} → Result ℕ E → ℕ → Bool
 is_read_fault (Ok count) room = nat_lt room count
 is_read_fault (Err e) room = true
 
--- a write of so many bytes failed, took none of some, or told of more than there were
+-- a write of `len` bytes failed, took none of some bytes, or reported more than there were
 abbrev pub is_write_fault : {E : Type 0} → Result ℕ E → ℕ → Bool
 is_write_fault (Ok count) len = nat_lt len count || (count == 0 && nat_lt 0 len)
 is_write_fault (Err e) len = true

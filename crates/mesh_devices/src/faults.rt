@@ -11,16 +11,17 @@ use thiserror::Error;
 /// Why a replay stopped before the end of its plan's answers.
 #[derive(Clone, Copy, Debug, PartialEq, Eq, Error)]
 pub enum ReplayError {
-    /// The input failed, or answered more bytes than there was room for. Nothing was written.
+    /// The input failed, or returned more bytes than there was room for. Nothing was written.
     #[error("read fault")]
     Read,
-    /// The output failed, or took none of some bytes, or more than there were. A beginning of the answers was written.
+    /// The output failed, took none of some bytes, or took more than there were. A beginning of the answers was
+    /// written.
     #[error("write fault")]
     Write,
-    /// Memory was refused. The lines of a beginning of the plan were written, and never a part of a line.
+    /// An allocation failed. The lines of a beginning of the plan were written, and never a part of a line.
     #[error("out of memory")]
     Memory,
-    /// The text of the job has a fault; this is its first. Nothing was written.
+    /// The text of the job has a fault; this is the first one. Nothing was written.
     #[error("{0}")]
     Text(TextFault),
 }

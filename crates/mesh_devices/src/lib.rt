@@ -1,8 +1,9 @@
-//! The devices of a run, which bytes are read from and written to, and why a run over them stops.
+//! The devices of a run, from which bytes are read and to which bytes are written, and why a run over them stops.
 //!
-//! A `Source` and a `Sink` are what a contract sees of a device: what it has left or what it took, as far as that is known, and whether one of its calls
-//! has failed. `read_some` is one call, `read_all` and `write_all` are as many as it takes. `ReplayError` is why a run that reads a text from one device and writes to another
-//! stops before its end.
+//! `Source` and `Sink` are what a contract sees of a device: the bytes that it has left or that it took, if they are
+//! known, and whether one of its calls has failed. `read_some` is one call; `read_all` and `write_all` make all the
+//! calls that they need. `ReplayError` is why a run that reads a text from one device and writes to another stops
+//! before its end.
 #![tactic(auto)]
 
 mod devices;

@@ -1,4 +1,4 @@
-//! Texts that are read to the end of their device.
+//! Reads texts to the end of their device.
 ghost use Rattle.std.specs.Prelude.{◌≡◌, ◌≤◌, false, true, Err, IfOk, OnOk, length, vec_len};
 ghost use Rattle.mesh_devices.specs.declared.faults.ReplayError.{ReplayError};
 ghost use Rattle.mesh_devices.specs.Transfer.{HasReadAll};
@@ -9,7 +9,7 @@ use std::alloc::{AllocError, Global};
 /// The most bytes of one read.
 const READ_BYTES: usize = 16_384;
 
-/// All that the input gives.
+/// Reads the input to its end.
 ///
 /// The error is `Read` if the input failed, and `Memory` if an allocation failed.
 pub fn read_all<I: Source>(alloc: Global, input: &mut I) -> Result<Vec<u8>, ReplayError>
@@ -22,14 +22,14 @@ pub fn read_all<I: Source>(alloc: Global, input: &mut I) -> Result<Vec<u8>, Repl
     read_into(alloc, input, &mut room)
 }
 
-/// Room for the bytes of one read.
+/// A buffer for the bytes of one read.
 fn room_to_read(alloc: Global) -> Result<Vec<u8>, AllocError>
     ensures { IfOk result (λ room. vec_len room ≡ 16384) }
 {
     vec![in alloc; 0; READ_BYTES]
 }
 
-/// All that the input gives, by reads into this room.
+/// Reads the input to its end, through this buffer.
 fn read_into<I: Source>(
     alloc: Global,
     input: &mut I,

@@ -1,15 +1,16 @@
-//! Calls of a device, one by one, and whole texts by as many calls as they take.
+//! Single calls of a device, and whole texts in all the calls that they need.
 ghost use Rattle.std.specs.Prelude.{◌≡◌, ◌<◌, ◌≤◌, ◌||◌, false, length, take, is_err, IfOk, IfErr, OnOk, OnErr};
 ghost use Rattle.std.specs.Io.KnownBytes.{Appends, Consumes, IsAtEnd};
 ghost use Rattle.mesh_devices.specs.Transfer.{AppendsBeginning};
 
 use crate::{DeviceFault, ReplayError, Sink, Source};
 
-/// How many bytes one call read into the front of `buf`.
+/// Makes one call that reads into the front of `buf`. Returns how many bytes it read.
 pub fn read_some<I: Source>(input: &mut I, buf: &mut [u8]) -> Result<usize, ReplayError>
     requires { I.has_failed input.old ≡ false }
     ensures within { IfOk result (λ count. count ≤ length buf.new) }
-    ensures bytes { IfOk result (λ count. Consumes (I.remaining input.old) (I.remaining input.new) (take count buf.new)) }
+    ensures bytes { IfOk result
+        (λ count. Consumes (I.remaining input.old) (I.remaining input.new) (take count buf.new)) }
     ensures end { IfOk result (λ count. count ≡ 0 → 0 < length buf.new → IsAtEnd (I.remaining input.new)) }
     ensures fault { IfErr result (λ error. error ≡ ReplayError.Read) }
     ensures fails { I.has_failed input.new ≡ is_err result }
@@ -21,7 +22,7 @@ pub fn read_some<I: Source>(input: &mut I, buf: &mut [u8]) -> Result<usize, Repl
     }
 }
 
-/// Writes all the bytes, by as many calls as it takes. Where a call fails, a beginning of them was written.
+/// Writes all the bytes, in all the calls that it takes. If a call fails, a beginning of the bytes was written.
 pub fn write_all<O: Sink>(output: &mut O, bytes: &[u8]) -> Result<(), DeviceFault>
     ensures ok { OnOk result (Appends (O.written output.old) (O.written output.new) bytes.now) }
     ensures err { OnErr result (AppendsBeginning (O.written output.old) (O.written output.new) bytes.now) }
@@ -34,7 +35,7 @@ pub fn write_all<O: Sink>(output: &mut O, bytes: &[u8]) -> Result<(), DeviceFaul
     Ok(())
 }
 
-/// Writes lines of text. Write comes where the output failed, and then a beginning of them was written.
+/// Writes lines of text. The error is `Write` if the output failed; then a beginning of the lines was written.
 pub fn write_lines<O: Sink>(output: &mut O, lines: &[u8]) -> Result<(), ReplayError>
     requires { O.has_failed output.old ≡ false }
     ensures ok { OnOk result (Appends (O.written output.old) (O.written output.new) lines.now) }
@@ -45,7 +46,7 @@ pub fn write_lines<O: Sink>(output: &mut O, lines: &[u8]) -> Result<(), ReplayEr
     write_all(output, lines).map_err(|_| ReplayError::Write)
 }
 
-/// How many of some bytes one call took.
+/// Makes one call that writes bytes. Returns how many it took.
 fn write_some<O: Sink>(output: &mut O, bytes: &[u8]) -> Result<usize, DeviceFault>
     requires { 0 < length bytes.now }
     ensures some { IfOk result (λ count. 0 < count) }

@@ -14,7 +14,8 @@ attempt_text worker (Some command) = codes "worker" ++ number_field worker ++ co
 abbrev pub next_command : State → ℕ → Option Command
 next_command state worker = slice_get (slice_index_or state.scripts worker []) 0
 
--- of a line where a job stands: of a worker's the attempt, of any other the line itself, as a job file has it
+-- the caption of a line in a job's state: for a worker's line the attempt, for any other the line itself, as in a job
+-- file
 abbrev pub caption_text : State → Line → List ℕ
 caption_text state (RunWorker worker) = attempt_text worker (next_command state worker)
 caption_text state (PairClass class t words) = line_text (PairClass class t words)

@@ -9,7 +9,8 @@ use Rattle.mesh_text.specs.Replay.{HasFound}
 use Rattle.mesh_devices.specs.declared.faults.ReplayError.{ReplayError}
 use Rattle.mesh_devices.specs.declared.faults.ReplayError.TheVariants.{Read, Write, Text, Memory}
 
--- what was read and written, by the error: nothing was written where the input failed, or where its text, which was read, has this fault
+-- what was read and written, by the error: nothing was written where the input failed, or where its text, which was
+-- read, has this fault
 abbrev pub HasNotDrawn : Option (List ℕ) → Option (List ℕ) → Option (List ℕ) → Option (List ℕ) → ReplayError → Type 0
 HasNotDrawn left left' written written' Read = Keeps written written'
 HasNotDrawn left left' written written' Write = Unit {0}

@@ -9,7 +9,8 @@ use Rattle.mesh_draw.specs.Captions.{IsCaption}
 use Rattle.mesh_draw.specs.Frames.{IsFrame}
 use Rattle.mesh_picture.specs.declared.frame.Frame.{Frame}
 
--- what there is to show once so many lines of the plan are played: what is said of the last of them, the answer to it, and the heap where the job stands then
+-- what to show after a number of lines of the plan: the caption of the last of them, the answer to it, and the heap in
+-- the job's state then
 pub record IsPoint (job : Job) (played : ℕ) (words answer : List ℕ) (frame : Frame) : Type 0 where
   pub book : Book
   pub places : List ℕ

@@ -1,4 +1,4 @@
-//! The two painters of a picture: one that measures it, and one that draws it.
+//! The two painters of a picture: one measures it, and the other draws it.
 ghost use Rattle.std.specs.Prelude.{◌≡◌, [], IfOk, IfSome, Some, codes, false, length};
 ghost use Rattle.mesh_draw.specs.Painters.{next_drawn, next_measured};
 ghost use Rattle.mesh_svg.specs.Begins.{Begins};
@@ -11,14 +11,14 @@ use mesh_picture::{Drawn, Header, Measure, Picture, Text};
 use model_words::Version;
 use std::alloc::{AllocError, Global};
 
-/// The painter that learns how large a picture is. It draws nothing.
+/// The painter that measures how large a picture is. It draws nothing.
 #[derive(Drop)]
 pub(crate) struct Measuring {
     measure: Measure,
 }
 
 impl Measuring {
-    /// One that is shown the point behind line `from` next.
+    /// Creates a painter whose next point is the one after line `from`.
     pub fn new(alloc: Global, from: usize) -> Measuring
         ensures { next_measured result ≡ from }
     {
@@ -27,14 +27,15 @@ impl Measuring {
         }
     }
 
-    /// The number of the line that it is shown next.
+    /// The number of the line whose point it takes next.
     pub fn next_line(&self) -> usize
         ensures { result ≡ next_measured self.now }
     {
         self.measure.next_line()
     }
 
-    /// The picture of a job that was measured, before its first point, which is the one behind line `first`. An error is an allocation failure.
+    /// The picture of the measured job, before its first point, which is the one after line `first`. An error is an
+    /// allocation failure.
     pub fn picture(
         self,
         alloc: Global,
@@ -57,7 +58,7 @@ impl Measuring {
     }
 }
 
-/// What a job's header says.
+/// The data of a job's header.
 fn header_of(job: &Job) -> Header {
     let version = match job.version {
         Version::One => 1,
@@ -85,7 +86,7 @@ pub(crate) struct Drawing {
 }
 
 impl Drawing {
-    /// One that draws this picture. What stands before the first frame is added to `text`.
+    /// Creates a painter that draws this picture. The text before the first frame is added to `text`.
     pub fn new(picture: Picture, text: &mut Text) -> Drawing
         ensures next { next_drawn result ≡ picture }
         ensures begins { text.old ≡ Some [] → IfSome text.new (Begins (codes "<svg")) }
@@ -94,14 +95,14 @@ impl Drawing {
         Drawing { picture }
     }
 
-    /// The number of the line that it is shown next.
+    /// The number of the line whose point it takes next.
     pub fn next_line(&self) -> usize
         ensures { result ≡ next_drawn self.now }
     {
         self.picture.next_line()
     }
 
-    /// Adds what stands behind the last point. An error is an allocation failure.
+    /// Adds the text after the last point. An error is an allocation failure.
     pub fn end(&self, text: &mut Text) -> Result<(), AllocError> {
         self.picture.end(text)
     }
@@ -115,7 +116,7 @@ impl Painter for Drawing {
     }
 }
 
-/// What takes in whatever a painter draws that only measures: nothing of it is kept.
+/// A sink for the drawing of a painter that only measures: it keeps nothing.
 #[derive(Drop)]
 pub(crate) struct Nowhere;
 

@@ -14,13 +14,14 @@ use mesh_picture::{Frame, Line, Text};
 use mesh_text::{Turns, add_command, add_decimal, add_plan_line};
 use std::alloc::{AllocError, Global};
 
-/// No plan has more lines: a job file has 1 MiB at most.
+/// No plan has more lines: a job file has at most 1 MiB.
 pub(crate) const MAX_LINES: usize = 1_048_576;
 
-/// How many bytes of a picture are gathered before they are written.
+/// How many bytes of a picture are buffered before they are written.
 const CHUNK_BYTES: usize = 8192;
 
-/// What there is to show behind a line of a job's plan: the line with its answer as a replay tells it, and what the heap shows then.
+/// What to show after a line of a job's plan: the line with its answer as a replay prints it, and the heap at that
+/// point.
 #[derive(Clone, Copy)]
 pub(crate) struct Point<'a> {
     pub job: &'a Job,
@@ -28,23 +29,24 @@ pub(crate) struct Point<'a> {
     pub frame: &'a Frame,
 }
 
-/// Whoever is shown the points of a plan.
+/// A consumer of the points of a plan.
 pub(crate) trait Painter {
-    /// The number of the line that it is shown next.
+    /// The number of the line whose point it takes next.
     ghost next: { Self → ℕ };
 
-    /// Takes the point behind the next line. What is drawn of it is added to `text`. An error is an allocation failure.
+    /// Takes the point after the next line, and adds the drawing of it to `text`. An error is an allocation failure.
     fn point(&mut self, point: &Point<'_>, text: &mut Text) -> Result<(), AllocError>
         requires few { point.now.line.now.number ≤ 1048576 }
         requires next { point.now.line.now.number ≡ next self.old }
-        requires shown { IsPoint point.now.job.now point.now.line.now.number point.now.line.now.words.now point.now.line.now.answer.now point.now.frame.now }
+        requires shown { IsPoint point.now.job.now point.now.line.now.number
+            point.now.line.now.words.now point.now.line.now.answer.now point.now.frame.now }
         ensures { OnOk result (next self.new ≡ next self.old + 1) };
 }
 
-/// Plays a job's plan up to the line of the number `to`, and shows each point from the one behind line `from` on to a painter. What it
-/// draws is written in pieces.
+/// Plays a job's plan up to line number `to`, and passes each point from the one after line `from` on to a painter. The
+/// drawing is written in pieces.
 ///
-/// Memory comes where memory was refused, and Write where the output failed.
+/// The error is Memory if an allocation failed, and Write if the output failed.
 pub(crate) fn show_points<P: Painter, O: Sink>(
     alloc: Global,
     job: &Job,
@@ -78,14 +80,15 @@ pub(crate) fn show_points<P: Painter, O: Sink>(
     Ok(())
 }
 
-/// How many lines of a job's plan have no number above `to`.
+/// How many lines of a job's plan have a number of at most `to`.
 fn lines_up_to(job: &Job, to: usize) -> usize
     ensures { result ≡ min to (length job.now.plan) }
 {
     to.min(job.plan.lines().len())
 }
 
-/// Plays the line of a plan at a place, counted from 0, and shows the point behind it, unless it is before line `from`.
+/// Plays the line of a plan at a place, counted from 0, and passes the point after it to the painter, unless it is
+/// before line `from`.
 fn show_point<P: Painter>(
     alloc: Global,
     job: &Job,
@@ -124,8 +127,8 @@ fn show_point<P: Painter>(
     painter.point(&point, text)
 }
 
-/// What a picture says of the line of a plan at a place, counted from 0: of a worker's line the command that it attempts. An error is an allocation
-/// failure.
+/// The caption of the line of a plan at a place, counted from 0. For a worker's line it includes the attempted command.
+/// An error is an allocation failure.
 fn caption_at(alloc: Global, job: &Job, turns: &Turns, place: usize) -> Result<Vec<u8>, AllocError>
     requires within { place < length job.now.plan }
     requires stands { StandsBehind job.now place turns.now }
@@ -161,14 +164,17 @@ fn add_attempt(text: &mut Vec<u8>, worker: u32, command: Option<Command>) -> Res
     }
 }
 
-/// Writes what is gathered of a picture, and keeps none of it. Memory comes only where it was refused for the text; then nothing was written.
+/// Writes the buffered text of a picture, and empties the buffer. Memory comes only if an allocation for the text
+/// failed; then nothing was written.
 pub(crate) fn write_out<O: Sink>(output: &mut O, text: &mut Text) -> Result<(), ReplayError>
     requires { O.has_failed output.old ≡ false }
-    ensures wrote { OnOk result (IsSomeAnd text.old (λ bytes. Appends (O.written output.old) (O.written output.new) bytes)) }
+    ensures wrote { OnOk result
+        (IsSomeAnd text.old (λ bytes. Appends (O.written output.old) (O.written output.new) bytes)) }
     ensures emptied { OnOk result (text.new ≡ Some []) }
     ensures ok { OnOk result (O.has_failed output.new ≡ false) }
     ensures write { result ≡ Err ReplayError.Write → O.has_failed output.new ≡ true }
-    ensures begun { result ≡ Err ReplayError.Write → IsSomeAnd text.old (λ bytes. AppendsBeginning (O.written output.old) (O.written output.new) bytes) }
+    ensures begun { result ≡ Err ReplayError.Write
+        → IsSomeAnd text.old (λ bytes. AppendsBeginning (O.written output.old) (O.written output.new) bytes) }
     ensures memory { result ≡ Err ReplayError.Memory → (text.old ≡ None) × (O.has_failed output.new ≡ false) }
     ensures kinds { IfErr result (λ error. (error ≡ ReplayError.Write) ⊎ (error ≡ ReplayError.Memory)) }
 {

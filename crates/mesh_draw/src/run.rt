@@ -12,24 +12,24 @@ use mesh_picture::{Picture, Text};
 use mesh_text::{Job, read_job};
 use std::alloc::Global;
 
-/// What a picture is asked to show, and how.
+/// What a picture shows, and how.
 #[derive(Clone, Copy)]
 pub struct DrawOptions<'a> {
-    /// What stands above the picture: the name of the job file.
+    /// The title above the picture: the name of the job file.
     pub title: &'a str,
     /// The number of the first line of the plan whose point is shown, counted from 1.
     pub from: u32,
-    /// The number of the last one. Lines past the plan's end are none.
+    /// The number of the last one. Lines past the plan's end are ignored.
     pub to: u32,
-    /// How many frames stand side by side, 0 for as many as fit.
+    /// How many frames are side by side. 0 means the number that fits.
     pub columns: u32,
 }
 
-/// Draws the job of the file that the input gives, as one SVG file.
+/// Reads a job file from the input and draws the job as one SVG file.
 ///
-/// The plan is played twice: once to learn how large the picture is, and once to draw it, in pieces as its frames come. Read comes where
-/// the input failed, and Text where what was read is no job file; nothing was written then. Memory comes where memory was refused, and
-/// Write where the output failed.
+/// The plan is played twice: once to measure the picture, and once to draw it, in pieces as its frames come. The error
+/// is Read if the input failed, and Text if the input is no job file; nothing was written then. It is Memory if an
+/// allocation failed, and Write if the output failed.
 pub fn draw<I: Source, O: Sink>(
     alloc: Global,
     input: &mut I,
@@ -39,7 +39,8 @@ pub fn draw<I: Source, O: Sink>(
     requires input { I.has_failed input.old ≡ false }
     requires output { O.has_failed output.old ≡ false }
     ensures ok { OnOk result ((I.has_failed input.new ≡ false) × (O.has_failed output.new ≡ false)) }
-    ensures none { IfErr result (HasNotDrawn (I.remaining input.old) (I.remaining input.new) (O.written output.old) (O.written output.new)) }
+    ensures none { IfErr result
+        (HasNotDrawn (I.remaining input.old) (I.remaining input.new) (O.written output.old) (O.written output.new)) }
     ensures drawn { OnOk result (HasDrawn (O.written output.old) (O.written output.new)) }
     ensures read { result ≡ Err ReplayError.Read → I.has_failed input.new ≡ true }
     ensures write { result ≡ Err ReplayError.Write → O.has_failed output.new ≡ true }
@@ -51,14 +52,14 @@ pub fn draw<I: Source, O: Sink>(
     Ok(())
 }
 
-/// The numbers of the lines that the two painters would have been shown next.
+/// The numbers of the lines whose points the two painters would take next.
 #[derive(Clone, Copy)]
 struct Shown {
     measured: usize,
     drawn: usize,
 }
 
-/// Where a picture was drawn, both painters were shown each point that its options ask for.
+/// When a picture was drawn, both painters took each point that its options ask for.
 fn all_shown(job: &Job, options: &DrawOptions<'_>, shown: &Shown)
     requires { AreShown job.now options.now.from options.now.to shown.now }
 {}
@@ -87,7 +88,7 @@ fn paint<O: Sink>(
     Ok(Shown { measured, drawn })
 }
 
-/// The painter that was shown each point behind the lines `from` to `to`, and measured them.
+/// Returns the painter that took and measured each point after the lines `from` to `to`.
 fn measured(alloc: Global, job: &Job, from: usize, to: usize) -> Result<Measuring, ReplayError>
     requires some { 1 ≤ from }
     requires few { to ≤ 1048576 }
@@ -108,7 +109,7 @@ fn measured(alloc: Global, job: &Job, from: usize, to: usize) -> Result<Measurin
     Ok(measuring)
 }
 
-/// Draws the points behind the lines `from` to `to`, and gives the number of the line that would have been shown next.
+/// Draws the points after the lines `from` to `to`. Returns the number of the line whose point would come next.
 fn draw_all<O: Sink>(
     alloc: Global,
     job: &Job,

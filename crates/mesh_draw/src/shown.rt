@@ -1,4 +1,4 @@
-//! A frame, read off a heap.
+//! Reads a frame from a heap.
 ghost use Rattle.std.specs.Prelude.{◌≡◌, ◌<◌, ◌≤◌, ◌++◌, IfOk, IfSome, OnOk, length, slice_get};
 ghost use Rattle.std.specs.Option.{option_map};
 ghost use Rattle.model_heap.specs.Table.{report_of};
@@ -10,13 +10,13 @@ use mesh_picture::{Counts, Frame, Home, Mapping, Member, Object, RunningMesh};
 use mesh_steps::Heap;
 use std::alloc::{AllocError, Global};
 
-/// How many members a group has at most.
+/// The most members of a group.
 const MAX_MEMBERS: usize = 8;
 
-/// How many meshes run at most.
+/// The most meshes that run at once.
 const MAX_MESHES: usize = 10;
 
-/// What a picture shows of a heap. An error is an allocation failure.
+/// The frame of a heap: what a picture shows of it. An error is an allocation failure.
 pub fn frame_of(alloc: Global, heap: &Heap) -> Result<Frame, AllocError>
     ensures { IfOk result (IsFrame heap.now) }
 {
@@ -34,7 +34,7 @@ pub fn frame_of(alloc: Global, heap: &Heap) -> Result<Frame, AllocError>
     Ok(frame)
 }
 
-/// Adds what a group shows, where there is one.
+/// Adds the contents of a group, if it exists.
 fn add_group(frame: &mut Frame, heap: &Heap, group: u32) -> Result<(), AllocError>
     ensures { OnOk result (AddsGroup heap.now group frame.old frame.new) }
 {
@@ -74,7 +74,7 @@ fn member_at(heap: &Heap, group: u32, class: Class, place: usize) -> Option<Memb
     })
 }
 
-/// Adds where the pages of a group's members lead.
+/// Adds the mappings of the pages of a group's members.
 fn add_leads(
     rows: &mut Vec<Mapping>,
     heap: &Heap,
@@ -89,7 +89,7 @@ fn add_leads(
     Ok(())
 }
 
-/// Adds where the pages of a member lead, where there is one.
+/// Adds the mappings of the pages of a member, if it exists.
 fn add_member_leads(
     rows: &mut Vec<Mapping>,
     heap: &Heap,
@@ -123,7 +123,7 @@ fn add_objects(
     Ok(())
 }
 
-/// Adds the objects of the member of a group at a place, where there is one.
+/// Adds the objects of the member at a place of a group, if it exists.
 fn add_member_objects(
     rows: &mut Vec<Object>,
     heap: &Heap,
@@ -131,7 +131,9 @@ fn add_member_objects(
     class: Class,
     place: usize,
 ) -> Result<(), AllocError>
-    ensures { OnOk result (rows.new.items ≡ rows.old.items ++ listing (first_in heap.now group place) (objects_of_member heap.now group class place)) }
+    ensures { OnOk result
+        (rows.new.items ≡ rows.old.items
+        ++ listing (first_in heap.now group place) (objects_of_member heap.now group class place)) }
 {
     let Some(first) = heap.member(group, place) else {
         return Ok(());
@@ -142,7 +144,7 @@ fn add_member_objects(
     Ok(())
 }
 
-/// The object in a slot of the member of a group at a place, which begins at this virtual page.
+/// The object in a slot of the member at a place of a group. The member begins at virtual page `member`.
 fn object_at(heap: &Heap, group: u32, place: usize, member: u32, slot: u32) -> Option<Object>
     ensures { result ≡ object_row heap.now group place member slot }
 {
@@ -165,7 +167,7 @@ fn add_homes(rows: &mut Vec<Home>, heap: &Heap, group: u32, class: Class) -> Res
     Ok(())
 }
 
-/// The physical page of a group at a place.
+/// The physical page at a place of a group.
 fn home_at(heap: &Heap, group: u32, place: u32) -> Option<Home>
     ensures { result ≡ home_row heap.now group place }
 {
@@ -202,7 +204,7 @@ fn mesh_at(heap: &Heap, place: usize) -> Option<RunningMesh>
     })
 }
 
-/// How many pages a heap has.
+/// The page counts of a heap.
 fn counts_of(heap: &Heap) -> Counts
     ensures { result ≡ counts_row (report_of (length (arena_of heap.now)) (table_of heap.now)) }
 {
@@ -214,7 +216,7 @@ fn counts_of(heap: &Heap) -> Counts
     }
 }
 
-/// Adds a row, where there is one.
+/// Adds a row, if there is one.
 fn add<T: Drop>(rows: &mut Vec<T>, row: Option<T>) -> Result<(), AllocError>
     ensures { OnOk result (rows.new.items ≡ rows.old.items ++ listed row) }
 {

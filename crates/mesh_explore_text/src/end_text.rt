@@ -1,4 +1,4 @@
-//! How an outcome's plan ends, as text.
+//! The text about how an outcome's plan ends.
 ghost use Rattle.std.specs.Prelude.{◌<◌, length};
 
 use crate::job_lines::command_line;
@@ -11,8 +11,8 @@ use mesh_job::Job;
 use mesh_text::add_decimal;
 use std::alloc::{AllocError, Global};
 
-/// Adds the line of a state at which no move is left: where each mesh stands, and why each worker with commands left
-/// does not go on. An error is an allocation failure, here and below.
+/// Adds the lines of a state in which no move is left: the progress of each mesh, and why each worker with commands
+/// left does not go on. An error of this function or of those below is an allocation failure.
 pub(crate) fn add_end(
     alloc: Global,
     text: &mut Vec<u8>,
@@ -29,7 +29,7 @@ pub(crate) fn add_end(
     text.extend_from_slice(b"\n")
 }
 
-/// Adds where a mesh stands.
+/// Adds the progress of a mesh.
 fn add_mesh(text: &mut Vec<u8>, state: &StateAt<'_>, mesher: usize) -> Result<(), AllocError> {
     let Some(pair) = pair_of(state, mesher) else {
         return Ok(());

@@ -1,12 +1,12 @@
-//! At which line of a job file a command stands.
+//! The line numbers of commands in a job file.
 ghost use Rattle.std.specs.Prelude.{◌<◌, length};
 
 use mesh_job::Job;
 
-/// The line of a job file at which its first worker's part begins, counted from 1.
+/// The line of a job file, counted from 1, at which the lines of the first worker begin.
 const FIRST_WORKER_LINE: u64 = 5;
 
-/// The line of a worker's command, counted from 1, by the command's place in its script.
+/// Returns the line number, counted from 1, of the command at this place in the worker's script.
 pub(crate) fn command_line(job: &Job, worker: u32, place: usize) -> u64
     requires { worker < length job.now.scripts }
 {

@@ -1,12 +1,17 @@
 //! What an exploration reports: its answers and outcomes as values, and as text from a job's file.
 //!
-//! What was reached is gathered into a listing, which is proved to have all of that and nothing else (`listing`, of
-//! `notes`, `outcomes` and `ends`; `phase` is the phase of a mesh). `explore` reads a job, explores what its plan
-//! leaves and writes that listing, and `summary` is the text of one: of each command its answers, and of each answer
-//! the phases of the meshes in which it comes (`answer_text`, `ranges`); and of all workers together the outcomes
-//! (`told_text`), each with the moves that lead to it (`outcome_text`) and how these end (`end_text`). A job file that
-//! leads to an outcome is the job with the lines of `lines` behind its plan, and one that ends with an answer in a phase
-//! of a mesh has the line of that command's worker behind these (`shown`). `wanted` says which of these is told.
+//! The reached states are gathered into a listing, which is proved to be complete and to contain nothing else
+//! (`listing`, of `notes`, `outcomes` and `ends`; `phase` is the phase of a mesh). `explore` reads a job, explores what
+//! its plan leaves and writes that listing. `summary` is the text of a listing:
+//!
+//! - for each command its answers, and for each answer the phases of the meshes in which it comes (`answer_text`,
+//!   `ranges`);
+//! - the outcomes of all workers together (`told_text`), each with the moves that lead to it (`outcome_text`) and with
+//!   how these end (`end_text`).
+//!
+//! A job file that leads to an outcome is the job with the lines of `lines` after its plan. A job file that ends with
+//! an answer in a phase of a mesh has one more line, that of the command's worker (`shown`). `wanted` selects which of
+//! these is reported.
 #![tactic(auto)]
 
 mod answer_text;

@@ -1,4 +1,4 @@
-//! What the setting of a state has.
+//! Reads the setting of a state.
 ghost use Rattle.std.specs.Prelude.{◌≡◌, ◌≤◌, length, slice_get};
 
 use mesh_explore::{MeshPair, StateAt};
@@ -19,7 +19,7 @@ pub(crate) fn meshers_of(state: &StateAt<'_>) -> usize
     state.setting().pairs.len()
 }
 
-/// The groups that a mesher meshes. None only where there is no such mesher.
+/// Returns the pair of groups that a mesher meshes. The result is `None` only if there is no such mesher.
 pub(crate) fn pair_of(state: &StateAt<'_>, mesher: usize) -> Option<MeshPair>
     ensures { result ≡ slice_get state.now.setting.pairs mesher }
 {
@@ -33,7 +33,7 @@ pub(crate) fn version_of(state: &StateAt<'_>) -> Version
     state.setting().version()
 }
 
-/// After how many steps each mesh is cancelled, if it is.
+/// Returns the number of steps after which each mesh is cancelled, or `None` if no mesh is cancelled.
 pub(crate) fn cancel_of(state: &StateAt<'_>) -> Option<u32>
     ensures { result ≡ state.now.setting.cancel }
 {

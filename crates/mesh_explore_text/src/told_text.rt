@@ -1,4 +1,4 @@
-//! What the workers were told together, as text.
+//! The text of the workers' joint answers.
 ghost use Rattle.std.specs.Prelude.{◌≡◌, ◌<◌, ◌++◌, ◌∷◌, Some, OnOk, length, slice_get};
 ghost use Rattle.std.specs.List.{flat_map};
 ghost use Rattle.mesh_explore_text.specs.ToldTexts.{next_text, replies_text, told_line, told_text};
@@ -9,8 +9,8 @@ use mesh_text::add_reply;
 use model_words::Reply;
 use std::alloc::AllocError;
 
-/// Adds a line for each worker that was told something: `  worker W: ANSWER | ANSWER ..`. An error is an allocation
-/// failure, here and below.
+/// Adds a line for each worker that got an answer: ` worker W: ANSWER | ANSWER ..`. An error of this function or of
+/// those below is an allocation failure.
 pub fn add_told(text: &mut Vec<u8>, told: &[Told]) -> Result<(), AllocError>
     ensures { OnOk result (text.new.items ≡ text.old.items ++ told_text told.now) }
 {
@@ -20,7 +20,7 @@ pub fn add_told(text: &mut Vec<u8>, told: &[Told]) -> Result<(), AllocError>
     Ok(())
 }
 
-/// What a worker was told.
+/// Returns the answers of a worker.
 fn told_at(told: &[Told], worker: usize) -> &[Reply]
     requires { worker < length told.now }
     ensures { slice_get told.now worker ≡ Some result.now }
@@ -28,7 +28,7 @@ fn told_at(told: &[Told], worker: usize) -> &[Reply]
     told[worker].replies()
 }
 
-/// Adds the line of a worker that was told something, and nothing for another one.
+/// Adds the line of a worker if it got an answer, and nothing otherwise.
 fn add_line(text: &mut Vec<u8>, worker: u64, replies: &[Reply]) -> Result<(), AllocError>
     ensures { OnOk result (text.new.items ≡ text.old.items ++ told_line worker replies.now) }
 {
@@ -43,7 +43,7 @@ fn add_line(text: &mut Vec<u8>, worker: u64, replies: &[Reply]) -> Result<(), Al
     }
 }
 
-/// Adds a reply, and others behind it.
+/// Adds the text of a reply, and then that of the others.
 fn add_replies(text: &mut Vec<u8>, first: &Reply, others: &[Reply]) -> Result<(), AllocError>
     ensures { OnOk result (text.new.items ≡ text.old.items ++ replies_text (first.now ∷ others.now)) }
 {
@@ -51,7 +51,7 @@ fn add_replies(text: &mut Vec<u8>, first: &Reply, others: &[Reply]) -> Result<()
     add_others(text, others)
 }
 
-/// Adds replies behind another one.
+/// Adds the text of replies that follow another reply.
 fn add_others(text: &mut Vec<u8>, others: &[Reply]) -> Result<(), AllocError>
     ensures { OnOk result (text.new.items ≡ text.old.items ++ flat_map next_text others.now) }
 {

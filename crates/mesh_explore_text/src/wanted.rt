@@ -1,13 +1,13 @@
-//! What is asked of an exploration.
+//! What an exploration reports.
 
-/// What is told of an exploration.
+/// The part of an exploration that is reported.
 #[derive(Clone, Copy)]
 pub enum Wanted<'a> {
     /// All answers and outcomes.
     All,
-    /// The outcome of a number, counted from 0, as a job file.
+    /// A job file that leads to the outcome with this number, counted from 0.
     Outcome(u32),
-    /// An answer in a phase of a mesh, as a job file that ends with it.
+    /// A job file that ends with this answer in a phase of a mesh.
     Answer(Shown<'a>),
 }
 
@@ -16,8 +16,9 @@ pub enum Wanted<'a> {
 pub struct Shown<'a> {
     /// The line of the job's file at which the command is, counted from 1.
     pub line: u32,
-    /// The answer, as it is printed: `done`, say, or `blocked`.
+    /// The answer as it is printed, for example `done` or `blocked`.
     pub answer: &'a [u8],
-    /// The phase, as it is printed, of any mesh, or behind `mesh K: ` of the mesh of that number, counted from 0.
+    /// The phase as it is printed. Alone it is a phase of any mesh, and after `mesh K: ` of the mesh with the number K,
+    /// counted from 0.
     pub phase: &'a [u8],
 }

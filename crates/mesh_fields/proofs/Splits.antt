@@ -67,7 +67,8 @@ printable_line (b ∷ bs) more printable =
     let other : nat_eq b 10 ≡ false = ne_eqb b 10 (λ is. omega (arith, is, (between_by_test 32 126 b parts.0).0)) in
     slice_split-cons_no (λ b. nat_eq b 10) b (bs ++ 10 ∷ more) other ∙ ap (onto_first b) (printable_line bs more parts.1)
 
--- a text that begins with a line: it is the line, its end and the rest, and whatever follows the line's end stands behind the line
+-- a text that begins with a line: it is the line, its end and the rest, and whatever follows the line's end stands
+-- behind the line
 pub record IsFirstLine (text line rest : List ℕ) : Type 0 where
   pub whole : text ≡ line ++ 10 ∷ rest
   pub ends : (more : List ℕ) → slice_split (λ b. nat_eq b 10) (line ++ 10 ∷ more) ≡ line ∷ slice_split (λ b. nat_eq b 10) more

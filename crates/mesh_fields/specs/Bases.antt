@@ -1,4 +1,4 @@
--- The digits of a base, and the number that they stand for.
+-- The digits of a base, and the number that they spell.
 use Rattle.std.specs.Prelude.{ℕ, ◌-◌, Bool, if◌then◌else◌, List, Option, Some, None}
 use Rattle.model_jobs.specs.JobFiles.{decimal_value, hex_number, hex_value}
 use Rattle.mesh_fields.specs.Fields.{is_decimal_digit, is_hex_digit}
@@ -20,7 +20,7 @@ abbrev pub digit_value : Base → ℕ → Option ℕ
 digit_value Decimal byte = if is_decimal_digit byte then Some (byte - 48) else None
 digit_value Hex byte = hex_value byte
 
--- the number that digits of the base stand for
+-- the number that digits of the base spell
 abbrev pub value_in : Base → List ℕ → ℕ
 value_in Decimal = decimal_value
 value_in Hex = hex_number

@@ -17,8 +17,8 @@ is_decimal_digit byte = is_between 48 57 byte
 abbrev pub LeadsNoZero : List ℕ → Type 0
 LeadsNoZero digits = (2 ≤ length digits) × (slice_index digits 0 ≡ 48) → ⊥
 
--- a field of hexadecimal digits: it is the one spelling of its number, of a digit and so many more at most, and the number is at most `most`. With 7 and 268435455 it is
--- the address of a job
+-- a field of hexadecimal digits: it is the one spelling of its number, of a digit and so many more at most, and the
+-- number is at most `most`. With 7 and 268435455 it is the address of a job
 abbrev pub hex_in : ℕ → ℕ → List ℕ → Result ℕ FaultKind
 hex_in more most field =
     if are_same (hex_from more (hex_number field)) field && nat_le (hex_number field) most then Ok (hex_number field) else Err Number

@@ -8,7 +8,7 @@ use Rattle.model_words.specs.declared.faults.FaultKind.TheVariants.{Cut, LongLin
 abbrev pub IsUnended : List ℕ → Type 0
 IsUnended bytes = All (λ b. nat_eq b 10 ≡ false) bytes
 
--- of the beginning of a line these bytes are kept: as many as tell that it is too long
+-- of the beginning of a line these bytes are kept: enough to detect that the line is too long
 pub record IsKept (kept begun : List ℕ) : Type 0 where
   pub front : kept ≡ take 1025 begun
   pub unended : IsUnended begun

@@ -19,11 +19,11 @@ text_lines text = slice_split (λ b. nat_eq b 10) text
 abbrev pub line_fields : List ℕ → List (List ℕ)
 line_fields line = slice_split (λ b. nat_eq b 32) line
 
--- the byte may stand in a field
+-- the byte is allowed in a field
 abbrev pub is_field_byte : ℕ → Bool
 is_field_byte byte = is_between 33 126 byte
 
--- a line without its end is short enough, and has no byte that may not stand in one
+-- a line without its end is short enough, and has no byte that isn't allowed in a line
 abbrev pub bytes_fit : List ℕ → Result (Unit {0}) FaultKind
 bytes_fit line = refuse_if LongLine (nat_lt 1024 (length line)) >>= λ _. refuse_if Byte (not (list_all is_printable line))
 

@@ -4,8 +4,8 @@ use Rattle.model_jobs.specs.Texts.{hex_from}
 use Rattle.mesh_fields.specs.declared.bases.Base.{Base}
 use Rattle.mesh_fields.specs.declared.bases.Base.TheVariants.{Decimal, Hex}
 
--- the most digits that are read in one pass: so many decimal ones fit 64 bits, whatever they are, and so many hexadecimal
--- ones has an address of 48 bits
+-- the most digits that are read in one pass: so many decimal ones fit 64 bits, whatever they are, and so many
+-- hexadecimal ones has an address of 48 bits
 abbrev pub most_digits : Base → ℕ
 most_digits Decimal = 19
 most_digits Hex = 12

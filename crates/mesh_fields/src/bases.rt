@@ -37,12 +37,13 @@ impl Base {
         }
     }
 
-    /// The value of digits of the base, where they are nothing else and the value fits 64 bits.
+    /// The value of digits of the base. `None` if another byte is among them, or if the value doesn't fit 64 bits.
     #[inline]
     pub fn value_of(self, digits: &[u8]) -> Option<u64>
         ensures digits { IfSome result (λ value. list_all (is_digit self) digits.now ≡ true) }
         ensures value { IfSome result (λ value. value ≡ value_in self digits.now) }
-        ensures none { IsNone result → (list_all (is_digit self) digits.now ≡ false) ⊎ (2 ^ 64 ≤ value_in self digits.now) }
+        ensures none { IsNone result
+            → (list_all (is_digit self) digits.now ≡ false) ⊎ (2 ^ 64 ≤ value_in self digits.now) }
     {
         let mut value = 0u64;
         for byte in digits {
@@ -64,7 +65,7 @@ fn decimal_digit(byte: u8) -> Option<u8>
     }
 }
 
-/// A number with one more digit at its end, where that fits 64 bits.
+/// A number with one more digit at its end. `None` if it doesn't fit 64 bits.
 #[inline]
 fn with_digit(number: u64, radix: u64, digit: u8) -> Option<u64>
     ensures some { IfSome result (λ longer. longer ≡ number * radix + digit) }

@@ -1,4 +1,4 @@
-//! The commands of lines, those of a job file and those of a recorded history: the fields of each, from left to right.
+//! The commands of lines, in job files and in recorded histories: the fields of each, from left to right.
 ghost use Rattle.std.specs.Prelude.{◌≡◌, ◌≤◌, IfOk};
 ghost use Rattle.model_jobs.specs.JobFiles.{addr_in, alias_in, copy_in, count_in, free_in, get_in, new_in, peek_in, poke_in, put_in, ruled_command_in};
 ghost use Rattle.mesh_fields.specs.Commands.{IsReadAs, most_cell, most_place, most_size, rules_of, wide_in};
@@ -13,28 +13,29 @@ use model_words::{FaultKind, MAX_BYTES, Version};
 /// The greatest cell of a job.
 const MAX_CELL: u32 = 255;
 
-/// The greatest length that a `new` of a job may ask for, and the greatest offset of its other commands.
+/// The greatest length of a `new` in a job, and the greatest offset of its other commands.
 const MAX_LENGTH: u64 = 65_535;
 
-/// The same of a recorded history: 2^47, as addresses go.
+/// The greatest length and offset in a recorded history: 2^47.
 pub const MAX_RECORDED_LENGTH: u64 = 140_737_488_355_328;
 
 /// The most bytes that one command loads or copies.
 const MAX_COUNT: u32 = 32;
 
-/// In which text a command's line stands: it tells the ranges of the line's numbers.
+/// The text that a command's line is in. It determines the ranges of the line's numbers.
 #[derive(Clone, Copy)]
 pub enum Dialect {
-    /// A job file of this version: cells up to 255, lengths and offsets up to 65,535, addresses up to fffffff, and `copy` from version 2 on.
+    /// A job file of this version: cells up to 255, lengths and offsets up to 65,535, addresses up to fffffff, and
+    /// `copy` from version 2 on.
     Job(Version),
     /// A recorded history: cells of 32 bits, lengths and offsets up to 2^47, addresses of 48 bits.
     History,
 }
 
-/// What a command's line asks, as wide as any text spells it.
+/// The command of a line, wide enough for any text.
 ///
-/// A length or an offset is 2^47 at most. An offset counts bytes from the object's start. Of `Put`, `Get` and `Copy` 1
-/// to 32 bytes are stored, loaded or copied. An address has 48 bits at most.
+/// A length or an offset is at most 2^47. An offset counts bytes from the object's start. `Put`, `Get` and `Copy`
+/// store, load or copy 1 to 32 bytes. An address has at most 48 bits.
 #[derive(Drop)]
 pub enum SpeltCommand {
     /// `New(cell, len, word)`: make an object of `len` zero bytes, and store its reference in `cell`.
@@ -53,14 +54,17 @@ pub enum SpeltCommand {
     Peek(u64),
     /// `Poke(addr, byte)`: store a byte at an address.
     Poke(u64, u8),
-    /// `Copy(to, to_off, from, from_off, len)`: copy `len` bytes from offset `from_off` of the object that `from` names to offset `to_off` of
-    /// the one that `to` names. Where the two ranges overlap, each byte is the one that was there before.
+    /// `Copy(to, to_off, from, from_off, len)`: copy `len` bytes from offset `from_off` of the object that `from` names
+    /// to offset `to_off` of the object that `to` names. If the two ranges overlap, each copied byte is the one that
+    /// was there before the copy.
     Copy(u32, u64, u32, u64, u32),
 }
 
-/// The command of a line with this word and these fields. WORD where the text has no such command, or it has another number of fields; else
-/// the leftmost fault: NUMBER where a number or an address is spelt wrongly or out of its range, HEX where bytes are spelt wrongly or of a
-/// wrong length.
+/// Returns the command of a line with this word and these fields.
+///
+/// The error is WORD if the text has no such command, or if it has another number of fields. Otherwise it is the
+/// leftmost fault: NUMBER if a number or an address is misspelt or out of its range, HEX if bytes are misspelt or have
+/// a wrong length.
 pub fn command_of(
     dialect: Dialect,
     word: &[u8],
@@ -91,14 +95,14 @@ pub fn command_of(
     }
 }
 
-/// A cell or a serial of a recorded history, of 32 bits. NUMBER where it is anything else.
+/// Reads a cell or a serial of a recorded history, of 32 bits. The error is NUMBER for anything else.
 pub fn wide(field: &[u8]) -> Result<u32, FaultKind>
     ensures { result ≡ wide_in field.now }
 {
     number32(field, 0, u32::MAX)
 }
 
-/// How many bytes are loaded or copied: 1 to 32. NUMBER where it is anything else.
+/// Reads how many bytes are loaded or copied: 1 to 32. The error is NUMBER for anything else.
 fn count(field: &[u8]) -> Result<u32, FaultKind>
     ensures value { result ≡ count_in field.now }
     ensures some { IfOk result (λ count. 1 ≤ count) }
@@ -118,7 +122,7 @@ impl Dialect {
         }
     }
 
-    /// A root cell. NUMBER where it is anything else.
+    /// Reads a root cell. The error is NUMBER for anything else.
     fn cell(self, field: &[u8]) -> Result<u32, FaultKind>
         ensures value { result ≡ (rules_of self).cell field.now }
         ensures most { IfOk result (λ cell. cell ≤ most_cell self) }
@@ -129,7 +133,7 @@ impl Dialect {
         }
     }
 
-    /// A length or an offset. NUMBER where it is anything else.
+    /// Reads a length or an offset. The error is NUMBER for anything else.
     fn size(self, field: &[u8]) -> Result<u64, FaultKind>
         ensures value { result ≡ (rules_of self).size field.now }
         ensures most { IfOk result (λ size. size ≤ most_size self) }
@@ -140,7 +144,7 @@ impl Dialect {
         }
     }
 
-    /// An address. NUMBER where it is anything else.
+    /// Reads an address. The error is NUMBER for anything else.
     fn place(self, field: &[u8]) -> Result<u64, FaultKind>
         ensures value { result ≡ (rules_of self).place field.now }
         ensures most { IfOk result (λ place. place ≤ most_place self) }

@@ -1,4 +1,4 @@
-//! Fields of hexadecimal digits, which are in lower case.
+//! Fields of hexadecimal digits in lower case.
 ghost use Rattle.std.specs.Prelude.{◌≡◌, ◌<◌, ◌≤◌, ◌^◌, ◌↔◌, ℕ, suc, Ok, Err, IfSome, IfOk, IfErr, IsTrue, length, slice_index};
 ghost use Rattle.arrayvec.specs.ArrayVec.{array_vec_len};
 ghost use Rattle.model_jobs.specs.JobFiles.{address_in, byte_from, byte_in, bytes_in, hex_value};
@@ -14,8 +14,8 @@ const MAX_ADDRESS: u64 = 0xfff_ffff;
 /// The greatest address of 48 bits.
 const MAX_WIDE_ADDRESS: u64 = 0xffff_ffff_ffff;
 
-/// The value of each byte as a hexadecimal digit in lower case, 16 where it is none. The digits of a text fall as they like, so no branch
-/// is to depend on which they are.
+/// The value of each byte as a hexadecimal digit in lower case, or 16 if it is none. The digits of a text are
+/// unpredictable, so reading them must not branch on which digits they are.
 static VALUES: [u8; 256] = [
     16, 16, 16, 16, 16, 16, 16, 16, 16, 16, 16, 16, 16, 16, 16, 16, 16, 16, 16, 16, 16, 16, 16, 16,
     16, 16, 16, 16, 16, 16, 16, 16, 16, 16, 16, 16, 16, 16, 16, 16, 16, 16, 16, 16, 16, 16, 16, 16,
@@ -40,7 +40,7 @@ pub fn digit(byte: u8) -> Option<u8>
     if value < 16 { Some(value) } else { None }
 }
 
-/// The byte of two hexadecimal digits. HEX where one of them is no such digit.
+/// The byte that two hexadecimal digits spell. The error is HEX if one of them is no such digit.
 #[inline]
 pub fn byte_of(high: u8, low: u8) -> Result<u8, FaultKind>
     ensures { result ≡ byte_from high low }
@@ -50,7 +50,7 @@ pub fn byte_of(high: u8, low: u8) -> Result<u8, FaultKind>
     Ok(high * 16 + low)
 }
 
-/// A field of one byte. HEX where it is anything but two hexadecimal digits.
+/// Reads a field of one byte. The error is HEX unless the field is two hexadecimal digits.
 pub fn byte(field: &[u8]) -> Result<u8, FaultKind>
     ensures { result ≡ byte_in field.now }
 {
@@ -60,7 +60,7 @@ pub fn byte(field: &[u8]) -> Result<u8, FaultKind>
     }
 }
 
-/// From 1 to 32 bytes of two hexadecimal digits each. HEX where it is anything else.
+/// Reads 1 to 32 bytes of two hexadecimal digits each. The error is HEX for anything else.
 pub fn bytes(field: &[u8]) -> Result<ArrayVec<u8, MAX_BYTES>, FaultKind>
     ensures ok { IfOk result (λ bytes. bytes_in field.now ≡ Ok bytes.items) }
     ensures err { IfErr result (λ kind. bytes_in field.now ≡ Err kind) }
@@ -84,7 +84,7 @@ pub fn bytes(field: &[u8]) -> Result<ArrayVec<u8, MAX_BYTES>, FaultKind>
     Ok(bytes)
 }
 
-/// An address from 0 to fffffff, without a leading zero. NUMBER where it is anything else.
+/// Reads an address from 0 to fffffff, without a leading zero. The error is NUMBER for anything else.
 pub fn address(field: &[u8]) -> Result<u64, FaultKind>
     ensures value { result ≡ address_in field.now }
     ensures most { IfOk result (λ a. a ≤ 268435455) }
@@ -92,7 +92,7 @@ pub fn address(field: &[u8]) -> Result<u64, FaultKind>
     hex_within(field, MAX_ADDRESS)
 }
 
-/// An address of 48 bits, from 0 to ffffffffffff, without a leading zero. NUMBER where it is anything else.
+/// Reads an address of 48 bits, from 0 to ffffffffffff, without a leading zero. The error is NUMBER for anything else.
 pub fn wide_address(field: &[u8]) -> Result<u64, FaultKind>
     ensures value { result ≡ hex_in 11 281474976710655 field.now }
     ensures most { IfOk result (λ a. a ≤ 281474976710655) }
@@ -100,7 +100,7 @@ pub fn wide_address(field: &[u8]) -> Result<u64, FaultKind>
     hex_within(field, MAX_WIDE_ADDRESS)
 }
 
-/// A field of hexadecimal digits from 0 to `most`, without a leading zero. NUMBER where it is anything else.
+/// Reads a field of hexadecimal digits from 0 to `most`, without a leading zero. The error is NUMBER for anything else.
 fn hex_within(field: &[u8], most: u64) -> Result<u64, FaultKind>
     ensures value { (more : ℕ) → most < 16 ^ suc more → result ≡ hex_in more most field.now }
     ensures most { IfOk result (λ value. value ≤ most) }
@@ -120,7 +120,7 @@ fn hex_within(field: &[u8], most: u64) -> Result<u64, FaultKind>
     Ok(value)
 }
 
-/// Whether some digits begin with a 0 and are more than that.
+/// Whether there are two digits or more, of which the first is 0.
 pub fn has_leading_zero(digits: &[u8]) -> bool
     ensures { IsTrue result ↔ (2 ≤ length digits.now) × (slice_index digits.now 0 ≡ 48) }
 {

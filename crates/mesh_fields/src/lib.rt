@@ -1,8 +1,9 @@
-//! Lines cut into fields, the fields of numbers and of bytes, and the fields of a command.
+//! Splits texts into lines and lines into fields, and reads the fields of numbers, of bytes and of commands.
 //!
-//! A text is cut into lines, each checked for bytes that may not stand in one, and a line into the fields between its single
-//! spaces, its word first. A field of digits is read only where it is the one spelling of its number, and a fault tells why it is
-//! none. Contracts see a text and a field as lists of bytes, and answer what the definitions of job files do.
+//! A text is split into lines, and each line is checked for bytes that aren't allowed. A line is split at single spaces
+//! into its fields, its word first. A field of digits is accepted only if it is the only spelling of its number;
+//! otherwise a fault gives the reason. Contracts see a text and a field as lists of bytes, and results are those of the
+//! definitions of job files.
 #![tactic(auto)]
 
 pub mod bases;

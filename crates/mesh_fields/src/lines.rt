@@ -1,4 +1,4 @@
-//! A text cut into lines, and a line cut into its fields.
+//! Splitting a text into lines, and a line into its fields.
 ghost use Rattle.std.specs.Prelude.{◌≡◌, ◌-◌, ◌<◌, ◌≤◌, ◌⊎◌, ◌∷◌, [], Ok, Err, true, false, ◌++◌, length, take, drop, nat_eq, IfSome, IfOk, IfErr, IsNone, OnOk, OnErr};
 ghost use Rattle.std.specs.List.{list_all, list_any, slice_split};
 ghost use Rattle.model_jobs.specs.JobFiles.{are_same, five_fields, header_in, is_empty, is_printable, no_field, one_field, three_fields, two_fields};
@@ -24,25 +24,27 @@ const FEW_FIELDS: usize = 6;
 /// The fields of a line that asks for no search, its word first.
 pub type FewFields<'a> = ArrayVec<&'a [u8], FEW_FIELDS>;
 
-/// The bytes before the first `at` and the bytes behind it.
+/// The bytes before the first `at` and the bytes after it. `None` if there is no `at`.
 pub fn cut(bytes: &[u8], at: u8) -> Option<(&[u8], &[u8])>
     ensures none { IsNone result → slice_split (λ b. nat_eq b at) bytes.now ≡ bytes.now ∷ [] }
-    ensures some { IfSome result (λ pieces. slice_split (λ b. nat_eq b at) bytes.now ≡ pieces.0.now ∷ slice_split (λ b. nat_eq b at) pieces.1.now) }
+    ensures some { IfSome result
+        (λ pieces. slice_split (λ b. nat_eq b at) bytes.now
+        ≡ pieces.0.now ∷ slice_split (λ b. nat_eq b at) pieces.1.now) }
     ensures shorter { IfSome result (λ pieces. length pieces.1.now < length bytes.now) }
 {
     let place = bytes.iter().position(|byte| *byte == at)?;
     Some((&bytes[..place], &bytes[place + 1..]))
 }
 
-/// Whether the byte may stand in a line.
+/// Whether the byte is allowed in a line.
 fn is_printable(byte: u8) -> bool
     ensures { result ≡ is_printable byte }
 {
     (b' '..=b'~').contains(&byte)
 }
 
-/// That a line, without its end, has bytes that a line may have. LONG_LINE where they are more than 1,024, and BYTE where one of them isn't
-/// from 20 to 7e.
+/// Checks the bytes of a line, without its end. The error is LONG_LINE if there are more than 1,024, and BYTE if one of
+/// them isn't from 20 to 7e.
 pub fn check_bytes(line: &[u8]) -> Result<(), FaultKind>
     ensures { result ≡ bytes_fit line.now }
 {
@@ -55,7 +57,8 @@ pub fn check_bytes(line: &[u8]) -> Result<(), FaultKind>
     Ok(())
 }
 
-/// The fault of the bytes behind the last line end of a text: LONG_LINE where they are more than a line may have, and else CUT.
+/// The fault of the bytes after the last line end of a text: LONG_LINE if there are more than a line may have, and
+/// otherwise CUT.
 pub fn rest_fault(rest: &[u8]) -> FaultKind
     ensures { result ≡ rest_fault rest.now }
 {
@@ -66,11 +69,14 @@ pub fn rest_fault(rest: &[u8]) -> FaultKind
     }
 }
 
-/// The next line without its end, and the bytes behind it. None where the text holds no line end and no more than a line may have.
+/// Returns the next line without its end, and the bytes after it. `None` if the text contains no line end and is no
+/// longer than a line may be.
 ///
-/// LONG_LINE where its first 1,025 bytes hold no line end, and BYTE where one of the line's bytes isn't from 20 to 7e.
+/// The error is LONG_LINE if the first 1,025 bytes contain no line end, and BYTE if one of the line's bytes isn't from
+/// 20 to 7e.
 pub fn next_line(text: &[u8]) -> Result<Option<(&[u8], &[u8])>, FaultKind>
-    ensures lines { IfOk result (λ next. IfSome next (λ pieces. text_lines text.now ≡ pieces.0.now ∷ text_lines pieces.1.now)) }
+    ensures lines { IfOk result
+        (λ next. IfSome next (λ pieces. text_lines text.now ≡ pieces.0.now ∷ text_lines pieces.1.now)) }
     ensures short { IfOk result (λ next. IfSome next (λ pieces. length pieces.0.now ≤ 1024)) }
     ensures printable { IfOk result (λ next. IfSome next (λ pieces. list_all is_printable pieces.0.now ≡ true)) }
     ensures shorter { IfOk result (λ next. IfSome next (λ pieces. length pieces.1.now < length text.now)) }
@@ -88,8 +94,8 @@ pub fn next_line(text: &[u8]) -> Result<Option<(&[u8], &[u8])>, FaultKind>
     Ok(Some((line, rest)))
 }
 
-/// Splits the next line of a text into its fields, its word first, and gives the bytes behind it: one scan for the lines that most
-/// texts have. None where the line has a fault, an empty field or more than `FEW_FIELDS` fields.
+/// Splits the next line of a text into its fields, its word first, and returns the bytes after it. It is a single scan
+/// for the most common lines. `None` if the line has a fault, an empty field or more than `FEW_FIELDS` fields.
 pub fn few_fields<'a>(text: &'a [u8], fields: &mut FewFields<'a>) -> Option<&'a [u8]>
     requires { fields.old.items ≡ [] }
     ensures split { IfSome result (λ rest. IsSplit text.now (texts fields.new.items) rest.now) }
@@ -117,7 +123,7 @@ pub fn few_fields<'a>(text: &'a [u8], fields: &mut FewFields<'a>) -> Option<&'a 
     None
 }
 
-/// The first place from `start` on whose byte may stand in no field, or else `most`.
+/// The first place from `start` on whose byte isn't allowed in a field, or `most` if there is none.
 #[inline(never)]
 fn field_end(text: &[u8], start: usize, most: usize) -> usize
     requires start { start ≤ most }
@@ -133,19 +139,21 @@ fn field_end(text: &[u8], start: usize, most: usize) -> usize
     place
 }
 
-/// Whether the byte may stand in a field.
+/// Whether the byte is allowed in a field.
 fn is_field_byte(byte: u8) -> bool
     ensures { result ≡ is_field_byte byte }
 {
     (b'!'..=b'~').contains(&byte)
 }
 
-/// The fields between the single spaces of a line. WORD where one of them is empty, or where they are too many for any line.
+/// Returns the fields between the single spaces of a line. The error is WORD if one of them is empty, or if there are
+/// too many for any line.
 pub fn fields_of(line: &[u8]) -> Result<Fields<'_>, FaultKind>
     ensures fields { IfOk result (λ fields. texts fields.items ≡ line_fields line.now) }
     ensures filled { OnOk result (list_any is_empty (line_fields line.now) ≡ false) }
     ensures kind { IfErr result (λ kind. kind ≡ FaultKind.Word) }
-    ensures err { OnErr result ((list_any is_empty (line_fields line.now) ≡ true) ⊎ (35 < length (line_fields line.now))) }
+    ensures err { OnErr result
+        ((list_any is_empty (line_fields line.now) ≡ true) ⊎ (35 < length (line_fields line.now))) }
 {
     let mut fields = Fields::new();
     let mut rest = line;
@@ -157,7 +165,7 @@ pub fn fields_of(line: &[u8]) -> Result<Fields<'_>, FaultKind>
     Ok(fields)
 }
 
-/// Adds a field that isn't empty, where there is room. WORD where it is empty or there is no room.
+/// Appends a field. The error is WORD if the field is empty or there is no room.
 fn add_field<'a, const MOST: usize>(
     fields: &mut ArrayVec<&'a [u8], MOST>,
     field: &'a [u8],
@@ -180,7 +188,7 @@ pub fn is_word(word: &[u8], wanted: &[u8]) -> bool
     word == wanted
 }
 
-/// The one field behind a line's word. WORD where there are more or none.
+/// Returns the only field after a line's word. The error is WORD if there is another number of fields.
 pub fn one_field<'a>(fields: &[&'a [u8]]) -> Result<&'a [u8], FaultKind>
     ensures ok { IfOk result (λ field. one_field (texts fields.now) ≡ Ok field.now) }
     ensures err { IfErr result (λ kind. one_field (texts fields.now) ≡ Err kind) }
@@ -191,7 +199,7 @@ pub fn one_field<'a>(fields: &[&'a [u8]]) -> Result<&'a [u8], FaultKind>
     }
 }
 
-/// The two fields behind a line's word. WORD where there are more or fewer.
+/// Returns the two fields after a line's word. The error is WORD if there is another number of fields.
 pub fn two_fields<'a>(fields: &[&'a [u8]]) -> Result<(&'a [u8], &'a [u8]), FaultKind>
     ensures ok { IfOk result (λ f. two_fields (texts fields.now) ≡ Ok (f.0.now, f.1.now)) }
     ensures err { IfErr result (λ kind. two_fields (texts fields.now) ≡ Err kind) }
@@ -202,7 +210,7 @@ pub fn two_fields<'a>(fields: &[&'a [u8]]) -> Result<(&'a [u8], &'a [u8]), Fault
     }
 }
 
-/// The three fields behind a line's word. WORD where there are more or fewer.
+/// Returns the three fields after a line's word. The error is WORD if there is another number of fields.
 pub fn three_fields<'a>(fields: &[&'a [u8]]) -> Result<(&'a [u8], &'a [u8], &'a [u8]), FaultKind>
     ensures ok { IfOk result (λ f. three_fields (texts fields.now) ≡ Ok (f.0.now, f.1.now, f.2.now)) }
     ensures err { IfErr result (λ kind. three_fields (texts fields.now) ≡ Err kind) }
@@ -213,7 +221,7 @@ pub fn three_fields<'a>(fields: &[&'a [u8]]) -> Result<(&'a [u8], &'a [u8], &'a 
     }
 }
 
-/// The five fields behind a line's word. WORD where there are more or fewer.
+/// Returns the five fields after a line's word. The error is WORD if there is another number of fields.
 pub fn five_fields<'a>(
     fields: &[&'a [u8]],
 ) -> Result<(&'a [u8], &'a [u8], &'a [u8], &'a [u8], &'a [u8]), FaultKind>
@@ -226,7 +234,7 @@ pub fn five_fields<'a>(
     }
 }
 
-/// That a line has no field behind its word. WORD where it has one.
+/// Checks that a line has no field after its word. The error is WORD if it has one.
 pub fn no_field(fields: &[&[u8]]) -> Result<(), FaultKind>
     ensures { result ≡ no_field (texts fields.now) }
 {
@@ -236,8 +244,8 @@ pub fn no_field(fields: &[&[u8]]) -> Result<(), FaultKind>
     }
 }
 
-/// The number of a header line: the word that is wanted and one number. WORD where it is another line, NUMBER where the number
-/// isn't from `least` to `most`.
+/// Reads the number of a header line: the expected word and one number. The error is WORD for any other line, and
+/// NUMBER if the number isn't from `least` to `most`.
 pub fn header(
     word: &[u8],
     fields: &[&[u8]],

@@ -1,5 +1,5 @@
-//! The fields of the lines that most texts have, each with the byte that ends it, in one pass over the text. None where a field isn't
-//! spelt so: then its line is read field by field.
+//! The fields of the most common lines, each read in one pass over the text with the byte that ends it. `None` if a
+//! field isn't spelt that way: then its line is read field by field.
 ghost use Rattle.std.specs.Prelude.{◌≡◌, ◌∷◌, ◌++◌, ◌<◌, ◌≤◌, ◌^◌, decimal, length, IfSome, IsTrue};
 ghost use Rattle.std.specs.List.{All};
 ghost use Rattle.model_jobs.specs.Texts.{address_text, byte_text, bytes_text, hex_from};
@@ -12,7 +12,7 @@ use crate::hex::{byte_of, has_leading_zero};
 use arrayvec::ArrayVec;
 use model_words::MAX_BYTES;
 
-/// The most decimal digits that are read: so many fit 64 bits, whatever they are.
+/// The most decimal digits that are read. Any 19 digits fit 64 bits.
 const MOST_DIGITS: usize = 19;
 
 /// The most digits of an address of a job.
@@ -21,7 +21,7 @@ const MOST_HEX_DIGITS: usize = 7;
 /// The most digits of an address of 48 bits.
 const MOST_WIDE_DIGITS: usize = 12;
 
-/// The bytes behind this one, where the text begins with it.
+/// The bytes after the first one, if the text begins with `byte`.
 #[inline]
 pub fn behind(text: &[u8], byte: u8) -> Option<&[u8]>
     ensures { IfSome result (λ rest. text.now ≡ byte ∷ rest.now) }
@@ -32,7 +32,7 @@ pub fn behind(text: &[u8], byte: u8) -> Option<&[u8]>
     }
 }
 
-/// The bytes behind these, where the text begins with them.
+/// The bytes after `front`, if the text begins with it.
 #[inline]
 pub fn behind_all<'a>(text: &'a [u8], front: &[u8]) -> Option<&'a [u8]>
     ensures { IfSome result (λ rest. text.now ≡ front.now ++ rest.now) }
@@ -40,7 +40,7 @@ pub fn behind_all<'a>(text: &'a [u8], front: &[u8]) -> Option<&'a [u8]>
     text.strip_prefix(front)
 }
 
-/// Whether some digits are the spelling of a number: there is one at least, and no zero before others.
+/// Whether digits are the spelling of a number: there is at least one, and no leading zero before others.
 #[inline]
 fn spell_number(digits: &[u8]) -> bool
     ensures some { IsTrue result → 1 ≤ length digits.now }
@@ -49,7 +49,7 @@ fn spell_number(digits: &[u8]) -> bool
     !digits.is_empty() && !has_leading_zero(digits)
 }
 
-/// The number that the text's first digits of a base spell, `most` of them at most, and the bytes behind them.
+/// The number that the text's first digits of a base spell, at most `most` digits, and the bytes after them.
 #[inline]
 fn digits(text: &[u8], base: Base, most: usize) -> Option<(u64, &[u8])>
     requires { most ≤ most_digits base }
@@ -72,7 +72,7 @@ fn digits(text: &[u8], base: Base, most: usize) -> Option<(u64, &[u8])>
     Some((value, &text[place..]))
 }
 
-/// A word of 64 bits, and the bytes behind its end.
+/// A word of 64 bits, and the bytes after its end.
 #[inline]
 pub fn word(text: &[u8], end: u8) -> Option<(u64, &[u8])>
     ensures { IfSome result (λ read. text.now ≡ decimal read.0 ++ end ∷ read.1.now) }
@@ -82,7 +82,7 @@ pub fn word(text: &[u8], end: u8) -> Option<(u64, &[u8])>
     Some((value, rest))
 }
 
-/// A number from `least` to `most`, and the bytes behind its end.
+/// A number from `least` to `most`, and the bytes after its end.
 #[inline]
 pub fn number(text: &[u8], least: u32, most: u32, end: u8) -> Option<(u32, &[u8])>
     ensures spelt { IfSome result (λ read. text.now ≡ decimal read.0 ++ end ∷ read.1.now) }
@@ -99,7 +99,7 @@ pub fn number(text: &[u8], least: u32, most: u32, end: u8) -> Option<(u32, &[u8]
     Some((value as u32, rest))
 }
 
-/// The number of a root cell, and the bytes behind its end.
+/// The number of a root cell, and the bytes after its end.
 #[inline]
 pub fn cell(text: &[u8], end: u8) -> Option<(u8, &[u8])>
     ensures { IfSome result (λ read. text.now ≡ decimal read.0 ++ end ∷ read.1.now) }
@@ -108,7 +108,7 @@ pub fn cell(text: &[u8], end: u8) -> Option<(u8, &[u8])>
     Some((value as u8, rest))
 }
 
-/// An address of a job, and the bytes behind its end.
+/// An address of a job, and the bytes after its end.
 #[inline]
 pub fn address(text: &[u8], end: u8) -> Option<(u32, &[u8])>
     ensures spelt { IfSome result (λ read. text.now ≡ address_text read.0 ++ end ∷ read.1.now) }
@@ -119,7 +119,7 @@ pub fn address(text: &[u8], end: u8) -> Option<(u32, &[u8])>
     Some((value as u32, rest))
 }
 
-/// An address of 48 bits, and the bytes behind its end.
+/// An address of 48 bits, and the bytes after its end.
 #[inline]
 pub fn wide_address(text: &[u8], end: u8) -> Option<(u64, &[u8])>
     ensures spelt { IfSome result (λ read. text.now ≡ hex_from 11 read.0 ++ end ∷ read.1.now) }
@@ -130,7 +130,7 @@ pub fn wide_address(text: &[u8], end: u8) -> Option<(u64, &[u8])>
     Some((value, rest))
 }
 
-/// A byte, and the bytes behind its end.
+/// A byte, and the bytes after its end.
 #[inline]
 pub fn byte(text: &[u8], end: u8) -> Option<(u8, &[u8])>
     ensures { IfSome result (λ read. text.now ≡ byte_text read.0 ++ end ∷ read.1.now) }
@@ -143,7 +143,7 @@ pub fn byte(text: &[u8], end: u8) -> Option<(u8, &[u8])>
     Some((value, rest))
 }
 
-/// From 1 to 32 bytes, and the bytes behind their end.
+/// From 1 to 32 bytes, and the text after their end.
 #[inline]
 pub fn bytes(text: &[u8], end: u8) -> Option<(ArrayVec<u8, MAX_BYTES>, &[u8])>
     ensures spelt { IfSome result (λ read. text.now ≡ bytes_text read.0.items ++ end ∷ read.1.now) }

@@ -1,4 +1,4 @@
-//! `Figures`, which gathers what is looked at behind each call.
+//! `Figures`: the data gathered from a sample after each call.
 ghost use Rattle.std.specs.Prelude.{◌≡◌, ◌<◌, ◌≤◌, ◌^◌, ◌↔◌, ◌∷◌, [], ◌++◌, List, IfOk, IsTrue};
 ghost use Rattle.mesh_figures.specs.declared.samples.Sample.{Sample};
 ghost use Rattle.mesh_figures.specs.declared.samples.Window.{Window};
@@ -12,7 +12,7 @@ use crate::samples::{Counts, Sample, Window};
 use std::alloc::{AllocError, Global};
 use std::marker::Model;
 
-/// What is gathered of a run on two heaps, one of which meshes. It takes one sample behind each call.
+/// The data gathered from a run on two heaps, one of which meshes. One sample is added after each call.
 #[derive(Drop)]
 pub struct Figures {
     window: Window,
@@ -34,7 +34,7 @@ impl Model for Figures {
 }
 
 impl Figures {
-    /// The figures of no calls yet.
+    /// Returns figures without calls.
     pub fn new(window: Window) -> Figures
         ensures { IsOf result window [] }
     {
@@ -45,21 +45,22 @@ impl Figures {
         }
     }
 
-    /// Whether 2^32 - 1 calls were looked at. `look` must not be called then.
+    /// Whether 2^32 - 1 calls were counted. `look` must not be called then.
     pub fn is_full(&self) -> bool
         ensures { IsTrue result ↔ 4294967295 ≤ self.now.calls }
     {
         self.calls == u32::MAX
     }
 
-    /// Looks at both heaps behind the next call. Only calls in the window are measured.
+    /// Adds the sample of both heaps after the next call. Only calls in the window are measured.
     pub fn look(&mut self, sample: &Sample)
         requires room { self.old.calls < 4294967295 }
         requires without { AreFew sample.now.without }
         requires with { AreFew sample.now.with }
         requires perfect { AreFew sample.now.perfect }
         requires bytes { sample.now.live_bytes < 2 ^ 40 }
-        ensures { (window : Window) (samples : List Sample) → IsOf self.old window samples → IsOf self.new window (samples ++ sample.now ∷ []) }
+        ensures { (window : Window) (samples : List Sample) → IsOf self.old window samples
+            → IsOf self.new window (samples ++ sample.now ∷ []) }
     {
         self.calls += 1;
         if self.window.from <= self.calls && self.calls <= self.window.to {
@@ -67,7 +68,7 @@ impl Figures {
         }
     }
 
-    /// The table of the figures. An error is an allocation failure.
+    /// Returns the text of the table of the figures. An error is an allocation failure.
     pub fn text(&self, alloc: Global, counts: &Counts) -> Result<Vec<u8>, AllocError>
         ensures { (window : Window) (samples : List Sample) → IsOf self.now window samples
             → IfOk result (λ text. text.items ≡ figures_text window samples counts.now) }

@@ -1,18 +1,18 @@
-//! The peak and the sum of numbers that come one after another.
+//! The peak and the sum of a sequence of numbers.
 ghost use Rattle.std.specs.Prelude.{◌≡◌, ℕ, ◌+◌, ◌<◌, ◌≤◌, ◌^◌, ◌∷◌, [], ◌++◌, List, slice_index, sum};
 ghost use Rattle.mesh_figures.specs.Samples.{AreFew};
 ghost use Rattle.mesh_figures.specs.Figures.{IsColumn, IsColumnIn, IsLevel};
 
 use crate::samples::CLASSES;
 
-/// The greatest of some numbers and their sum.
+/// The peak and the sum of a sequence of numbers.
 #[derive(Clone, Copy, Debug)]
 pub struct Level {
     pub peak: u32,
     pub sum: u64,
 }
 
-/// The level of the total pages of some samples, and the sum of the pages of each class.
+/// The peak and the sum of the total pages of some samples, and for each class the sum of its pages.
 #[derive(Clone, Copy, Debug)]
 pub struct Column {
     pub total: Level,
@@ -20,7 +20,7 @@ pub struct Column {
 }
 
 impl Level {
-    /// The level of no numbers.
+    /// Returns the level of an empty sequence.
     pub fn none() -> Level
         ensures level { IsLevel result [] }
         ensures sum { result.sum ≡ 0 }
@@ -28,7 +28,7 @@ impl Level {
         Level { peak: 0, sum: 0 }
     }
 
-    /// Takes one more number.
+    /// Adds a number to the sequence.
     pub fn add(&mut self, number: u32)
         requires { self.old.sum < 2 ^ 63 }
         ensures level { (ns : List ℕ) → IsLevel self.old ns → IsLevel self.new (ns ++ number ∷ []) }
@@ -40,7 +40,7 @@ impl Level {
 }
 
 impl Column {
-    /// The column of no samples.
+    /// Returns the column of an empty sequence of samples.
     pub fn none() -> Column
         ensures column { IsColumn result [] }
         ensures bounds { IsColumnIn result 0 }
@@ -51,13 +51,14 @@ impl Column {
         }
     }
 
-    /// Takes the pages of one more sample, and returns their total.
+    /// Adds the pages of one more sample, and returns their total.
     pub fn add(&mut self, pages: &[u32; CLASSES]) -> u32
         requires few { AreFew pages.now }
         requires bounds { IsColumnIn self.old 4294967295 }
         ensures total { result ≡ sum pages.now }
         ensures few { result ≤ 1310720 }
-        ensures column { (samples : List (List ℕ)) → IsColumn self.old samples → IsColumn self.new (samples ++ pages.now ∷ []) }
+        ensures column { (samples : List (List ℕ)) → IsColumn self.old samples
+            → IsColumn self.new (samples ++ pages.now ∷ []) }
         ensures bounds { (count : ℕ) → IsColumnIn self.old count → IsColumnIn self.new (count + 1) }
     {
         let total = total_pages(pages);
@@ -67,7 +68,7 @@ impl Column {
     }
 }
 
-/// The pages of all classes together.
+/// Returns the sum of the pages of all classes.
 pub fn total_pages(pages: &[u32; CLASSES]) -> u32
     requires { sum pages.now < 2 ^ 32 }
     ensures { result ≡ sum pages.now }
@@ -75,7 +76,7 @@ pub fn total_pages(pages: &[u32; CLASSES]) -> u32
     pages.iter().sum()
 }
 
-/// Adds the pages of each class to its sum.
+/// Adds the pages of each class to the sum of that class.
 fn add_each(sums: &mut [u64; CLASSES], pages: &[u32; CLASSES])
     requires { (k : ℕ) → k < 10 → slice_index sums.old k + slice_index pages.now k < 2 ^ 64 }
     ensures { (k : ℕ) → k < 10 → slice_index sums.new k ≡ slice_index sums.old k + slice_index pages.now k }

@@ -17,10 +17,10 @@ use crate::words::{
 use mesh_class::{Class, all_classes};
 use std::alloc::AllocError;
 
-/// The bytes of a tenth of a megabyte.
+/// The number of bytes in a tenth of a megabyte.
 const TENTH_OF_MEGABYTE: u64 = 100000;
 
-/// Adds the line of the calls, of which there are so many. An error is an allocation failure, here and below.
+/// Adds the line with the number of calls and the counts of objects. An error is an allocation failure, here and below.
 #[tactic(auto, unfolding(crate::specs::Texts::calls_line))]
 pub fn add_calls(text: &mut Vec<u8>, calls: u32, counts: &Counts) -> Result<(), AllocError>
     ensures { OnOk result (text.new.items ≡ text.old.items ++ calls_line calls counts.now) }
@@ -32,10 +32,11 @@ pub fn add_calls(text: &mut Vec<u8>, calls: u32, counts: &Counts) -> Result<(), 
     add(text, b" pages, not meshed\n")
 }
 
-/// Adds the heading and the rows.
+/// Adds the table's heading and its rows: peak, mean and end.
 pub fn add_rows(text: &mut Vec<u8>, measured: &Measured) -> Result<(), AllocError>
     requires { IsInBounds measured.now }
-    ensures { (first : ℕ) (samples : List Sample) → IsMeasured measured.now first samples → OnOk result (text.new.items ≡ text.old.items ++ rows samples) }
+    ensures { (first : ℕ) (samples : List Sample) → IsMeasured measured.now first samples
+        → OnOk result (text.new.items ≡ text.old.items ++ rows samples) }
 {
     add_heading(text)?;
     add_row(
@@ -53,7 +54,7 @@ pub fn add_rows(text: &mut Vec<u8>, measured: &Measured) -> Result<(), AllocErro
     add_row(text, b"end", &measured.ends(), measured.live_end())
 }
 
-/// Adds the heading.
+/// Adds the table's heading.
 #[tactic(auto, unfolding(crate::specs::Texts::heading_line))]
 fn add_heading(text: &mut Vec<u8>) -> Result<(), AllocError>
     ensures { OnOk result (text.new.items ≡ text.old.items ++ heading_line) }
@@ -80,7 +81,7 @@ fn add_row(text: &mut Vec<u8>, name: &[u8], pages: &Pages, live: u64) -> Result<
     add(text, b"\n")
 }
 
-/// Adds the line of the call behind which most is saved.
+/// Adds the line about the call after which meshing saves most. If no call was measured, the line has a dash.
 #[tactic(auto, unfolding(crate::specs::Texts::most_saved_line))]
 pub fn add_most_saved(text: &mut Vec<u8>, most: &Option<Saving>) -> Result<(), AllocError>
     ensures { OnOk result (text.new.items ≡ text.old.items ++ most_saved_line most.now) }
@@ -91,7 +92,7 @@ pub fn add_most_saved(text: &mut Vec<u8>, most: &Option<Saving>) -> Result<(), A
     }
 }
 
-/// Adds the line of the call behind which most is saved, where there is one.
+/// Adds the line about this call, after which meshing saves most.
 #[tactic(auto, unfolding(crate::specs::Texts::most_saved_line))]
 fn add_best(text: &mut Vec<u8>, best: &Saving) -> Result<(), AllocError>
     ensures { OnOk result (text.new.items ≡ text.old.items ++ most_saved_line (Some best.now)) }
@@ -107,7 +108,7 @@ fn add_best(text: &mut Vec<u8>, best: &Saving) -> Result<(), AllocError>
     add(text, b"\n")
 }
 
-/// Adds the line of the meshes.
+/// Adds the line with the counts of meshes, rounds and virtual pages.
 #[tactic(auto, unfolding(crate::specs::Texts::meshes_line))]
 pub fn add_meshes(text: &mut Vec<u8>, counts: &Counts) -> Result<(), AllocError>
     ensures { OnOk result (text.new.items ≡ text.old.items ++ meshes_line counts.now) }
@@ -121,7 +122,7 @@ pub fn add_meshes(text: &mut Vec<u8>, counts: &Counts) -> Result<(), AllocError>
     add(text, b"\n")
 }
 
-/// Adds the lines of the classes that ever held an object.
+/// Adds a line for each class that ever held an object.
 pub fn add_classes(
     text: &mut Vec<u8>,
     measured: &Measured,
@@ -137,7 +138,7 @@ pub fn add_classes(
     Ok(())
 }
 
-/// Adds the line of the class at this place of the class table, if it ever held an object.
+/// Adds the line of the class at place `k` of the class table, if this class ever held an object.
 fn add_if_used(
     text: &mut Vec<u8>,
     measured: &Measured,
@@ -161,7 +162,7 @@ fn add_if_used(
     )
 }
 
-/// Adds the line of a class: its pages in the mean and in the end.
+/// Adds the line of a class: its mean pages and its pages at the end.
 #[tactic(auto, unfolding(crate::specs::Texts::class_line))]
 fn add_class(
     text: &mut Vec<u8>,
@@ -180,7 +181,7 @@ fn add_class(
     add(text, b"\n")
 }
 
-/// Adds pages of a class.
+/// Adds the pages of a class: without meshing, with it, and with perfect packing.
 #[tactic(auto, unfolding(crate::specs::Texts::class_pages))]
 fn add_class_pages(text: &mut Vec<u8>, pages: &Pages) -> Result<(), AllocError>
     ensures { OnOk result (text.new.items ≡ text.old.items ++ class_pages pages.now) }

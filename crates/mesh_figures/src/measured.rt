@@ -1,4 +1,4 @@
-//! What is gathered of the calls that are measured.
+//! The data gathered from the measured calls.
 ghost use Rattle.std.specs.Prelude.{◌≡◌, ℕ, ◌+◌, ◌<◌, ◌≤◌, ◌^◌, ◌∷◌, [], ◌++◌, List, length, map};
 ghost use Rattle.std.specs.Int.{div_ceil};
 ghost use Rattle.mesh_figures.specs.declared.samples.Sample.{Sample};
@@ -11,26 +11,26 @@ use crate::rounding;
 use crate::samples::{CLASSES, Sample};
 use crate::savings::{Saving, better};
 
-/// The bytes of a page.
+/// The number of bytes in a page.
 const PAGE: u64 = 4096;
 
-/// What is gathered of calls in a row.
+/// The data gathered from consecutive calls.
 #[derive(Clone, Copy, Debug)]
 pub struct Measured {
     /// The number of calls.
     pub count: u32,
-    /// The sample behind the last of them.
+    /// The sample after the last of these calls.
     pub end: Sample,
     pub without: Column,
     pub with: Column,
     pub perfect: Column,
-    /// The live bytes in whole pages.
+    /// The peak and the sum of the live bytes, in whole pages.
     pub live: Level,
     pub most: Option<Saving>,
 }
 
 impl Measured {
-    /// What is gathered of no calls.
+    /// Returns the data of an empty sequence of calls.
     pub fn none() -> Measured
         ensures measured { (first : ℕ) → IsMeasured result first [] }
         ensures bounds { IsInBounds result }
@@ -52,7 +52,7 @@ impl Measured {
         }
     }
 
-    /// Takes the sample behind the next call, which has this number.
+    /// Adds the sample after the next call, whose number is `call`.
     pub fn add(&mut self, call: u32, sample: &Sample)
         requires room { self.old.count < 4294967295 }
         requires bounds { IsInBounds self.old }
@@ -60,7 +60,8 @@ impl Measured {
         requires with { AreFew sample.now.with }
         requires perfect { AreFew sample.now.perfect }
         requires bytes { sample.now.live_bytes < 2 ^ 40 }
-        ensures measured { (first : ℕ) (samples : List Sample) → IsMeasured self.old first samples → call ≡ first + length samples
+        ensures measured { (first : ℕ) (samples : List Sample) → IsMeasured self.old first samples
+            → call ≡ first + length samples
             → IsMeasured self.new first (samples ++ sample.now ∷ []) }
         ensures bounds { IsInBounds self.new }
         ensures count { self.new.count ≡ self.old.count + 1 }
@@ -81,9 +82,10 @@ impl Measured {
         );
     }
 
-    /// The peaks of the total pages.
+    /// Returns the peaks of the total pages.
     pub fn peaks(&self) -> Pages
-        ensures value { (first : ℕ) (samples : List Sample) → IsMeasured self.now first samples → result ≡ pages_by peak total samples }
+        ensures value { (first : ℕ) (samples : List Sample) → IsMeasured self.now first samples
+            → result ≡ pages_by peak total samples }
         ensures small { (result.without < 2 ^ 53) × (result.with < 2 ^ 53) }
     {
         Pages {
@@ -93,10 +95,11 @@ impl Measured {
         }
     }
 
-    /// The means of the total pages.
+    /// Returns the means of the total pages.
     pub fn means(&self) -> Pages
         requires { IsInBounds self.now }
-        ensures value { (first : ℕ) (samples : List Sample) → IsMeasured self.now first samples → result ≡ pages_by mean total samples }
+        ensures value { (first : ℕ) (samples : List Sample) → IsMeasured self.now first samples
+            → result ≡ pages_by mean total samples }
         ensures small { (result.without < 2 ^ 53) × (result.with < 2 ^ 53) }
     {
         Pages {
@@ -106,10 +109,11 @@ impl Measured {
         }
     }
 
-    /// The total pages behind the last call.
+    /// Returns the total pages after the last call.
     pub fn ends(&self) -> Pages
         requires { IsInBounds self.now }
-        ensures value { (first : ℕ) (samples : List Sample) → IsMeasured self.now first samples → result ≡ pages_by last total samples }
+        ensures value { (first : ℕ) (samples : List Sample) → IsMeasured self.now first samples
+            → result ≡ pages_by last total samples }
         ensures small { (result.without < 2 ^ 53) × (result.with < 2 ^ 53) }
     {
         Pages {
@@ -119,24 +123,27 @@ impl Measured {
         }
     }
 
-    /// The mean live bytes in whole pages.
+    /// Returns the mean of the live bytes, in whole pages.
     pub fn live_mean(&self) -> u64
-        ensures { (first : ℕ) (samples : List Sample) → IsMeasured self.now first samples → result ≡ mean (map live_pages samples) }
+        ensures { (first : ℕ) (samples : List Sample) → IsMeasured self.now first samples
+            → result ≡ mean (map live_pages samples) }
     {
         rounding::mean(self.live.sum, self.count)
     }
 
-    /// The live bytes behind the last call, in whole pages.
+    /// Returns the live bytes after the last call, in whole pages.
     pub fn live_end(&self) -> u64
-        ensures { (first : ℕ) (samples : List Sample) → IsMeasured self.now first samples → result ≡ last (map live_pages samples) }
+        ensures { (first : ℕ) (samples : List Sample) → IsMeasured self.now first samples
+            → result ≡ last (map live_pages samples) }
     {
         self.end.live_bytes.div_ceil(PAGE)
     }
 
-    /// The means of the pages of the class at a place of the class table.
+    /// Returns the mean pages of the class at place `k` of the class table.
     pub fn class_means(&self, k: usize) -> Pages
         requires { k < 10 }
-        ensures { (first : ℕ) (samples : List Sample) → IsMeasured self.now first samples → result ≡ pages_by mean (of_class k) samples }
+        ensures { (first : ℕ) (samples : List Sample) → IsMeasured self.now first samples
+            → result ≡ pages_by mean (of_class k) samples }
     {
         Pages {
             without: rounding::mean(self.without.sums[k], self.count),
@@ -145,10 +152,11 @@ impl Measured {
         }
     }
 
-    /// The pages of the class at a place of the class table behind the last call.
+    /// Returns the pages, after the last call, of the class at place `k` of the class table.
     pub fn class_ends(&self, k: usize) -> Pages
         requires { k < 10 }
-        ensures { (first : ℕ) (samples : List Sample) → IsMeasured self.now first samples → result ≡ pages_by last (of_class k) samples }
+        ensures { (first : ℕ) (samples : List Sample) → IsMeasured self.now first samples
+            → result ≡ pages_by last (of_class k) samples }
     {
         Pages {
             without: u64::from(self.end.without[k]),
@@ -158,7 +166,7 @@ impl Measured {
     }
 }
 
-/// Bytes in whole pages, rounded up.
+/// Returns the number of whole pages that `bytes` bytes take, rounded up.
 fn whole_pages(bytes: u64) -> u32
     requires { bytes < 2 ^ 40 }
     ensures value { result ≡ div_ceil bytes 4096 }

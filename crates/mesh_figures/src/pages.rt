@@ -1,6 +1,6 @@
-//! One figure of both heaps' pages.
+//! One figure of the pages of both heaps and of perfect packing.
 
-/// Pages of the heap that doesn't mesh, of the one that does, and of perfect packing.
+/// One figure of pages: of the heap that doesn't mesh, of the meshing heap, and of perfect packing.
 #[derive(Clone, Copy, Debug)]
 pub struct Pages {
     pub without: u64,

@@ -2,7 +2,7 @@
 ghost use Rattle.std.specs.Prelude.{◌≡◌, ◌<◌, ◌≤◌};
 ghost use Rattle.mesh_figures.specs.Samples.{mean_of, rounded};
 
-/// `a / b`, rounded half up.
+/// Returns `a / b`, rounded half up.
 pub fn divided(a: u64, b: u64) -> u64
     requires { 0 < b }
     ensures value { result ≡ rounded a b }
@@ -13,7 +13,7 @@ pub fn divided(a: u64, b: u64) -> u64
     if rest >= b - rest { whole + 1 } else { whole }
 }
 
-/// The mean of `count` numbers with this sum, rounded half up; 0 for none.
+/// Returns the mean of `count` numbers whose sum is `sum`, rounded half up, or 0 if `count` is 0.
 pub fn mean(sum: u64, count: u32) -> u64
     ensures value { result ≡ mean_of sum count }
     ensures small { result ≤ sum }

@@ -1,14 +1,14 @@
-//! What is handed in: samples, which of them are measured, and counts of the whole run.
+//! The input of the figures: samples, the window of the measured calls, and counts of the whole run.
 
-/// The size classes.
+/// The number of size classes.
 pub const CLASSES: usize = 10;
 
-/// What both heaps hold behind a call. Pages are physical pages by class, in the order of the class table.
+/// The usage of both heaps after a call. Pages are numbers of physical pages by class, in the order of the class table.
 #[derive(Clone, Copy, Debug)]
 pub struct Sample {
     /// Pages of the heap that doesn't mesh.
     pub without: [u32; CLASSES],
-    /// Pages of the heap that meshes.
+    /// Pages of the meshing heap.
     pub with: [u32; CLASSES],
     /// Pages that the live objects would take if they were packed perfectly.
     pub perfect: [u32; CLASSES],
@@ -16,33 +16,33 @@ pub struct Sample {
     pub live_bytes: u64,
 }
 
-/// Which calls the figures are of, counted from 1. If `from` is above `to`, they are of no call.
+/// The calls that are measured, counted from 1. If `from` is above `to`, no call is measured.
 #[derive(Clone, Copy, Debug)]
 pub struct Window {
-    /// The first call.
+    /// The number of the first measured call.
     pub from: u32,
-    /// The last call.
+    /// The number of the last measured call.
     pub to: u32,
 }
 
-/// What is counted over a whole run, whichever calls are measured.
+/// Counts over a whole run, independent of the window.
 #[derive(Clone, Copy, Debug)]
 pub struct Counts {
-    /// The most live objects up to 2,048 bytes.
+    /// The greatest number of objects of up to 2,048 bytes that were live at once.
     pub most_objects: u32,
-    /// The number of objects made that are larger.
+    /// The number of larger objects that were made.
     pub large: u32,
-    /// The most pages that live larger objects took. Their number may need more than 64 bits.
+    /// The greatest number of pages that live larger objects took at once. It may need more than 64 bits.
     pub most_large_pages: u128,
     /// The number of meshes.
     pub meshes: u64,
     /// The number of meshes that were refused.
     pub refused: u64,
-    /// The bytes of the objects that meshes moved.
+    /// The number of bytes in the objects that meshes moved.
     pub copied: u64,
-    /// The number of rounds.
+    /// The number of mesh rounds.
     pub rounds: u32,
-    /// The virtual pages that the heap that meshes used.
+    /// The number of virtual pages used by the meshing heap.
     pub virtual_pages: u32,
     /// Which classes ever held an object, in the order of the class table.
     pub used: [bool; CLASSES],

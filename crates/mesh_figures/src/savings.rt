@@ -1,9 +1,9 @@
-//! The call behind which meshing saves most.
+//! The call after which meshing saves most.
 ghost use Rattle.std.specs.Prelude.{◌∷◌, [], ◌++◌, List, Some};
 ghost use Rattle.mesh_figures.specs.declared.savings.Saving.{Saving};
 ghost use Rattle.mesh_figures.specs.Figures.{IsMostSaved};
 
-/// The total pages of both heaps behind a call.
+/// A call's number, and the total pages of both heaps after it.
 #[derive(Clone, Copy, Debug)]
 pub struct Saving {
     pub call: u32,
@@ -11,7 +11,8 @@ pub struct Saving {
     pub with: u32,
 }
 
-/// The first of those that save most, after one more call.
+/// Returns whichever of `best` and `next` saves more, and `best` if both save the same. If `best` is `None`, returns
+/// `next`.
 pub fn better(best: Option<Saving>, next: Saving) -> Option<Saving>
     ensures { (savings : List Saving) → IsMostSaved best savings → IsMostSaved result (savings ++ next ∷ []) }
 {
@@ -21,9 +22,10 @@ pub fn better(best: Option<Saving>, next: Saving) -> Option<Saving>
     }
 }
 
-/// The earlier one, unless the later one saves more.
+/// Returns `next` if it saves more than `best`, and `best` otherwise.
 fn greater(best: Saving, next: Saving) -> Saving
-    ensures { (savings : List Saving) → IsMostSaved (Some best) savings → IsMostSaved (Some result) (savings ++ next ∷ []) }
+    ensures { (savings : List Saving) → IsMostSaved (Some best) savings
+        → IsMostSaved (Some result) (savings ++ next ∷ []) }
 {
     let kept = u64::from(best.without) + u64::from(next.with);
     let taken = u64::from(next.without) + u64::from(best.with);

@@ -1,4 +1,4 @@
-//! The words of a line: numbers, shares, and fields of a width.
+//! The words of a line: numbers, shares, and words aligned in fields.
 ghost use Rattle.std.specs.Prelude.{◌≡◌, ◌<◌, ◌^◌, ◌++◌, codes, decimal, replicate, OnOk};
 ghost use Rattle.mesh_figures.specs.Texts.{column, counted, difference_text, left, right, saved_text, sign_text, tenths_text};
 
@@ -21,7 +21,7 @@ pub fn add_decimal(text: &mut Vec<u8>, number: u64) -> Result<(), AllocError>
     add(text, digits.format(number).as_bytes())
 }
 
-/// Adds a number of up to 128 bits after what it is.
+/// Adds a name, and then a number of up to 128 bits.
 #[tactic(auto, unfolding(crate::specs::Texts::counted))]
 pub fn add_wide_counted(text: &mut Vec<u8>, name: &[u8], number: u128) -> Result<(), AllocError>
     ensures { OnOk result (text.new.items ≡ text.old.items ++ counted name.now number) }
@@ -31,7 +31,7 @@ pub fn add_wide_counted(text: &mut Vec<u8>, name: &[u8], number: u128) -> Result
     add(text, digits.format(number).as_bytes())
 }
 
-/// Adds a number after what it is.
+/// Adds a name, and then a number.
 #[tactic(auto, unfolding(crate::specs::Texts::counted))]
 pub fn add_counted(text: &mut Vec<u8>, name: &[u8], number: u64) -> Result<(), AllocError>
     ensures { OnOk result (text.new.items ≡ text.old.items ++ counted name.now number) }
@@ -40,7 +40,7 @@ pub fn add_counted(text: &mut Vec<u8>, name: &[u8], number: u64) -> Result<(), A
     add_decimal(text, number)
 }
 
-/// Adds spaces.
+/// Adds `count` spaces.
 fn add_spaces(text: &mut Vec<u8>, count: usize) -> Result<(), AllocError>
     ensures { OnOk result (text.new.items ≡ text.old.items ++ replicate count 32) }
 {
@@ -50,7 +50,7 @@ fn add_spaces(text: &mut Vec<u8>, count: usize) -> Result<(), AllocError>
     Ok(())
 }
 
-/// Adds a word at the right of a field of this width.
+/// Adds a word, right-aligned in a field of this width.
 pub fn add_right(text: &mut Vec<u8>, width: usize, word: &[u8]) -> Result<(), AllocError>
     ensures { OnOk result (text.new.items ≡ text.old.items ++ right width word.now) }
 {
@@ -58,7 +58,7 @@ pub fn add_right(text: &mut Vec<u8>, width: usize, word: &[u8]) -> Result<(), Al
     add(text, word)
 }
 
-/// Adds a word at the left of a field of this width.
+/// Adds a word, left-aligned in a field of this width.
 pub fn add_left(text: &mut Vec<u8>, width: usize, word: &[u8]) -> Result<(), AllocError>
     ensures { OnOk result (text.new.items ≡ text.old.items ++ left width word.now) }
 {
@@ -66,7 +66,7 @@ pub fn add_left(text: &mut Vec<u8>, width: usize, word: &[u8]) -> Result<(), All
     add_spaces(text, width.saturating_sub(word.len()))
 }
 
-/// Adds a number at the right of a field of this width.
+/// Adds a number, right-aligned in a field of this width.
 pub fn add_number_right(text: &mut Vec<u8>, width: usize, number: u64) -> Result<(), AllocError>
     ensures { OnOk result (text.new.items ≡ text.old.items ++ right width (decimal number)) }
 {
@@ -74,7 +74,7 @@ pub fn add_number_right(text: &mut Vec<u8>, width: usize, number: u64) -> Result
     add_right(text, width, digits.format(number).as_bytes())
 }
 
-/// Adds a number in a column of this width.
+/// Adds a space, and then a number right-aligned in a field of this width.
 pub fn add_column(text: &mut Vec<u8>, width: usize, number: u64) -> Result<(), AllocError>
     ensures { OnOk result (text.new.items ≡ text.old.items ++ column width number) }
 {
@@ -82,7 +82,7 @@ pub fn add_column(text: &mut Vec<u8>, width: usize, number: u64) -> Result<(), A
     add_number_right(text, width, number)
 }
 
-/// Adds a number at the left of a field of this width.
+/// Adds a number, left-aligned in a field of this width.
 pub fn add_number_left(text: &mut Vec<u8>, width: usize, number: u64) -> Result<(), AllocError>
     ensures { OnOk result (text.new.items ≡ text.old.items ++ left width (decimal number)) }
 {
@@ -90,7 +90,7 @@ pub fn add_number_left(text: &mut Vec<u8>, width: usize, number: u64) -> Result<
     add_left(text, width, digits.format(number).as_bytes())
 }
 
-/// Adds tenths as a number with one decimal.
+/// Adds a number of tenths, as a decimal number with one digit after the point.
 #[tactic(auto, unfolding(crate::specs::Texts::tenths_text))]
 pub fn add_tenths(text: &mut Vec<u8>, tenths: u64) -> Result<(), AllocError>
     ensures { OnOk result (text.new.items ≡ text.old.items ++ tenths_text tenths) }
@@ -110,7 +110,7 @@ fn add_sign(text: &mut Vec<u8>, without: u64, with: u64) -> Result<(), AllocErro
     Ok(())
 }
 
-/// Adds `without - with`.
+/// Adds `without - with`, which may be negative.
 #[tactic(auto, unfolding(crate::specs::Texts::difference_text))]
 pub fn add_difference(text: &mut Vec<u8>, without: u64, with: u64) -> Result<(), AllocError>
     ensures { OnOk result (text.new.items ≡ text.old.items ++ difference_text without with) }
@@ -119,7 +119,7 @@ pub fn add_difference(text: &mut Vec<u8>, without: u64, with: u64) -> Result<(),
     add_decimal(text, without.abs_diff(with))
 }
 
-/// Adds the share of pages that is saved, in percent.
+/// Adds the share of pages that meshing saves, in percent.
 #[tactic(auto, unfolding(crate::specs::Texts::saved_text))]
 pub fn add_saved(text: &mut Vec<u8>, without: u64, with: u64) -> Result<(), AllocError>
     requires without { without < 2 ^ 53 }
@@ -134,7 +134,7 @@ pub fn add_saved(text: &mut Vec<u8>, without: u64, with: u64) -> Result<(), Allo
     add(text, b"%")
 }
 
-/// Adds the share of pages that is saved in a column of this width.
+/// Adds a space, and then the share of pages that meshing saves, right-aligned in a field of this width.
 pub fn add_saved_column(
     text: &mut Vec<u8>,
     width: usize,

@@ -1,6 +1,6 @@
-//! Tests of the heap and of what it stands on: the search for pairs, the plain memory, the heap, its meshes and the book.
+//! Tests of the heap, its meshes and the book, and of the search and the reference memory below them.
 //!
-//! The crate has no function of its own, so nothing of it but its tests is proved.
+//! The crate has no function besides its tests, so nothing but the tests is proved.
 #![tactic(auto)]
 
 #[cfg(test)]

@@ -39,7 +39,7 @@ refusal_of n =
     else (if nat_eq n 15 then NoMesh
     else (if nat_eq n 16 then TooLate else NotEmpty)))))))))))))))
 
--- a refusal that was told by its number, with its own name
+-- a refusal whose number was read, with its own name
 abbrev pub named_in : Refusal → List ℕ → Result Refusal FaultKind
 named_in refusal name = refuse_if Word (not (are_same name (name_of refusal))) >>= λ _. Ok refusal
 

@@ -1,4 +1,5 @@
--- The entries of a text that comes in pieces: whatever follows, what is read from the new place on is what is left to read from the old one.
+-- The entries of a text that comes in pieces: whatever follows, what is read from the new place on is what is left to
+-- read from the old one.
 use Rattle.std.specs.Prelude.{◌≡◌, ℕ, ◌+◌, ◌-◌, ◌<◌, ◌≤◌, if◌then◌else◌, nat_eq, List, [], ◌++◌, Option, Some, Result, Err, IfOk, IfSome, length}
 use Rattle.model_words.specs.Commands.{IsInRange}
 use Rattle.model_words.specs.declared.faults.TextFault.{TextFault}
@@ -16,7 +17,7 @@ use denote.Ref.{Bor}
 abbrev pub lines_of : EntryReader → ℕ
 lines_of reader = reader.lines
 
--- the beginning of a line that it stands behind
+-- the beginning of the line that the reader is in
 abbrev pub begun_of : EntryReader → List ℕ
 begun_of reader = reader.begun.bytes.items
 

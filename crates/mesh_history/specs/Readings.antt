@@ -31,7 +31,8 @@ too_long = fault_at 0 TooLong
 abbrev pub long_line : ℕ → TextFault
 long_line lines = if is_full lines then too_long else fault_at (lines + 1) LongLine
 
--- the fault of a text that ends behind so many lines with these bytes behind its last line end, if it has one: there is no line, or bytes of one
+-- the fault of a text that ends behind so many lines with these bytes behind its last line end, if it has one: there is
+-- no line, or bytes of one
 abbrev pub end_fault : ℕ → List ℕ → Option TextFault
 end_fault lines rest =
     if is_full lines then (if is_empty rest then None else Some too_long)

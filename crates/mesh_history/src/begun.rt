@@ -1,4 +1,4 @@
-//! The beginning of a line whose end did not come yet.
+//! The beginning of a line whose end hasn't come yet.
 ghost use Rattle.std.specs.Prelude.{◌≡◌, ◌-◌, ◌≤◌, ◌++◌, ◌↔◌, [], length, IsTrue, OnOk};
 ghost use Rattle.mesh_fields.specs.KeptLines.{IsUnended};
 
@@ -14,7 +14,7 @@ pub(crate) struct BegunLine {
 }
 
 impl BegunLine {
-    /// A line that hasn't begun. It takes no memory.
+    /// Returns a line that hasn't begun. It allocates nothing.
     pub(crate) fn new(alloc: Global) -> BegunLine
         ensures { result.bytes.items ≡ [] }
     {
@@ -37,7 +37,7 @@ impl BegunLine {
         self.bytes.as_slice()
     }
 
-    /// How many more bytes a line may have.
+    /// How many more bytes the line may have.
     pub(crate) fn room(&self) -> usize
         ensures { result ≡ 1024 - length self.now.bytes.items }
     {
@@ -53,7 +53,7 @@ impl BegunLine {
         self.bytes.extend_from_slice(bytes)
     }
 
-    /// Begins anew.
+    /// Removes all bytes, so that another line can begin.
     pub(crate) fn clear(&mut self)
         ensures { self.new.bytes.items ≡ [] }
     {

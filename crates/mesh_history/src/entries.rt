@@ -21,8 +21,12 @@ pub(crate) const MAX_WORKER: u32 = 65_535;
 
 /// Reads the first line of a history, `history 1`, without its end.
 ///
-/// The first kind of fault that holds for the line is told: LONG_LINE where it has more than 1,024 bytes, BYTE where one of them isn't from 20
-/// to 7e, WORD where it isn't the word `history` and one field behind it, and NUMBER where that field isn't `1`.
+/// The error is the first of these faults that holds:
+///
+/// - LONG_LINE if the line has more than 1,024 bytes;
+/// - BYTE if one of them isn't from 20 to 7e;
+/// - WORD if the line isn't the word `history` and one field after it;
+/// - NUMBER if that field isn't `1`.
 pub fn read_head(line: &[u8]) -> Result<(), FaultKind>
     ensures { result ≡ head_in line.now }
 {
@@ -37,10 +41,14 @@ pub fn read_head(line: &[u8]) -> Result<(), FaultKind>
 
 /// Reads the line of an entry, `W COMMAND -> ANSWER`, without its end.
 ///
-/// LONG_LINE where the line has more than 1,024 bytes, BYTE where one of them isn't from 20 to 7e, and WORD where a field is empty, where there
-/// are more than 35, or where none is `->`. Else the leftmost fault: WORD where a worker and a word, or the word of the answer, are missing,
-/// where a word is unknown, or where it has a wrong number of fields; NUMBER where a number or an address is spelt wrongly or out of its
-/// range; HEX where bytes are spelt wrongly or of a wrong length; and WORD where `at` or the name of a refusal is another field.
+/// The error is LONG_LINE if the line has more than 1,024 bytes, BYTE if one of them isn't from 20 to 7e, and WORD if a
+/// field is empty, if there are more than 35, or if none is `->`. Otherwise it is the leftmost fault:
+///
+/// - WORD if the worker and a word, or the word of the answer, are missing, if a word is unknown, or if it has a wrong
+///   number of fields;
+/// - NUMBER if a number or an address is misspelt or out of its range;
+/// - HEX if bytes are misspelt or have a wrong length;
+/// - WORD if there is another field instead of `at` or of the name of a refusal.
 pub fn read_entry(line: &[u8]) -> Result<RecordedEntry, FaultKind>
     ensures ok { IfOk result (λ entry. entry_in line.now ≡ Ok (plain_entry entry)) }
     ensures err { IfErr result (λ kind. entry_in line.now ≡ Err kind) }
@@ -54,16 +62,17 @@ pub fn read_entry(line: &[u8]) -> Result<RecordedEntry, FaultKind>
     entry_of(before, behind)
 }
 
-/// The fields before the first arrow, and those behind it. None where no field is an arrow.
+/// The fields before the first arrow, and those after it. `None` if no field is an arrow.
 fn arrow_split<'a, 'b>(fields: &'b [&'a [u8]]) -> Option<(&'b [&'a [u8]], &'b [&'a [u8]])>
-    ensures some { IfSome result (λ parts. arrow_split (texts fields.now) ≡ Some (texts parts.0.now, texts parts.1.now)) }
+    ensures some { IfSome result
+        (λ parts. arrow_split (texts fields.now) ≡ Some (texts parts.0.now, texts parts.1.now)) }
     ensures none { IsNone result → arrow_split (texts fields.now) ≡ None }
 {
     let place = fields.iter().position(|field| is_word(*field, b"->"))?;
     Some((&fields[..place], &fields[place + 1..]))
 }
 
-/// The entry with these fields before its arrow and these behind it.
+/// The entry with the fields `before` its arrow and `behind` it.
 fn entry_of(before: &[&[u8]], behind: &[&[u8]]) -> Result<RecordedEntry, FaultKind>
     ensures ok { IfOk result (λ entry. entry_of (texts before.now) (texts behind.now) ≡ Ok (plain_entry entry)) }
     ensures err { IfErr result (λ kind. entry_of (texts before.now) (texts behind.now) ≡ Err kind) }
@@ -80,7 +89,7 @@ fn entry_of(before: &[&[u8]], behind: &[&[u8]]) -> Result<RecordedEntry, FaultKi
     })
 }
 
-/// `W COMMAND`: a worker and what it asked.
+/// `W COMMAND`: a worker and its command.
 fn asked_of(fields: &[&[u8]]) -> Result<(u32, SpeltCommand), FaultKind>
     ensures ok { IfOk result (λ asked. asked_in (texts fields.now) ≡ Ok (asked.0, plain_command asked.1)) }
     ensures err { IfErr result (λ kind. asked_in (texts fields.now) ≡ Err kind) }
@@ -95,7 +104,7 @@ fn asked_of(fields: &[&[u8]]) -> Result<(u32, SpeltCommand), FaultKind>
     Ok((worker, command))
 }
 
-/// What was answered.
+/// The answer of an entry.
 fn answer_of(fields: &[&[u8]]) -> Result<RecordedReply, FaultKind>
     ensures ok { IfOk result (λ reply. answer_in (texts fields.now) ≡ Ok (plain_reply reply)) }
     ensures err { IfErr result (λ kind. answer_in (texts fields.now) ≡ Err kind) }

@@ -1,4 +1,4 @@
-//! The entries of the history that a device gives.
+//! The entries of a history that is read from a device.
 ghost use Rattle.std.specs.Prelude.{◌≡◌, ◌<◌, ◌≤◌, ◌∷◌, ◌++◌, ℕ, List, Option, Err, [], false, true, IfErr, IfOk, IfSome, IsNone, OnOk};
 ghost use Rattle.model_memory.specs.Plain.{Entry};
 ghost use Rattle.model_words.specs.Commands.{IsInRange};
@@ -13,17 +13,17 @@ use mesh_devices::{ReplayError, Source};
 use mesh_job::ReadFault;
 use std::alloc::{AllocError, Global};
 
-/// A recorded history that comes from a device, of which a beginning was read.
+/// A recorded history that is being read from a device.
 #[derive(Drop)]
 pub struct HistoryInput {
-    /// What was read of the bytes so far.
+    /// The state of the reader after the bytes so far.
     reader: EntryReader,
-    /// The bytes at which nobody looked yet.
+    /// The bytes that were read from the device, but not by the reader yet.
     pending: Pending,
 }
 
 impl HistoryInput {
-    /// A history of which nothing was read, with the memory for one read. An error is an allocation failure.
+    /// Returns a history of which nothing was read, with the buffer for one read. An error is an allocation failure.
     pub fn new(alloc: Global) -> Result<HistoryInput, AllocError>
         ensures { IfOk result IsFresh }
     {
@@ -33,29 +33,34 @@ impl HistoryInput {
         })
     }
 
-    /// How many lines were taken: the line number of the entry that came last, from 1.
+    /// How many lines were read: the line number of the last entry, from 1.
     pub fn lines(&self) -> u32
         ensures { result ≡ lines_before self.now }
     {
         self.reader.lines()
     }
 
-    /// The next entry of the history that the input gives. None at its end.
+    /// Returns the next entry of the history that is read from `input`. `None` at its end.
     ///
-    /// Errors: Text if a line has a fault, or the text ends in a line; Read exactly if the input failed; Memory if an
-    /// allocation failed. Write is never returned. The history is of no use behind an error.
+    /// Errors: Text if a line has a fault, or if the text ends within a line; Read if and only if the input failed;
+    /// Memory if an allocation failed. Write is never returned. After an error the history must not be used.
     pub fn next<I: Source>(&mut self, input: &mut I) -> Result<Option<RecordedEntry>, ReplayError>
         requires { I.has_failed input.old ≡ false }
         ensures ok { OnOk result (I.has_failed input.new ≡ false) }
-        ensures entry { (left : Option (List ℕ)) (entries : List Entry) → HasCome self.old left (I.remaining input.old) entries
-            → IfOk result (λ next. IfSome next (λ entry. HasCome self.new left (I.remaining input.new) (entries ++ plain_entry entry ∷ []))) }
+        ensures entry { (left : Option (List ℕ)) (entries : List Entry)
+            → HasCome self.old left (I.remaining input.old) entries
+            → IfOk result
+            (λ next. IfSome next (λ entry.
+            HasCome self.new left (I.remaining input.new) (entries ++ plain_entry entry ∷ []))) }
         ensures later { IfOk result (λ next. IfSome next (λ _. lines_before self.old < lines_before self.new)) }
         ensures in_range { IfOk result (λ next. IfSome next (λ entry. IsInRange (plain_command entry.command))) }
         ensures sized { IfOk result (λ next. IfSome next (λ entry. IsSized (plain_command entry.command))) }
         ensures narrow { IfOk result (λ next. IfSome next (λ entry. IsNarrow entry.reply)) }
-        ensures ended { (left : Option (List ℕ)) (entries : List Entry) → HasCome self.old left (I.remaining input.old) entries
+        ensures ended { (left : Option (List ℕ)) (entries : List Entry)
+            → HasCome self.old left (I.remaining input.old) entries
             → IfOk result (λ next. IsNone next → HasEnded self.new left (I.remaining input.new) entries) }
-        ensures fault { (left : Option (List ℕ)) (entries : List Entry) → HasCome self.old left (I.remaining input.old) entries
+        ensures fault { (left : Option (List ℕ)) (entries : List Entry)
+            → HasCome self.old left (I.remaining input.old) entries
             → IfErr result (HasStopped left (I.remaining input.new) entries) }
         ensures read { result ≡ Err ReplayError.Read → I.has_failed input.new ≡ true }
         ensures failed { I.has_failed input.new ≡ true → result ≡ Err ReplayError.Read }
@@ -71,7 +76,7 @@ impl HistoryInput {
         }
     }
 
-    /// The next entry of the bytes that were read. None if they are used up.
+    /// The next entry of the bytes that were read. `None` if they are used up.
     fn take(&mut self) -> Result<Option<RecordedEntry>, ReadFault>
         ensures entry { IfOk result (λ next. IfSome next (IsNext self.old self.new)) }
         ensures used_up { IfOk result (λ next. IsNone next → IsUsedUp self.old self.new) }

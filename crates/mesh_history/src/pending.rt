@@ -1,4 +1,4 @@
-//! The bytes that a device gave and at which nobody looked yet.
+//! The bytes that were read from a device, but not consumed yet.
 ghost use Rattle.std.specs.Prelude.{◌≡◌, ◌-◌, ◌≤◌, [], false, drop, is_err, length, vec_len, IfErr, IfOk};
 ghost use Rattle.mesh_devices.specs.declared.faults.ReplayError.{ReplayError};
 ghost use Rattle.mesh_history.specs.Pendings.{HasBytes};
@@ -10,14 +10,14 @@ use std::marker::Model;
 /// The most bytes of one read.
 const READ_BYTES: usize = 65_536;
 
-/// The bytes of the last read at which nobody looked yet.
+/// The bytes of the last read that aren't consumed yet.
 #[derive(Drop)]
 pub(crate) struct Pending {
     /// The bytes of the last read.
     buffer: Vec<u8>,
-    /// Where those begin that are left.
+    /// Where the unconsumed bytes begin.
     start: usize,
-    /// Where they end.
+    /// Where the unconsumed bytes end.
     end: usize,
 }
 
@@ -33,7 +33,7 @@ impl Model for Pending {
 }
 
 impl Pending {
-    /// No bytes, with the memory for one read. An error is an allocation failure.
+    /// Returns no bytes, with the buffer for one read. An error is an allocation failure.
     pub(crate) fn new(alloc: Global) -> Result<Pending, AllocError>
         ensures { IfOk result (λ pending. pending ≡ []) }
     {
@@ -44,14 +44,14 @@ impl Pending {
         })
     }
 
-    /// The bytes.
+    /// The unconsumed bytes.
     pub(crate) fn as_slice(&self) -> &[u8]
         ensures { result.now ≡ self.now }
     {
         &self.buffer[self.start..self.end]
     }
 
-    /// Keeps the last bytes, so many.
+    /// Keeps the last `count` bytes, and drops the others.
     pub(crate) fn keep_last(&mut self, count: usize)
         requires { count ≤ length self.old }
         ensures { self.new ≡ drop (length self.old - count) self.old }
@@ -59,7 +59,7 @@ impl Pending {
         self.start = self.end - count;
     }
 
-    /// Reads the next bytes in place of those that there were, and returns whether there were any.
+    /// Replaces the bytes by those of the next read, and returns whether there were any.
     pub(crate) fn read<I: Source>(&mut self, input: &mut I) -> Result<bool, ReplayError>
         requires { I.has_failed input.old ≡ false }
         ensures bytes { IfOk result (HasBytes self.new (I.remaining input.old) (I.remaining input.new)) }
@@ -73,7 +73,7 @@ impl Pending {
     }
 }
 
-/// Room for the bytes of one read.
+/// Returns the buffer for one read.
 fn room_to_read(alloc: Global) -> Result<Vec<u8>, AllocError>
     ensures { IfOk result (λ room. vec_len room ≡ 65536) }
 {

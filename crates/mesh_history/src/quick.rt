@@ -1,5 +1,5 @@
-//! The entries that most histories have, each read in one pass over the text, with the bytes behind its line's end. None where a line
-//! isn't one of these, or isn't plain in any way: then it is read field by field.
+//! The most common entries, each read in one pass over the text, with the bytes after its line's end. `None` for any
+//! other line: then it is read field by field.
 ghost use Rattle.std.specs.Prelude.{◌≡◌, ◌∷◌, ◌++◌, ◌≤◌, codes, decimal, IfSome};
 ghost use Rattle.mesh_history.specs.QuickEntries.{IsQuickEntry};
 
@@ -8,10 +8,10 @@ use crate::{RecordedEntry, RecordedReply};
 use mesh_fields::commands::{MAX_RECORDED_LENGTH, SpeltCommand};
 use mesh_fields::quick::{behind_all, number, wide_address, word};
 
-/// The entry that the text's first line is, and the bytes behind that line's end.
+/// The entry in the text's first line, and the bytes after that line's end.
 ///
-/// None of a line without its end, of one that has a fault, and of any other than a `new` that made an object, a `free` and an `alias` that
-/// were done: such lines are cut into fields.
+/// `None` if the line has no end or has a fault, and for any entry other than a `new` that made an object, a `free` and
+/// an `alias` that were done. Such lines are split into fields.
 pub fn quick_entry(text: &[u8]) -> Option<(RecordedEntry, &[u8])>
     ensures { IfSome result (λ read. IsQuickEntry text.now read.0 read.1.now) }
 {
@@ -25,7 +25,7 @@ pub fn quick_entry(text: &[u8]) -> Option<(RecordedEntry, &[u8])>
     alias_of(worker, behind_all(rest, b"alias ")?)
 }
 
-/// A number of 32 bits, and the bytes behind its end.
+/// A number of 32 bits, and the bytes after its end.
 #[inline]
 fn wide(text: &[u8], end: u8) -> Option<(u32, &[u8])>
     ensures { IfSome result (λ read. text.now ≡ decimal read.0 ++ end ∷ read.1.now) }
@@ -33,7 +33,7 @@ fn wide(text: &[u8], end: u8) -> Option<(u32, &[u8])>
     number(text, 0, u32::MAX, end)
 }
 
-/// A length of up to 2^47, and the bytes behind its end.
+/// A length of up to 2^47, and the bytes after its end.
 #[inline]
 fn size(text: &[u8], end: u8) -> Option<(u64, &[u8])>
     ensures spelt { IfSome result (λ read. text.now ≡ decimal read.0 ++ end ∷ read.1.now) }
@@ -46,7 +46,7 @@ fn size(text: &[u8], end: u8) -> Option<(u64, &[u8])>
     Some((value, rest))
 }
 
-/// The bytes behind `-> done` and the line's end.
+/// The bytes after `-> done` and the line's end.
 #[inline]
 fn behind_done(text: &[u8]) -> Option<&[u8]>
     ensures { IfSome result (λ rest. text.now ≡ codes "-> done" ++ 10 ∷ rest.now) }
@@ -57,7 +57,8 @@ fn behind_done(text: &[u8]) -> Option<&[u8]>
 /// `CELL LEN WORD -> object SERIAL at ADDR` of a `new`
 fn new_of(worker: u32, fields: &[u8]) -> Option<(RecordedEntry, &[u8])>
     requires { worker ≤ 65535 }
-    ensures { IfSome result (λ read. IsQuickEntry (decimal worker ++ 32 ∷ (codes "new " ++ fields.now)) read.0 read.1.now) }
+    ensures { IfSome result
+        (λ read. IsQuickEntry (decimal worker ++ 32 ∷ (codes "new " ++ fields.now)) read.0 read.1.now) }
 {
     let (cell, rest) = wide(fields, b' ')?;
     let (len, rest) = size(rest, b' ')?;
@@ -75,7 +76,8 @@ fn new_of(worker: u32, fields: &[u8]) -> Option<(RecordedEntry, &[u8])>
 /// `CELL -> done` of a `free`
 fn free_of(worker: u32, fields: &[u8]) -> Option<(RecordedEntry, &[u8])>
     requires { worker ≤ 65535 }
-    ensures { IfSome result (λ read. IsQuickEntry (decimal worker ++ 32 ∷ (codes "free " ++ fields.now)) read.0 read.1.now) }
+    ensures { IfSome result
+        (λ read. IsQuickEntry (decimal worker ++ 32 ∷ (codes "free " ++ fields.now)) read.0 read.1.now) }
 {
     let (of, rest) = wide(fields, b' ')?;
     let rest = behind_done(rest)?;
@@ -90,7 +92,8 @@ fn free_of(worker: u32, fields: &[u8]) -> Option<(RecordedEntry, &[u8])>
 /// `TO FROM -> done` of an `alias`
 fn alias_of(worker: u32, fields: &[u8]) -> Option<(RecordedEntry, &[u8])>
     requires { worker ≤ 65535 }
-    ensures { IfSome result (λ read. IsQuickEntry (decimal worker ++ 32 ∷ (codes "alias " ++ fields.now)) read.0 read.1.now) }
+    ensures { IfSome result
+        (λ read. IsQuickEntry (decimal worker ++ 32 ∷ (codes "alias " ++ fields.now)) read.0 read.1.now) }
 {
     let (to, rest) = wide(fields, b' ')?;
     let (from, rest) = wide(rest, b' ')?;

@@ -15,17 +15,17 @@ use mesh_job::ReadFault;
 use model_words::{FaultKind, TextFault};
 use std::alloc::Global;
 
-/// A recorded history of which a beginning was read.
+/// A reader of a recorded history, of which it has read a beginning.
 #[derive(Drop)]
 pub struct EntryReader {
-    /// How many lines were taken.
+    /// How many lines were read.
     lines: u32,
-    /// The beginning of the line whose end did not come yet.
+    /// The beginning of the line whose end hasn't come yet.
     begun: BegunLine,
 }
 
 impl EntryReader {
-    /// A reader to which nothing has come. It takes no memory.
+    /// Returns a reader that has read nothing. It allocates nothing.
     pub fn new(alloc: Global) -> EntryReader
         ensures lines { lines_of result ≡ 0 }
         ensures reads { (text : List ℕ) → reading_behind result text ≡ reading_of text }
@@ -36,18 +36,19 @@ impl EntryReader {
         }
     }
 
-    /// How many lines were taken: the line number of the entry that came last.
+    /// How many lines were read: the line number of the last entry.
     pub fn lines(&self) -> u32
         ensures { result ≡ lines_of self.now }
     {
         self.lines
     }
 
-    /// The next entry of the text, of which `piece` are the next bytes, and the bytes of the piece behind that entry's line. None where the
-    /// piece is used up: of a line that it begins the bytes are kept.
+    /// Returns the next entry of the text, whose next bytes are `piece`, and the bytes of the piece after that entry's
+    /// line. `None` if the piece is used up; the bytes of a line that begins in it are kept.
     ///
-    /// Text comes where a line has a fault: LONG_LINE as soon as too many bytes of it have come, and TOO_LONG where it is one line too many.
-    /// Memory comes where there was none for a line that has begun. The reader is of no use behind either.
+    /// The error is Text if a line has a fault: LONG_LINE as soon as too many bytes of it have come, and TOO_LONG if
+    /// there are too many lines. It is Memory if the allocation for an unfinished line failed. After an error the
+    /// reader must not be used.
     pub fn next<'a>(
         &mut self,
         piece: &'a [u8],
@@ -67,7 +68,7 @@ impl EntryReader {
         self.next_entry(rest)
     }
 
-    /// The same behind the first line.
+    /// The same after the first line.
     fn next_entry<'a>(
         &mut self,
         piece: &'a [u8],
@@ -88,7 +89,7 @@ impl EntryReader {
         Ok(Some((entry, rest)))
     }
 
-    /// The next entry, where it is a common one and its whole line is in the piece.
+    /// The next entry, if it is a common one and its whole line is in the piece.
     fn quick<'a>(&mut self, piece: &'a [u8]) -> Option<(RecordedEntry, &'a [u8])>
         requires later { 1 ≤ lines_of self.old }
         ensures entry { IfSome result (λ read. HasRead self.old self.new piece.now read.0 read.1.now) }
@@ -102,7 +103,7 @@ impl EntryReader {
         Some((entry, rest))
     }
 
-    /// Takes the last bytes of the first line, and its end.
+    /// Reads the last bytes of the first line, and its end.
     fn end_head(&mut self, last: &[u8]) -> Result<(), ReadFault>
         requires first { lines_of self.old ≡ 0 }
         requires unended { IsUnended last.now }
@@ -122,7 +123,7 @@ impl EntryReader {
         Ok(())
     }
 
-    /// Takes the last bytes of an entry's line, and its end.
+    /// Reads the last bytes of an entry's line, and its end.
     fn end_entry(&mut self, last: &[u8]) -> Result<RecordedEntry, ReadFault>
         requires later { 1 ≤ lines_of self.old }
         requires unended { IsUnended last.now }
@@ -141,7 +142,7 @@ impl EntryReader {
         Ok(entry)
     }
 
-    /// Keeps bytes of a line whose end did not come yet.
+    /// Keeps bytes of a line whose end hasn't come yet.
     fn keep(&mut self, bytes: &[u8]) -> Result<(), ReadFault>
         requires unended { IsUnended bytes.now }
         ensures begun { OnOk result (begun_of self.new ≡ begun_of self.old ++ bytes.now) }
@@ -155,7 +156,8 @@ impl EntryReader {
         Ok(())
     }
 
-    /// The fault of a text that ends here: CUT where it ends in a line or before its first, and TOO_LONG where it ends in one line too many.
+    /// Ends the text. The error is CUT if the text ends within a line or before its first, and TOO_LONG if it ends in
+    /// one line too many.
     pub fn finish(&self) -> Result<(), TextFault>
         ensures ok { OnOk result (reading_behind self.now [] ≡ ends_with None) }
         ensures some { OnOk result (1 ≤ lines_of self.now) }
@@ -168,7 +170,7 @@ impl EntryReader {
     }
 }
 
-/// The fault of a text that ends behind so many lines, with these bytes behind its last line end.
+/// The fault of a text that ends after `lines` lines and these bytes after its last line end.
 fn end_fault(lines: u32, rest: &[u8]) -> Option<TextFault>
     ensures { result ≡ end_fault lines rest.now }
 {
@@ -196,7 +198,7 @@ fn head_at(line: &[u8]) -> Result<(), ReadFault>
     }
 }
 
-/// Reads the line of an entry that has so many lines before it.
+/// Reads the line of an entry, which follows `lines` lines.
 fn entry_at(lines: u32, line: &[u8]) -> Result<RecordedEntry, ReadFault>
     requires { 1 ≤ lines }
     ensures few { OnOk result (is_full lines ≡ false) }
@@ -215,7 +217,7 @@ fn entry_at(lines: u32, line: &[u8]) -> Result<RecordedEntry, ReadFault>
     }
 }
 
-/// The fault of a line behind so many of which too many bytes have come.
+/// The fault of a line that is too long, after `lines` lines.
 fn long_line(lines: u32) -> ReadFault
     ensures { result ≡ ReadFault.Text (long_line lines) }
 {

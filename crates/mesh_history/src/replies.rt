@@ -10,7 +10,8 @@ use mesh_fields::hex::{byte, bytes, wide_address};
 use mesh_fields::lines::{is_word, no_field, one_field, three_fields, two_fields};
 use model_words::FaultKind;
 
-/// The answer of an entry with this word and these fields. WORD where there is no such answer, or it has another number of fields.
+/// The answer of an entry with this word and these fields. The error is WORD if there is no such answer, or if it has
+/// another number of fields.
 pub(crate) fn reply_of(word: &[u8], fields: &[&[u8]]) -> Result<RecordedReply, FaultKind>
     ensures { IsReplyRead (reply_in word.now (texts fields.now)) result }
 {
@@ -31,7 +32,7 @@ pub(crate) fn reply_of(word: &[u8], fields: &[&[u8]]) -> Result<RecordedReply, F
     }
 }
 
-/// `object SERIAL at ADDR`. WORD where another field stands between the two numbers.
+/// `object SERIAL at ADDR`. The error is WORD if the field between the two numbers isn't `at`.
 fn object_of(fields: &[&[u8]]) -> Result<RecordedReply, FaultKind>
     ensures { IsReplyRead (object_in (texts fields.now)) result }
 {

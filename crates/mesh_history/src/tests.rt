@@ -111,7 +111,7 @@ fn cells_and_serials_have_32_bits(rt: HostRuntime) {
     assert_eq!(rt; fault(serial), Some(FaultKind::Number));
 }
 
-/// How many entries a text has, and why no more.
+/// How many entries a text has before its end or its first fault, and that fault.
 fn read(rt: &(impl Abort + AllocGlobal), text: &[u8]) -> (u32, Option<ReplayError>) {
     let mut history = HistoryInput::new(rt.alloc()).expect(rt, "memory");
     let mut input = Input::new(text);

@@ -1,14 +1,14 @@
-//! What a recorded history tells: what commands were answered, and entries of the two.
+//! The entries of a recorded history: commands and their answers.
 use arrayvec::ArrayVec;
 use mesh_fields::commands::SpeltCommand;
 use model_words::{MAX_BYTES, Refusal};
 
-/// What the allocator that recorded answered.
+/// The answer of the allocator that was recorded.
 #[derive(Clone, Drop, PartialEq, Eq)]
 pub enum RecordedReply {
-    /// `Object(serial, addr)`: the object was made. The serial is of the allocator's choice.
+    /// `Object(serial, addr)`: the object was made. The allocator chose the serial.
     Object(u32, u64),
-    /// The command was done and answers nothing more.
+    /// The command was done, and has no other answer.
     Done,
     /// The bytes that were loaded.
     Bytes(ArrayVec<u8, MAX_BYTES>),
@@ -23,11 +23,11 @@ pub enum RecordedReply {
 /// One answered command.
 #[derive(Drop)]
 pub struct RecordedEntry {
-    /// Who asked.
+    /// The worker that asked.
     pub worker: u32,
-    /// What was asked. A cell is any 32-bit number: a recorder may give each object one of its own. The length of an
+    /// The command. A cell is any 32-bit number: a recorder may give each object one of its own. The length of an
     /// object is at most 2^47.
     pub command: SpeltCommand,
-    /// What was answered.
+    /// The answer.
     pub reply: RecordedReply,
 }

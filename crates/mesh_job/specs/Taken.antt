@@ -7,7 +7,8 @@ use Rattle.mesh_fields.specs.Lines.{IsPartOfLine, text_lines}
 use Rattle.mesh_job.specs.Draft.{IsDraft, draft_of}
 use Rattle.mesh_job.specs.declared.reader.Reading.{Reading}
 
--- what a file is read to that ends in these bytes: its fault, where one was found before them, and else what the draft comes to
+-- what a file is read to that ends in these bytes: its fault, where one was found before them, and else what the draft
+-- comes to
 abbrev pub reads_on : Option TextFault → ℕ → PlainDraft → List ℕ → Result Job TextFault
 reads_on (Some fault) number draft more = Err fault
 reads_on None number draft more = lines_in number draft (text_lines more)
@@ -31,7 +32,8 @@ pub record IsReading (r : Reading) : Type 0 where
   pub numbered : 1 ≤ r.number
   pub counted : r.number ≤ r.taken + 1
 
--- a reading has taken this text, and no other byte of its file: whatever follows it, the file is read to what the reading comes to
+-- a reading has taken this text, and no other byte of its file: whatever follows it, the file is read to what the
+-- reading comes to
 pub record HasTaken (r : Reading) (text : List ℕ) : Type 0 where
   pub sound : IsReading r
   pub count : bytes_taken r ≡ length text

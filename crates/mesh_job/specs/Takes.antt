@@ -13,7 +13,8 @@ use denote.Ref.{Bor}
 abbrev pub IfTaken : {E : Type 0} → Result (Option (Bor (List ℕ))) E → (List ℕ → Type 0) → Type 0
 IfTaken result holds = IfOk result (λ next. IfSome next (λ rest. holds rest.now))
 
--- the next line of a text was taken into a draft, and the result is the rest behind it; or the text is the beginning of a line, and there is no rest; or the line has a fault
+-- the next line of a text was taken into a draft, and the result is the rest behind it; or the text is the beginning of
+-- a line, and there is no rest; or the line has a fault
 pub record HasTakenLine (old new : Draft) (text : List ℕ) (result : Result (Option (Bor (List ℕ))) LineError) : Type 0 where
   pub draft : OnOk result (IsDraft new)
   pub shorter : IfTaken result (λ rest. length rest < length text)
@@ -21,7 +22,8 @@ pub record HasTakenLine (old new : Draft) (text : List ℕ) (result : Result (Op
   pub part : IfOk result (λ next. IsNone next → IsPartOfLine text × (new ≡ old))
   pub err : IfErr result (λ fault. IsFaultOfLine (draft_of old) text fault)
 
--- the next line of a text was taken into a draft in one pass, and the result is the rest behind it; or nothing was taken, and there is no rest
+-- the next line of a text was taken into a draft in one pass, and the result is the rest behind it; or nothing was
+-- taken, and there is no rest
 pub record HasTakenQuickLine {E : Type 0} (old new : Draft) (text : List ℕ) (result : Result (Option (Bor (List ℕ))) E) : Type 0 where
   pub draft : OnOk result (IsDraft new)
   pub shorter : IfTaken result (λ rest. length rest < length text)

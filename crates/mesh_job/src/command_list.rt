@@ -1,4 +1,4 @@
-//! Commands as they are, for whoever takes a slice of them.
+//! Unpacked commands, for callers that need a slice of them.
 ghost use Rattle.std.specs.Prelude.{◌≡◌, [], ◌∷◌, ◌++◌, OnOk, OnErr};
 ghost use Rattle.std.specs.List.{All};
 ghost use Rattle.model_words.specs.Commands.{IsInRange};
@@ -7,9 +7,9 @@ use model_words::Command;
 use std::alloc::{AllocError, Global};
 use std::marker::Model;
 
-/// Some commands in their order, as they are and not packed.
+/// Some commands in their order, not packed.
 ///
-/// Each stores or loads 1 to 32 bytes, where it does at all, so that each may be handed to the heap.
+/// Each command that stores or loads bytes has 1 to 32 of them, so each may be passed to the heap.
 #[derive(Drop)]
 pub struct Commands {
     commands: Vec<Command>,
@@ -29,7 +29,7 @@ impl Model for Commands {
 }
 
 impl Commands {
-    /// No command. It allocates nothing.
+    /// An empty list. It allocates nothing.
     pub fn new(alloc: Global) -> Self
         ensures { result ≡ [] }
     {
@@ -38,7 +38,7 @@ impl Commands {
         }
     }
 
-    /// Adds the command that comes last.
+    /// Appends a command. An error is an allocation failure.
     pub fn push(&mut self, command: Command) -> Result<(), AllocError>
         requires { IsInRange command }
         ensures ok { OnOk result (self.new ≡ self.old ++ command ∷ []) }

@@ -9,10 +9,10 @@ use mesh_fields::commands;
 use mesh_fields::commands::{Dialect, SpeltCommand};
 use model_words::{Command, FaultKind, Version};
 
-/// The command of a line with this word and these fields.
+/// Reads the command of a line with this word and these fields.
 ///
-/// WORD where the version has no such command, or another number of fields. Else the leftmost field that is spelt wrongly or out of range decides:
-/// NUMBER for a number or an address, HEX for the bytes of a `put` or a `poke`.
+/// WORD if the version has no such command, or if it has another number of fields. Otherwise the leftmost field that is
+/// misspelt or out of range decides: NUMBER for a number or an address, HEX for the bytes of a `put` or a `poke`.
 pub fn command_of(version: Version, word: &[u8], fields: &[&[u8]]) -> Result<Command, FaultKind>
     ensures value { result ≡ command_in version word.now (texts fields.now) }
     ensures in_range { IfOk result IsInRange }
@@ -21,7 +21,7 @@ pub fn command_of(version: Version, word: &[u8], fields: &[&[u8]]) -> Result<Com
     Ok(narrowed(spelt))
 }
 
-/// The command that a job's line asks for: its cells have 8 bits, and its lengths, offsets and addresses 32.
+/// The command of a job's line: its cells have 8 bits, and its lengths, offsets and addresses 32.
 fn narrowed(spelt: SpeltCommand) -> Command
     requires { IsWithin 255 65535 268435455 spelt }
     ensures { result ≡ plain_command spelt }

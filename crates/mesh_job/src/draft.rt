@@ -1,4 +1,4 @@
-//! The job as far as its file was read, line by line.
+//! The part of a job that was read so far, line by line.
 ghost use Rattle.std.specs.Prelude.{◌≡◌, true, false, Ok, Err, OnOk, IfErr};
 ghost use Rattle.std.specs.List.{list_any};
 ghost use Rattle.model_jobs.specs.JobFiles.{blank_draft, has_ended, is_empty, job_of, plan_line, script_line, take_fields, take_in, version_of};
@@ -18,15 +18,15 @@ use model_jobs::text_laws::lines_read_back;
 use model_words::{FaultKind, Version};
 use std::alloc::{AllocError, Global};
 
-/// The most pages of an arena, and the most entries of a journal.
+/// The greatest number of pages of an arena, and of entries of a journal.
 const MAX_PAGES: u32 = 4096;
 
 const MAX_HISTORY: u32 = 65_536;
 
-/// The most workers of a job.
+/// The greatest number of workers of a job.
 const MAX_WORKERS: u32 = 64;
 
-/// Where in its file a line stands.
+/// The section of its file that a line is in.
 #[derive(Clone, Copy)]
 enum Section {
     /// `mesh 1` or `mesh 2` comes next.
@@ -43,7 +43,7 @@ enum Section {
     Worker(u32),
     /// Among the lines of the plan.
     Plan,
-    /// Behind `end`, where nothing may come.
+    /// After `end`, where nothing may come.
     Ended,
 }
 
@@ -68,7 +68,7 @@ impl Drop for Draft {
 }
 
 impl Draft {
-    /// A job of which no line was read.
+    /// A draft of which no line was read.
     pub(crate) fn new(alloc: Global) -> Self
         ensures draft { IsDraft result }
         ensures blank { draft_of result ≡ blank_draft }
@@ -96,7 +96,7 @@ impl Draft {
         }
     }
 
-    /// Takes the next line of the text, and gives the bytes behind it. None where the text is the beginning of a line, of which
+    /// Takes the next line of the text, and returns the bytes after it. `None` if the text holds no whole line: then
     /// nothing is taken.
     pub(crate) fn take_line<'a>(&mut self, text: &'a [u8]) -> Result<Option<&'a [u8]>, LineError>
         requires draft { IsDraft self.old }
@@ -109,7 +109,7 @@ impl Draft {
         self.take_few_fields(text)
     }
 
-    /// The same, field by field.
+    /// Does the same as `take_line`, field by field.
     fn take_few_fields<'a>(&mut self, text: &'a [u8]) -> Result<Option<&'a [u8]>, LineError>
         requires draft { IsDraft self.old }
         requires going { has_ended (draft_of self.old).section ≡ false }
@@ -123,7 +123,7 @@ impl Draft {
         self.take_all_fields(text)
     }
 
-    /// The same, for a line of any number of fields.
+    /// Does the same as `take_line`, for a line of any number of fields.
     fn take_all_fields<'a>(&mut self, text: &'a [u8]) -> Result<Option<&'a [u8]>, LineError>
         requires draft { IsDraft self.old }
         requires going { has_ended (draft_of self.old).section ≡ false }
@@ -137,8 +137,8 @@ impl Draft {
         Ok(Some(rest))
     }
 
-    /// Takes the next line of the text, where it is one that most texts have, and gives the bytes behind it. None elsewhere: then nothing
-    /// is taken.
+    /// Takes the next line of the text if it is a common one, and returns the bytes after it. Otherwise returns `None`
+    /// and takes nothing.
     #[inline]
     fn take_quick_line<'a>(&mut self, text: &'a [u8]) -> Result<Option<&'a [u8]>, AllocError>
         requires draft { IsDraft self.old }
@@ -151,7 +151,7 @@ impl Draft {
         }
     }
 
-    /// The same, in the section of a worker.
+    /// Does the same as `take_quick_line`, in the section of a worker.
     #[inline]
     fn take_quick_command<'a>(&mut self, text: &'a [u8]) -> Result<Option<&'a [u8]>, AllocError>
         requires draft { IsDraft self.old }
@@ -166,7 +166,7 @@ impl Draft {
         Ok(Some(rest))
     }
 
-    /// The same, in the section of the plan.
+    /// Does the same as `take_quick_line`, in the section of the plan.
     #[inline]
     fn take_quick_call<'a>(&mut self, text: &'a [u8]) -> Result<Option<&'a [u8]>, AllocError>
         requires draft { IsDraft self.old }
@@ -197,11 +197,12 @@ impl Draft {
         }
     }
 
-    /// Takes a line of the header, or of what follows the end.
+    /// Takes a line of the header, or a line after the end.
     fn take_header(&mut self, word: &[u8], fields: &[&[u8]]) -> Result<(), FaultKind>
         requires draft { IsDraft self.old }
         requires section { is_in_header self.old.section ≡ true }
-        ensures { IsMadeInPlaceBy (take_in (section_of self.old.section) (draft_of self.old) word.now (texts fields.now)) self.new result }
+        ensures { IsMadeInPlaceBy
+            (take_in (section_of self.old.section) (draft_of self.old) word.now (texts fields.now)) self.new result }
     {
         match self.section {
             Section::Version => {
@@ -221,11 +222,12 @@ impl Draft {
         Ok(())
     }
 
-    /// Takes the header's line of the workers or the first one's, or a line of what follows the end.
+    /// Takes the header line `workers`, the first `worker` line, or a line after the end.
     fn take_workers(&mut self, word: &[u8], fields: &[&[u8]]) -> Result<(), FaultKind>
         requires draft { IsDraft self.old }
         requires section { is_behind_sizes self.old.section ≡ true }
-        ensures { IsMadeInPlaceBy (take_in (section_of self.old.section) (draft_of self.old) word.now (texts fields.now)) self.new result }
+        ensures { IsMadeInPlaceBy
+            (take_in (section_of self.old.section) (draft_of self.old) word.now (texts fields.now)) self.new result }
     {
         match self.section {
             Section::Workers => {
@@ -283,7 +285,7 @@ impl Draft {
         Ok(())
     }
 
-    /// The job, once its last line was read.
+    /// Returns the job, once its last line was read.
     pub(crate) fn finish(self) -> Job
         requires draft { IsDraft self }
         requires ended { has_ended (draft_of self).section ≡ true }
@@ -310,7 +312,7 @@ impl Draft {
     }
 }
 
-/// That the one field of a line is this number.
+/// Checks that the one field of a line is this number.
 fn check_number(fields: &[&[u8]], number: u32) -> Result<(), FaultKind>
     ensures ok { OnOk result (number_field_in number (texts fields.now) ≡ Ok number) }
     ensures err { IfErr result (λ kind. number_field_in number (texts fields.now) ≡ Err kind) }

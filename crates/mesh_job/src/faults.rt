@@ -1,4 +1,4 @@
-//! Why a line, and why a file, can't be read.
+//! Why a line, or a file, can't be read.
 ghost use Rattle.std.specs.Prelude.{◌≡◌};
 ghost use Rattle.mesh_job.specs.declared.faults.LineError.{LineError};
 ghost use Rattle.mesh_job.specs.declared.faults.ReadFault.{ReadFault};
@@ -13,7 +13,7 @@ pub enum LineError {
     /// The line has a fault.
     #[error("{0}")]
     Kind(FaultKind),
-    /// A growth of what was read was refused, since an allocation failed.
+    /// An allocation failed while memory for the result was extended.
     #[error("out of memory")]
     Memory,
 }
@@ -21,10 +21,10 @@ pub enum LineError {
 /// Why a job file gave no job.
 #[derive(Clone, Copy, Debug, PartialEq, Eq, Error)]
 pub enum ReadFault {
-    /// The text has a fault; this is its first.
+    /// The text has a fault; this is its first one.
     #[error("{0}")]
     Text(TextFault),
-    /// A growth of the job was refused, since an allocation failed.
+    /// An allocation failed while the job was extended.
     #[error("out of memory")]
     Memory,
 }

@@ -1,4 +1,4 @@
-//! What a job file says.
+//! The content of a job file.
 ghost use Rattle.std.specs.Prelude.{◌≡◌, ◌<◌, ◌≤◌, length, slice_index_or};
 
 use crate::{Plan, Script};
@@ -52,10 +52,10 @@ impl Scripts {
 
 /// A job: the size of a heap, the scripts of the workers that use it, and the plan by which they take turns.
 ///
-/// Its type keeps the limits: 1 to 4,096 pages, a journal of at most 65,536 entries, and a plan that runs only workers that there
-/// are and has the lines of the job's version alone. The limits are this project's own choice.
+/// The type's invariant keeps the limits: 1 to 4,096 pages, and a journal of at most 65,536 entries. The plan runs only
+/// existing workers and has only lines of the job's version. The limits are this project's own choice.
 pub struct Job {
-    /// The version of its file.
+    /// The version of the job's file.
     pub version: Version,
     /// How many physical pages the arena has.
     pub pages: u32,
@@ -74,7 +74,8 @@ impl Model for Job {
 
     ghost Value = { PlainJob };
 
-    ghost view = { λ j. record { version = j.version; pages = j.pages; history = j.history; scripts = j.scripts; plan = j.plan } };
+    ghost view = { λ j.
+        record { version = j.version; pages = j.pages; history = j.history; scripts = j.scripts; plan = j.plan } };
 
     ghost invariant = { λ j. IsJob j.version j.pages j.history (length j.scripts) j.plan };
 }

@@ -1,13 +1,15 @@
 //! Job files: the lines of a plan and of scripts, and the one reader of a whole file.
 //!
-//! A job file is text of one line a statement: four header lines, a section of commands for each worker, and a plan that says
-//! in which order the workers attempt their commands. `read_file` takes the text apart or returns its first fault. Its contract is
-//! the definition of reading, which speaks of the whole text; the code goes line by line, and keeps what it has read in a draft.
-//! A `Reading` does so with a text that comes in pieces, and need not be held whole. Contracts see a job as the job of the
+//! A job file is text with one statement per line: four header lines, a section of commands for each worker, and a
+//! plan. The plan gives the order in which the workers attempt their commands. Contracts see a job as the job of the
 //! definitions.
 //!
-//! A line comes as its word and its fields (`command_of`, `plan_line`), or as the text that begins with it, of which the common lines are read in one
-//! pass (`quick_command`, `quick_line`).
+//! `read_file` parses the text or returns its first fault. Its contract is the definition of reading, which is stated
+//! over the whole text. The code goes line by line, and keeps what it has read in a draft. A `Reading` does so for a
+//! text that comes in pieces, which need not be in memory as a whole.
+//!
+//! A line is passed as its word and its fields (`command_of`, `plan_line`), or as the text that begins with it
+//! (`quick_command`, `quick_line`). The latter two read the common lines in one pass.
 #![tactic(auto)]
 
 mod command_list;

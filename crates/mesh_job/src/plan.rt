@@ -5,12 +5,12 @@ ghost use Rattle.mesh_job.specs.Plan.{line_of};
 use mesh_class::Class;
 use std::marker::Model;
 
-/// What is searched for pairs of groups that can be meshed, and how.
+/// A search for pairs of groups that can be meshed.
 #[derive(Drop)]
 pub struct Search {
     /// The class whose groups are paired.
     pub class: Class,
-    /// The most rounds.
+    /// The greatest number of rounds.
     pub rounds: u32,
     /// The words that shuffle the groups, at most 32.
     pub words: Vec<u64>,
@@ -21,7 +21,7 @@ pub struct Search {
 pub enum PlanLine {
     /// `Run(w)`: worker `w` attempts its next command.
     Run(u32),
-    /// A search for pairs of groups that can be meshed. Nothing changes.
+    /// A search for pairs of groups that can be meshed. It changes nothing.
     Pair(Box<Search>),
     /// A mesh of the group `source` into the group `destination` begins.
     Begin {
@@ -30,13 +30,13 @@ pub enum PlanLine {
         /// The number of the destination.
         destination: u32,
     },
-    /// The one running mesh makes its next step. Of version 1 alone.
+    /// The one running mesh makes its next step. Only in version 1.
     Step,
-    /// The one running mesh is cancelled. Of version 1 alone.
+    /// The one running mesh is cancelled. Only in version 1.
     Cancel,
-    /// The running mesh of a class makes its next step. Of version 2 alone.
+    /// The running mesh of a class makes its next step. Only in version 2.
     StepClass(Class),
-    /// The running mesh of a class is cancelled. Of version 2 alone.
+    /// The running mesh of a class is cancelled. Only in version 2.
     CancelClass(Class),
     /// The group `source` is meshed into the group `destination`, by all steps at once.
     Whole {
@@ -45,9 +45,9 @@ pub enum PlanLine {
         /// The number of the destination.
         destination: u32,
     },
-    /// An empty group's pages are given back.
+    /// An empty group's pages are freed.
     Sweep(u32),
-    /// What the heap counts.
+    /// The counts of the heap are reported.
     Report,
 }
 

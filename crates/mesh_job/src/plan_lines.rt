@@ -19,17 +19,17 @@ use std::alloc::Global;
 /// The greatest number of a group.
 const MAX_GROUP: u32 = 65_535;
 
-/// The most rounds of a search.
+/// The greatest number of rounds of a search.
 const MAX_ROUNDS: u32 = 64;
 
-/// The most words of a search.
+/// The greatest number of words of a search.
 const MAX_WORDS: usize = 32;
 
-/// The line of a plan with this word and these fields, in a job of so many workers.
+/// Reads the line of a plan with this word and these fields, in a job of `workers` workers.
 ///
-/// WORD where the version has no such line, or another number of fields, of which a `pair` has 32 words at most. NUMBER where a field is spelt wrongly or
-/// out of range: a worker's number is below `workers`, a group's at most 65,535, a class is named by its size, and a search has at most 64 rounds.
-/// Memory where a `pair` found none for its search.
+/// WORD if the version has no such line, or if it has another number of fields. A `pair` has at most 32 words. NUMBER
+/// if a field is misspelt or out of range: a worker's number is below `workers`, a group's at most 65,535, a class is
+/// named by its size, and a search has at most 64 rounds. `Memory` if a `pair` couldn't allocate its search.
 pub fn plan_line(
     alloc: Global,
     version: Version,
@@ -49,7 +49,7 @@ pub fn plan_line(
     Ok(line)
 }
 
-/// The same, for every line but that of a search.
+/// Does the same as `plan_line`, for every line except that of a search.
 fn short_line(
     version: Version,
     workers: u32,
@@ -131,10 +131,14 @@ fn cancel_of(version: Version, fields: &[&[u8]]) -> Result<PlanLine, FaultKind>
     Ok(mesh_class(version, fields)?.map_or(PlanLine::Cancel, PlanLine::CancelClass))
 }
 
-/// The class whose mesh a line names: none in version 1, which has one mesh at a time, and that of its one field in version 2.
+/// The class whose mesh a line names: none in version 1, which has one mesh at a time, and the class of the line's one
+/// field in version 2.
 fn mesh_class(version: Version, fields: &[&[u8]]) -> Result<Option<Class>, FaultKind>
-    ensures ok { IfOk result (λ class. (bare : Line) (line : ℕ → Line) → of_mesh_in version bare line (texts fields.now) ≡ Ok (line_of_mesh bare line class)) }
-    ensures err { IfErr result (λ kind. (bare : Line) (line : ℕ → Line) → of_mesh_in version bare line (texts fields.now) ≡ Err kind) }
+    ensures ok { IfOk result
+        (λ class. (bare : Line) (line : ℕ → Line)
+        → of_mesh_in version bare line (texts fields.now) ≡ Ok (line_of_mesh bare line class)) }
+    ensures err { IfErr result
+        (λ kind. (bare : Line) (line : ℕ → Line) → of_mesh_in version bare line (texts fields.now) ≡ Err kind) }
 {
     match version {
         Version::One => {
@@ -168,7 +172,7 @@ fn pair_of(alloc: Global, fields: &[&[u8]]) -> Result<PlanLine, LineError>
     search_of(alloc, *size, *rounds, words)
 }
 
-/// The search with these fields, the third ones of which are its words.
+/// The search with these fields. The fields from the third on are its words.
 fn search_of(
     alloc: Global,
     size: &[u8],
@@ -190,7 +194,7 @@ fn search_of(
     Ok(PlanLine::Pair(asked))
 }
 
-/// The class of a field that is its size. NUMBER where there is no class of this size.
+/// The class of a field that is its size. NUMBER if no class has this size.
 fn class(field: &[u8]) -> Result<Class, FaultKind>
     ensures { result ≡ class_in field.now }
 {

@@ -1,5 +1,5 @@
-//! The lines that most texts have, each read in one pass over the text, with the bytes behind its end. None where a line isn't one of
-//! these, or isn't plain in any way: then it is read field by field.
+//! The lines that are common in texts, each read in one pass over the text. Each function returns the bytes after the
+//! line's end too. `None` if a line isn't one of these, or is unusual in any way: then it is read field by field.
 ghost use Rattle.std.specs.Prelude.{◌≡◌, ◌∷◌, ◌++◌, ◌≤◌, ℕ, codes, decimal, IfSome, IsSome};
 ghost use Rattle.model_words.specs.Classes.{row_of};
 ghost use Rattle.model_words.specs.declared.versions.Version.{Version};
@@ -15,9 +15,10 @@ use model_words::{Command, Version};
 /// The greatest length that a `new` may ask for, and the greatest offset of a `put` or a `get`.
 const MAX_LENGTH: u32 = 65_535;
 
-/// The command that the text's first line is, and the text behind that line's end.
+/// Reads the text's first line as a command, and returns the text after that line's end too.
 ///
-/// None of a line without its end, of one that has a fault, and of any other that is not one of the common ones: such lines are cut into fields.
+/// `None` for a line without its end, for a line with a fault, and for any line that is not one of the common ones.
+/// Such lines are cut into fields.
 pub fn quick_command(text: &[u8]) -> Option<(Command, &[u8])>
     ensures { IfSome result (λ read. IsQuickCommand text.now read.0 read.1.now) }
 {
@@ -29,7 +30,7 @@ pub fn quick_command(text: &[u8]) -> Option<(Command, &[u8])>
     }
 }
 
-/// The same, for a command whose fields are cells alone, and for one of an address.
+/// Does the same as `quick_command`, for a command whose fields are cells alone, and for a command of an address.
 #[inline]
 fn cells_command(text: &[u8]) -> Option<(Command, &[u8])>
     ensures { IfSome result (λ read. IsQuickCommand text.now read.0 read.1.now) }
@@ -42,7 +43,7 @@ fn cells_command(text: &[u8]) -> Option<(Command, &[u8])>
     }
 }
 
-/// The same, for a command whose first field is an address.
+/// Does the same as `quick_command`, for a command whose first field is an address.
 #[inline]
 fn address_command(text: &[u8]) -> Option<(Command, &[u8])>
     ensures { IfSome result (λ read. IsQuickCommand text.now read.0 read.1.now) }
@@ -54,7 +55,7 @@ fn address_command(text: &[u8]) -> Option<(Command, &[u8])>
     }
 }
 
-/// `CELL SIZE` and a space behind them: a root cell, and a length or an offset. Gives the bytes behind the space, too.
+/// `CELL SIZE` and a space after them: a root cell, and a length or an offset. Returns the bytes after the space too.
 #[inline]
 fn cell_and_size(fields: &[u8]) -> Option<(u8, u32, &[u8])>
     ensures spelt { IfSome result (λ read. fields.now ≡ decimal read.0 ++ 32 ∷ decimal read.1 ++ 32 ∷ read.2.now) }
@@ -134,7 +135,8 @@ fn poke_of(fields: &[u8]) -> Option<(Command, &[u8])>
     Some((Command::Poke(at, stored), rest))
 }
 
-/// The line of a plan that the text's first line is, in a job of so many workers, and the text behind that line's end. None as in `quick_command`.
+/// Reads the text's first line as a line of a plan, in a job of `workers` workers, and returns the text after that
+/// line's end too. `None` as in `quick_command`.
 pub fn quick_line(text: &[u8], version: Version, workers: u32) -> Option<(PlanLine, &[u8])>
     requires { 1 ≤ workers }
     ensures { IfSome result (λ read. IsQuickLine version workers text.now read.0 read.1.now) }
@@ -150,15 +152,17 @@ pub fn quick_line(text: &[u8], version: Version, workers: u32) -> Option<(PlanLi
 #[inline]
 fn run_of(fields: &[u8], workers: u32) -> Option<(PlanLine, &[u8])>
     requires { 1 ≤ workers }
-    ensures { IfSome result (λ read. (version : Version) → IsQuickLine version workers (codes "run" ++ 32 ∷ fields.now) read.0 read.1.now) }
+    ensures { IfSome result
+        (λ read. (version : Version) → IsQuickLine version workers (codes "run" ++ 32 ∷ fields.now) read.0 read.1.now) }
 {
     let (worker, rest) = number(fields, 0, workers - 1, b'\n')?;
     Some((PlanLine::Run(worker), rest))
 }
 
-/// What is behind `step`: nothing in version 1, and the size of a class in version 2
+/// The rest of a line after `step`: nothing in version 1, and the size of a class in version 2
 fn step_of(fields: &[u8], version: Version) -> Option<(PlanLine, &[u8])>
-    ensures { IfSome result (λ read. (workers : ℕ) → IsQuickLine version workers (codes "step" ++ fields.now) read.0 read.1.now) }
+    ensures { IfSome result
+        (λ read. (workers : ℕ) → IsQuickLine version workers (codes "step" ++ fields.now) read.0 read.1.now) }
 {
     match version {
         Version::One => {
@@ -172,7 +176,8 @@ fn step_of(fields: &[u8], version: Version) -> Option<(PlanLine, &[u8])>
 /// `CLASS` of a `step`
 #[inline]
 fn class_step_of(fields: &[u8]) -> Option<(PlanLine, &[u8])>
-    ensures { IfSome result (λ read. (workers : ℕ) → IsQuickLine FileTwo workers (codes "step" ++ 32 ∷ fields.now) read.0 read.1.now) }
+    ensures { IfSome result
+        (λ read. (workers : ℕ) → IsQuickLine FileTwo workers (codes "step" ++ 32 ∷ fields.now) read.0 read.1.now) }
 {
     let Some((class, rest)) = class(fields) else {
         return None;
@@ -180,7 +185,7 @@ fn class_step_of(fields: &[u8]) -> Option<(PlanLine, &[u8])>
     Some((PlanLine::StepClass(class), rest))
 }
 
-/// The class whose size the text's first bytes spell, and the bytes behind their line's end.
+/// The class whose size the text's first bytes spell, and the bytes after their line's end.
 fn class(text: &[u8]) -> Option<(Class, &[u8])>
     ensures spelt { IfSome result (λ read. text.now ≡ decimal read.0 ++ 10 ∷ read.1.now) }
     ensures row { IfSome result (λ read. IsSome (row_of read.0)) }

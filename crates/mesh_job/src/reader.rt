@@ -10,14 +10,16 @@ use crate::{Job, LineError, ReadFault};
 use model_words::{FaultKind, TextFault};
 use std::alloc::{AllocError, Global};
 
-/// The most bytes of a job file.
+/// The greatest number of bytes of a job file.
 pub const MAX_FILE_BYTES: usize = 1_048_576;
 
-/// The job that a file's bytes spell.
+/// Reads the job that a file's bytes spell.
 ///
-/// The lines are read in order, and the first that has a fault is told, numbered from 1, with the first kind of `FaultKind` that
-/// holds for it. The file's length is tested before any line. Memory is answered where a growth of the job is refused. The format
-/// of the file is this project's own choice.
+/// The lines are read in order. The error for the first line with a fault has its number, from 1, and the first kind of
+/// `FaultKind` that holds for it. The file's length is tested before any line. `Memory` means that an allocation failed
+/// while the job was extended.
+///
+/// The format of the file is this project's own choice.
 pub fn read_file(alloc: Global, bytes: &[u8]) -> Result<Job, ReadFault>
     ensures ok { IfOk result (λ job. read_text bytes.now ≡ Ok job) }
     ensures fault { IfErr result (IsReadFault bytes.now) }
@@ -27,9 +29,9 @@ pub fn read_file(alloc: Global, bytes: &[u8]) -> Result<Job, ReadFault>
     Reading::new(alloc).finish(bytes)
 }
 
-/// A job file that is being read, piece by piece. Once memory was refused it can't be read on.
+/// A job file that is being read, piece by piece. After an allocation failure it can't be read further.
 pub struct Reading {
-    /// The job as far as its lines were taken.
+    /// The job as read from the lines that were taken.
     draft: Draft,
     /// The number of the next line.
     number: u32,
@@ -45,7 +47,7 @@ impl Drop for Reading {
 }
 
 impl Reading {
-    /// The reading of a file of which nothing was taken.
+    /// A reading that has taken nothing of its file.
     pub fn new(alloc: Global) -> Self
         ensures { HasTaken result [] }
     {
@@ -57,14 +59,15 @@ impl Reading {
         }
     }
 
-    /// Takes the whole lines at the beginning of the file's next bytes, and gives how many bytes they are. The bytes that it leaves,
-    /// at most 1,024, begin a line: the next call is to have them again, with what follows them. Where the file has a fault or
-    /// its last line was taken, it takes all bytes. An error is an allocation failure.
+    /// Takes the whole lines at the beginning of the file's next bytes, and returns how many bytes they have. The bytes
+    /// that it leaves, at most 1,024, begin a line: pass them to the next call again, with what follows them. If the
+    /// file has a fault or its last line was taken, it takes all bytes. An error is an allocation failure.
     pub fn take(&mut self, bytes: &[u8]) -> Result<usize, AllocError>
         requires sound { IsReading self.old }
         requires most { bytes_taken self.old + length bytes.now ≤ 1048577 }
         ensures sound { OnOk result (IsReading self.new) }
-        ensures taken { IfOk result (λ count. (text : List ℕ) → HasTaken self.old text → HasTaken self.new (text ++ take count bytes.now)) }
+        ensures taken { IfOk result
+            (λ count. (text : List ℕ) → HasTaken self.old text → HasTaken self.new (text ++ take count bytes.now)) }
         ensures within { IfOk result (λ count. count ≤ length bytes.now) }
         ensures left { IfOk result (λ count. IsLeft self.new (drop count bytes.now)) }
         ensures all { IfOk result (λ count. is_over self.new ≡ true → count ≡ length bytes.now) }
@@ -78,7 +81,7 @@ impl Reading {
         Ok(count)
     }
 
-    /// Takes the whole lines at the beginning of some bytes, as `take` does, and gives the bytes that it leaves.
+    /// Takes the whole lines at the beginning of some bytes, as `take` does, and returns the bytes that it leaves.
     fn take_lines<'a>(&mut self, bytes: &'a [u8]) -> Result<&'a [u8], AllocError>
         requires sound { IsReading self.old }
         requires going { self.old.fault ≡ None }
@@ -111,7 +114,7 @@ impl Reading {
         Ok(&[])
     }
 
-    /// The fault of this kind in the next line.
+    /// A fault of this kind in the next line.
     fn fault_of_line(&self, kind: FaultKind) -> TextFault
         ensures { result ≡ record { line = self.now.number; kind = kind } }
     {
@@ -121,14 +124,15 @@ impl Reading {
         }
     }
 
-    /// The job, with the last bytes of its file.
+    /// Takes the last bytes of the file, and returns its job.
     ///
-    /// TOO_LONG, of line 0, comes exactly where the file has more than 1,048,576 bytes, and else the first fault of its lines. Memory
-    /// comes where a growth of the job is refused.
+    /// TOO_LONG, with line 0, comes if and only if the file has more than 1,048,576 bytes. Otherwise the error is the
+    /// first fault of its lines. `Memory` means that an allocation failed while the job was extended.
     pub fn finish(mut self, rest: &[u8]) -> Result<Job, ReadFault>
         requires { IsReading self }
         ensures ok { IfOk result (λ job. (text : List ℕ) → HasTaken self text → read_text (text ++ rest.now) ≡ Ok job) }
-        ensures fault { IfErr result (λ fault. (text : List ℕ) → HasTaken self text → IsReadFault (text ++ rest.now) fault) }
+        ensures fault { IfErr result
+            (λ fault. (text : List ℕ) → HasTaken self text → IsReadFault (text ++ rest.now) fault) }
         ensures too_long { (result ≡ Err (ReadFault.Text (record { line = 0; kind = FaultKind.TooLong })))
             ↔ (1048576 < bytes_taken self + length rest.now) }
     {

@@ -13,16 +13,16 @@ use std::alloc::{AllocError, Global};
 use std::marker::Model;
 use std::mem;
 
-/// The most bytes that the commands of a script store together.
+/// The greatest number of bytes that the commands of a script store together.
 const MAX_KEPT: usize = 0xffff_ffff;
 
 /// The commands of one worker, in the order in which it attempts them.
 ///
-/// Each stores or loads 1 to 32 bytes, where it does at all, so that each may be handed to the heap. A command is kept in 16 bytes, and what it
-/// stores beside it.
+/// Each command that stores or loads bytes has 1 to 32 of them, so each may be passed to the heap. A command takes 16
+/// bytes, and the bytes that it stores are kept in a separate list.
 pub struct Script {
     commands: Vec<PackedCommand>,
-    /// What they store, each one's bytes behind those of the one before.
+    /// The bytes that the commands store, one command's after another's.
     bytes: Vec<u8>,
 }
 
@@ -55,7 +55,7 @@ impl Script {
         }
     }
 
-    /// Adds the command that comes last. An error is an allocation failure, or comes where the script's commands store 4 GiB.
+    /// Appends a command. An error is an allocation failure, or means that the script's commands store 4 GiB.
     pub fn push(&mut self, command: &Command) -> Result<(), AllocError>
         requires { IsInRange command.now }
         ensures ok { OnOk result (self.new ≡ self.old ++ command.now ∷ []) }
@@ -85,7 +85,7 @@ impl Script {
         self.commands.is_empty()
     }
 
-    /// The command at a place, counted from 0. It takes no memory.
+    /// The command at a place, counted from 0, or `None` past the end. It allocates nothing.
     pub fn get(&self, place: usize) -> Option<Command>
         ensures value { result ≡ slice_get self.now place }
         ensures within { IfSome result (λ _. place < length self.now) }
@@ -96,7 +96,7 @@ impl Script {
         Some(unpack_command(self.bytes.as_slice(), packed))
     }
 
-    /// All commands, in their order, as they are. An error is an allocation failure.
+    /// Returns all commands unpacked, in their order. An error is an allocation failure.
     pub fn commands(&self, alloc: Global) -> Result<Commands, AllocError>
         ensures { IfOk result (λ commands. commands ≡ self.now) }
     {
@@ -108,7 +108,7 @@ impl Script {
     }
 }
 
-/// Adds the command of a line with this word and these fields.
+/// Appends the command of a line with this word and these fields.
 pub(crate) fn push_line(
     script: &mut Script,
     version: Version,
@@ -123,7 +123,7 @@ pub(crate) fn push_line(
     Ok(())
 }
 
-/// Puts the script that was read behind the finished ones, and begins another.
+/// Appends the script that was read to the finished scripts, and begins another.
 pub(crate) fn close_script(
     alloc: Global,
     script: &mut Script,

@@ -24,7 +24,8 @@ abbrev pub HasJudged : Option (List ℕ) → Option (List ℕ) → Judgement →
 HasJudged left left' (InOrder verdict) = StartsOtherwise overlapping_line left × HasJudgedInOrder left left' (outcome_of verdict)
 HasJudged left left' (Overlapping verdict) = StartsWith overlapping_line left × HasJudgedOverlapping left left' verdict
 
--- why nothing was found: the text has this fault, as a history of its kind. Nothing is said where the input or an allocation failed
+-- why nothing was found: the text has this fault, as a history of its kind. Nothing is said where the input or an
+-- allocation failed
 abbrev pub HasNotJudged : Option (List ℕ) → Option (List ℕ) → CallError → Type 0
 HasNotJudged left left' (Text fault) =
     (StartsOtherwise overlapping_line left × HasJudgedInOrder left left' (Faulty fault))

@@ -1,4 +1,4 @@
-//! `Begun`, a source of which a beginning was looked at.
+//! `Begun`, a source whose beginning can be inspected before it is read.
 ghost use Rattle.std.specs.Prelude.{◌≡◌, [], IfErr, IfOk, OnOk, false, is_err, length, true};
 ghost use Rattle.std.specs.Io.KnownBytes.{Keeps, prepend_known};
 ghost use Rattle.mesh_devices.specs.Devices.{is_read_fault};
@@ -8,10 +8,10 @@ ghost use Rattle.mesh_devices.specs.declared.faults.ReplayError.{ReplayError};
 use arrayvec::ArrayVec;
 use mesh_devices::{DeviceFault, ReplayError, Source, read_some};
 
-/// How many bytes are looked at: those of the line `history 2` and its end.
+/// The number of bytes that are inspected: the length of the line `history 2` with its line end.
 const LOOKED_AT: usize = 10;
 
-/// A source, and the bytes of it that were looked at and not read yet.
+/// A source, and those of its bytes that were inspected and not read yet.
 #[derive(Drop)]
 pub struct Begun<I: Drop> {
     inner: I,
@@ -19,7 +19,7 @@ pub struct Begun<I: Drop> {
 }
 
 impl<I: Source + Drop> Begun<I> {
-    /// A source at which nobody has looked.
+    /// Returns a source of which no byte was inspected yet.
     pub fn new(inner: I) -> Begun<I>
         ensures inner { result.inner ≡ inner }
         ensures unread { result.begun.items ≡ [] }
@@ -30,14 +30,21 @@ impl<I: Source + Drop> Begun<I> {
         }
     }
 
-    /// Whether the text begins with these ten bytes. Nothing is read of it.
+    /// Whether the text begins with `bytes`. A `false` means that it doesn't only if `bytes` has ten bytes. The call
+    /// consumes nothing of the text.
     ///
-    /// The error is `Read`: the source failed.
+    /// The only error is `Read`: the source failed.
     pub fn begins_with(&mut self, bytes: &[u8]) -> Result<bool, ReplayError>
         requires { I.has_failed self.old.inner ≡ false }
-        ensures same { OnOk result (Keeps (prepend_known self.old.begun.items (I.remaining self.old.inner)) (prepend_known self.new.begun.items (I.remaining self.new.inner))) }
-        ensures begins { IfOk result (λ begins. begins ≡ true → StartsWith bytes.now (prepend_known self.old.begun.items (I.remaining self.old.inner))) }
-        ensures other { IfOk result (λ begins. begins ≡ false → length bytes.now ≡ 10 → StartsOtherwise bytes.now (prepend_known self.old.begun.items (I.remaining self.old.inner))) }
+        ensures same { OnOk result
+            (Keeps (prepend_known self.old.begun.items (I.remaining self.old.inner))
+            (prepend_known self.new.begun.items (I.remaining self.new.inner))) }
+        ensures begins { IfOk result
+            (λ begins. begins ≡ true
+            → StartsWith bytes.now (prepend_known self.old.begun.items (I.remaining self.old.inner))) }
+        ensures other { IfOk result
+            (λ begins. begins ≡ false → length bytes.now ≡ 10
+            → StartsOtherwise bytes.now (prepend_known self.old.begun.items (I.remaining self.old.inner))) }
         ensures fault { IfErr result (λ error. error ≡ ReplayError.Read) }
         ensures fails { I.has_failed self.new.inner ≡ is_err result }
     {

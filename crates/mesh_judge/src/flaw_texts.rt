@@ -1,4 +1,4 @@
-//! Why no order explains a history, as a text.
+//! The text of the reason why no order explains a history.
 ghost use Rattle.std.specs.Prelude.{◌≡◌, ◌++◌, OnOk};
 ghost use Rattle.std.specs.List.{flat_map};
 ghost use Rattle.mesh_judge.specs.FlawTexts.{flaw_text, later_text, least_text, load_text, loads_text, possible_text, unexplained_text};
@@ -11,7 +11,7 @@ use mesh_spelling::{add_bytes, add_decimal};
 use model_words::{MAX_BYTES, Refusal};
 use std::alloc::AllocError;
 
-/// Adds why no order explains a history. An error is an allocation failure, here and below.
+/// Appends the reason why no order explains a history. An error is an allocation failure, here and below.
 pub(crate) fn add_flaw(text: &mut Vec<u8>, flaw: &Flaw) -> Result<(), AllocError>
     ensures { OnOk result (text.new.items ≡ text.old.items ++ flaw_text flaw.now) }
 {
@@ -38,9 +38,11 @@ pub(crate) fn add_flaw(text: &mut Vec<u8>, flaw: &Flaw) -> Result<(), AllocError
     }
 }
 
-/// Adds an answer that no order explains, and what the call could have answered.
+/// Appends an answer that no order explains, and the answers that the call could have got.
 fn add_unexplained(text: &mut Vec<u8>, unexplained: &Unexplained) -> Result<(), AllocError>
-    ensures { OnOk result (text.new.items ≡ text.old.items ++ (unexplained_text unexplained.now.answer ++ possible_text unexplained.now.possible)) }
+    ensures { OnOk result
+        (text.new.items ≡ text.old.items
+        ++ (unexplained_text unexplained.now.answer ++ possible_text unexplained.now.possible)) }
 {
     add_answer(text, &unexplained.answer)?;
     match &unexplained.possible {
@@ -49,7 +51,7 @@ fn add_unexplained(text: &mut Vec<u8>, unexplained: &Unexplained) -> Result<(), 
     }
 }
 
-/// Adds an answer that no order explains, up to what the call could have answered.
+/// Appends the text about an answer that no order explains, up to and including `possible: `.
 fn add_answer(text: &mut Vec<u8>, answer: &RecordedReply) -> Result<(), AllocError>
     ensures { OnOk result (text.new.items ≡ text.old.items ++ unexplained_text answer.now) }
 {
@@ -58,7 +60,7 @@ fn add_answer(text: &mut Vec<u8>, answer: &RecordedReply) -> Result<(), AllocErr
     text.extend_from_slice(b"; possible: ")
 }
 
-/// Adds the loads that are possible.
+/// Appends the loads that are possible.
 fn add_loads(text: &mut Vec<u8>, loads: &Loads) -> Result<(), AllocError>
     ensures { OnOk result (text.new.items ≡ text.old.items ++ loads_text loads.now) }
 {
@@ -69,7 +71,7 @@ fn add_loads(text: &mut Vec<u8>, loads: &Loads) -> Result<(), AllocError>
     Ok(())
 }
 
-/// Adds loads, with a bar between any two.
+/// Appends loads, separated by bars.
 fn add_least(text: &mut Vec<u8>, loads: &[ArrayVec<u8, MAX_BYTES>]) -> Result<(), AllocError>
     ensures { OnOk result (text.new.items ≡ text.old.items ++ least_text loads.now) }
 {
@@ -80,7 +82,7 @@ fn add_least(text: &mut Vec<u8>, loads: &[ArrayVec<u8, MAX_BYTES>]) -> Result<()
     add_later(text, later)
 }
 
-/// Adds loads, with a bar before each.
+/// Appends loads, with a bar before each.
 fn add_later(text: &mut Vec<u8>, later: &[ArrayVec<u8, MAX_BYTES>]) -> Result<(), AllocError>
     ensures { OnOk result (text.new.items ≡ text.old.items ++ flat_map later_text later.now) }
 {
@@ -90,7 +92,7 @@ fn add_later(text: &mut Vec<u8>, later: &[ArrayVec<u8, MAX_BYTES>]) -> Result<()
     Ok(())
 }
 
-/// Adds a bar and a load.
+/// Appends a bar and a load.
 fn add_later_load(text: &mut Vec<u8>, load: &ArrayVec<u8, MAX_BYTES>) -> Result<(), AllocError>
     ensures { OnOk result (text.new.items ≡ text.old.items ++ later_text load.now) }
 {
@@ -98,7 +100,7 @@ fn add_later_load(text: &mut Vec<u8>, load: &ArrayVec<u8, MAX_BYTES>) -> Result<
     add_load(text, load)
 }
 
-/// Adds a load.
+/// Appends a load.
 fn add_load(text: &mut Vec<u8>, load: &ArrayVec<u8, MAX_BYTES>) -> Result<(), AllocError>
     ensures { OnOk result (text.new.items ≡ text.old.items ++ load_text load.now) }
 {

@@ -13,20 +13,20 @@ use std::alloc::Global;
 /// The first line of a history of calls that overlap.
 const OVERLAPPING: &[u8] = b"history 2\n";
 
-/// What is found of a recorded history.
+/// The verdict on a recorded history.
 #[derive(Drop)]
 pub enum Judgement {
-    /// Of a history of calls in the order of their effects.
+    /// The verdict on a history of calls in the order of their effects.
     InOrder(Verdict),
-    /// Of a history of calls that overlap.
+    /// The verdict on a history of calls that overlap.
     Overlapping(CallVerdict),
 }
 
-/// Judges the recorded history that the input gives, by its first line. Of calls that overlap, at most `most`
-/// configurations of an object may be met at the end of a call.
+/// Judges the recorded history in the input. The kind of the history is determined by its first line. `most` limits the
+/// number of configurations that an object may have at the end of a call (calls that overlap only).
 ///
-/// The input is read to its end, or until a verdict is found. Text and Order come where a line has a fault, Read exactly
-/// where the input failed, and Memory where an allocation failed.
+/// The input is read to its end, or until there is a verdict. The error is `Text` or `Order` if a line has a fault,
+/// `Read` if and only if the input failed, and `Memory` if an allocation failed.
 pub fn judge<I: Source + Drop>(
     alloc: Global,
     input: &mut Begun<I>,
@@ -34,8 +34,12 @@ pub fn judge<I: Source + Drop>(
 ) -> Result<Judgement, CallError>
     requires { I.has_failed input.old.inner ≡ false }
     ensures ok { OnOk result (I.has_failed input.new.inner ≡ false) }
-    ensures judged { IfOk result (HasJudged (left_of input.old.begun.items (I.remaining input.old.inner)) (left_of input.new.begun.items (I.remaining input.new.inner))) }
-    ensures fault { IfErr result (HasNotJudged (left_of input.old.begun.items (I.remaining input.old.inner)) (left_of input.new.begun.items (I.remaining input.new.inner))) }
+    ensures judged { IfOk result
+        (HasJudged (left_of input.old.begun.items (I.remaining input.old.inner))
+        (left_of input.new.begun.items (I.remaining input.new.inner))) }
+    ensures fault { IfErr result
+        (HasNotJudged (left_of input.old.begun.items (I.remaining input.old.inner))
+        (left_of input.new.begun.items (I.remaining input.new.inner))) }
     ensures read { result ≡ Err CallError.Read → I.has_failed input.new.inner ≡ true }
     ensures failed { I.has_failed input.new.inner ≡ true → result ≡ Err CallError.Read }
 {

@@ -1,7 +1,8 @@
 //! The judgement of a recorded history, of calls in the order of their effects or of calls that overlap.
 //!
-//! A `Begun` source tells how its text begins before it is read. `judge` reads the first line so, and leaves the text to
-//! the judge of its kind: `mesh_check`, or `mesh_linearizability` for a text that begins with `history 2`.
+//! A `Begun` source can report how its text begins without consuming the text. `judge` tests the first line that way.
+//! It passes the text to the judge of its kind: `mesh_linearizability` if the text begins with the line `history 2`,
+//! and `mesh_check` otherwise.
 #![tactic(auto)]
 
 mod begun;

@@ -1,4 +1,4 @@
-//! Calls that overlap, in an order that explains them.
+//! An order of effects that explains calls that overlap.
 ghost use Rattle.std.specs.Prelude.{◌≡◌, ◌++◌, ◌∷◌, [], false, IfOk, IfSome, OnOk};
 ghost use Rattle.mesh_calls.specs.CallInputs.{IsFresh};
 ghost use Rattle.mesh_judge.specs.OrderedHistories.{AreCallsOf, HaveCome, IsOrderedHistory};
@@ -9,8 +9,8 @@ use mesh_linearizability::{CallVerdict, check_calls};
 use mesh_linearization::{history_in_order, linearize};
 use std::alloc::{AllocError, Global};
 
-/// The calls of a text of `history 2` in an order of effects that explains them, as a text of `history 1`. At most `most`
-/// configurations of an object may be met at the end of a call.
+/// Returns the calls of a text of `history 2` in an order of effects that explains them, as a text of `history 1`.
+/// `most` limits the number of configurations that an object may have at the end of a call.
 ///
 /// `None` if the calls aren't found to be linearizable, or no order was found. An error is an allocation failure.
 pub fn ordered_history(
@@ -47,7 +47,7 @@ fn is_linearizable(alloc: Global, text: &[u8], most: usize) -> Result<bool, Allo
     }
 }
 
-/// The calls of a text, `None` if it has a fault. An error is an allocation failure.
+/// Returns the calls of a text, or `None` if the text has a fault. An error is an allocation failure.
 fn calls_in(alloc: Global, text: &[u8]) -> Result<Option<Vec<TimedCall>>, AllocError>
     ensures { IfOk result (λ found. IfSome found (λ calls. AreCallsOf text.now calls.items)) }
 {
@@ -60,7 +60,7 @@ fn calls_in(alloc: Global, text: &[u8]) -> Result<Option<Vec<TimedCall>>, AllocE
     }
 }
 
-/// The calls of the input, of which none has been read. The errors are those of `CallInput::next`.
+/// Reads all calls of the input. No call has been read from it before. The errors are those of `CallInput::next`.
 fn read_calls<I: Source>(
     alloc: Global,
     history: &mut CallInput,

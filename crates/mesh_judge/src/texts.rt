@@ -10,8 +10,8 @@ use mesh_linearizability::CallVerdict;
 use mesh_spelling::add_decimal;
 use std::alloc::{AllocError, Global};
 
-/// The line of a judgement, with its end, where at most `most` configurations may be met. An error is an allocation
-/// failure.
+/// Returns the line of a judgement, with its line end. `most` is the limit on configurations that the judgement was
+/// made with. An error is an allocation failure.
 pub fn judgement_line(
     alloc: Global,
     judgement: &Judgement,
@@ -30,7 +30,7 @@ pub fn judgement_line(
     }
 }
 
-/// Adds what is found of calls that overlap.
+/// Appends the verdict on calls that overlap.
 fn add_verdict(text: &mut Vec<u8>, verdict: &CallVerdict, most: u32) -> Result<(), AllocError>
     ensures { OnOk result (text.new.items ≡ text.old.items ++ call_text most verdict.now) }
 {
@@ -55,7 +55,7 @@ fn add_verdict(text: &mut Vec<u8>, verdict: &CallVerdict, most: u32) -> Result<(
     }
 }
 
-/// Adds why the judge stopped.
+/// Appends the reason why the judge stopped without a decision.
 fn add_undecided(text: &mut Vec<u8>, fault: JudgeFault, most: u32) -> Result<(), AllocError>
     ensures { OnOk result (text.new.items ≡ text.old.items ++ undecided_text most fault) }
 {

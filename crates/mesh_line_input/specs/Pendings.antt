@@ -2,7 +2,7 @@
 use Rattle.std.specs.Prelude.{◌≡◌, ℕ, ◌≤◌, Bool, true, false, List, [], Option, length}
 use Rattle.std.specs.Io.KnownBytes.{Consumes, IsAtEnd}
 
--- a range lies within the bytes of a buffer, which has room for some
+-- a range is within the bytes of a buffer, which has room for some
 pub record AreWithin (buffer : List ℕ) (start end : ℕ) : Type 0 where
   pub room : 1 ≤ length buffer
   pub in_order : start ≤ end

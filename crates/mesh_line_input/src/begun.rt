@@ -1,11 +1,11 @@
-//! The beginning of a line whose end did not come yet.
+//! The beginning of a line whose end has not come yet.
 ghost use Rattle.std.specs.Prelude.{◌≡◌, ◌-◌, ◌≤◌, ◌++◌, ◌↔◌, [], length, IsTrue, OnOk};
 ghost use Rattle.mesh_fields.specs.KeptLines.{IsUnended};
 
 use mesh_fields::lines::MAX_LINE_BYTES;
 use std::alloc::{AllocError, Global};
 
-/// Bytes of a line, no more than a line may have and none of them a line end.
+/// Bytes of a line: at most the length of a line, and no line end among them.
 #[derive(Drop)]
 pub struct BegunLine {
     bytes: Vec<u8>,
@@ -14,7 +14,7 @@ pub struct BegunLine {
 }
 
 impl BegunLine {
-    /// A line that hasn't begun. It takes no memory.
+    /// Creates an empty line. It allocates nothing.
     pub fn new(alloc: Global) -> BegunLine
         ensures { result.bytes.items ≡ [] }
     {
@@ -23,7 +23,7 @@ impl BegunLine {
         }
     }
 
-    /// Whether the line hasn't begun.
+    /// Whether the line is empty so far.
     pub fn is_empty(&self) -> bool
         ensures { IsTrue result ↔ self.now.bytes.items ≡ [] }
     {
@@ -44,7 +44,7 @@ impl BegunLine {
         MAX_LINE_BYTES - self.bytes.len()
     }
 
-    /// Adds bytes of the line, for which there is room. An error is an allocation failure.
+    /// Adds bytes of the line; there must be room for them. An error is an allocation failure.
     pub fn add(&mut self, bytes: &[u8]) -> Result<(), AllocError>
         requires room { length bytes.now ≤ 1024 - length self.old.bytes.items }
         requires unended { IsUnended bytes.now }
@@ -53,7 +53,7 @@ impl BegunLine {
         self.bytes.extend_from_slice(bytes)
     }
 
-    /// Begins anew.
+    /// Empties the line.
     pub fn clear(&mut self)
         ensures { self.new.bytes.items ≡ [] }
     {

@@ -1,4 +1,4 @@
-//! The lines that a device gives.
+//! The lines of a device.
 ghost use Rattle.std.specs.Prelude.{◌≡◌, ◌+◌, ◌-◌, ◌<◌, ◌≤◌, ◌∷◌, ◌++◌, ℕ, List, Option, None, Some, Err, [], false, true, length, IfErr, IfOk, OnOk, IsTrue};
 ghost use Rattle.model_jobs.specs.JobFiles.{fault_at};
 ghost use Rattle.mesh_devices.specs.declared.faults.ReplayError.{ReplayError};
@@ -13,19 +13,20 @@ use mesh_fields::lines::{cut, rest_fault};
 use model_words::{FaultKind, TextFault};
 use std::alloc::{AllocError, Global};
 
-/// The lines of a text that comes from a device, of which a beginning was read.
+/// The lines of a text that comes from a device. A beginning of the text has been read.
 #[derive(Drop)]
 pub struct LineInput {
     /// How many lines were read.
     lines: u32,
-    /// The line that was read last; within a read, the beginning of the next one.
+    /// The line that was read last; during a read, the beginning of the next one.
     line: BegunLine,
-    /// The bytes behind it that came.
+    /// The bytes after that line that have been read from the device.
     pending: Pending,
 }
 
 impl LineInput {
-    /// A text of which nothing was read, with the memory for one read of the device. An error is an allocation failure.
+    /// Creates an input of which nothing was read, with a buffer for one read of the device. An error is an allocation
+    /// failure.
     pub fn new(alloc: Global) -> Result<LineInput, AllocError>
         ensures { IfOk result IsFresh }
     {
@@ -54,20 +55,29 @@ impl LineInput {
 
     /// Reads the next line, and returns whether there is one. There is none at the end of the input.
     ///
-    /// Errors: Text if the next line has more than 1,024 bytes (as soon as they have come: LONG_LINE), if 4,294,967,295
-    /// lines were read and more bytes come (TOO_LONG, of line 0), or if the text ends in a line or has none (CUT); Read
-    /// exactly if the input failed; Memory if an allocation failed. Write is never returned. The text is of no use behind
-    /// an error.
+    /// Errors:
+    ///
+    /// - Text LONG_LINE: the next line has more than 1,024 bytes. It is returned as soon as they have come.
+    /// - Text TOO_LONG, of line 0: 4,294,967,295 lines were read and more bytes come.
+    /// - Text CUT: the text ends in the middle of a line or has no line.
+    /// - Read: if and only if the input failed.
+    /// - Memory: an allocation failed.
+    ///
+    /// Write is never returned. After an error the input must not be used.
     pub fn read_line<I: Source>(&mut self, input: &mut I) -> Result<bool, ReplayError>
         requires { I.has_failed input.old ≡ false }
         ensures ok { OnOk result (I.has_failed input.new ≡ false) }
-        ensures line { (left : Option (List ℕ)) (lines : List (List ℕ)) → HasCome self.old left (I.remaining input.old) lines
-            → IfOk result (λ some. some ≡ true → HasCome self.new left (I.remaining input.new) (lines ++ line_of self.new ∷ [])) }
+        ensures line { (left : Option (List ℕ)) (lines : List (List ℕ))
+            → HasCome self.old left (I.remaining input.old) lines
+            → IfOk result
+            (λ some. some ≡ true → HasCome self.new left (I.remaining input.new) (lines ++ line_of self.new ∷ [])) }
         ensures counted { IfOk result (λ some. some ≡ true → lines_of self.new ≡ lines_of self.old + 1) }
-        ensures ended { (left : Option (List ℕ)) (lines : List (List ℕ)) → HasCome self.old left (I.remaining input.old) lines
+        ensures ended { (left : Option (List ℕ)) (lines : List (List ℕ))
+            → HasCome self.old left (I.remaining input.old) lines
             → IfOk result (λ some. some ≡ false → HasEnded left (I.remaining input.new) lines) }
         ensures no_more { IfOk result (λ some. some ≡ false → lines_of self.new ≡ lines_of self.old) }
-        ensures stopped { (left : Option (List ℕ)) (lines : List (List ℕ)) → HasCome self.old left (I.remaining input.old) lines
+        ensures stopped { (left : Option (List ℕ)) (lines : List (List ℕ))
+            → HasCome self.old left (I.remaining input.old) lines
             → IfErr result (HasStopped left (I.remaining input.new) lines) }
         ensures read { result ≡ Err ReplayError.Read → I.has_failed input.new ≡ true }
         ensures failed { I.has_failed input.new ≡ true → result ≡ Err ReplayError.Read }
@@ -85,7 +95,7 @@ impl LineInput {
         }
     }
 
-    /// Takes the bytes of the line that came, and returns whether its end has come.
+    /// Takes the bytes of the line that have come, and returns whether its end has come.
     fn take_line(&mut self) -> Result<bool, ReplayError>
         ensures next { IfOk result (λ some. some ≡ true → IsNext self.old self.new) }
         ensures used_up { IfOk result (λ some. some ≡ false → IsUsedUp self.old self.new) }
@@ -107,7 +117,7 @@ impl LineInput {
         Ok(true)
     }
 
-    /// Ends the text. An error is the fault of a text that ends here.
+    /// Checks the end of the text. An error is the fault of a text that ends here.
     fn finish(&self) -> Result<(), ReplayError>
         ensures ok { OnOk result (end_fault (lines_of self.now) (line_of self.now) ≡ None) }
         ensures fault { IfErr result (EndsWithFault self.now) }
@@ -119,8 +129,8 @@ impl LineInput {
     }
 }
 
-/// Keeps bytes of a line that has so many before it. An error is LONG_LINE if they are too many, or an allocation
-/// failure.
+/// Adds bytes to a line that has `lines` lines before it. An error is LONG_LINE if the line gets too long, or an
+/// allocation failure.
 fn keep(line: &mut BegunLine, lines: u32, bytes: &[u8]) -> Result<(), ReplayError>
     requires { IsUnended bytes.now }
     ensures ok { OnOk result (line.new.bytes.items ≡ line.old.bytes.items ++ bytes.now) }
@@ -133,7 +143,7 @@ fn keep(line: &mut BegunLine, lines: u32, bytes: &[u8]) -> Result<(), ReplayErro
     Ok(())
 }
 
-/// The fault of a text that ends behind so many lines, with these bytes behind its last line end.
+/// The fault of a text that ends after `lines` lines, with the bytes `rest` after its last line end.
 fn end_fault(lines: u32, rest: &[u8]) -> Option<TextFault>
     ensures { result ≡ end_fault lines rest.now }
 {
@@ -150,7 +160,7 @@ fn end_fault(lines: u32, rest: &[u8]) -> Option<TextFault>
     Some(fault_at(lines + 1, rest_fault(rest)))
 }
 
-/// The fault of a line behind so many of which too many bytes have come.
+/// The fault of a line that is too long, after `lines` lines.
 fn long_line(lines: u32) -> TextFault
     ensures { result ≡ long_line lines }
 {

@@ -1,7 +1,7 @@
-//! The lines of a text that a device gives, read one by one, whatever they mean.
+//! Reads the lines of a text from a device, one by one, whatever their format.
 //!
-//! A `LineInput` reads the next line of its device, and keeps the line that it read last. It is made of a `BegunLine`,
-//! the beginning of a line whose end did not come yet, and of `Pending` bytes, those of the last read that are left.
+//! A `LineInput` reads the next line of its device, and keeps the line that it read last. It consists of a `BegunLine`,
+//! the beginning of a line whose end has not come yet, and of `Pending` bytes, the unused rest of the last read.
 #![tactic(auto)]
 
 mod begun;

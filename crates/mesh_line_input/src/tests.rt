@@ -4,7 +4,7 @@ use mesh_devices::{Input, ReplayError};
 use model_words::{FaultKind, TextFault};
 use std::process::Abort;
 
-/// The first lines of a text, each followed by `|`, and why the reading stopped: none at the end of the text.
+/// The first lines of a text, each followed by `|`, and why the reading stopped: `None` at the end of the text.
 fn read(rt: &(impl Abort + AllocGlobal), text: &[u8]) -> (Vec<u8>, Option<ReplayError>) {
     let alloc = rt.alloc();
     let mut lines = LineInput::new(alloc).expect(rt, "memory");

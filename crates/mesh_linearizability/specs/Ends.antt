@@ -20,7 +20,7 @@ abbrev pub IsNearest : (ℕ → Option ℕ) → ℕ → Option ℕ → Type 0
 IsNearest starts address None = (q : ℕ) → q ≤ address → starts q ≡ None
 IsNearest starts address (Some cell) = (b : ℕ) × (b ≤ address) × (starts b ≡ Some cell) × ((q c : ℕ) → q ≤ address → starts q ≡ Some c → q ≤ b)
 
--- live objects have some bytes, no address in common, and stand at their addresses
+-- live objects have some bytes, no address in common, and are at their addresses
 pub record AreDisjoint (lives : ℕ → Option Life) (starts : ℕ → Option ℕ) : Type 0 where
   pub filled : (c : ℕ) (life : Life) → lives c ≡ Some life → 1 ≤ life.object.len
   pub apart : (c d : ℕ) (life other : Life) → c ≢ d → lives c ≡ Some life → lives d ≡ Some other → Meet (object_of life.object) (object_of other.object) → ⊥

@@ -61,8 +61,8 @@ pub record Begun (calls : List Call) : Type 0 where
   pub before_free : (i j : ℕ) (call free : Call) → i ≢ j → IsAt calls i call → IsAt calls j free → (IsNew call.entry.command → ⊥) → IsFree free.entry.command
       → cell_at call ≡ cell_at free → call.end < free.begin
 
--- a call may begin after calls that have begun: those that have ended did so before it begins, and those that wait end no
--- earlier than it begins
+-- a call may begin after calls that have begun: those that have ended did so before it begins, and those that wait end
+-- no earlier than it begins
 pub record MayBegin (calls : List Call) (waits : ℕ → Option Pending) (call : Call) : Type 0 where
   pub takes_time : call.begin ≤ call.end
   pub has_effect : HasEffect call.entry.command call.entry.reply

@@ -1,4 +1,4 @@
-//! What happens when a call begins.
+//! Handles the begins of calls.
 ghost use Rattle.std.specs.Prelude.{◌≡◌, ◌+◌, ℕ, true, false, IfOk, OnOk, None};
 ghost use Rattle.std.specs.Ordering.{nat_cmp};
 ghost use Rattle.std.specs.BTreeMap.{get};
@@ -25,7 +25,7 @@ use std::alloc::{AllocError, Global};
 use std::collections::BTreeMap;
 
 impl Timeline {
-    /// Takes the begin of a call into the live objects. Returns what is to be done at its end.
+    /// Applies the begin of a call to the live objects. Returns what must be done at the end of the call.
     pub(crate) fn begun(
         &mut self,
         number: u32,
@@ -50,11 +50,14 @@ impl Timeline {
         }
     }
 
-    /// Takes the begin of a `free`: the object of the cell isn't live any more. Returns what is to be done at its end.
+    /// Takes the begin of a `free`: the object of the cell is no longer live. Returns what must be done at its end.
     fn free_begun(&mut self, cell: u32) -> Result<Pending, AllocError>
         ensures waiting { self.new.waiting ≡ self.old.waiting }
-        ensures begun { IfOk result (λ pending. (number : ℕ) (entry : Entry) → entry.command ≡ Command.Free cell → HasBegunSo self.old self.new number entry pending) }
-        ensures few { OnOk result ((count : ℕ) → FewOpen (lives_of self.old) count → FewOpen (lives_of self.new) count) }
+        ensures begun { IfOk result
+            (λ pending. (number : ℕ) (entry : Entry) → entry.command ≡ Command.Free cell
+            → HasBegunSo self.old self.new number entry pending) }
+        ensures few { OnOk result
+            ((count : ℕ) → FewOpen (lives_of self.old) count → FewOpen (lives_of self.new) count) }
     {
         let Some(life) = self.lives.remove(&cell) else {
             let flaw = self.stray_free(cell)?;
@@ -78,7 +81,7 @@ impl Timeline {
         Ok(OutsideLife::NotBeforeFree)
     }
 
-    /// Takes the begin of an access to the object of a cell. Returns what is to be done at its end.
+    /// Takes the begin of an access to the object of a cell. Returns what must be done at its end.
     fn access_begun(
         &mut self,
         number: u32,
@@ -89,7 +92,9 @@ impl Timeline {
         requires effect { HasEffect (plain_command entry.now.command) (plain_reply entry.now.reply) }
         requires few { FewOpen (lives_of self.old) number }
         ensures waiting { self.new.waiting ≡ self.old.waiting }
-        ensures begun { IfOk result (λ pending. is_access (plain_command entry.now.command) ≡ true → cell_of (plain_command entry.now.command) ≡ cell
+        ensures begun { IfOk result
+            (λ pending. is_access (plain_command entry.now.command) ≡ true
+            → cell_of (plain_command entry.now.command) ≡ cell
             → HasBegunSo self.old self.new number (plain_entry entry.now) pending) }
         ensures few { OnOk result (FewOpen (lives_of self.new) (number + 1)) }
     {
@@ -114,8 +119,11 @@ fn begin_in(
     requires access { is_access (plain_command entry.now.command) ≡ true }
     requires effect { HasEffect (plain_command entry.now.command) (plain_reply entry.now.reply) }
     requires few { FewOpen (get nat_cmp lives.old) number }
-    ensures begun { IfOk result (λ there. there ≡ true → HasBegunIn (get nat_cmp lives.old) (get nat_cmp lives.new) cell number (plain_entry entry.now)) }
-    ensures none { IfOk result (λ there. there ≡ false → (get nat_cmp lives.old cell ≡ None) × (lives.new ≡ lives.old)) }
+    ensures begun { IfOk result
+        (λ there. there ≡ true
+        → HasBegunIn (get nat_cmp lives.old) (get nat_cmp lives.new) cell number (plain_entry entry.now)) }
+    ensures none { IfOk result
+        (λ there. there ≡ false → (get nat_cmp lives.old cell ≡ None) × (lives.new ≡ lives.old)) }
 {
     let Some(life) = lives.get_mut(&cell) else {
         return Ok(false);
@@ -125,11 +133,12 @@ fn begin_in(
     Ok(true)
 }
 
-/// What an access was recorded to do to the object at an address. An error is an allocation failure.
+/// The recorded access to the object at an address. An error is an allocation failure.
 pub fn access_of(address: u64, entry: &RecordedEntry) -> Result<Access, AllocError>
     requires access { is_access (plain_command entry.now.command) ≡ true }
     requires effect { HasEffect (plain_command entry.now.command) (plain_reply entry.now.reply) }
-    ensures { IfOk result (λ access. access ≡ access_of address (plain_command entry.now.command) (plain_reply entry.now.reply)) }
+    ensures { IfOk result
+        (λ access. access ≡ access_of address (plain_command entry.now.command) (plain_reply entry.now.reply)) }
 {
     match (&entry.command, &entry.reply) {
         (SpeltCommand::Put(_, off, bytes), RecordedReply::Done) => Ok(Access::Store(
@@ -149,7 +158,7 @@ pub fn access_of(address: u64, entry: &RecordedEntry) -> Result<Access, AllocErr
     }
 }
 
-/// What is to be done at the end of a `new`.
+/// Returns what must be done at the end of a `new`.
 fn new_begun(number: u32, cell: u32, len: u64, reply: &RecordedReply) -> Pending
     requires { (word : ℕ) → HasEffect (Command.New cell len word) (plain_reply reply.now) }
     ensures { IsNewPending cell len (plain_reply reply.now) result }

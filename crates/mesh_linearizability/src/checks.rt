@@ -1,4 +1,4 @@
-//! The verdict on the history of overlapping calls that a device gives.
+//! The verdict on a history of overlapping calls from a device.
 ghost use Rattle.std.specs.Prelude.{◌≡◌, ◌≤◌, ◌^◌, ◌++◌, ◌∷◌, [], ℕ, List, Err, true, false, IfErr, IfOk, IfSome, IsNone, None, Ok, OnOk, length};
 ghost use Rattle.model_intervals.specs.Intervals.{Call, IsLinearizable};
 ghost use Rattle.model_intervals.specs.OverlappingCalls.{IsHistory};
@@ -19,11 +19,11 @@ use mesh_configurations::JudgeFault;
 use mesh_devices::Source;
 use std::alloc::Global;
 
-/// A moment after the end of each call: an end has 64 bits.
+/// A moment after the end of each call: ends have 64 bits.
 const LAST_MOMENT: u128 = 18_446_744_073_709_551_616;
 
-/// Judges the history of overlapping calls that the input has. The verdict is `Undecided` if more than `most`
-/// configurations of an object are met at the end of a call, or more than 64 accesses to an object are pending.
+/// Judges the history of overlapping calls in the input. The verdict is `Undecided` if more than `most` configurations
+/// of an object are met at the end of a call, or if more than 64 accesses to an object are pending.
 ///
 /// The input is read to its end, or until there is a verdict. The error is `Text` or `Order` if a line has a fault,
 /// `Read` if and only if the input failed, and `Memory` if an allocation failed.
@@ -44,7 +44,7 @@ pub fn check_calls<I: Source>(
     judge_calls(&mut history, &mut timeline, input, most)
 }
 
-/// Judges the calls of the input, of which none has been read. The errors are those of `check_calls`.
+/// Judges the calls of an input of which nothing has been read. The errors are those of `check_calls`.
 fn judge_calls<I: Source>(
     history: &mut CallInput,
     timeline: &mut Timeline,
@@ -73,7 +73,7 @@ fn judge_calls<I: Source>(
     Ok(CallVerdict::Linearizable(count))
 }
 
-/// The verdict if a flaw was found or the judge stopped, `None` otherwise. The error is `Memory`.
+/// Returns the verdict if a flaw was found or the judge stopped, `None` otherwise. The error is `Memory`.
 fn verdict_of(found: Result<Option<Found>, Stop>) -> Result<Option<CallVerdict>, CallError>
     ensures none { IfOk result (λ verdict. IsNone verdict → found ≡ Ok None) }
     ensures told { IfOk result (λ verdict. IfSome verdict (IsTold found)) }
@@ -93,11 +93,12 @@ fn verdict_of(found: Result<Option<Found>, Stop>) -> Result<Option<CallVerdict>,
 }
 
 impl Timeline {
-    /// Takes the ends before the begin of the next call, and then this begin. Returns the first flaw that is found.
+    /// Takes the ends before the begin of the next call, and then this begin. Returns the first flaw that it finds.
     fn take(&mut self, number: u32, call: &TimedCall, most: usize) -> Result<Option<Found>, Stop>
         requires few { FewOpen (lives_of self.old) number }
         requires is_read { IsReadCall call.now }
-        ensures taken { IfOk result (λ found. IsNone found → (calls : List Call) → length calls ≡ number → IsKept self.old calls
+        ensures taken { IfOk result
+            (λ found. IsNone found → (calls : List Call) → length calls ≡ number → IsKept self.old calls
             → is_in_order calls (plain_call call.now) ≡ true → IsKept self.new (calls ++ plain_call call.now ∷ [])) }
         ensures flawed { IfOk result (λ found. IfSome found (λ _. (calls : List Call) → IsKept self.old calls
             → is_in_order calls (plain_call call.now) ≡ true → CannotBe calls call.now.begin)) }
@@ -111,10 +112,14 @@ impl Timeline {
         }
     }
 
-    /// Takes the ends that are left. Returns the first flaw that is found.
+    /// Takes the remaining ends. Returns the first flaw that it finds.
     fn finish(&mut self, most: usize) -> Result<Option<Found>, Stop>
-        ensures linearizable { IfOk result (λ found. IsNone found → (calls : List Call) → IsKept self.old calls → IsHistory calls × IsLinearizable calls) }
-        ensures flawed { IfOk result (λ found. IfSome found (λ _. (calls : List Call) → IsKept self.old calls → IsHistory calls → IsLinearizable calls → ⊥)) }
+        ensures linearizable { IfOk result
+            (λ found. IsNone found → (calls : List Call) → IsKept self.old calls
+            → IsHistory calls × IsLinearizable calls) }
+        ensures flawed { IfOk result
+            (λ found. IfSome found
+            (λ _. (calls : List Call) → IsKept self.old calls → IsHistory calls → IsLinearizable calls → ⊥)) }
     {
         self.end_before(LAST_MOMENT, most)
     }

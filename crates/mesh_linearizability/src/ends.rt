@@ -1,4 +1,4 @@
-//! What happens when a call ends.
+//! Handles the ends of calls.
 ghost use Rattle.std.specs.Prelude.{◌≡◌, ◌≢◌, ◌+◌, ◌*◌, ◌<◌, ◌≤◌, ◌↔◌, ◌⊎◌, ℕ, IfOk, IfSome, IsNone, IsTrue, OnOk, None};
 ghost use Rattle.std.specs.Ordering.{nat_cmp};
 ghost use Rattle.std.specs.BTreeMap.{get};
@@ -22,7 +22,7 @@ use std::alloc::{AllocError, Global};
 use std::collections::BTreeMap;
 
 impl Timeline {
-    /// Takes the end of the call of a number. Returns the flaw that is found, if there is one.
+    /// Takes the end of the call with this number. Returns the flaw that it finds, if there is one.
     pub(crate) fn ended(
         &mut self,
         number: u32,
@@ -32,7 +32,9 @@ impl Timeline {
         ensures waiting { self.new.waiting ≡ self.old.waiting }
         ensures ended { IfOk result (λ flaw. IsNone flaw → HasEndedSo self.old self.new number pending) }
         ensures flawed { IfOk result (λ flaw. IfSome flaw (λ _. IsFlawed self.old number pending)) }
-        ensures few { IfOk result (λ flaw. IsNone flaw → (count : ℕ) → FewOpen (lives_of self.old) count → FewOpen (lives_of self.new) count) }
+        ensures few { IfOk result
+            (λ flaw. IsNone flaw → (count : ℕ) → FewOpen (lives_of self.old) count
+            → FewOpen (lives_of self.new) count) }
     {
         match pending {
             Pending::Made(object) => {
@@ -52,9 +54,13 @@ impl Timeline {
     /// The end of a `new` that made an object.
     fn made(&mut self, object: NewObject) -> Result<Option<Flaw>, AllocError>
         ensures waiting { self.new.waiting ≡ self.old.waiting }
-        ensures ended { IfOk result (λ flaw. IsNone flaw → (number : ℕ) → HasEndedSo self.old self.new number (Pending.Made object)) }
-        ensures flawed { IfOk result (λ flaw. IfSome flaw (λ _. (number : ℕ) → IsFlawed self.old number (Pending.Made object))) }
-        ensures few { IfOk result (λ flaw. IsNone flaw → (count : ℕ) → FewOpen (lives_of self.old) count → FewOpen (lives_of self.new) count) }
+        ensures ended { IfOk result
+            (λ flaw. IsNone flaw → (number : ℕ) → HasEndedSo self.old self.new number (Pending.Made object)) }
+        ensures flawed { IfOk result
+            (λ flaw. IfSome flaw (λ _. (number : ℕ) → IsFlawed self.old number (Pending.Made object))) }
+        ensures few { IfOk result
+            (λ flaw. IsNone flaw → (count : ℕ) → FewOpen (lives_of self.old) count
+            → FewOpen (lives_of self.new) count) }
     {
         if self.cells.contains(object.cell) {
             return Ok(Some(Flaw::CellAgain));
@@ -85,8 +91,11 @@ impl Timeline {
     /// The end of a `new` that was refused.
     fn refused(&mut self, cell: u32, len: u64, refusal: Refusal) -> Result<Option<Flaw>, AllocError>
         ensures waiting { self.new.waiting ≡ self.old.waiting }
-        ensures ended { IfOk result (λ flaw. IsNone flaw → (number : ℕ) → HasEndedSo self.old self.new number (Pending.Refused cell len refusal)) }
-        ensures flawed { IfOk result (λ flaw. IfSome flaw (λ _. (number : ℕ) → IsFlawed self.old number (Pending.Refused cell len refusal))) }
+        ensures ended { IfOk result
+            (λ flaw. IsNone flaw → (number : ℕ)
+            → HasEndedSo self.old self.new number (Pending.Refused cell len refusal)) }
+        ensures flawed { IfOk result
+            (λ flaw. IfSome flaw (λ _. (number : ℕ) → IsFlawed self.old number (Pending.Refused cell len refusal))) }
         ensures lives { self.new.lives ≡ self.old.lives }
     {
         if self.cells.contains(cell) {
@@ -120,7 +129,9 @@ impl Timeline {
         ensures waiting { self.new.waiting ≡ self.old.waiting }
         ensures ended { IfOk result (λ flaw. IsNone flaw → HasEndedSo self.old self.new number (Pending.Access cell)) }
         ensures flawed { IfOk result (λ flaw. IfSome flaw (λ _. IsFlawed self.old number (Pending.Access cell))) }
-        ensures few { IfOk result (λ flaw. IsNone flaw → (count : ℕ) → FewOpen (lives_of self.old) count → FewOpen (lives_of self.new) count) }
+        ensures few { IfOk result
+            (λ flaw. IsNone flaw → (count : ℕ) → FewOpen (lives_of self.old) count
+            → FewOpen (lives_of self.new) count) }
     {
         match end_in(&mut self.lives, self.alloc, number, cell, most)? {
             Some(AccessEnd::Explained) => Ok(None),
@@ -129,10 +140,12 @@ impl Timeline {
         }
     }
 
-    /// The live object that has an address in common with a new one: of several, the one with the greatest address.
+    /// The live object that has an address in common with a new one. If there are several, the one with the greatest
+    /// address.
     fn overlapped(&self, object: NewObject) -> Option<NewObject>
         requires { 1 ≤ object.len }
-        ensures none { IsNone result → AreDisjoint (lives_of self.now) (starts_of self.now) → Misses (lives_of self.now) object }
+        ensures none { IsNone result → AreDisjoint (lives_of self.now) (starts_of self.now)
+            → Misses (lives_of self.now) object }
         ensures some { IfSome result (IsOverlapped (lives_of self.now) object) }
     {
         let last = u128::from(object.address) + u128::from(object.len) - 1;
@@ -157,7 +170,9 @@ fn end_in(
     cell: u32,
     most: usize,
 ) -> Result<Option<AccessEnd>, JudgeFault>
-    ensures ended { IfOk result (λ ended. IfSome ended (λ end. HasEndedIn (get nat_cmp lives.old) (get nat_cmp lives.new) cell number (is_explained end))) }
+    ensures ended { IfOk result
+        (λ ended. IfSome ended
+        (λ end. HasEndedIn (get nat_cmp lives.old) (get nat_cmp lives.new) cell number (is_explained end))) }
     ensures none { IfOk result (λ ended. IsNone ended → IsGone (get nat_cmp lives.old) cell number) }
 {
     match lives.get_mut(&cell) {
@@ -174,7 +189,7 @@ fn nearest(starts: &BTreeMap<u128, u32>, address: u128) -> Option<u32>
     Some(*cell)
 }
 
-/// The address behind the last byte of an object.
+/// The address after the last byte of an object.
 fn end_of(object: NewObject) -> u128
     ensures { result ≡ object.address + object.len }
 {
@@ -188,7 +203,7 @@ fn is_fair_length(len: u64) -> bool
     len > 0 && len <= MAX_RECORDED_LENGTH
 }
 
-/// The flaw of a `new` of this length that no allocator refuses so.
+/// The flaw of a `new` of this length if no allocator may refuse it for this reason.
 fn unfair_refusal(len: u64, refusal: Refusal) -> Flaw {
     if len == 0 {
         return Flaw::NoByte(RecordedReply::Refused(refusal));
@@ -196,7 +211,7 @@ fn unfair_refusal(len: u64, refusal: Refusal) -> Flaw {
     Flaw::StrangeRefusal(refusal)
 }
 
-/// Whether an allocator may refuse a `new` of this length so.
+/// Whether an allocator may refuse a `new` of this length for this reason.
 fn is_own_refusal(len: u64, refusal: Refusal) -> bool
     ensures { IsTrue result ↔ IsOwnRefusal any_allocator len refusal }
 {

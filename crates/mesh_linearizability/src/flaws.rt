@@ -25,8 +25,8 @@ pub enum Flaw {
 /// How a call isn't between the `new` and the `free` of its object.
 #[derive(Clone, Copy, PartialEq, Eq)]
 pub enum OutsideLife {
-    /// It doesn't begin after the `new` has ended.
+    /// It doesn't begin after the end of the `new`.
     NotAfterNew,
-    /// It doesn't end before the `free` begins.
+    /// It doesn't end before the begin of the `free`.
     NotBeforeFree,
 }

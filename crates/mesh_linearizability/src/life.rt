@@ -25,12 +25,12 @@ pub struct Life {
 pub enum AccessEnd {
     /// Some configuration is left.
     Explained,
-    /// None is left.
+    /// No configuration is left.
     Unexplained(Unexplained),
 }
 
 impl Life {
-    /// Takes the begin of an access. No pending access has its number.
+    /// Takes the begin of an access. No pending access may have its number.
     ///
     /// The error is `TooManyPending` if 64 accesses are pending, and `Memory` if an allocation fails.
     pub fn begin(&mut self, alloc: Global, number: u32, access: Access) -> Result<(), JudgeFault>
@@ -60,7 +60,7 @@ impl Life {
         Ok(())
     }
 
-    /// Takes the end of the pending access of a number. Returns how it ended, `None` if no such access is pending.
+    /// Takes the end of the pending access with this number. Returns how it ended. `None` if no such access is pending.
     ///
     /// The error is `TooMany` if more than `most` configurations are met, and `Memory` if an allocation fails.
     pub fn end(
@@ -70,8 +70,10 @@ impl Life {
         most: usize,
     ) -> Result<Option<AccessEnd>, JudgeFault>
         ensures object { self.new.object ≡ self.old.object }
-        ensures ended { IfOk result (λ ended. IfSome ended (λ end. HasEndedAt self.old self.new number (is_explained end))) }
-        ensures none { IfOk result (λ ended. IsNone ended → (judge : AccessJudge) → self.old.judge ≡ Some judge → IsOpen judge number → ⊥) }
+        ensures ended { IfOk result
+            (λ ended. IfSome ended (λ end. HasEndedAt self.old self.new number (is_explained end))) }
+        ensures none { IfOk result
+            (λ ended. IsNone ended → (judge : AccessJudge) → self.old.judge ≡ Some judge → IsOpen judge number → ⊥) }
         ensures unchanged { IfOk result (λ ended. IsNone ended → self.new ≡ self.old) }
     {
         let Some(judge) = &mut self.judge else {

@@ -1,16 +1,16 @@
-//! `NewObject`, what a `new` made.
+//! `NewObject`, an object that a `new` made.
 
-/// What a `new` made.
+/// An object that a `new` made.
 #[derive(Clone, Copy)]
 pub struct NewObject {
     /// The number of the call.
     pub number: u32,
-    /// The cell that names it.
+    /// The cell that names the object.
     pub cell: u32,
-    /// How many bytes it has.
+    /// How many bytes the object has.
     pub len: u64,
-    /// The serial that it was given.
+    /// The object's serial.
     pub serial: u32,
-    /// Its address.
+    /// The object's address.
     pub address: u64,
 }

@@ -1,9 +1,9 @@
-//! `Pending`, what is to be done at the end of a call.
+//! `Pending`, what must be done at the end of a call.
 use crate::flaws::OutsideLife;
 use crate::objects::NewObject;
 use model_words::Refusal;
 
-/// What is to be done at the end of a call that has begun.
+/// What must be done at the end of a call that has begun.
 #[derive(Clone, Copy)]
 pub enum Pending {
     /// An object is made.
@@ -14,6 +14,6 @@ pub enum Pending {
     Free(u32),
     /// The object of this cell was accessed.
     Access(u32),
-    /// The call isn't between the `new` and the `free` of its object, which was known when it began.
+    /// The call isn't between the `new` and the `free` of its object. This was known when it began.
     Wrong(OutsideLife),
 }

@@ -1,4 +1,4 @@
-//! What a call could have answered that no order explains.
+//! Possible answers of a call whose answer no order explains.
 ghost use Rattle.std.specs.Prelude.{◌≤◌, length};
 
 use arrayvec::ArrayVec;
@@ -11,35 +11,35 @@ use model_words::{MAX_BYTES, Refusal};
 /// How many possible loads are kept.
 pub const MOST_LOADS: usize = 8;
 
-/// An answer that no order explains, and what the call could have answered.
+/// An answer that no order explains, and the answers that the call could have given.
 #[derive(Drop)]
 pub struct Unexplained {
-    /// What the call answered.
+    /// The recorded answer.
     pub answer: RecordedReply,
-    /// What it could have answered.
+    /// The possible answers.
     pub possible: Possible,
 }
 
-/// What a call could have answered.
+/// The answers that a call could have given.
 #[derive(Drop)]
 pub enum Possible {
-    /// This and nothing else.
+    /// Only this answer.
     Only(RecordedReply),
     /// One of these loads.
     Loads(Loads),
 }
 
-/// The loads with the least bytes, byte by byte, of those that a call could have answered.
+/// The least possible loads of a call, compared byte by byte.
 #[derive(Drop)]
 pub struct Loads {
-    /// The loads, from the least one on. No two are equal.
+    /// The loads in ascending order. No two are equal.
     pub least: ArrayVec<ArrayVec<u8, MAX_BYTES>, MOST_LOADS>,
     /// Whether there are more.
     pub are_more: bool,
 }
 
-/// What an access to the object at an address answered, and what it could have answered, by the configurations that
-/// were met at its end.
+/// The recorded answer of an access to the object at an address, and the possible ones, by the configurations that were
+/// met at its end.
 pub(crate) fn unexplained_access(
     address: u64,
     refutation: Refutation<ObjectAccesses>,
@@ -62,7 +62,7 @@ pub(crate) fn unexplained_access(
     }
 }
 
-/// An answer in whose place one other is possible.
+/// An answer for which one other answer is possible.
 fn only(answer: RecordedReply, possible: RecordedReply) -> Unexplained {
     Unexplained {
         answer,
@@ -70,7 +70,7 @@ fn only(answer: RecordedReply, possible: RecordedReply) -> Unexplained {
     }
 }
 
-/// The loads of `len` bytes from an offset on that the configurations have. Only a refusal if they end before.
+/// The loads of `len` bytes from an offset on in the configurations. If the object ends before them, only a refusal.
 fn possible_loads(met: &Pool<Configuration<ObjectBytes>>, off: u64, len: u32) -> Possible {
     let mut loads = Loads {
         least: ArrayVec::new(),
@@ -85,7 +85,7 @@ fn possible_loads(met: &Pool<Configuration<ObjectBytes>>, off: u64, len: u32) ->
     Possible::Loads(loads)
 }
 
-/// `len` bytes from an offset on, `None` if they end outside of the object.
+/// Loads `len` bytes from an offset on. `None` if they end outside of the object.
 fn load_of(state: &ObjectBytes, off: u64, len: u32) -> Option<ArrayVec<u8, MAX_BYTES>> {
     let behind = state.len().checked_sub(off)?;
     if len as usize > MAX_BYTES || u64::from(len) > behind {
@@ -95,7 +95,7 @@ fn load_of(state: &ObjectBytes, off: u64, len: u32) -> Option<ArrayVec<u8, MAX_B
 }
 
 impl Loads {
-    /// Adds a load unless it is there. If there are too many, the greatest one is left out.
+    /// Adds a load unless it is already in the list. If the list gets too long, the greatest load is dropped.
     fn add(&mut self, load: ArrayVec<u8, MAX_BYTES>) {
         let place = self.place_of(load.as_slice());
         if let Some(there) = self.least.get(place)

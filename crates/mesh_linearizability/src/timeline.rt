@@ -21,13 +21,13 @@ use mesh_number_set::NumberSet;
 use std::alloc::{AllocError, Global};
 use std::collections::BTreeMap;
 
-/// One more than the greatest number of a call. The key of a call that waits is its end times this, plus its number.
+/// One more than the greatest number of a call. The key of a waiting call is its end times this, plus its number.
 pub(crate) const NUMBERS: u128 = 4_294_967_296;
 
 /// The calls that have begun and not ended, and the live objects.
 #[derive(Drop)]
 pub struct Timeline {
-    /// The calls that wait for their ends, by their ends, at equal ends by their numbers.
+    /// The calls that wait for their ends, sorted by end and then by number.
     pub(crate) waiting: BTreeMap<u128, Pending>,
     /// The live objects by their cells.
     pub(crate) lives: BTreeMap<u32, Life>,
@@ -45,7 +45,7 @@ pub struct Timeline {
 }
 
 impl Timeline {
-    /// A timeline of no call. It allocates nothing.
+    /// Creates a timeline without calls. It allocates nothing.
     pub fn new(alloc: Global) -> Timeline
         ensures stands { Stands [] result }
         ensures few { FewOpen (lives_of result) 0 }
@@ -62,17 +62,20 @@ impl Timeline {
         }
     }
 
-    /// Takes the begin of the next call: its number, which is how many have begun before it, its end, and what it did.
+    /// Takes the begin of the next call. Its arguments are the call's number, which is the number of calls that have
+    /// begun before it, its end, and its entry.
     ///
-    /// The error is `TooManyPending` if 64 accesses to its object are pending, and `Memory` if an allocation fails. After
-    /// an error the timeline is of no more use.
+    /// The error is `TooManyPending` if 64 accesses to its object are pending, and `Memory` if an allocation fails.
+    /// After an error the timeline must not be used.
     pub fn begin(&mut self, number: u32, end: u64, entry: &RecordedEntry) -> Result<(), JudgeFault>
         requires effect { HasEffect (plain_command entry.now.command) (plain_reply entry.now.reply) }
         requires few { FewOpen (lives_of self.old) number }
         ensures stands { OnOk result ((calls : List Call) (begin : ℕ) → length calls ≡ number → Stands calls self.old
             → MayBegin calls (waits_of self.old) (record { begin = begin; end = end; entry = plain_entry entry.now })
             → Stands (calls ++ record { begin = begin; end = end; entry = plain_entry entry.now } ∷ []) self.new) }
-        ensures past { OnOk result ((calls : List Call) (call : Call) (moment : ℕ) → length calls ≡ number → call.end ≡ end → Past calls (waits_of self.old) moment
+        ensures past { OnOk result
+            ((calls : List Call) (call : Call) (moment : ℕ) → length calls ≡ number → call.end ≡ end
+            → Past calls (waits_of self.old) moment
             → Past (calls ++ call ∷ []) (waits_of self.new) moment) }
         ensures few { OnOk result (FewOpen (lives_of self.new) (number + 1)) }
     {
@@ -82,13 +85,14 @@ impl Timeline {
         Ok(())
     }
 
-    /// Takes the ends before a moment, in their order. Returns the first flaw that is found.
+    /// Takes the ends before a moment, in their order. Returns the first flaw that it finds.
     ///
-    /// The error is `TooMany` if more than `most` configurations of an object are met at the end of a call, and `Memory`
-    /// if an allocation fails. After a flaw or an error the timeline is of no more use.
+    /// The error is `TooMany` if more than `most` configurations of an object are met at the end of a call, and
+    /// `Memory` if an allocation fails. After a flaw or an error the timeline must not be used.
     pub fn end_before(&mut self, moment: u128, most: usize) -> Result<Option<Found>, Stop>
         requires { moment ≤ 2 ^ 64 }
-        ensures ended { IfOk result (λ found. IsNone found → AreEnded self.old self.new moment × NoneBefore (waits_of self.new) moment) }
+        ensures ended { IfOk result
+            (λ found. IsNone found → AreEnded self.old self.new moment × NoneBefore (waits_of self.new) moment) }
         ensures flawed { IfOk result (λ found. IfSome found (λ _. IsRuledOut self.old moment)) }
     {
         while let Some((number, pending)) = first_before(&mut self.waiting, moment) {
@@ -102,10 +106,11 @@ impl Timeline {
     }
 }
 
-/// Removes the first call in the order of ends if it ends before a moment. Returns its number and what is to be done.
+/// Removes the call with the first end if that end is before a moment. Returns its number and what must be done.
 fn first_before(waiting: &mut BTreeMap<u128, Pending>, moment: u128) -> Option<(u32, Pending)>
     requires { moment ≤ 2 ^ 64 }
-    ensures some { IfSome result (λ found. IsFirstBefore (get nat_cmp waiting.old) (get nat_cmp waiting.new) moment found.0 found.1) }
+    ensures some { IfSome result
+        (λ found. IsFirstBefore (get nat_cmp waiting.old) (get nat_cmp waiting.new) moment found.0 found.1) }
     ensures fewer { IfSome result (λ _. length waiting.new.entries < length waiting.old.entries) }
     ensures none { IsNone result → (waiting.new ≡ waiting.old) × NoneBefore (get nat_cmp waiting.old) moment }
 {
@@ -117,7 +122,7 @@ fn first_before(waiting: &mut BTreeMap<u128, Pending>, moment: u128) -> Option<(
     Some(((key % NUMBERS) as u32, pending))
 }
 
-/// Puts a value under a key. An error is an allocation failure.
+/// Inserts a value under a key. An error is an allocation failure.
 pub(crate) fn set<K: Ord + Drop, T: Drop>(
     map: &mut BTreeMap<K, T>,
     key: K,
@@ -129,7 +134,7 @@ pub(crate) fn set<K: Ord + Drop, T: Drop>(
     Ok(())
 }
 
-/// Adds a number to a set if it isn't in it. An error is an allocation failure.
+/// Adds a number to a set unless it is already in the set. An error is an allocation failure.
 pub(crate) fn add(set: &mut NumberSet, number: u32) -> Result<(), AllocError>
     ensures { OnOk result ((n : ℕ) → Has set.new n ↔ ((n ≡ number) ⊎ Has set.old n)) }
 {

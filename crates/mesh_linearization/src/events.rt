@@ -2,7 +2,7 @@
 use mesh_calls::TimedCall;
 use std::alloc::{AllocError, Global};
 
-/// What happens to a call: of two at one moment, a begin comes before an end.
+/// The kind of an event. At one moment, a begin comes before an end.
 #[derive(Clone, Copy, PartialEq, Eq, PartialOrd, Ord)]
 pub enum EventKind {
     /// The call begins.
@@ -14,15 +14,15 @@ pub enum EventKind {
 /// A begin or an end of a call, ordered by time.
 #[derive(Clone, Copy, PartialEq, Eq, PartialOrd, Ord)]
 pub struct Event {
-    /// When it happens.
+    /// The moment of the event.
     pub moment: u64,
-    /// What happens.
+    /// The kind of the event.
     pub kind: EventKind,
     /// The number of the call.
     pub number: u32,
 }
 
-/// The begins and ends of the calls of these numbers, in the order of time. An error is an allocation failure.
+/// The begins and ends of the calls with these numbers, in the order of time. An error is an allocation failure.
 pub fn events_of(
     alloc: Global,
     calls: &[TimedCall],

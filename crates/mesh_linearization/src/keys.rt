@@ -1,4 +1,4 @@
-//! The calls sorted by their points.
+//! Sorts the calls by their points.
 ghost use Rattle.std.specs.Prelude.{◌≡◌, ◌<◌, ◌^◌, IfOk, length, map};
 ghost use Rattle.std.specs.List.{range_with_len};
 ghost use Rattle.std.specs.List.Sorted.{IsPermutation};
@@ -8,7 +8,7 @@ use mesh_calls::TimedCall;
 use mesh_history::SpeltCommand;
 use std::alloc::{AllocError, Global};
 
-/// Which of the calls at one moment come first: ranges of objects are freed before they are taken again.
+/// The order of calls at one moment: ranges of objects are freed before they are taken again.
 #[derive(Clone, Copy, PartialEq, Eq, PartialOrd, Ord)]
 pub enum Rank {
     /// A `free`.
@@ -19,16 +19,16 @@ pub enum Rank {
     New,
 }
 
-/// What a call is sorted by. Keys of two calls differ.
+/// The sort key of a call. The keys of two calls differ.
 #[derive(Clone, Copy, PartialEq, Eq, PartialOrd, Ord)]
 pub struct Key {
-    /// The moment of its effect.
+    /// The moment of the call's effect.
     pub moment: u64,
-    /// Which of the calls at one moment it is.
+    /// The rank among the calls at one moment.
     pub rank: Rank,
     /// The place of an access in the order of its object's accesses.
     pub place: u64,
-    /// Its number.
+    /// The number of the call.
     pub number: u32,
 }
 
@@ -83,7 +83,7 @@ fn rank_of(command: &SpeltCommand) -> Rank {
     }
 }
 
-/// The numbers of the calls of keys.
+/// The numbers of the calls with these keys.
 fn numbers_of(alloc: Global, keys: &[Key]) -> Result<Vec<u32>, AllocError>
     ensures { IfOk result (λ numbers. numbers.items ≡ map (λ key. key.number) keys.now) }
 {

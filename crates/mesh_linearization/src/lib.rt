@@ -3,10 +3,13 @@
 //! `linearize` finds the order, checks it, and returns it as the numbers of the calls. `history_in_order` writes the
 //! calls in that order as a `history 1`.
 //!
-//! From the bottom up: `objects` has the accesses of each object, `events` their begins and ends in time. `kept` and
-//! `search` find an order of effects of one object's accesses, and `points` gives each call a moment of effect. `keys`
-//! sorts the calls by these moments, `certificates` checks the order, and `orders` does all of it. `commands` and
-//! `texts` write the lines.
+//! The modules, from the bottom up:
+//!
+//! - `objects` finds the accesses of each object, and `events` their begins and ends in time.
+//! - `kept` and `search` find an order of effects of one object's accesses.
+//! - `points` gives each call a moment of effect, and `keys` sorts the calls by these moments.
+//! - `certificates` checks the order, and `orders` does all of this.
+//! - `commands` and `texts` write the lines.
 #![tactic(auto)]
 
 mod certificates;

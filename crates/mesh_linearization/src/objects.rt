@@ -13,12 +13,12 @@ pub struct Object {
     pub len: u64,
     /// Its address.
     pub address: u64,
-    /// The numbers of the calls that find or change its bytes, or tell its address.
+    /// The numbers of the calls that read or change its bytes, or return its address.
     pub accesses: Vec<u32>,
 }
 
-/// The objects by their cells, `None` if some call accesses no object. An error is an allocation failure, here and
-/// below.
+/// Returns the objects by their cells. `None` if some access is to no object. An error is an allocation failure, here
+/// and below.
 pub fn objects_of(
     alloc: Global,
     calls: &[TimedCall],

@@ -11,11 +11,11 @@ use crate::points::points_of;
 use mesh_calls::TimedCall;
 use std::alloc::{AllocError, Global};
 
-/// An order of effects that explains calls: the numbers of the calls, which are their places in `calls`, in this order.
-/// `None` if none was found.
+/// Finds an order of effects that explains calls. Returns the numbers of the calls, which are their places in `calls`,
+/// in this order. `None` if no order was found.
 ///
-/// What is returned was checked. An order is found if there is one, no object has more than 64 pending accesses, and at
-/// most `most` configurations of an object are met at the end of an access; this is only tested. An error is an
+/// The returned order was checked. An order is found if there is one, no object has more than 64 pending accesses, and
+/// at most `most` configurations of an object are met at the end of an access; this is only tested. An error is an
 /// allocation failure.
 pub fn linearize(
     alloc: Global,
@@ -24,8 +24,10 @@ pub fn linearize(
 ) -> Result<Option<Vec<u32>>, AllocError>
     requires read { All IsReadCall calls.now }
     requires few { length calls.now < 2 ^ 32 - 1 }
-    ensures places { IfOk result (λ found. IfSome found (λ order. All (λ number. number < length calls.now) order.items)) }
-    ensures explains { IfOk result (λ found. IfSome found (λ order. Explains (map plain_call calls.now) (calls_in_order calls.now order.items))) }
+    ensures places { IfOk result
+        (λ found. IfSome found (λ order. All (λ number. number < length calls.now) order.items)) }
+    ensures explains { IfOk result
+        (λ found. IfSome found (λ order. Explains (map plain_call calls.now) (calls_in_order calls.now order.items))) }
 {
     let Some(points) = points_of(alloc, calls, most)? else {
         return Ok(None);

@@ -16,11 +16,11 @@ pub struct Point {
     pub place: u64,
 }
 
-/// The points of the calls, `None` if no order of some object's accesses was found.
+/// Returns the points of the calls. `None` if no order of some object's accesses was found.
 ///
-/// A `new` has its effect at its end, and any other call at its begin, but an access no earlier than those before it in
-/// the order of its object's accesses. At the end of an access at most
-/// `most` configurations may be met. An error is an allocation failure, here and below.
+/// A `new` has its effect at its end, and any other call at its begin. But an access has its effect no earlier than the
+/// accesses before it in the order of its object. At the end of an access at most `most` configurations may be met. An
+/// error is an allocation failure, here and below.
 pub fn points_of(
     alloc: Global,
     calls: &[TimedCall],
@@ -41,7 +41,7 @@ pub fn points_of(
     Ok(Some(points))
 }
 
-/// The points of the calls by themselves.
+/// The point of each call, without regard to the other calls.
 fn own_points(alloc: Global, calls: &[TimedCall]) -> Result<Vec<Point>, AllocError> {
     let mut points = Vec::new(alloc);
     for call in calls {
@@ -50,7 +50,7 @@ fn own_points(alloc: Global, calls: &[TimedCall]) -> Result<Vec<Point>, AllocErr
     Ok(points)
 }
 
-/// The point of a call by itself.
+/// The point of a call, without regard to the other calls.
 fn own_point(call: &TimedCall) -> Point {
     let moment = match &call.entry.command {
         SpeltCommand::New(_, _, _) => call.end,
@@ -59,7 +59,7 @@ fn own_point(call: &TimedCall) -> Point {
     Point { moment, place: 0 }
 }
 
-/// Gives the accesses of an object, which are in their order, points in this order.
+/// Sets the points of an object's accesses, given in their order, so that they follow this order.
 fn place_accesses(calls: &[TimedCall], order: &[u32], points: &mut Vec<Point>) {
     let mut moment = 0;
     for (place, number) in order.iter().enumerate() {

@@ -1,4 +1,5 @@
-//! Orders that are found. The texts follow from the rules by hand; orders of random histories are checked by a replay.
+//! Tests of the orders that are found. The texts were worked out by hand from the rules; orders of random histories are
+//! checked by a replay.
 ghost use Rattle.std.specs.Prelude.{◌<◌, ◌≤◌, ◌-◌, ◌^◌, length};
 ghost use Rattle.std.specs.List.{All};
 ghost use Rattle.mesh_calls.specs.CallWords.{IsReadCall};
@@ -40,7 +41,7 @@ fn calls_of(rt: &(impl Abort + AllocGlobal), text: &str) -> Vec<TimedCall>
     calls
 }
 
-/// The text of the calls in the order that is found, `none` if none is found.
+/// The text of the calls in the order that is found. `none` if none is found.
 fn ordered(rt: &(impl Abort + AllocGlobal), calls: &[&str]) -> Vec<u8> {
     let text = text_of(rt, calls);
     let calls = calls_of(rt, text.as_str());
@@ -197,7 +198,7 @@ fn no_order_is_found_where_there_is_none(rt: HostRuntime) {
     }
 }
 
-/// An object with so many pending accesses.
+/// An object with `count` pending accesses.
 fn pending(rt: &(impl Abort + AllocGlobal), count: u32) -> Vec<TimedCall>
     ensures read { All IsReadCall result.items }
     ensures few { length result.items ≤ 1000 }
@@ -238,7 +239,7 @@ fn random(seed: &mut u64, bound: u32) -> u32
     (*seed >> 33) as u32 % bound
 }
 
-/// A call of a random history at a moment. A `put` stores a byte, a `get` finds the one that is there.
+/// A call of a random history at a moment. A `put` stores a byte, and a `get` finds the current one.
 fn random_call(seed: &mut u64, bytes: &mut [u8; 4], number: u32, moment: u64) -> Small {
     let off = random(seed, 4) as usize;
     let kind = random(seed, 3);
@@ -296,7 +297,7 @@ fn random_history(rt: &(impl Abort + AllocGlobal), seed: &mut u64) -> Vec<TimedC
     calls_of(rt, text.as_str())
 }
 
-/// Whether the numbers are those of so many calls, each once.
+/// Whether the numbers are those of `count` calls, each once.
 fn is_permutation(alloc: Global, count: usize, order: &[u32]) -> Result<bool, AllocError> {
     let mut sorted = order.to_vec(alloc)?;
     sorted.sort_unstable();
@@ -307,7 +308,7 @@ fn is_permutation(alloc: Global, count: usize, order: &[u32]) -> Result<bool, Al
     Ok(same)
 }
 
-/// Whether no call is behind one that began after it ended.
+/// Whether no call comes after one that began after it ended.
 fn respects_time(calls: &[TimedCall], order: &[u32]) -> bool {
     for (place, front) in order.iter().enumerate() {
         for (later, back) in order.iter().enumerate() {

@@ -14,8 +14,8 @@ use mesh_history::RecordedEntry;
 use mesh_spelling::add_decimal;
 use std::alloc::{AllocError, Global};
 
-/// The history of these calls in this order, of the calls' numbers: the line `history 1`, and for each call
-/// `W COMMAND -> ANSWER`, each line with its end. An error is an allocation failure, here and below.
+/// The history of these calls in this order, which is given by the calls' numbers: the line `history 1`, and for each
+/// call `W COMMAND -> ANSWER`, each line with its end. An error is an allocation failure, here and below.
 pub fn history_in_order(
     alloc: Global,
     calls: &[TimedCall],

@@ -227,7 +227,8 @@ taken_over old new kept kept' bytes n written written' front begun is =
       ends = λ rest. ap (ends_on false begun) (append_assoc (take n bytes) (drop n bytes) rest) ∙ taken.ends (drop n bytes ++ rest);
     })
 
--- what is told of the bytes behind the last line end, of which these are kept, once a text has ended without the line `end`
+-- what is told of the bytes behind the last line end, of which these are kept, once a text has ended without the line
+-- `end`
 abbrev pub rest_on : Bool → List ℕ → List ℕ
 rest_on true kept = []
 rest_on false kept = told_rest kept

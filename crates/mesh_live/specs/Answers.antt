@@ -1,4 +1,4 @@
--- What a line of a session is told, and where the session stands after it.
+-- The answer to a line of a session, and the state of the session after it.
 use Rattle.std.specs.Prelude.{ℕ, List, [], ◌∷◌, ◌++◌, Result, Ok, Err, codes}
 use Rattle.model_jobs.specs.Jobs.{Job, Next, State, answer, run_next}
 use Rattle.model_jobs.specs.Texts.{answer_text, field}
@@ -13,16 +13,16 @@ abbrev pub live_answer : Job → State → LiveLine → Next
 live_answer job state (Attempt worker command) = run_next job state worker (command ∷ [])
 live_answer job state (Call line) = answer job state line
 
--- the text of an answer, without its end, and where the session stands after it
+-- the text of an answer, without its end, and the state of the session after it
 pub record Told : Type 0 where
   pub text : List ℕ
   pub state : State
 
--- what an answer tells
+-- the text and the state of an answer
 abbrev pub told_next : Next → Told
 told_next next = record { text = answer_text next.answer; state = next.state }
 
--- what a line of a session is told
+-- the text and the state of the answer to a line of a session
 abbrev pub live_told : Sizes → State → LiveLine → Told
 live_told sizes state line = told_next (live_answer (job_of sizes) state line)
 
@@ -30,11 +30,11 @@ live_told sizes state line = told_next (live_answer (job_of sizes) state line)
 abbrev pub fault_text : FaultKind → List ℕ
 fault_text kind = codes "fault" ++ field (kind_name_of kind)
 
--- what is told of a line that was read; of one with a fault the fault, which changes nothing
+-- the answer to a line that was read; a line with a fault is answered with the fault, which changes nothing
 abbrev pub told_read : Sizes → State → Result LiveLine FaultKind → Told
 told_read sizes state (Ok line) = live_told sizes state line
 told_read sizes state (Err kind) = record { text = fault_text kind; state = state }
 
--- what a text is told that is asked as a line
+-- the answer to a text that is passed as a line
 abbrev pub told : Sizes → State → List ℕ → Told
 told sizes state line = told_read sizes state (live_line sizes.workers line)

@@ -21,7 +21,8 @@ CallsAreRead = (live_line 2 (codes "report") ≡ Ok (Call MakeReport)) × (live_
 abbrev pub HasFault : List ℕ → FaultKind → Type 0
 HasFault line kind = live_line 2 line ≡ Err kind
 
--- no line, a wrong word, a line of version 1 or of a file's other parts, and a wrong number of fields, whatever number stands beside it
+-- no line, a wrong word, a line of version 1 or of a file's other parts, and a wrong number of fields, whatever number
+-- comes with it
 abbrev pub WordsAreLookedAtFirst : Type 0
 WordsAreLookedAtFirst = HasFault [] Word × HasFault (codes "run 1") Word × HasFault (codes "step") Word × HasFault (codes "end") Word
     × HasFault (codes "get 0 0 4") Word × HasFault (codes "run 1  get 0 0 4") Word × HasFault (codes "run 2 get 0 0") Word × HasFault (codes "run 2 gets 0 0 4") Word

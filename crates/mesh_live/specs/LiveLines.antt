@@ -29,8 +29,8 @@ abbrev pub is_no_command : Result Command FaultKind → Bool
 is_no_command (Ok command) = false
 is_no_command (Err kind) = is_word_fault kind
 
--- an attempt of the worker that a field names, at a command that was read: its word and the number of its fields are looked at first, as in every line, and then
--- the fields from left to right
+-- an attempt of the worker that a field names, at a command that was read: its word and the number of its fields are
+-- looked at first, as in every line, and then the fields from left to right
 abbrev pub attempt_of : ℕ → List ℕ → Result Command FaultKind → Result LiveLine FaultKind
 attempt_of workers field read =
     refuse_if Word (is_no_command read) >>= λ _. number_in 0 (workers - 1) field >>= λ worker. read >>= λ command. Ok (Attempt worker command)
@@ -64,7 +64,8 @@ abbrev pub IsSearch : List (List ℕ) → Type 0
 IsSearch [] = ⊥
 IsSearch (word ∷ fields) = are_same word (codes "pair") ≡ true
 
--- the ranges of a line of a session: the worker is one of them, its command is one that the heap takes, and a line of a plan is in its own ranges
+-- the ranges of a line of a session: the worker is one of them, its command is one that the heap takes, and a line of a
+-- plan is in its own ranges
 abbrev pub IsValidLive : ℕ → LiveLine → Type 0
 IsValidLive workers (Attempt worker command) = (worker < workers) × IsInRange command
 IsValidLive workers (Call line) = IsValidLine Two workers line

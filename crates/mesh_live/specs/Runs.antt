@@ -1,4 +1,4 @@
--- What a session tells that is fed a text: the answers to its lines.
+-- The output of a session for a text: the answers to its lines.
 use Rattle.std.specs.Prelude.{◌≡◌, ◌⊎◌, ◌^◌, ◌≤◌, ◌+◌, ℕ, Bool, true, false, ◌||◌, if◌then◌else◌, List, [], ◌∷◌, ◌++◌, Option, codes, length}
 use Rattle.std.specs.Io.KnownBytes.{Appends, Consumes, IsAtEnd}
 use Rattle.model_jobs.specs.JobFiles.{are_same}
@@ -12,7 +12,7 @@ use Rattle.mesh_live.specs.Sessions.{IsSession, job_of, sizes_of, state_of}
 use Rattle.mesh_live.specs.declared.session.Session.{Session}
 use Rattle.mesh_live.specs.declared.sizes.Sizes.{Sizes}
 
--- what is told of the bytes that follow the last line end: nothing, where there are none
+-- the output for the bytes after the last line end: nothing, if there are none
 abbrev pub told_rest : List ℕ → List ℕ
 told_rest [] = []
 told_rest (byte ∷ bytes) = ended (fault_text (rest_fault (byte ∷ bytes)))
@@ -21,7 +21,8 @@ told_rest (byte ∷ bytes) = ended (fault_text (rest_fault (byte ∷ bytes)))
 abbrev pub is_end : List ℕ → Bool
 is_end line = are_same line (codes "end")
 
--- what the lines of a text are told, one after another, up to the line `end`; the last of them is what follows the last line end
+-- the output for the lines of a text, one after another, up to the line `end`; the last of them is what follows the
+-- last line end
 abbrev pub told_lines : Sizes → State → List (List ℕ) → List ℕ
 told_lines sizes state [] = []
 told_lines sizes state (rest ∷ []) = told_rest rest
@@ -29,7 +30,7 @@ told_lines sizes state (line ∷ next ∷ lines) =
     if is_end line then []
     else (let first = told sizes state line in ended first.text ++ told_lines sizes first.state (next ∷ lines))
 
--- what a session of these sizes tells that is fed this text
+-- the output of a session of these sizes for this text
 abbrev pub live_output : Sizes → List ℕ → List ℕ
 live_output sizes text = told_lines sizes (initial_state (job_of sizes)) (text_lines text)
 
@@ -39,21 +40,22 @@ have_end [] = false
 have_end (rest ∷ []) = false
 have_end (line ∷ next ∷ lines) = is_end line || have_end (next ∷ lines)
 
--- a session was fed this text, to the input's end or with the line `end` in it, and what it told was written
+-- a session took this text, to the input's end or with the line `end` in it, and its output was written
 pub record HasLived (sizes : Sizes) (left left' written written' : Option (List ℕ)) : Type 0 where
   pub text : List ℕ
   pub taken : Consumes left left' text
   pub whole : (IsAtEnd left' ⊎ (have_end (text_lines text) ≡ true)) ⊎ (2 ^ 64 ≤ length text + 1)
   pub wrote : Appends written written' (live_output sizes text)
 
--- a session was stopped by an error: of what it is told that is fed a beginning of its input, a beginning was written
+-- a session was stopped by an error: of its output for some beginning of its input, a beginning was written
 pub record HasStopped (sizes : Sizes) (left written written' : Option (List ℕ)) : Type 0 where
   pub text : List ℕ
   pub rest : Option (List ℕ)
   pub taken : Consumes left rest text
   pub wrote : AppendsBeginning written written' (live_output sizes text)
 
--- what a session tells of a text, the beginning of whose first line was taken, and whether the line `end` is in it; nothing more once it was
+-- the output of a session for a text, if the beginning of the text's first line was taken already, and whether the line
+-- `end` is in it; nothing more once it was
 abbrev pub told_on : Bool → Session → List ℕ → List ℕ → List ℕ
 told_on true session begun text = []
 told_on false session begun text = told_lines (sizes_of session) (state_of session) (text_lines (begun ++ text))
@@ -62,8 +64,9 @@ abbrev pub ends_on : Bool → List ℕ → List ℕ → Bool
 ends_on true begun text = true
 ends_on false begun text = have_end (text_lines (begun ++ text))
 
--- a session with the beginning of a line before it took these bytes, up to the line `end` or to the beginning of a line of which these bytes are kept, and wrote
--- what it told: whatever follows, it is told what it was told, and what is told from here on
+-- a session with the beginning of a line before it took these bytes, up to the line `end` or to the beginning of a line
+-- of which these bytes are kept, and wrote its output: whatever follows, the whole output is what was written, and then
+-- the output from here on
 pub record HasTaken (over : Bool) (old new : Session) (begun kept bytes : List ℕ) (written written' : Option (List ℕ)) : Type 0 where
   pub sound : IsSession new
   pub sizes : sizes_of new ≡ sizes_of old
@@ -82,14 +85,15 @@ Takes over old new kept kept' bytes written written' = (begun : List ℕ) → Is
 abbrev pub Keeps : List ℕ → ℕ → List ℕ → Type 0
 Keeps kept byte kept' = (begun : List ℕ) → IsKept kept begun → IsKept kept' (begun ++ byte ∷ [])
 
--- a session was fed this text, up to the line `end`, or to the input's end; these bytes are kept of what follows the last line end
+-- a session was fed this text, up to the line `end`, or to the input's end; these bytes are kept of what follows the
+-- last line end
 pub record HasFed (over : Bool) (old new : Session) (kept : List ℕ) (left left' written written' : Option (List ℕ)) : Type 0 where
   pub text : List ℕ
   pub taken : Consumes left left' text
   pub whole : over ≡ false → IsAtEnd left' ⊎ (2 ^ 64 ≤ length text + 1)
   pub told : HasTaken over old new [] kept text written written'
 
--- a session was stopped while it took these bytes: whatever follows, a beginning was written of what it is told of them
+-- a session was stopped while it took these bytes: whatever follows, a beginning of its output for them was written
 abbrev pub IsStopped : Session → List ℕ → List ℕ → Option (List ℕ) → Option (List ℕ) → Type 0
 IsStopped session kept bytes written written' =
     (begun : List ℕ) → IsKept kept begun → (more : List ℕ) → AppendsBeginning written written' (told_on false session begun (bytes ++ more))

@@ -1,4 +1,4 @@
--- A live session: its sizes, the job that it is, and where it stands.
+-- A live session: its sizes, the job that models it, and its state.
 use Rattle.std.specs.Prelude.{◌≡◌, ℕ, ◌≤◌, [], length, replicate}
 use Rattle.model_jobs.specs.Jobs.{Job, State}
 use Rattle.model_words.specs.declared.versions.Version.TheVariants.{Two}
@@ -19,7 +19,7 @@ pub record HasFairSizes (sizes : Sizes) : Type 0 where
 abbrev pub job_of : Sizes → Job
 job_of sizes = record { version = Two; pages = sizes.pages; history = sizes.history; scripts = replicate sizes.workers []; plan = [] }
 
--- where a session of so many workers stands that has this book
+-- the state of a session with this many workers and this book
 abbrev pub state_in : ℕ → Book → State
 state_in workers book =
     record { memory = memory_of_book book; table = table_of_book book; scripts = replicate workers []; entries = book.entries }
@@ -32,11 +32,11 @@ sizes_of session = record { pages = session.job.pages; history = session.job.his
 abbrev pub book_of : Session → Book
 book_of session = book_of_turns session.turns
 
--- where a session stands: what its heap and its journal are to the definitions, and no command in a script
+-- the state of a session: what its heap and its journal are to the definitions, and no command in a script
 abbrev pub state_of : Session → State
 state_of session = state_in (sizes_of session).workers (book_of session)
 
--- a session's job has nothing to do, and stands where the session does
+-- a session's job has empty scripts and an empty plan, and the state of the session
 pub record IsSession (session : Session) : Type 0 where
   pub idle : session.job ≡ job_of (sizes_of session)
   pub workers : worker_count session.turns ≡ (sizes_of session).workers

@@ -1,4 +1,4 @@
-//! The job that a session is: one with nothing to do.
+//! The job that models a session: its scripts and its plan are empty.
 ghost use Rattle.std.specs.Prelude.{◌≡◌, ◌≤◌, [], replicate, IfOk};
 ghost use Rattle.mesh_live.specs.Sessions.{HasFairSizes, job_of};
 
@@ -6,7 +6,7 @@ use crate::Sizes;
 use mesh_job::{Job, Plan, Script, Scripts, Version};
 use std::alloc::{AllocError, Global};
 
-/// A job of these sizes, with no command in a script and no line in its plan.
+/// A job of these sizes, with no command in a script and no line in its plan. An error is an allocation failure.
 pub(crate) fn idle_job(alloc: Global, sizes: &Sizes) -> Result<Job, AllocError>
     requires { HasFairSizes sizes.now }
     ensures { IfOk result (λ job. job ≡ job_of sizes.now) }
@@ -20,7 +20,7 @@ pub(crate) fn idle_job(alloc: Global, sizes: &Sizes) -> Result<Job, AllocError>
     })
 }
 
-/// For each of so many workers a script without a command.
+/// An empty script for each of `workers` workers. An error is an allocation failure.
 fn idle_scripts(alloc: Global, workers: u32) -> Result<Scripts, AllocError>
     requires some { 1 ≤ workers }
     requires few { workers ≤ 64 }

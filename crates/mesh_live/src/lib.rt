@@ -1,7 +1,8 @@
-//! A live session: a fresh heap that is asked one line at a time and answers each at once.
+//! A live session: a fresh heap that takes one line at a time and answers each at once.
 //!
-//! A line is an attempt of a worker at a command, or a call of the mesher as a plan of version 2 has it. Each is answered as the definitions
-//! of jobs answer it, whatever lines came before. A line that is neither is told its fault, and changes nothing.
+//! A line is an attempt of a worker at a command, or a call of the mesher as in a plan of version 2. Each is answered
+//! as the definitions of jobs answer it, whatever lines came before. A line that is neither is answered with its fault,
+//! and changes nothing.
 #![tactic(auto)]
 
 mod answers;

@@ -19,14 +19,16 @@ use std::alloc::Global;
 pub enum LiveLine {
     /// `Attempt(w, command)`: worker `w` attempts this command now.
     Attempt(u32, Command),
-    /// A call of the mesher, as a plan of version 2 has it.
+    /// A call of the mesher, as in a plan of version 2.
     Call(PlanLine),
 }
 
-/// The line of a live session of so many workers: `run W COMMAND`, or any line of a plan of version 2 but `run W`. The line has no end.
+/// Reads a line of a live session with `workers` workers: `run W COMMAND`, or any line of a plan of version 2 except
+/// `run W`. The line is passed without its end.
 ///
-/// Each command is spelt as in a script of version 2. The first kind of fault that holds for the line is told: LONG_LINE where it has more than
-/// 1,024 bytes, BYTE, then WORD, and else that of the leftmost field which can't be read. Memory is an allocation failure, which only a `pair` line can meet.
+/// Each command is spelt as in a script of version 2. The error is the first kind of fault that holds for the line:
+/// LONG_LINE if it has more than 1,024 bytes, BYTE, then WORD, and otherwise the fault of the leftmost field that can't
+/// be read. `Memory` is an allocation failure, which can come only for a `pair` line.
 pub fn read_live_line(alloc: Global, workers: u32, line: &[u8]) -> Result<LiveLine, LineError>
     requires { 1 ≤ workers }
     ensures ok { IfOk result (λ asked. live_line workers line.now ≡ Ok (live_of asked)) }
@@ -39,7 +41,7 @@ pub fn read_live_line(alloc: Global, workers: u32, line: &[u8]) -> Result<LiveLi
     line_of_fields(alloc, workers, fields.as_slice())
 }
 
-/// The line of a session with these fields, its word first.
+/// Reads the line of a session with these fields, its word first.
 fn line_of_fields(alloc: Global, workers: u32, fields: &[&[u8]]) -> Result<LiveLine, LineError>
     requires some { 1 ≤ workers }
     requires filled { list_any is_empty (texts fields.now) ≡ false }
@@ -58,7 +60,7 @@ fn line_of_fields(alloc: Global, workers: u32, fields: &[&[u8]]) -> Result<LiveL
     call_of(alloc, workers, *word, fields)
 }
 
-/// Any line of a plan, as a call of the mesher.
+/// Reads any line of a plan, as a call of the mesher.
 fn call_of(
     alloc: Global,
     workers: u32,
@@ -87,7 +89,7 @@ fn attempt_of(workers: u32, fields: &[&[u8]]) -> Result<LiveLine, FaultKind>
     attempt_at(workers, *worker, command_of(Version::Two, *word, fields))
 }
 
-/// The attempt of the worker that a field names at a command that was read.
+/// An attempt at a command that was read, by the worker that a field names.
 fn attempt_at(
     workers: u32,
     worker: &[u8],
@@ -106,7 +108,7 @@ fn attempt_at(
     Ok(LiveLine::Attempt(worker, command))
 }
 
-/// Whether a command was not read for its word, or for the number of its fields.
+/// Whether reading a command failed because of its word, or of the number of its fields.
 fn is_no_command(read: &Result<Command, FaultKind>) -> bool
     ensures { result ≡ is_no_command read.now }
 {

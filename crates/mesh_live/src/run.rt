@@ -1,4 +1,4 @@
-//! A whole session: its lines come from a device, and its answers go to one.
+//! A whole session: its lines come from a device, and its answers are written to one.
 ghost use Rattle.std.specs.Prelude.{◌≡◌, ◌≢◌, ◌≤◌, ◌⊎◌, [], Err, false, true, is_err, length, vec_len, IfErr, IfOk, OnErr, OnOk};
 ghost use Rattle.std.specs.Io.KnownBytes.{Appends};
 ghost use Rattle.model_jobs.specs.Jobs.{initial_state};
@@ -14,15 +14,17 @@ use mesh_devices::{ReplayError, Sink, Source, read_some, write_lines};
 use mesh_fields::lines::{MAX_LINE_BYTES, rest_fault};
 use std::alloc::{AllocError, Global};
 
-/// The most bytes of one read.
+/// The greatest number of bytes of one read.
 const READ_BYTES: usize = 16_384;
 
-/// Answers the lines that the input gives, one by one: each answer is a line, and is written before the next line is taken.
+/// Answers the lines that the input gives, one by one. Each answer is a line, and is written before the next line is
+/// taken.
 ///
-/// A line is what `Session::answer` takes, and each fault is told as an answer. The line `end` ends the session, and so does the input's end; what
-/// follows the last line end is told as the fault CUT, or LONG_LINE where it has more than 1,024 bytes, unless it is empty.
+/// A line is what `Session::answer` takes, and each fault is written as an answer. The line `end` ends the session, and
+/// so does the input's end. If bytes follow the last line end, the answer is the fault CUT, or LONG_LINE if they are
+/// more than 1,024.
 ///
-/// Read comes where the input failed, Write where the output failed, and Memory where memory was refused; Text never comes.
+/// `Read` if the input failed, `Write` if the output failed, and `Memory` if an allocation failed. `Text` never comes.
 pub fn live<I: Source, O: Sink>(
     alloc: Global,
     sizes: &Sizes,
@@ -33,17 +35,21 @@ pub fn live<I: Source, O: Sink>(
     requires input { I.has_failed input.old ≡ false }
     requires output { O.has_failed output.old ≡ false }
     ensures ok { OnOk result ((I.has_failed input.new ≡ false) × (O.has_failed output.new ≡ false)) }
-    ensures lived { OnOk result (HasLived sizes.now (I.remaining input.old) (I.remaining input.new) (O.written output.old) (O.written output.new)) }
-    ensures stopped { OnErr result (HasStopped sizes.now (I.remaining input.old) (O.written output.old) (O.written output.new)) }
+    ensures lived { OnOk result
+        (HasLived sizes.now (I.remaining input.old) (I.remaining input.new) (O.written output.old)
+        (O.written output.new)) }
+    ensures stopped { OnErr result
+        (HasStopped sizes.now (I.remaining input.old) (O.written output.old) (O.written output.new)) }
     ensures read { result ≡ Err ReplayError.Read → I.has_failed input.new ≡ true }
     ensures write { result ≡ Err ReplayError.Write → O.has_failed output.new ≡ true }
-    ensures memory { result ≡ Err ReplayError.Memory → (I.has_failed input.new ≡ false) × (O.has_failed output.new ≡ false) }
+    ensures memory { result ≡ Err ReplayError.Memory
+        → (I.has_failed input.new ≡ false) × (O.has_failed output.new ≡ false) }
 {
     let mut session = Session::open(alloc, sizes)?;
     live_on(alloc, &mut session, input, output)
 }
 
-/// The same, of a session to which no line was given yet.
+/// Does the same as `live`, for a session that has taken no line yet.
 fn live_on<I: Source, O: Sink>(
     alloc: Global,
     session: &mut Session,
@@ -55,11 +61,15 @@ fn live_on<I: Source, O: Sink>(
     requires input { I.has_failed input.old ≡ false }
     requires output { O.has_failed output.old ≡ false }
     ensures ok { OnOk result ((I.has_failed input.new ≡ false) × (O.has_failed output.new ≡ false)) }
-    ensures lived { OnOk result (HasLived (sizes_of session.old) (I.remaining input.old) (I.remaining input.new) (O.written output.old) (O.written output.new)) }
-    ensures stopped { OnErr result (HasStopped (sizes_of session.old) (I.remaining input.old) (O.written output.old) (O.written output.new)) }
+    ensures lived { OnOk result
+        (HasLived (sizes_of session.old) (I.remaining input.old) (I.remaining input.new) (O.written output.old)
+        (O.written output.new)) }
+    ensures stopped { OnErr result
+        (HasStopped (sizes_of session.old) (I.remaining input.old) (O.written output.old) (O.written output.new)) }
     ensures read { result ≡ Err ReplayError.Read → I.has_failed input.new ≡ true }
     ensures write { result ≡ Err ReplayError.Write → O.has_failed output.new ≡ true }
-    ensures memory { result ≡ Err ReplayError.Memory → (I.has_failed input.new ≡ false) × (O.has_failed output.new ≡ false) }
+    ensures memory { result ≡ Err ReplayError.Memory
+        → (I.has_failed input.new ≡ false) × (O.has_failed output.new ≡ false) }
 {
     let mut line = Vec::new(alloc);
     let mut buffer = room_to_read(alloc)?;
@@ -76,8 +86,8 @@ fn room_to_read(alloc: Global) -> Result<Vec<u8>, AllocError>
     vec![in alloc; 0; READ_BYTES]
 }
 
-/// Reads the input, and takes each piece of it as it comes. True once the line `end` was read, and false where the input has ended: then `line`
-/// is what is kept of the bytes behind the last line end.
+/// Reads the input, and takes each piece of it as it comes. Returns `true` once the line `end` was read, and `false` if
+/// the input has ended. In that case `line` holds what is kept of the bytes after the last line end.
 fn feed<I: Source, O: Sink>(
     alloc: Global,
     session: &mut Session,
@@ -92,11 +102,15 @@ fn feed<I: Source, O: Sink>(
     requires input { I.has_failed input.old ≡ false }
     requires output { O.has_failed output.old ≡ false }
     ensures ok { OnOk result ((I.has_failed input.new ≡ false) × (O.has_failed output.new ≡ false)) }
-    ensures fed { IfOk result (λ over. HasFed over session.old session.new line.new.items (I.remaining input.old) (I.remaining input.new) (O.written output.old) (O.written output.new)) }
-    ensures stopped { OnErr result (IsFedPart session.old (I.remaining input.old) (O.written output.old) (O.written output.new)) }
+    ensures fed { IfOk result
+        (λ over. HasFed over session.old session.new line.new.items (I.remaining input.old) (I.remaining input.new)
+        (O.written output.old) (O.written output.new)) }
+    ensures stopped { OnErr result
+        (IsFedPart session.old (I.remaining input.old) (O.written output.old) (O.written output.new)) }
     ensures read { result ≡ Err ReplayError.Read → I.has_failed input.new ≡ true }
     ensures write { result ≡ Err ReplayError.Write → O.has_failed output.new ≡ true }
-    ensures memory { result ≡ Err ReplayError.Memory → (I.has_failed input.new ≡ false) × (O.has_failed output.new ≡ false) }
+    ensures memory { result ≡ Err ReplayError.Memory
+        → (I.has_failed input.new ≡ false) × (O.has_failed output.new ≡ false) }
 {
     for _read in 0..u64::MAX {
         let count = read_some(input, buffer)?;
@@ -110,8 +124,8 @@ fn feed<I: Source, O: Sink>(
     Ok(false)
 }
 
-/// Takes bytes one by one: keeps those of a line, and answers the line where a byte is its end. True where the line `end` was among them: nothing
-/// behind it is taken.
+/// Takes bytes one by one: collects those of a line, and answers the line when a byte is its end. Returns `true` if the
+/// line `end` was among them: nothing after it is taken.
 fn take_bytes<O: Sink>(
     alloc: Global,
     session: &mut Session,
@@ -122,8 +136,11 @@ fn take_bytes<O: Sink>(
     requires sound { IsSession session.old }
     requires output { O.has_failed output.old ≡ false }
     ensures ok { OnOk result ((O.has_failed output.new ≡ false) × IsSession session.new) }
-    ensures taken { IfOk result (λ over. Takes over session.old session.new line.old.items line.new.items bytes.now (O.written output.old) (O.written output.new)) }
-    ensures stopped { OnErr result (IsStopped session.old line.old.items bytes.now (O.written output.old) (O.written output.new)) }
+    ensures taken { IfOk result
+        (λ over. Takes over session.old session.new line.old.items line.new.items bytes.now (O.written output.old)
+        (O.written output.new)) }
+    ensures stopped { OnErr result
+        (IsStopped session.old line.old.items bytes.now (O.written output.old) (O.written output.new)) }
     ensures kinds { IfErr result (λ error. (error ≡ ReplayError.Write) ⊎ (error ≡ ReplayError.Memory)) }
     ensures write { result ≡ Err ReplayError.Write → O.has_failed output.new ≡ true }
     ensures memory { result ≡ Err ReplayError.Memory → O.has_failed output.new ≡ false }
@@ -142,7 +159,7 @@ fn take_bytes<O: Sink>(
     Ok(false)
 }
 
-/// Keeps a byte of a line, unless the line has too many.
+/// Collects a byte of a line, unless the line has too many.
 fn keep(line: &mut Vec<u8>, byte: u8) -> Result<(), AllocError>
     requires { byte ≢ 10 }
     ensures { OnOk result (Keeps line.old.items byte line.new.items) }
@@ -171,9 +188,14 @@ fn write_answer<O: Sink>(
     requires output { O.has_failed output.old ≡ false }
     ensures ok { OnOk result ((O.has_failed output.new ≡ false) × IsSession session.new) }
     ensures sizes { OnOk result (sizes_of session.new ≡ sizes_of session.old) }
-    ensures stands { OnOk result (state_of session.new ≡ (told (sizes_of session.old) (state_of session.old) line.now).state) }
-    ensures wrote { OnOk result (Appends (O.written output.old) (O.written output.new) (ended (told (sizes_of session.old) (state_of session.old) line.now).text)) }
-    ensures begun { OnErr result (AppendsBeginning (O.written output.old) (O.written output.new) (ended (told (sizes_of session.old) (state_of session.old) line.now).text)) }
+    ensures stands { OnOk result
+        (state_of session.new ≡ (told (sizes_of session.old) (state_of session.old) line.now).state) }
+    ensures wrote { OnOk result
+        (Appends (O.written output.old) (O.written output.new)
+        (ended (told (sizes_of session.old) (state_of session.old) line.now).text)) }
+    ensures begun { OnErr result
+        (AppendsBeginning (O.written output.old) (O.written output.new)
+        (ended (told (sizes_of session.old) (state_of session.old) line.now).text)) }
     ensures kinds { IfErr result (λ error. (error ≡ ReplayError.Write) ⊎ (error ≡ ReplayError.Memory)) }
     ensures write { result ≡ Err ReplayError.Write → O.has_failed output.new ≡ true }
     ensures memory { result ≡ Err ReplayError.Memory → O.has_failed output.new ≡ false }
@@ -183,12 +205,13 @@ fn write_answer<O: Sink>(
     write_line(&mut text, output)
 }
 
-/// Writes a text with a line end behind it.
+/// Writes a text with a line end after it.
 fn write_line<O: Sink>(text: &mut Vec<u8>, output: &mut O) -> Result<(), ReplayError>
     requires { O.has_failed output.old ≡ false }
     ensures ok { OnOk result (O.has_failed output.new ≡ false) }
     ensures wrote { OnOk result (Appends (O.written output.old) (O.written output.new) (ended text.old.items)) }
-    ensures begun { OnErr result (AppendsBeginning (O.written output.old) (O.written output.new) (ended text.old.items)) }
+    ensures begun { OnErr result
+        (AppendsBeginning (O.written output.old) (O.written output.new) (ended text.old.items)) }
     ensures kinds { IfErr result (λ error. (error ≡ ReplayError.Write) ⊎ (error ≡ ReplayError.Memory)) }
     ensures write { result ≡ Err ReplayError.Write → O.has_failed output.new ≡ true }
     ensures memory { result ≡ Err ReplayError.Memory → O.has_failed output.new ≡ false }
@@ -197,7 +220,7 @@ fn write_line<O: Sink>(text: &mut Vec<u8>, output: &mut O) -> Result<(), ReplayE
     write_lines(output, text.as_slice())
 }
 
-/// Writes what is told of the bytes behind the last line end.
+/// Writes the answer to the bytes after the last line end.
 fn write_rest<O: Sink>(alloc: Global, rest: &[u8], output: &mut O) -> Result<(), ReplayError>
     requires { O.has_failed output.old ≡ false }
     ensures ok { OnOk result (O.has_failed output.new ≡ false) }

@@ -16,11 +16,11 @@ use mesh_mutator::Book;
 use mesh_text::Turns;
 use std::alloc::{AllocError, Global};
 
-/// A heap that is asked line by line.
+/// A heap that takes one line at a time.
 pub struct Session {
-    /// A job of the session's sizes, which has no command and no line of a plan.
+    /// A job of the session's sizes, with empty scripts and an empty plan.
     pub(crate) job: Job,
-    /// The heap, and how far each of the job's scripts was run: all are over.
+    /// The heap, and the place of each worker in its script: all scripts are over.
     pub(crate) turns: Turns,
 }
 
@@ -30,7 +30,7 @@ impl Drop for Session {
 }
 
 impl Session {
-    /// A session over a fresh heap. An error is an allocation failure.
+    /// Opens a session over a fresh heap. An error is an allocation failure.
     pub fn open(alloc: Global, sizes: &Sizes) -> Result<Session, AllocError>
         requires { HasFairSizes sizes.now }
         ensures sizes { IfOk result (λ session. sizes_of session ≡ sizes.now) }
@@ -42,8 +42,9 @@ impl Session {
         Ok(Session { job, turns })
     }
 
-    /// The heap with its root cells and its journal, as the lines so far have left them. The journal is a legal history of the plain memory,
-    /// and ends in what heap and cells mean; `Book::headline` says what else holds of it at any moment.
+    /// The heap with its root cells and its journal, as the lines so far have left them. The journal is a legal history
+    /// of the reference memory, and ends in what heap and cells mean. `Book::headline` states what else holds of the
+    /// book at any moment.
     pub fn book(&self) -> &Book
         ensures value { result.now ≡ book_of self.now }
         ensures legal { IsHistory (book_of self.now).entries }
@@ -54,13 +55,15 @@ impl Session {
         book
     }
 
-    /// Answers a line, which has no end: adds what it is told to `text`, without a line end.
+    /// Answers a line, which has no end: appends the answer to `text`, without a line end.
     ///
-    /// `run W COMMAND` is an attempt of worker W at this command, spelt as in a script of version 2. Any other line is one of a plan of version 2,
-    /// but `run W` is none. Each is answered as in a replay, `blocked` and `history full` among the answers. To a line that is neither the answer
-    /// is `fault KIND`, with the kind that a reader of job files tells, and nothing changes.
+    /// `run W COMMAND` is an attempt of worker W at this command, spelt as in a script of version 2. Any other line is
+    /// one of a plan of version 2, except that `run W` is a fault. Each is answered as in a replay, and `blocked` and
+    /// `history full` are answers too. A line that is neither is answered with `fault KIND`, the kind that a reader of
+    /// job files reports, and changes nothing.
     ///
-    /// An error is an allocation failure. It may come behind the effect of the line, so that the session can't go on after it.
+    /// An error is an allocation failure. It may come after the effect of the line, so the session can't go on after
+    /// it.
     pub fn answer(
         &mut self,
         alloc: Global,
@@ -70,9 +73,12 @@ impl Session {
         requires sound { IsSession self.old }
         ensures sound { OnOk result (IsSession self.new) }
         ensures sizes { OnOk result (sizes_of self.new ≡ sizes_of self.old) }
-        ensures told { OnOk result (text.new.items ≡ text.old.items ++ (told (sizes_of self.old) (state_of self.old) line.now).text) }
-        ensures stands { OnOk result (state_of self.new ≡ (told (sizes_of self.old) (state_of self.old) line.now).state) }
-        ensures fault { (kind : FaultKind) → live_line (sizes_of self.old).workers line.now ≡ Err kind → self.new ≡ self.old }
+        ensures told { OnOk result
+            (text.new.items ≡ text.old.items ++ (told (sizes_of self.old) (state_of self.old) line.now).text) }
+        ensures stands { OnOk result
+            (state_of self.new ≡ (told (sizes_of self.old) (state_of self.old) line.now).state) }
+        ensures fault { (kind : FaultKind) → live_line (sizes_of self.old).workers line.now ≡ Err kind
+            → self.new ≡ self.old }
     {
         match read_live_line(alloc, self.workers(), line) {
             Ok(line) => self.answer_line(alloc, &line, text),
@@ -100,8 +106,11 @@ impl Session {
         requires in_range { IsValidLive (sizes_of self.old).workers (live_of line.now) }
         ensures sound { OnOk result (IsSession self.new) }
         ensures sizes { OnOk result (sizes_of self.new ≡ sizes_of self.old) }
-        ensures told { OnOk result (text.new.items ≡ text.old.items ++ (live_told (sizes_of self.old) (state_of self.old) (live_of line.now)).text) }
-        ensures stands { OnOk result (state_of self.new ≡ (live_told (sizes_of self.old) (state_of self.old) (live_of line.now)).state) }
+        ensures told { OnOk result
+            (text.new.items ≡ text.old.items
+            ++ (live_told (sizes_of self.old) (state_of self.old) (live_of line.now)).text) }
+        ensures stands { OnOk result
+            (state_of self.new ≡ (live_told (sizes_of self.old) (state_of self.old) (live_of line.now)).state) }
     {
         match line {
             LiveLine::Attempt(worker, command) => self.turns.attempt(*worker, command, text),

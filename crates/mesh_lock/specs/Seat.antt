@@ -52,7 +52,7 @@ IsNoted old new command Blocked = new ≡ old
 IsNoted old new command HistoryFull = new ≡ old
 IsNoted old new command OutOfMemory = new ≡ old
 
--- the command stores bytes, and may be held back by a read-only page
+-- the command stores bytes, and may be blocked by a read-only page
 abbrev pub IsStore : Command → Type 0
 IsStore (New cell len word) = ⊥
 IsStore (Put cell off bytes) = Unit {0}

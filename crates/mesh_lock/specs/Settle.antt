@@ -1,4 +1,4 @@
--- What is handed out at the end, and what stands against it.
+-- What is returned at the end, and the errors that prevent it.
 use Rattle.std.specs.Prelude.{◌≡◌, ℕ, ◌<◌, List, None, Some, map}
 use Rattle.std.specs.List.{All}
 use Rattle.model_memory.specs.Memory.{Memory}
@@ -13,7 +13,8 @@ use Rattle.mesh_lock.specs.declared.faults.FinishError.TheVariants.{Memory as No
 abbrev pub recorded_of : List Seat → List (List Call)
 recorded_of seats = map recorded (calls_of_seats seats)
 
--- the history of journal and seats: it is legal and ends in this memory, and each worker's entries are the calls of its seat, in their order
+-- the history of journal and seats: it is legal and ends in this memory, and each worker's entries are the calls of its
+-- seat, in their order
 pub record IsEnd (count : ℕ) (seats : List Seat) (entries history : List Entry) (end : Memory) : Type 0 where
   pub seated : missing_seat count (numbers_of seats) entries ≡ None
   pub settled : AreSettled count (recorded_of seats) entries
@@ -23,7 +24,7 @@ pub record IsEnd (count : ℕ) (seats : List Seat) (entries history : List Entry
   pub calls : (w : ℕ) → w < count → calls_of w history ≡ map call_of (kept_by (calls_of_seats seats) w)
   pub no_other : All (λ entry. entry.worker < count) history
 
--- each error holds where it is told, and no earlier one does
+-- the reported error holds, and no earlier one does
 abbrev pub IsFault : ℕ → List Seat → List Entry → FinishError → Type 0
 IsFault count seats entries (SeatMissing w) = missing_seat count (numbers_of seats) entries ≡ Some w
 IsFault count seats entries (SeatError w i) =

@@ -1,4 +1,4 @@
--- The walk of a journal that builds the history of its seats, or tells the first read that is wrong.
+-- The walk of a journal that builds the history of its seats, or reports the first read that is wrong.
 use Rattle.std.specs.Prelude.{◌≡◌, ℕ, suc, ◌-◌, slice_index_or, slice_set, ◌<◌, ◌≤◌, Bool, true, false, List, [], ◌∷◌, ◌++◌, Option, Some, None, length, take}
 use Rattle.std.specs.List.{All}
 use Rattle.model_memory.specs.Memory.{Memory}
@@ -11,7 +11,7 @@ use Rattle.mesh_lock.specs.declared.faults.FinishError.TheVariants.{Memory as No
 abbrev pub IsAnswered : ℕ → Memory → Kept → Type 0
 IsAnswered n m kept = (kept.seen ≡ Some n) × (kept.reply ≡ read_reply m kept.command)
 
--- why the walk stands before these calls: a read that is wrong here, or a call for later
+-- why the walk stops before these calls: a read that is wrong here, or a call for later
 abbrev pub StopsAt : ℕ → Memory → Bool → List Kept → Type 0
 StopsAt n m wrong [] = wrong ≡ false
 StopsAt n m true (kept ∷ rest) = (seen : ℕ) × (kept.seen ≡ Some seen) × (seen ≤ n) × (IsAnswered n m kept → ⊥)
@@ -32,7 +32,7 @@ AreTaken n worker m (rest ∷ rests) [] before after = ⊥
 AreTaken n worker m (rest ∷ rests) (left ∷ lefts) before after =
     (mid : List Entry) × IsTakenTo n worker m rest left before mid × AreTaken n (suc worker) m rests lefts mid after
 
--- reads that are right here are taken, and the walk stands before what is left
+-- reads that are right here are taken, and the walk is before what is left
 pub record IsLeft (n : ℕ) (m : Memory) (wrong : Bool) (rest left : List Kept) : Type 0 where
   pub taken : List Kept
   pub split : rest ≡ taken ++ left
@@ -43,7 +43,7 @@ pub record IsLeft (n : ℕ) (m : Memory) (wrong : Bool) (rest left : List Kept) 
 abbrev pub left_of : List (List Kept) → ℕ → List Kept
 left_of rests w = slice_index_or rests w []
 
--- all seats stand before a call for later, or those below the one that stands before a wrong read
+-- every seat is before a call for later, or every seat below the one that is before a wrong read
 abbrev pub AreLeft : ℕ → Memory → List (List Kept) → List (List Kept) → Option ℕ → Type 0
 AreLeft n m rests lefts None = (v : ℕ) → v < length rests → IsLeft n m false (left_of rests v) (left_of lefts v)
 AreLeft n m rests lefts (Some w) =
@@ -74,7 +74,7 @@ abbrev pub IsFirstLeft : List (List Kept) → Option ℕ → Type 0
 IsFirstLeft rests None = (v : ℕ) → left_of rests v ≡ []
 IsFirstLeft rests (Some w) = (w < length rests) × ((v : ℕ) → v < w → left_of rests v ≡ []) × (left_of rests w ≡ [] → ⊥)
 
--- where a seat was found its first call left is told, and only the seats below it are looked at from then on
+-- if a seat was found, its first remaining call is reported, and from then on only the seats below it are examined
 abbrev pub Tells : List (List Kept) → Option ℕ → List (List Kept) → List (List Kept) → Option (ℕ × ℕ) → Option (ℕ × ℕ) → Type 0
 Tells seats None old new told told' = (new ≡ old) × (told' ≡ told)
 Tells seats (Some w) old new told told' = (new ≡ take w old) × (told' ≡ Some (w, length (kept_by seats w) - length (left_of old w)))
@@ -86,7 +86,7 @@ Walks n m rests (entry ∷ entries) before after =
     (lefts : List (List Kept)) × (next : List (List Kept)) × (mid : List Entry) × AreTaken n 0 m rests lefts before mid × IsStepped entry.worker lefts next
     × Walks (suc n) (left_by m entry.command entry.reply) next entries (mid ++ entry ∷ []) after
 
--- why the walk hands out no history
+-- why the walk returns no history
 abbrev pub IsWalkFault : List (List Kept) → List Entry → FinishError → Type 0
 IsWalkFault seats entries (SeatMissing w) = ⊥
 IsWalkFault seats entries (SeatError w i) = ⊥

@@ -1,18 +1,19 @@
-//! `CallBudget`: how many calls may be made, and how many were.
+//! `CallBudget`: how many calls are allowed, and how many were made.
 ghost use Rattle.std.specs.Prelude.{◌≡◌, ℕ, ◌≤◌, ◌↔◌, suc, IsTrue, Some};
 
-/// How many calls may be made, and how many were; None has no end. Its type keeps that they are no more.
+/// How many calls are allowed, and how many were made. `None` means no limit. The type keeps the number of calls within
+/// the limit.
 #[derive(Clone, Copy)]
 pub struct CallBudget {
-    /// How many may be made.
+    /// How many calls are allowed.
     pub most: Option<u32>,
-    /// How many were, where there is an end.
+    /// How many calls were made, if there is a limit.
     pub made: u32,
     pub ghost within: { (n : ℕ) → most ≡ Some n → made ≤ n },
 }
 
 impl CallBudget {
-    /// None was made so far.
+    /// A budget of which no call was made.
     pub fn of(most: Option<u32>) -> CallBudget
         ensures most { result.most ≡ most }
         ensures made { result.made ≡ 0 }
@@ -20,14 +21,14 @@ impl CallBudget {
         CallBudget { most, made: 0 }
     }
 
-    /// Whether all were made.
+    /// Whether all allowed calls were made.
     pub fn is_used_up(&self) -> bool
         ensures { IsTrue result ↔ (self.now.most ≡ Some self.now.made) }
     {
         self.most == Some(self.made)
     }
 
-    /// Counts one more.
+    /// Counts one more call.
     pub fn spend(&mut self)
         requires { self.old.most ≡ Some self.old.made → ⊥ }
         ensures most { self.new.most ≡ self.old.most }

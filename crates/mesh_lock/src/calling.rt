@@ -28,12 +28,14 @@ impl<'a, R: Wait, G: Gate> Mutator<'a, R, G> {
         Mutator { rt, gate, shared }
     }
 
-    /// One attempt at a command, as `Shared::call` tells. A read arrives at the gate under the shared lock, before it is answered.
+    /// Makes one attempt at a command, as `Shared::call` does. A read arrives at the gate under the shared lock, before
+    /// it is answered.
     pub fn attempt(&self, seat: &mut Seat, command: &Command) -> Attempt
         requires { IsInRange command.now }
         ensures taken { IsTaken seat.old seat.new command.now result }
         ensures full { seat.old.room ≤ length seat.old.calls → result ≡ Attempt.HistoryFull }
-        ensures read { is_read command.now ≡ true → (result ≡ Attempt.HistoryFull) ↔ (seat.old.room ≤ length seat.old.calls) }
+        ensures read { is_read command.now ≡ true
+            → (result ≡ Attempt.HistoryFull) ↔ (seat.old.room ≤ length seat.old.calls) }
     {
         if seat.is_full() {
             return Attempt::HistoryFull;
@@ -48,12 +50,13 @@ impl<'a, R: Wait, G: Gate> Mutator<'a, R, G> {
         act(&mut self.shared.book.write(self.rt), seat, command)
     }
 
-    /// Attempts until one isn't Blocked.
+    /// Makes attempts until one isn't Blocked.
     pub fn retry(&self, seat: &mut Seat, command: &Command) -> Attempt
         requires { IsInRange command.now }
         ensures taken { IsTaken seat.old seat.new command.now result }
         ensures full { seat.old.room ≤ length seat.old.calls → result ≡ Attempt.HistoryFull }
-        ensures read { is_read command.now ≡ true → (result ≡ Attempt.HistoryFull) ↔ (seat.old.room ≤ length seat.old.calls) }
+        ensures read { is_read command.now ≡ true
+            → (result ≡ Attempt.HistoryFull) ↔ (seat.old.room ≤ length seat.old.calls) }
         ensures not_blocked { result ≡ Attempt.Blocked → ⊥ }
     {
         for _ in self.rt.forever() {
@@ -65,13 +68,15 @@ impl<'a, R: Wait, G: Gate> Mutator<'a, R, G> {
         unreachable!()
     }
 
-    /// Attempts until one isn't Blocked, or all tries were made, which must be one at least. A Blocked result means that each of them was Blocked.
+    /// Makes attempts until one isn't Blocked or all tries are used up. At least one try must be left. A Blocked result
+    /// means that each attempt was Blocked.
     pub fn retry_up_to(&self, seat: &mut Seat, command: &Command, tries: &mut CallBudget) -> Attempt
         requires range { IsInRange command.now }
         requires some { IsUsedUp tries.old → ⊥ }
         ensures taken { IsTaken seat.old seat.new command.now result }
         ensures full { seat.old.room ≤ length seat.old.calls → result ≡ Attempt.HistoryFull }
-        ensures read { is_read command.now ≡ true → (result ≡ Attempt.HistoryFull) ↔ (seat.old.room ≤ length seat.old.calls) }
+        ensures read { is_read command.now ≡ true
+            → (result ≡ Attempt.HistoryFull) ↔ (seat.old.room ≤ length seat.old.calls) }
         ensures spent { result ≡ Attempt.Blocked → IsUsedUp tries.new }
         ensures most { tries.new.most ≡ tries.old.most }
         ensures not_blocked { tries.old.most ≡ None → result ≡ Attempt.Blocked → ⊥ }
@@ -88,13 +93,14 @@ impl<'a, R: Wait, G: Gate> Mutator<'a, R, G> {
         unreachable!()
     }
 
-    /// One attempt, and counts it.
+    /// Makes one attempt, and counts it.
     fn attempt_counted(&self, seat: &mut Seat, command: &Command, tries: &mut CallBudget) -> Attempt
         requires range { IsInRange command.now }
         requires some { IsUsedUp tries.old → ⊥ }
         ensures taken { IsTaken seat.old seat.new command.now result }
         ensures full { seat.old.room ≤ length seat.old.calls → result ≡ Attempt.HistoryFull }
-        ensures read { is_read command.now ≡ true → (result ≡ Attempt.HistoryFull) ↔ (seat.old.room ≤ length seat.old.calls) }
+        ensures read { is_read command.now ≡ true
+            → (result ≡ Attempt.HistoryFull) ↔ (seat.old.room ≤ length seat.old.calls) }
         ensures counted { IsSpent tries.old tries.new }
     {
         tries.spend();
@@ -102,7 +108,8 @@ impl<'a, R: Wait, G: Gate> Mutator<'a, R, G> {
     }
 }
 
-/// Which call it is, counted from 0, as a gate hears it: past the numbers that it can hear it hears the last one.
+/// The number of a call, counted from 0, as it is passed to a gate. Numbers that are too large for a gate become the
+/// greatest one.
 pub fn call_number(call: usize) -> u32
     ensures heard { call ≤ 4294967295 → result ≡ call }
     ensures last { 4294967295 < call → result ≡ 4294967295 }
@@ -110,7 +117,7 @@ pub fn call_number(call: usize) -> u32
     u32::try_from(call).unwrap_or(u32::MAX)
 }
 
-/// Whether an attempt was held back.
+/// Whether an attempt was blocked.
 fn is_blocked(attempt: &Attempt) -> bool
     ensures { IsTrue result ↔ (attempt.now ≡ Attempt.Blocked) }
 {

@@ -1,4 +1,4 @@
-//! Where a seat's recorded calls differ from its worker's entries. Takes no memory.
+//! Compares a seat's recorded calls with its worker's entries. It allocates nothing.
 ghost use Rattle.std.specs.Prelude.{◌≡◌, ◌↔◌, ℕ, ◌^◌, ◌<◌, ◌≤◌, ◌∷◌, IsTrue, IfSome, None, length};
 ghost use Rattle.std.specs.List.{All};
 ghost use Rattle.model_memory.specs.Reads.{call_of, kept_by, recorded};
@@ -11,12 +11,15 @@ use crate::kept::Kept;
 use crate::seat::Seat;
 use mesh_mutator::{Entry, Journal};
 
-/// The first seat whose recorded calls aren't its worker's entries, and the place of the first such call among them. For each seat the
-/// journal is gone through once, so with 64 seats and a journal of 65,536 entries some 4 million entries are looked at.
+/// Returns the first seat whose recorded calls aren't its worker's entries, and the place of the first such call among
+/// them. It goes through the journal once per seat. So with 64 seats and a journal of 65,536 entries it reads some 4
+/// million entries.
 pub fn differing(seats: &[Seat], journal: &Journal) -> Option<(u32, usize)>
     requires few { length seats.now < 2 ^ 32 }
     ensures settled { result ≡ None → AreSettled (length seats.now) (recorded_of seats.now) journal.now.entries }
-    ensures differs { IfSome result (λ found. (found.0 < length seats.now) × SeatDiffers (recorded_of seats.now) journal.now.entries found.0 found.1) }
+    ensures differs { IfSome result
+        (λ found. (found.0 < length seats.now)
+        × SeatDiffers (recorded_of seats.now) journal.now.entries found.0 found.1) }
 {
     for w in 0..seats.len() {
         let worker = w as u32;
@@ -27,10 +30,11 @@ pub fn differing(seats: &[Seat], journal: &Journal) -> Option<(u32, usize)>
     None
 }
 
-/// The first place at which a seat's recorded calls aren't a worker's entries.
+/// The first place at which a seat's recorded calls differ from a worker's entries.
 fn first_difference(calls: &[Kept], journal: &Journal, worker: u32) -> Option<usize>
     ensures same { result ≡ None → recorded calls.now ≡ calls_of worker journal.now.entries }
-    ensures differs { IfSome result (λ place. DifferFirstAt (recorded calls.now) (calls_of worker journal.now.entries) place) }
+    ensures differs { IfSome result
+        (λ place. DifferFirstAt (recorded calls.now) (calls_of worker journal.now.entries) place) }
 {
     let mut rest = skip_reads(calls);
     let mut place = 0;

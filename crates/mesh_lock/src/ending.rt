@@ -15,7 +15,7 @@ use mesh_steps::Heap;
 use model_memory::read_laws::{built_has_calls, built_is_legal};
 use std::alloc::Global;
 
-/// What is handed out at the end.
+/// The result of the end of a run.
 #[derive(Drop)]
 pub struct Ended {
     /// The heap.
@@ -26,19 +26,22 @@ pub struct Ended {
     pub history: Vec<Entry>,
 }
 
-/// Makes one history of a book and the seats of its mutators, in one walk of the journal, and hands out heap, root cells and history.
+/// Builds one history from a book and the seats of its mutators, in one walk of the journal. Returns heap, root cells
+/// and history.
 ///
-/// `count` is how many seats there were to be. A read that saw n entries stands after the first n entries of the journal and before the next
-/// one; among such reads those of lower seats come first, and those of one seat in its order.
+/// `count` is the expected number of seats. A read that saw n entries comes after the first n entries of the journal
+/// and before the next one. Among such reads those of lower seats come first, and those of one seat in its order.
 ///
-/// Otherwise one error is told, the first that holds of SeatMissing, SeatDiffers, ReadDiffers. Memory comes where it was refused, in place of
-/// ReadDiffers or of the history, and after the other two were excluded: they take none. After an error nothing is handed out.
+/// Otherwise it returns one error, the first that applies of SeatMissing, SeatDiffers, ReadDiffers. Memory is returned
+/// on an allocation failure, in place of ReadDiffers or of the history. The other two errors are excluded before that,
+/// because checking them allocates nothing. After an error nothing is returned.
 ///
-/// Each error comes exactly where it holds and no earlier one does: what the clauses say of the cases excludes one another and leaves no
-/// other case, since a missing seat is a value of the arguments, seats are settled or differ at one call, and a history is handed out only
-/// where all reads are right.
+/// Each error is returned if and only if it holds and no earlier one does. The clauses' cases exclude one another and
+/// leave no other case. A missing seat is a value of the arguments, seats are settled or differ at one call, and a
+/// history is returned only if all reads are right.
 pub fn settle(alloc: Global, book: Book, count: u32, seats: Vec<Seat>) -> Result<Ended, FinishError>
-    ensures ended { IfOk result (λ ended. IsEnd count seats.items book.entries ended.history.items (memory_in ended.heap ended.roots)) }
+    ensures ended { IfOk result
+        (λ ended. IsEnd count seats.items book.entries ended.history.items (memory_in ended.heap ended.roots)) }
     ensures heap { IfOk result (λ ended. ended.heap ≡ book.heap) }
     ensures roots { IfOk result (λ ended. ended.roots ≡ book.cells) }
     ensures fault { IfErr result (IsFault count seats.items book.entries) }
@@ -60,7 +63,9 @@ fn history_of(
     journal: &Journal,
 ) -> Result<Vec<Entry>, FinishError>
     requires { length journal.now.entries ≤ 65536 }
-    ensures ended { IfOk result (λ history. (memory : Memory) → IsLegal journal.now.entries memory → IsEnd count seats.now journal.now.entries history.items memory) }
+    ensures ended { IfOk result
+        (λ history. (memory : Memory) → IsLegal journal.now.entries memory
+        → IsEnd count seats.now journal.now.entries history.items memory) }
     ensures fault { IfErr result (IsFault count seats.now journal.now.entries) }
 {
     if let Some(seat) = missing(seats, count, journal) {

@@ -1,4 +1,4 @@
-//! Why no seats could be made, and why seats and journal make no history.
+//! Why no seats could be created, and why seats and journal don't form a history.
 ghost use Rattle.std.specs.Prelude.{◌≡◌};
 ghost use Rattle.mesh_lock.specs.declared.faults.FinishError.{FinishError};
 ghost use Rattle.mesh_lock.specs.declared.faults.OpenError.{OpenError};
@@ -6,23 +6,23 @@ ghost use Rattle.mesh_lock.specs.declared.faults.OpenError.{OpenError};
 use std::alloc::AllocError;
 use thiserror::Error;
 
-/// Why no seats could be made.
+/// Why no seats could be created.
 #[derive(Debug, Drop, PartialEq, Eq, Error)]
 pub enum OpenError {
-    /// Memory was refused.
+    /// An allocation failed.
     #[error("out of memory")]
     Memory,
 }
 
-/// Why seats and journal make no history. The first of these that holds is told, in the order in which they stand here; which seats and
-/// calls are told is this project's own choice.
+/// Why seats and journal don't form a history. The first of these that applies is reported, in the order in which they
+/// are listed here. Which seats and calls are reported is this project's own choice.
 #[derive(Debug, Drop, PartialEq, Eq, Error)]
 pub enum FinishError {
-    /// The least place whose seat hasn't the place's number; or the number of seats that there were to be, where more were handed over
-    /// or the journal has an entry of a worker without a seat.
+    /// The least place whose seat doesn't have the place's number. If more seats were passed in, or the journal has an
+    /// entry of a worker without a seat, it is the expected number of seats.
     #[error("SEAT_MISSING {0}")]
     SeatMissing(u32),
-    /// A seat's call that isn't its worker's entry of the journal: the least seat, then its first such call.
+    /// A call of a seat that isn't its worker's entry of the journal: the least such seat, and its first such call.
     #[error("SEAT_DIFFERS {seat}, {call}")]
     SeatDiffers {
         /// The seat's number.
@@ -30,8 +30,8 @@ pub enum FinishError {
         /// Which of the seat's calls that aren't reads, counted from 0.
         call: usize,
     },
-    /// A read whose answer isn't the one of the plain memory where it stands, or that can't stand there: the least seat, then its first
-    /// such call.
+    /// A read whose answer isn't the one of the reference memory at its place in the journal, or that can't have that
+    /// place: the least such seat, and its first such call.
     #[error("READ_DIFFERS {seat}, {call}")]
     ReadDiffers {
         /// The seat's number.
@@ -39,7 +39,7 @@ pub enum FinishError {
         /// Which of all calls of the seat, counted from 0.
         call: usize,
     },
-    /// Memory was refused.
+    /// An allocation failed.
     #[error("out of memory")]
     Memory,
 }

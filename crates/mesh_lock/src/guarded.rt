@@ -1,7 +1,7 @@
-//! What a mutator does with the book that one taking of the lock gives it.
+//! What a mutator does with the book while it holds the lock.
 //!
-//! The book under the lock isn't known to who takes it. So what is done with it stands here, over the book itself, and a call is a taking of the
-//! lock and one of these.
+//! A lock's contract says nothing about the value it guards, so these functions take the `Book` itself and carry the
+//! full contract. A call takes the lock and runs one of these functions.
 ghost use Rattle.std.specs.Prelude.{◌≡◌, ◌↔◌, ◌<◌, ◌≤◌, Some, false, length, true};
 ghost use Rattle.model_words.specs.Commands.{IsInRange};
 ghost use Rattle.model_memory.specs.Reads.{is_read};
@@ -12,7 +12,8 @@ ghost use Rattle.mesh_lock.specs.Seat.{IsNew, IsNoted, IsStore, noted};
 use crate::Seat;
 use mesh_mutator::{Attempt, Book, Command, Reply};
 
-/// One attempt of a seat's mutator at a command that is recorded, under the number of its seat. The seat keeps it where it is done.
+/// Makes one attempt of a seat's mutator at a recorded command, under the number of its seat. The seat keeps the
+/// command if it is done.
 pub(crate) fn act(book: &mut Book, seat: &mut Seat, command: &Command) -> Attempt
     requires range { IsInRange command.now }
     requires recorded { is_read command.now ≡ false }
@@ -30,7 +31,8 @@ pub(crate) fn act(book: &mut Book, seat: &mut Seat, command: &Command) -> Attemp
     attempt
 }
 
-/// A read of a seat's mutator: what the book answers. The seat keeps it with the length that the journal of this book has.
+/// Makes a read of a seat's mutator, and returns the book's answer. The seat keeps it with the length of this book's
+/// journal.
 pub(crate) fn look(book: &Book, seat: &mut Seat, command: &Command) -> Reply
     requires range { IsInRange command.now }
     requires read { is_read command.now ≡ true }

@@ -5,14 +5,14 @@ ghost use Rattle.model_memory.specs.Reads.{is_read};
 use mesh_mutator::{Command, Reply};
 use std::marker::Model;
 
-/// One call of a seat: the command, its answer, and of a read how many entries the journal had that it saw.
+/// One call of a seat: the command, its answer, and for a read the number of journal entries that it saw.
 #[derive(Drop)]
 pub struct Kept {
     /// The command.
     pub command: Command,
     /// Its reply.
     pub reply: Reply,
-    /// Of a read, the journal's length.
+    /// For a read, the journal's length.
     pub seen: Option<u32>,
 }
 

@@ -1,9 +1,11 @@
 //! A book that several mutators share: behind one lock, each with a seat, and at the end one history of all.
 //!
-//! `Shared` holds the book. A call that may change something is recorded under the exclusive lock; a read runs under the shared one and leaves the
-//! journal alone. The seat keeps each call of its mutator: of a read how many entries the journal had when it ran, of any other that it is an entry.
-//! At the end `settle` makes one history of the journal and all seats, or reports the first call that is in none. A `Mutator` makes its calls past a
-//! gate; whole scripts in threads are run by `mesh_shared`.
+//! `Shared` contains the book. A call that may change something is recorded under the exclusive lock. A read runs under
+//! the shared lock and leaves the journal unchanged. The seat keeps each call of its mutator: for a read, the length
+//! that the journal had when it ran; for any other call, that it is an entry.
+//!
+//! At the end `settle` builds one history from the journal and all seats, or reports the first call that fits in none.
+//! A `Mutator` makes its calls past a gate. `mesh_shared` runs whole scripts in threads.
 #![tactic(auto)]
 
 mod call_budget;

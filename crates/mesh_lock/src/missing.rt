@@ -9,8 +9,8 @@ use crate::seat::Seat;
 use mesh_mutator::Journal;
 use model_memory::seat_laws::missing_seat_is_least;
 
-/// The seat that is missing: the least place whose seat hasn't the place's number; or the count, where there are more seats or an entry of a
-/// worker without a seat.
+/// The missing seat: the least place whose seat doesn't have the place's number. If there are more seats, or an entry
+/// of a worker without a seat, it is the count.
 pub fn missing(seats: &[Seat], count: u32, journal: &Journal) -> Option<u32>
     ensures missing { result ≡ missing_seat count (numbers_of seats.now) journal.now.entries }
     ensures many { result ≡ None → length seats.now ≡ count }
@@ -28,7 +28,7 @@ pub fn missing(seats: &[Seat], count: u32, journal: &Journal) -> Option<u32>
     None
 }
 
-/// Whether the place holds the seat of its number.
+/// Whether the place has the seat of its number.
 fn is_seated(seats: &[Seat], place: u32) -> bool
     ensures { IsTrue result ↔ (slice_get (numbers_of seats.now) place ≡ Some place) }
 {
@@ -40,7 +40,8 @@ fn is_seated(seats: &[Seat], place: u32) -> bool
 
 /// Whether an entry is of a worker without a seat.
 fn has_stranger(journal: &Journal, count: u32) -> bool
-    ensures some { result ≡ true → (i : ℕ) × (entry : Entry) × (slice_get journal.now.entries i ≡ Some entry) × (count ≤ entry.worker) }
+    ensures some { result ≡ true
+        → (i : ℕ) × (entry : Entry) × (slice_get journal.now.entries i ≡ Some entry) × (count ≤ entry.worker) }
     ensures none { result ≡ false → All (λ entry. entry.worker < count) journal.now.entries }
 {
     for n in 0..journal.len() {

@@ -12,7 +12,8 @@ use mesh_mutator::Entry;
 use mesh_plain::Plain;
 use std::alloc::AllocError;
 
-/// Takes the reads of all seats that saw `n` entries, the lower seats first, up to the first wrong one: its seat.
+/// Takes the reads of all seats that saw `n` entries, the lower seats first, up to the first wrong one. Returns the
+/// seat of the wrong one.
 pub fn take_all<'a>(
     plain: &Plain,
     n: u32,
@@ -22,7 +23,8 @@ pub fn take_all<'a>(
     requires few { length rests.old < 2 ^ 32 }
     ensures length { length rests.new ≡ length rests.old }
     ensures left { IfOk result (λ wrong. AreLeft n plain.now rests.old rests.new wrong) }
-    ensures taken { IfOk result (λ wrong. wrong ≡ None → AreTaken n 0 plain.now rests.old rests.new history.old.items history.new.items) }
+    ensures taken { IfOk result
+        (λ wrong. wrong ≡ None → AreTaken n 0 plain.now rests.old rests.new history.old.items history.new.items) }
 {
     for w in 0..rests.len() {
         let (calls, wrong) = take_reads(plain, w as u32, n, rests[w].calls(), history)?;
@@ -34,8 +36,8 @@ pub fn take_all<'a>(
     Ok(None)
 }
 
-/// Takes the reads of a seat that saw `n` entries, up to the first call for later, or the first wrong one: what is left, and whether it
-/// begins with a wrong one.
+/// Takes the reads of a seat that saw `n` entries, up to the first call for later or the first wrong one. Returns what
+/// is left, and whether it begins with a wrong read.
 fn take_reads<'a>(
     plain: &Plain,
     worker: u32,
@@ -44,7 +46,8 @@ fn take_reads<'a>(
     history: &mut Vec<Entry>,
 ) -> Result<(&'a [Kept], bool), AllocError>
     requires { All IsKept calls.now }
-    ensures taken { IfOk result (λ left. IsTakenTo n worker plain.now calls.now left.0.now history.old.items history.new.items) }
+    ensures taken { IfOk result
+        (λ left. IsTakenTo n worker plain.now calls.now left.0.now history.old.items history.new.items) }
     ensures stops { IfOk result (λ left. StopsAt n plain.now left.1 left.0.now) }
     ensures kept { IfOk result (λ left. All IsKept left.0.now) }
 {
@@ -65,7 +68,7 @@ fn take_reads<'a>(
     Ok((rest, false))
 }
 
-/// Whether the read was answered as the memory answers.
+/// Whether the read was answered as the reference memory answers.
 fn answers(plain: &Plain, kept: &Kept) -> bool
     requires read { is_read kept.now.command ≡ true }
     requires range { IsInRange kept.now.command }

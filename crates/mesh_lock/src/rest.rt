@@ -29,7 +29,7 @@ impl<'a> Model for Rest<'a> {
 }
 
 impl<'a> Rest<'a> {
-    /// These are left.
+    /// Creates a rest of these calls.
     pub(crate) fn of(calls: &'a [Kept]) -> Rest<'a>
         requires { All IsKept calls.now }
         ensures { result ≡ calls.now }

@@ -1,4 +1,4 @@
-//! `Seat`: what one mutator was answered.
+//! `Seat`: the answers of one mutator.
 ghost use Rattle.std.specs.Prelude.{◌≡◌, ◌<◌, ◌≤◌, ◌++◌, [], ◌∷◌, IsTrue, ◌↔◌, IfOk, is_some, length};
 ghost use Rattle.std.specs.List.{All};
 ghost use Rattle.model_words.specs.Commands.{IsInRange};
@@ -10,7 +10,8 @@ use mesh_mutator::{Command, Reply};
 use std::alloc::{AllocError, Global};
 use std::marker::Model;
 
-/// What one mutator was answered, in its order. Its room was made when it was opened, and it keeps no more calls than that.
+/// The calls and answers of one mutator, in its order. Its room was allocated when it was opened, and it keeps no more
+/// calls than that.
 #[derive(Drop)]
 pub struct Seat {
     number: u32,
@@ -28,11 +29,12 @@ impl Model for Seat {
 
     ghost view = { λ s. record { number = s.number; calls = s.calls.items; room = s.room } };
 
-    ghost invariant = { λ s. IsSeat (record { number = s.number; calls = s.calls.items; room = s.room }) × (s.room ≤ vec_capacity s.calls) };
+    ghost invariant = { λ s. IsSeat (record { number = s.number; calls = s.calls.items; room = s.room })
+        × (s.room ≤ vec_capacity s.calls) };
 }
 
 impl Seat {
-    /// An empty seat with room for so many calls. Fails where memory is refused.
+    /// Creates an empty seat with room for `room` calls. An error is an allocation failure.
     pub fn open(alloc: Global, number: u32, room: usize) -> Result<Seat, AllocError>
         ensures { IfOk result (λ seat. seat ≡ record { number = number; calls = []; room = room }) }
     {
@@ -51,7 +53,8 @@ impl Seat {
         self.number
     }
 
-    /// Its calls in their order, at most as many as it has room for: exactly the reads have a length that they saw, and each command is in range.
+    /// Its calls in their order, no more than it has room for. The reads, and only they, have a length that they saw.
+    /// Each command is in range.
     pub fn calls(&self) -> &[Kept]
         ensures calls { result.now ≡ self.now.calls }
         ensures kept { All IsKept result.now }
@@ -60,20 +63,26 @@ impl Seat {
         self.calls.as_slice()
     }
 
-    /// Whether it keeps as many calls as it has room for.
+    /// Whether its room is used up.
     pub fn is_full(&self) -> bool
         ensures { IsTrue result ↔ (self.now.room ≤ length self.now.calls) }
     {
         self.calls.len() >= self.room
     }
 
-    /// Keeps a call and its answer, and of a read how many entries it saw. It takes no memory. A call that its worker was not answered is told when the
-    /// seats are settled.
+    /// Keeps a call and its answer, and for a read the number of entries that it saw. It allocates nothing. If the
+    /// worker wasn't given this answer, `settle` reports the call.
     pub fn keep(&mut self, command: &Command, reply: &Reply, seen: Option<u32>)
         requires room { length self.old.calls < self.old.room }
         requires read { is_some seen ≡ is_read command.now }
         requires range { IsInRange command.now }
-        ensures { self.new ≡ record { number = self.old.number; calls = self.old.calls ++ record { command = command.now; reply = reply.now; seen = seen } ∷ []; room = self.old.room } }
+        ensures { self.new
+            ≡ record {
+              number = self.old.number;
+              calls = self.old.calls
+                  ++ record { command = command.now; reply = reply.now; seen = seen } ∷ [];
+              room = self.old.room;
+            } }
     {
         let kept = Kept::of(command, reply, seen);
         self.calls.push_reserved(kept);

@@ -1,4 +1,4 @@
-//! `Shared`: a book under a lock, and what mutators and their threads do with it.
+//! `Shared`: a book under a lock, and the calls of mutators and their threads.
 ghost use Rattle.std.specs.Prelude.{◌≡◌, ℕ, ◌↔◌, ◌<◌, ◌≤◌, List, [], length, IsTrue, IfOk, IfErr, true};
 ghost use Rattle.model_words.specs.Commands.{IsInRange};
 ghost use Rattle.model_memory.specs.Reads.{is_read};
@@ -18,15 +18,16 @@ use std::sync::{RwLock, Wait};
 /// A book that several mutators share.
 #[derive(Drop)]
 pub struct Shared {
-    /// The only book. A mesher takes this lock too, and makes one call of the book for each taking.
+    /// The only book. A mesher takes this lock too, and makes one call of the book each time.
     pub book: RwLock<Book>,
-    /// How many seats it was opened with, which is how many `finish` wants.
+    /// How many seats it was opened with, which is how many `finish` expects.
     pub seats: u32,
 }
 
 impl Shared {
-    /// A book with an empty journal under its lock, and for each of 1 to 64 counts an empty seat: they are numbered 0, 1, .. in their order,
-    /// and each has room for as many calls as its count, which may be 0. Memory comes where room for the seats was refused.
+    /// Puts a book with an empty journal under a lock, and creates an empty seat for each of 1 to 64 counts. The seats
+    /// are numbered 0, 1, .. in order, and each has room for its count of calls, which may be 0. The error is Memory if
+    /// an allocation for the seats failed.
     pub fn open(
         alloc: Global,
         book: Book,
@@ -55,36 +56,42 @@ impl Shared {
         self.seats
     }
 
-    /// One attempt of a seat's mutator at a command, as one step that nothing comes between.
+    /// Makes one attempt of a seat's mutator at a command, as one step that nothing interrupts.
     ///
-    /// HistoryFull comes before all else, where the seat is full; a read is answered under the shared lock, beside other reads, and never
-    /// comes into the journal; any other command is an attempt at the book under the exclusive lock. Only where it is Done the seat keeps the
-    /// command and its reply. No memory is taken but by a `New` that needs a new span.
+    /// If the seat is full, the result is HistoryFull, before anything else is checked. A read is answered under the
+    /// shared lock, concurrently with other reads, and never enters the journal. Any other command is an attempt at the
+    /// book under the exclusive lock. The seat keeps the command and its reply only if the result is Done. Nothing is
+    /// allocated, except for a `New` that needs a new span.
     pub fn call<R: Wait>(&self, rt: &R, seat: &mut Seat, command: &Command) -> Attempt
         requires { IsInRange command.now }
         ensures taken { IsTaken seat.old seat.new command.now result }
         ensures full { seat.old.room ≤ length seat.old.calls → result ≡ Attempt.HistoryFull }
-        ensures read { is_read command.now ≡ true → (result ≡ Attempt.HistoryFull) ↔ (seat.old.room ≤ length seat.old.calls) }
+        ensures read { is_read command.now ≡ true
+            → (result ≡ Attempt.HistoryFull) ↔ (seat.old.room ≤ length seat.old.calls) }
     {
         Mutator::of(rt, &NoGate, self).attempt(seat, command)
     }
 
-    /// The same, again while it is Blocked: it may wait for as long as a page stays read-only.
+    /// Makes the same attempt again while it is Blocked. It may wait for as long as a page stays read-only.
     pub fn retry_call<R: Wait>(&self, rt: &R, seat: &mut Seat, command: &Command) -> Attempt
         requires { IsInRange command.now }
         ensures taken { IsTaken seat.old seat.new command.now result }
         ensures full { seat.old.room ≤ length seat.old.calls → result ≡ Attempt.HistoryFull }
-        ensures read { is_read command.now ≡ true → (result ≡ Attempt.HistoryFull) ↔ (seat.old.room ≤ length seat.old.calls) }
+        ensures read { is_read command.now ≡ true
+            → (result ≡ Attempt.HistoryFull) ↔ (seat.old.room ≤ length seat.old.calls) }
         ensures not_blocked { result ≡ Attempt.Blocked → ⊥ }
     {
         Mutator::of(rt, &NoGate, self).retry(seat, command)
     }
 
-    /// Takes the lock away, and settles its book with the seats.
+    /// Removes the lock, and settles its book with the seats.
     ///
-    /// The book that the lock held isn't known, so the clauses speak of some journal; what comes of a known book `settle` says.
+    /// The contract doesn't know the book under the lock, so its clauses say that there is some journal. `settle` gives
+    /// the result for a known book.
     pub fn finish(self, alloc: Global, seats: Vec<Seat>) -> Result<Ended, FinishError>
-        ensures ended { IfOk result (λ ended. (entries : List Entry) × IsEnd self.seats seats.items entries ended.history.items (memory_in ended.heap ended.roots)) }
+        ensures ended { IfOk result
+            (λ ended. (entries : List Entry)
+            × IsEnd self.seats seats.items entries ended.history.items (memory_in ended.heap ended.roots)) }
         ensures fault { IfErr result (λ error. (entries : List Entry) × IsFault self.seats seats.items entries error) }
     {
         settle(alloc, self.book.into_inner(), self.seats, seats)

@@ -16,14 +16,17 @@ use mesh_plain::Plain;
 use model_memory::read_laws::few_are_made;
 use std::alloc::{AllocError, Global};
 
-/// The history of a journal and seats whose recorded calls are its entries, built in one walk of the journal; or the first wrong read. After a
-/// wrong read only the seats below its own are looked at, since one of theirs would be told in its place.
+/// Builds the history of a journal and seats whose recorded calls are its entries, in one walk of the journal; or
+/// returns the first wrong read. After a wrong read only the seats below its own are examined, because a wrong read of
+/// one of them would be reported instead.
 pub fn weave(alloc: Global, seats: &[Seat], journal: &Journal) -> Result<Vec<Entry>, FinishError>
     requires few { length seats.now < 2 ^ 32 }
     requires short { length journal.now.entries ≤ 65536 }
-    requires own { (w : ℕ) → w < length seats.now → recorded (kept_by (calls_of_seats seats.now) w) ≡ calls_of w journal.now.entries }
+    requires own { (w : ℕ) → w < length seats.now
+        → recorded (kept_by (calls_of_seats seats.now) w) ≡ calls_of w journal.now.entries }
     requires known { All (λ entry. entry.worker < length seats.now) journal.now.entries }
-    ensures walked { IfOk result (λ history. Walks 0 empty_memory (calls_of_seats seats.now) journal.now.entries [] history.items) }
+    ensures walked { IfOk result
+        (λ history. Walks 0 empty_memory (calls_of_seats seats.now) journal.now.entries [] history.items) }
     ensures right { OnOk result (AreRight (calls_of_seats seats.now) journal.now.entries) }
     ensures kept { OnOk result ((w : ℕ) → All IsKept (kept_by (calls_of_seats seats.now) w)) }
     ensures fault { IfErr result (IsWalkFault (calls_of_seats seats.now) journal.now.entries) }
@@ -54,7 +57,7 @@ pub fn weave(alloc: Global, seats: &[Seat], journal: &Journal) -> Result<Vec<Ent
     unless_told(history, told)
 }
 
-/// Adds an entry behind the others. An error is an allocation failure.
+/// Appends an entry. An error is an allocation failure.
 fn add(history: &mut Vec<Entry>, entry: Entry) -> Result<(), AllocError>
     ensures { OnOk result (history.new.items ≡ history.old.items ++ entry ∷ []) }
 {
@@ -62,10 +65,11 @@ fn add(history: &mut Vec<Entry>, entry: Entry) -> Result<(), AllocError>
     Ok(())
 }
 
-/// The history, where no read was told.
+/// Returns the history if no wrong read was found.
 fn unless_told(history: Vec<Entry>, told: Option<(u32, usize)>) -> Result<Vec<Entry>, FinishError>
     ensures ok { IfOk result (λ whole. (told ≡ None) × (whole.items ≡ history.items)) }
-    ensures fault { IfErr result (λ error. (seat call : ℕ) × ((told ≡ Some (seat, call)) × (error ≡ FinishError.ReadDiffers seat call))) }
+    ensures fault { IfErr result
+        (λ error. (seat call : ℕ) × ((told ≡ Some (seat, call)) × (error ≡ FinishError.ReadDiffers seat call))) }
 {
     match told {
         None => Ok(history),
@@ -73,7 +77,7 @@ fn unless_told(history: Vec<Entry>, told: Option<(u32, usize)>) -> Result<Vec<En
     }
 }
 
-/// What is left of each seat's calls at the beginning: all.
+/// The calls that are left of each seat at the beginning: all.
 fn rests_of<'a>(alloc: Global, seats: &'a [Seat]) -> Result<Vec<Rest<'a>>, AllocError>
     ensures rests { IfOk result (λ rests. rests.items ≡ calls_of_seats seats.now) }
     ensures kept { OnOk result ((w : ℕ) → All IsKept (kept_by (calls_of_seats seats.now) w)) }
@@ -85,7 +89,7 @@ fn rests_of<'a>(alloc: Global, seats: &'a [Seat]) -> Result<Vec<Rest<'a>>, Alloc
     Ok(rests)
 }
 
-/// Takes the first call of the entry's seat. The seat is found where that call is a read, which comes too early.
+/// Takes the first call of the entry's seat. Returns the seat if that call is a read, which comes too early.
 fn step<'a>(rests: &mut [Rest<'a>], worker: u32) -> Option<usize>
     ensures length { length rests.new ≡ length rests.old }
     ensures step { IsStep worker rests.old rests.new result }
@@ -104,7 +108,7 @@ fn step<'a>(rests: &mut [Rest<'a>], worker: u32) -> Option<usize>
     None
 }
 
-/// The first seat of which a call is left.
+/// The first seat with a call left.
 fn first_left<'a>(rests: &[Rest<'a>]) -> Option<usize>
     ensures { IsFirstLeft rests.now result }
 {
@@ -116,7 +120,8 @@ fn first_left<'a>(rests: &[Rest<'a>]) -> Option<usize>
     None
 }
 
-/// Tells the first call left of the seat that was found, and drops what is left of this seat and those above it.
+/// Reports the first remaining call of the seat that was found, and drops the remaining calls of this seat and those
+/// above it.
 fn tell<'a>(
     seats: &[Seat],
     rests: &mut Vec<Rest<'a>>,

@@ -1,4 +1,4 @@
-//! Objects of a book, each made again where memory was refused.
+//! Objects of a book, each retried if an allocation fails.
 ghost use Rattle.std.specs.Prelude.{◌≡◌, ◌≤◌};
 ghost use Rattle.model_words.specs.Commands.{IsInRange};
 
@@ -8,7 +8,7 @@ use mesh_mutator::{Attempt, Book, Command, Reply};
 use mesh_steps::Report;
 use std::alloc::Global;
 
-/// How many cells are used: each is written several times.
+/// How many cells are used. Each is written several times.
 const CELLS: u32 = 8;
 
 /// Opens a book, and fills it.
@@ -24,7 +24,7 @@ impl Maker for Book {
     }
 }
 
-/// What a refused New must leave.
+/// The state that a failed New must not change.
 #[derive(Drop)]
 struct Before {
     // What a load of the cell is answered.
@@ -34,7 +34,7 @@ struct Before {
 }
 
 impl Before {
-    /// What a book is before a New of a cell.
+    /// The state of a book before a New of a cell.
     fn of(book: &Book, cell: u8) -> Before {
         Before {
             seen: book.look(&Command::Get(cell, 0, 16)),
@@ -43,7 +43,7 @@ impl Before {
         }
     }
 
-    /// Right where a book is still so.
+    /// `Ok` if the book is still in this state.
     fn check(&self, book: &Book, cell: u8) -> Result<(), CaseError> {
         let seen = book.look(&Command::Get(cell, 0, 16));
         if seen != self.seen {
@@ -59,7 +59,7 @@ impl Before {
     }
 }
 
-/// Makes an object that a cell names, and makes it again where memory was refused.
+/// Makes an object that a cell names, and retries if an allocation fails.
 fn make(book: &mut Book, cell: u8, len: u32, wanted: &Reply) -> End {
     let before = Before::of(book, cell);
     if has_room(book, cell, len, wanted)? {
@@ -69,7 +69,7 @@ fn make(book: &mut Book, cell: u8, len: u32, wanted: &Reply) -> End {
     make_again(book, cell, len, wanted)
 }
 
-/// Makes an object for which memory was refused once.
+/// Retries to make an object for which an allocation failed once.
 fn make_again(book: &mut Book, cell: u8, len: u32, wanted: &Reply) -> End {
     if has_room(book, cell, len, wanted)? {
         return Ok(1);
@@ -77,7 +77,7 @@ fn make_again(book: &mut Book, cell: u8, len: u32, wanted: &Reply) -> End {
     Err(CaseError::Wrong("one allocation was refused twice"))
 }
 
-/// Whether there was memory for an object, which must be answered so.
+/// Whether there was memory for an object. The answer must then be `wanted`.
 fn has_room(book: &mut Book, cell: u8, len: u32, wanted: &Reply) -> Result<bool, CaseError> {
     match book.act(0, &Command::New(cell, len, 0)) {
         Attempt::Done(reply) => {

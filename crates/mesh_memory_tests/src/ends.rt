@@ -4,16 +4,16 @@ use mesh_shared::{FinishError, OpenError};
 use std::alloc::AllocError;
 use thiserror::Error;
 
-/// How many calls were refused memory and made again, or what ended the case.
+/// How many calls failed to allocate and were retried, or what ended the case.
 pub(crate) type End = Result<u32, CaseError>;
 
-/// What ends a case.
+/// The reason why a case ended early.
 #[derive(Clone, Copy, Debug, Error)]
 pub(crate) enum CaseError {
-    /// Something isn't as the contracts say.
+    /// Something contradicts the contracts.
     #[error("WRONG: {0}")]
     Wrong(&'static str),
-    /// Memory was refused where a call that is refused isn't made again.
+    /// An allocation failed in a call that isn't retried.
     #[error("out of memory")]
     Memory,
     /// A thread couldn't be started.
@@ -51,7 +51,7 @@ impl From<SearchError> for CaseError {
     }
 }
 
-/// Right where a thing holds, and else the fault that says what.
+/// `Ok` if `holds`, and otherwise the error with these words.
 pub(crate) fn expect(holds: bool, what: &'static str) -> Result<(), CaseError> {
     if holds {
         Ok(())

@@ -1,8 +1,9 @@
-//! Cases in which each allocation is refused once, and what is left is what the contracts say.
+//! Cases in which each allocation fails once, to check that the remaining state is what the contracts say.
 //!
-//! The program is made to be run with a library that refuses one allocation, which `tools/test/oom.sh` does. A word names the case; with
-//! none, all cases run. For each case there is one line that says how it ended: done, with how many calls were refused memory and
-//! made again, out of memory, or a thread fault. A line that begins with `WRONG` tells what isn't as the contracts say; then the status is 1.
+//! The program is run with a library that fails one allocation, by `tools/test/oom.sh`. A word names the case;
+//! without a word, all cases run. For each case one line reports how it ended: done, with how many calls failed to
+//! allocate and were retried, out of memory, or a thread fault. A line that begins with `WRONG` reports what
+//! contradicts the contracts; then the status is 1.
 #![tactic(auto)]
 
 mod book;
@@ -36,13 +37,13 @@ fn main(rt: HostRuntime) -> ExitCode {
     }
 }
 
-/// Tells that there was no memory for the command line's words, which is no fault.
+/// Prints that there was no memory for the command line's words, which is not a fault.
 fn tell_no_words<R: Print>(rt: &R) -> io::Result<bool> {
     println!(rt; "words: out of memory")?;
     Ok(true)
 }
 
-/// Runs the case that is named, or all cases where none is, and says whether all went right.
+/// Runs the named case, or all cases if none is named, and returns whether all ended without a contradiction.
 fn run_named<R: AllocGlobal + Print + Threads + Wait + Sync>(
     rt: &R,
     case: Option<&String>,
@@ -85,7 +86,7 @@ fn run_case<R: AllocGlobal + Print + Threads + Wait + Sync>(
     Ok(true)
 }
 
-/// How a case ends.
+/// Runs a case, and returns how it ended.
 fn end_of<R: AllocGlobal + Print + Threads + Wait + Sync>(rt: &R, case: &str) -> End {
     let alloc = rt.alloc();
     match case {

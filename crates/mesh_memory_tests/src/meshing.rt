@@ -1,4 +1,4 @@
-//! Meshes that run, between whose steps nothing takes memory.
+//! Running meshes, between whose steps nothing allocates.
 ghost use Rattle.std.specs.Prelude.{◌≡◌, ◌∷◌, []};
 ghost use Rattle.model_words.specs.Commands.{IsInRange};
 
@@ -10,7 +10,8 @@ use mesh_steps::Report;
 use model_words::MAX_BYTES;
 use std::alloc::Global;
 
-/// Makes meshes step by step, with commands between the steps. The two lines that it prints bound the stretch without an allocation.
+/// Makes meshes step by step, with commands between the steps. The two lines that it prints delimit the part without an
+/// allocation.
 pub(crate) fn mesh<R: Print>(rt: &R, alloc: Global) -> End {
     match Book::open(alloc, 16, 400) {
         Ok(mut book) => mesh_in(rt, &mut book),
@@ -27,7 +28,7 @@ fn mesh_in<R: Print>(rt: &R, book: &mut Book) -> End {
     go_between(rt, book, large, small)
 }
 
-/// The stretch between the two lines.
+/// Runs the part without an allocation, between the two lines.
 fn go_between<R: Print>(rt: &R, book: &mut Book, large: Class, small: Class) -> End {
     tell(rt, "mesh: a stretch begins in which nothing takes memory\n")?;
     let end = go_through(book, large, small);
@@ -62,10 +63,11 @@ static OBJECTS: [(u8, u32); 14] = [
     (21, 64),
 ];
 
-/// The cells whose objects are freed then.
+/// The cells whose objects are freed afterwards.
 static FREED: [u8; 7] = [0, 3, 10, 11, 16, 17, 20];
 
-/// Two groups that can be meshed of each of two classes, groups 0 to 3, an empty group 4, and group 5 of one object.
+/// Makes two groups that can be meshed in each of two classes, groups 0 to 3, an empty group 4, and group 5 with one
+/// object.
 fn set_up(book: &mut Book) -> Result<(), CaseError> {
     for (cell, len) in OBJECTS.iter() {
         make(book, *cell, *len)?;
@@ -85,7 +87,7 @@ fn make(book: &mut Book, cell: u8, len: u32) -> Result<(), CaseError> {
     }
 }
 
-/// Makes a command, which must be answered so.
+/// Runs a command, and checks its answer.
 fn answered(
     book: &mut Book,
     command: Command,
@@ -97,15 +99,15 @@ fn answered(
     expect(book.act(0, &command) == Attempt::Done(reply), what)
 }
 
-/// Makes a command, which must be done.
+/// Runs a command, and checks that it is done.
 fn done(book: &mut Book, command: Command) -> Result<(), CaseError>
     requires { IsInRange command }
 {
     answered(book, command, Reply::Done, "a command that isn't done")
 }
 
-/// The stretch: one mesh is made and the other one cancelled, both step by step, an object of its source is freed meanwhile; then that one is
-/// made whole, and the empty group is swept.
+/// Runs the part without an allocation. One mesh is made and another cancelled, both step by step, and meanwhile an
+/// object of the latter's source is freed. Then the cancelled mesh is made at once, and the empty group is swept.
 fn go_through(book: &mut Book, large: Class, small: Class) -> Result<(), CaseError> {
     begin_both(book, small)?;
     step_through(book, large, small)?;
@@ -127,7 +129,8 @@ fn begin_both(book: &mut Book, small: Class) -> Result<(), CaseError> {
     done(book, Command::Free(15))
 }
 
-/// Makes the steps of the mesh of the larger class, with every other call after each, and cancels the one of the smaller class amid them.
+/// Makes the steps of the mesh of the larger class, with each other call after every step, and cancels the mesh of the
+/// smaller class among them.
 fn step_through(book: &mut Book, large: Class, small: Class) -> Result<(), CaseError> {
     let mut left = 6u32;
     for _ in 0..6u32 {
@@ -140,7 +143,7 @@ fn step_through(book: &mut Book, large: Class, small: Class) -> Result<(), CaseE
     expect(left == 0, "a mesh that isn't over")
 }
 
-/// What a book counts after the stretch.
+/// The counts of the book after the part without an allocation.
 const REPORT: Report = Report {
     objects: 6,
     bytes: 2 * 2048 + 3 * 1024 + 64,
@@ -149,7 +152,7 @@ const REPORT: Report = Report {
     saved: 2,
 };
 
-/// Makes the mesh whole that was cancelled, and sweeps the empty group.
+/// Makes the cancelled mesh at once, and sweeps the empty group.
 fn finish(book: &mut Book) -> Result<(), CaseError> {
     if book.mesh_whole(3, 2) != Ok(1) {
         return Err(CaseError::Wrong("another mesh made whole"));
@@ -160,7 +163,7 @@ fn finish(book: &mut Book) -> Result<(), CaseError> {
     expect(book.report() == REPORT, "another report")
 }
 
-/// Makes a step of a mesh, and gives how many are left: one less than there were.
+/// Makes a step of a mesh, and returns how many are left: one fewer than before.
 fn step(book: &mut Book, class: Class, left: u32) -> Result<u32, CaseError> {
     let Ok(step) = book.step(class) else {
         return Err(CaseError::Wrong("a step that is refused"));
@@ -172,7 +175,7 @@ fn step(book: &mut Book, class: Class, left: u32) -> Result<u32, CaseError> {
     Ok(step.left)
 }
 
-/// Cancels the mesh of a class after its first step, and makes the one step that takes the protection back.
+/// Cancels the mesh of a class after its first step, and makes the one step that removes the protection.
 fn unwind(book: &mut Book, class: Class) -> Result<(), CaseError> {
     let Ok(left) = book.cancel(class) else {
         return Err(CaseError::Wrong("a cancel that is refused"));
@@ -190,7 +193,7 @@ fn put(cell: u8, byte: u8) -> Command
     Command::Put(cell, 0, one(byte))
 }
 
-/// One byte, as a store takes it and a load gives it.
+/// One byte, as the argument of a store or the result of a load.
 fn one(byte: u8) -> ArrayVec<u8, MAX_BYTES>
     ensures { result.items ≡ byte ∷ [] }
 {
@@ -199,7 +202,7 @@ fn one(byte: u8) -> ArrayVec<u8, MAX_BYTES>
     bytes
 }
 
-/// Each command, a New in an open group, and a report. A store may be blocked.
+/// Runs each command, a New in an open group, and a report. A store may be blocked.
 fn attempt_all(book: &mut Book) -> Result<(), CaseError> {
     read_all(book)?;
     store_all(book)?;
@@ -210,7 +213,7 @@ fn attempt_all(book: &mut Book) -> Result<(), CaseError> {
     expect(book.report().objects == 6, "another count of objects")
 }
 
-/// Each command that reads.
+/// Runs each command that reads.
 fn read_all(book: &mut Book) -> Result<(), CaseError> {
     answered(
         book,
@@ -227,7 +230,7 @@ fn read_all(book: &mut Book) -> Result<(), CaseError> {
     )
 }
 
-/// Each command that stores.
+/// Runs each command that stores.
 fn store_all(book: &mut Book) -> Result<(), CaseError> {
     done(book, Command::Alias(30, 2))?;
     done(book, put(1, b'x'))?;
@@ -236,7 +239,7 @@ fn store_all(book: &mut Book) -> Result<(), CaseError> {
     done_or_blocked(book, put(2, b'm'))
 }
 
-/// A New, and a Free of its object and of one that is freed.
+/// Runs a New, a Free of its object, and a Free of an object that is already freed.
 fn make_and_free(book: &mut Book) -> Result<(), CaseError> {
     expect(
         book.act(0, &Command::Free(0)) != Attempt::Done(Reply::Done),
@@ -246,7 +249,7 @@ fn make_and_free(book: &mut Book) -> Result<(), CaseError> {
     done(book, Command::Free(22))
 }
 
-/// Makes a store, which must be done or held back.
+/// Runs a store, and checks that it is done or blocked.
 fn done_or_blocked(book: &mut Book, command: Command) -> Result<(), CaseError>
     requires { IsInRange command }
 {

@@ -1,4 +1,4 @@
-//! The objects that are made, with the addresses that the definitions give them.
+//! The objects of the cases, with the addresses that the definitions give them.
 use crate::ends::End;
 
 /// How many pages there are: more than the objects need.
@@ -7,16 +7,16 @@ pub(crate) const PAGES: u32 = 64;
 /// Objects of one length that fill their spans in the order of the slots, one span after another.
 #[derive(Clone, Copy)]
 pub(crate) struct Order {
-    /// The length of each.
+    /// The length of each object.
     pub len: u32,
-    /// How many they are.
+    /// The number of objects.
     pub count: u32,
-    /// The address of the first; each stands behind the one before.
+    /// The address of the first object. Each object follows the one before.
     pub first: u32,
 }
 
 impl Order {
-    /// The address of the k-th.
+    /// The address of the `k`-th object.
     pub(crate) fn address(&self, k: u32) -> u32 {
         self.first.wrapping_add(self.len.wrapping_mul(k))
     }
@@ -46,13 +46,14 @@ pub(crate) static ORDERS: [Order; 4] = [
     },
 ];
 
-/// A heap, or what has one, as a case makes objects in it.
+/// A heap or a book in which a case makes objects.
 pub(crate) trait Maker {
-    /// Makes the k-th object of an order, which must get this serial, and makes it again where memory was refused. Gives how often it was.
+    /// Makes the `k`-th object of an order, which must get this serial, and retries if an allocation fails. Returns how
+    /// often one failed.
     fn make(&mut self, order: &Order, k: u32, serial: u32) -> End;
 }
 
-/// Makes the objects of all orders, and gives how often memory was refused.
+/// Makes the objects of all orders, and returns how often an allocation failed.
 pub(crate) fn make_all<M: Maker>(maker: &mut M) -> End {
     let mut refused = 0u32;
     let mut serial = 0u32;

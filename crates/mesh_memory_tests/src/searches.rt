@@ -6,16 +6,17 @@ use std::alloc::Global;
 use std::sync::Wait;
 use std::thread::Threads;
 
-/// Which of eight objects of the class 2048 are freed: so its four groups can be meshed in two pairs.
+/// The objects to free of eight of the class 2048, so that its four groups can be meshed in two pairs.
 static FREED: [u8; 4] = [1, 3, 4, 6];
 
-/// Those by which each of its four groups keeps the object in its first slot: so no two of them can be meshed.
+/// The objects to free so that each of the four groups keeps the object in its first slot. Then no two groups can be
+/// meshed.
 static FREED_IN_SECOND_SLOTS: [u8; 4] = [1, 3, 5, 7];
 
 /// The words of the worked searches.
 static WORDS: [u64; 3] = [2, 0, 5];
 
-/// The views of four groups, of whose eight objects these are freed.
+/// The views of four groups of eight objects, after these objects are freed.
 fn views_after(alloc: Global, freed: &[u8]) -> Result<Vec<ClassView>, CaseError> {
     match Book::open(alloc, 16, 64) {
         Ok(mut book) => views_of(alloc, &mut book, freed),
@@ -23,7 +24,7 @@ fn views_after(alloc: Global, freed: &[u8]) -> Result<Vec<ClassView>, CaseError>
     }
 }
 
-/// The views of a fresh book, once the four groups stand in it.
+/// The views of a fresh book, once it contains the four groups.
 fn views_of(alloc: Global, book: &mut Book, freed: &[u8]) -> Result<Vec<ClassView>, CaseError> {
     for cell in 0..8u8 {
         if book.act(0, &Command::New(cell, 2048, 0)) == Attempt::OutOfMemory {
@@ -42,7 +43,7 @@ fn views_of(alloc: Global, book: &mut Book, freed: &[u8]) -> Result<Vec<ClassVie
 /// The worked pairs, source first.
 static PAIRS: [(u32, u32); 2] = [(1, 2), (3, 0)];
 
-/// Whether a search found the worked pairs by four tries.
+/// Whether a search found the worked pairs in four tries.
 fn is_worked(found: &Found) -> bool {
     found.probes == 4 && are_worked(found.pairs.as_slice())
 }
@@ -61,7 +62,8 @@ fn are_worked(found: &[Pair]) -> bool {
     true
 }
 
-/// Right where a search of the view of a place found the worked pairs in the last one, and none in another.
+/// `Ok` if a search of the view at a place found the right pairs: the worked pairs in the last view, none in the
+/// others.
 fn check(found: &Found, place: usize) -> Result<(), CaseError> {
     if place == 9 && !is_worked(found) {
         return Err(CaseError::Wrong("other pairs"));
@@ -72,13 +74,13 @@ fn check(found: &Found, place: usize) -> Result<(), CaseError> {
     )
 }
 
-/// The view, the order and the pairs of the worked groups, on one thread.
+/// Computes the views, the order and the pairs of the worked groups, on one thread.
 pub(crate) fn search_alone(alloc: Global) -> End {
     let views = views_after(alloc, &FREED)?;
     search_views(alloc, views.as_slice())
 }
 
-/// The order and the pairs of ten views.
+/// Computes the order and the pairs of ten views.
 fn search_views(alloc: Global, views: &[ClassView]) -> End {
     if views.len() != 10 {
         return Err(CaseError::Wrong("another count of views"));
@@ -90,19 +92,19 @@ fn search_views(alloc: Global, views: &[ClassView]) -> End {
     Ok(0)
 }
 
-/// The order of four groups.
+/// Checks the order of four groups.
 fn check_order(alloc: Global) -> Result<(), CaseError> {
     let order = shuffle(alloc, &[0, 1, 2, 3], &WORDS)?;
     expect(order.as_slice() == [2, 0, 3, 1].as_slice(), "another order")
 }
 
-/// The pairs of the view of a place.
+/// Checks the pairs of the view at a place.
 fn search_view(alloc: Global, view: &ClassView, place: usize) -> Result<(), CaseError> {
     let found = search_one(alloc, view, &WORDS, 2)?;
     check(&found, place)
 }
 
-/// Two searches of all views by two workers: one in two rounds, and one in three in which no pair is found.
+/// Runs two searches of all views by two workers: one in two rounds, and one in three rounds that finds no pair.
 pub(crate) fn search_by_two<R: Threads + Wait + Sync>(rt: &R, alloc: Global) -> End {
     let views = views_after(alloc, &FREED)?;
     let found = search(rt, alloc, views.as_slice(), &WORDS, 2, 2, &NoGate)?;
@@ -110,14 +112,14 @@ pub(crate) fn search_by_two<R: Threads + Wait + Sync>(rt: &R, alloc: Global) -> 
     search_in_vain(rt, alloc)
 }
 
-/// The search in three rounds of views whose groups can't be meshed.
+/// Runs the search in three rounds of views whose groups can't be meshed.
 fn search_in_vain<R: Threads + Wait + Sync>(rt: &R, alloc: Global) -> End {
     let views = views_after(alloc, &FREED_IN_SECOND_SLOTS)?;
     let found = search(rt, alloc, views.as_slice(), &WORDS, 3, 2, &NoGate)?;
     check_in_vain(found.as_slice())
 }
 
-/// Right where ten searches found no pair, the last one by two tries in each of three rounds.
+/// `Ok` if ten searches found no pair, the last one with two tries in each of three rounds.
 fn check_in_vain(found: &[Found]) -> End {
     if found.len() != 10 {
         return Err(CaseError::Wrong("another count of searches"));
@@ -129,12 +131,12 @@ fn check_in_vain(found: &[Found]) -> End {
     Ok(0)
 }
 
-/// Whether a search found no pair by so many tries.
+/// Whether a search found no pair in `probes` tries.
 fn is_in_vain(found: &Found, probes: u64) -> bool {
     found.probes == probes && found.pairs.is_empty()
 }
 
-/// Right where these are the ten searches of the worked groups.
+/// `Ok` if these are the ten searches of the worked groups.
 fn check_all(found: &[Found]) -> End {
     if found.len() != 10 {
         return Err(CaseError::Wrong("another count of searches"));

@@ -8,10 +8,10 @@ use mesh_shared::{Seat, Shared};
 use std::alloc::Global;
 use std::sync::Wait;
 
-/// How many calls each seat has room for.
+/// The number of calls that each seat has room for.
 const ROOM: usize = 40;
 
-/// Two seats make calls of every kind, and their book is settled.
+/// Makes calls of every kind by two seats, and settles their book.
 pub(crate) fn share<R: Wait>(rt: &R, alloc: Global) -> End {
     let book = Book::open(alloc, 32, 80)?;
     let (shared, mut seats) = Shared::open(alloc, book, &[ROOM, ROOM])?;
@@ -31,7 +31,7 @@ fn serve_all<R: Wait>(rt: &R, shared: &Shared, seats: &mut [Seat]) -> End {
     Ok(refused)
 }
 
-/// Settles the book: its history has an entry for each call.
+/// Settles the book, and checks that its history has an entry for each call.
 fn settle(alloc: Global, shared: Shared, seats: Vec<Seat>) -> Result<(), CaseError> {
     let calls = calls_of(seats.as_slice());
     let ended = shared.finish(alloc, seats)?;
@@ -47,7 +47,7 @@ fn calls_of(seats: &[Seat]) -> usize {
     calls
 }
 
-/// Makes the calls of one seat, which uses the cells from one on.
+/// Makes the calls of one seat, which uses the cells from `first` on.
 fn serve<R: Wait>(rt: &R, shared: &Shared, seat: &mut Seat, first: u8) -> End {
     let mut refused = 0u32;
     for k in 0..24u8 {
@@ -78,7 +78,7 @@ fn call_each<R: Wait>(
     call(rt, shared, seat, Command::Free(first))
 }
 
-/// Makes a call that takes no memory.
+/// Makes a call that allocates nothing.
 fn call<R: Wait>(
     rt: &R,
     shared: &Shared,
@@ -93,7 +93,7 @@ fn call<R: Wait>(
     Err(CaseError::Wrong("a call whose allocation failed"))
 }
 
-/// Makes a call, and makes it again where memory was refused.
+/// Makes a call, and retries if an allocation fails.
 fn make<R: Wait>(rt: &R, shared: &Shared, seat: &mut Seat, command: &Command) -> End
     requires { IsInRange command.now }
 {
@@ -103,7 +103,7 @@ fn make<R: Wait>(rt: &R, shared: &Shared, seat: &mut Seat, command: &Command) ->
     make_again(rt, shared, seat, command)
 }
 
-/// Makes a call for which memory was refused once.
+/// Retries a call for which an allocation failed once.
 fn make_again<R: Wait>(rt: &R, shared: &Shared, seat: &mut Seat, command: &Command) -> End
     requires { IsInRange command.now }
 {
@@ -113,7 +113,7 @@ fn make_again<R: Wait>(rt: &R, shared: &Shared, seat: &mut Seat, command: &Comma
     Err(CaseError::Wrong("one allocation was refused twice"))
 }
 
-/// Whether there was memory for a call. The seat keeps it exactly then.
+/// Makes a call, and returns whether there was memory for it. The seat keeps the call if and only if there was.
 fn is_kept<R: Wait>(
     rt: &R,
     shared: &Shared,

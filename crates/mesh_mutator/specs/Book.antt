@@ -35,7 +35,7 @@ serials_of cells = map (option_map serial_of) cells
 abbrev pub cell_at : Cells → ℕ → Option Ref
 cell_at cells cell = slice_index_or cells cell None
 
--- the plain memory that heap and cells stand for
+-- the reference memory that heap and cells mean
 abbrev pub memory_in : Heap → Cells → Memory
 memory_in h cells = memory_of h (serials_of cells)
 
@@ -61,7 +61,8 @@ stored_cell (New cell len word) = Some cell
 stored_cell (Alias to from) = Some to
 stored_cell command = None
 
--- what a command leaves of the heap, whatever it is answered: all of it where it looks or takes a reference, and all pages where it frees
+-- what a command leaves of the heap, whatever it is answered: all of it where it looks or takes a reference, and all
+-- pages where it frees
 abbrev pub KeepsHeap : Command → Heap → Heap → Type 0
 KeepsHeap (New cell len word) h h' = Unit {0}
 KeepsHeap (Put cell off bytes) h h' = Unit {0}
@@ -73,7 +74,8 @@ KeepsHeap (Peek addr) h h' = h' ≡ h
 KeepsHeap (Poke addr byte) h h' = Unit {0}
 KeepsHeap (Copy to to_off from from_off len) h h' = Unit {0}
 
--- what an answered command does to heap and cells: what the definition says, held back by nothing; and where it is refused, nothing
+-- what an answered command does to heap and cells: what the definition states, and it isn't blocked; if it is refused,
+-- nothing
 pub record IsAnswered (h h' : Heap) (cells cells' : Cells) (command : Command) (reply : Reply) : Type 0 where
   pub outcome : IsOutcome h' cells' (answered (memory_in h cells) (table_of h) command) reply
   pub not_held : is_held_back (memory_in h cells) (table_of h) command reply ≡ false
@@ -104,7 +106,7 @@ book_code =
     code_by (Heap × (Cells × (List Entry × ℕ))) (coded× heap_code (coded× (coded_list (coded_option ref_code)) (coded× (coded_list entry_code) coded_ℕ)))
     (λ b. (b.heap, (b.cells, (b.entries, b.room)))) (λ p. record { heap = p.0; cells = p.1.0; entries = p.1.1.0; room = p.1.1.1 }) (λ _. refl)
 
--- the plain memory that a book stands for
+-- the reference memory that a book means
 abbrev pub memory_of_book : Book → Memory
 memory_of_book b = memory_in b.heap b.cells
 
@@ -112,7 +114,7 @@ memory_of_book b = memory_in b.heap b.cells
 abbrev pub table_of_book : Book → Table
 table_of_book b = table_of b.heap
 
--- the journal is a legal history that ends in what the book stands for
+-- the journal is a legal history that ends in what the book means
 pub record IsBook (b : Book) : Type 0 where
   pub cells : length b.cells ≡ 256
   pub rooted : AreRooted b.heap b.cells

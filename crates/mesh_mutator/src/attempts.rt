@@ -1,4 +1,4 @@
-//! What each command does to heap and roots, and what it is answered.
+//! What each command does to heap and roots, and its answer.
 ghost use Rattle.std.specs.Prelude.{◌≡◌, ◌+◌, ◌-◌, ◌^◌, ◌<◌, ◌≤◌, Err, length, IfOk, IfErr};
 ghost use Rattle.model_words.specs.Commands.{IsInRange};
 ghost use Rattle.model_memory.specs.Plain.{named_by};
@@ -8,16 +8,16 @@ use crate::roots::Roots;
 use crate::{Command, Refusal, Reply};
 use mesh_steps::{Heap, NewFault, Ref, Stored};
 
-/// What an attempt at a command comes to.
+/// The result of an attempt at a command.
 #[derive(Debug, Drop, PartialEq, Eq)]
 pub enum Attempt {
-    /// The command was answered, and its answer stands in the journal.
+    /// The command was answered, and its answer is in the journal.
     Done(Reply),
     /// A page that the store touches is read-only. Nothing changed.
     Blocked,
     /// The journal is at its reserved length. Nothing changed.
     HistoryFull,
-    /// The memory for a new span was refused. Nothing changed.
+    /// Out of memory for a new span. Nothing changed.
     OutOfMemory,
 }
 
@@ -47,7 +47,7 @@ pub fn perform(heap: &mut Heap, roots: &mut Roots, command: &Command) -> Attempt
     }
 }
 
-/// Makes an object and stores its reference in a cell. A refused one leaves the cell.
+/// Makes an object and stores its reference in a cell. If it is refused, the cell is unchanged.
 fn make(heap: &mut Heap, roots: &mut Roots, cell: u8, len: u32, word: u64) -> Attempt
     requires serials { heap.old.next_serial < 2 ^ 32 - 1 }
     requires cells { length roots.old ≡ 256 }
@@ -72,7 +72,8 @@ fn put(heap: &mut Heap, roots: &Roots, cell: u8, off: u32, bytes: &[u8]) -> Atte
     requires some { 1 ≤ length bytes.now }
     requires few { length bytes.now ≤ 32 }
     requires rooted { AreRooted heap.old roots.now }
-    ensures performed { IsPerformed heap.old heap.new roots.now roots.now (Command.Put cell off (record { items = bytes.now })) result }
+    ensures performed { IsPerformed heap.old heap.new roots.now roots.now
+        (Command.Put cell off (record { items = bytes.now })) result }
     ensures rooted { AreRooted heap.new roots.now }
     ensures serial { heap.new.next_serial ≡ heap.old.next_serial }
 {
@@ -82,7 +83,7 @@ fn put(heap: &mut Heap, roots: &Roots, cell: u8, off: u32, bytes: &[u8]) -> Atte
     }
 }
 
-/// Copies bytes from the object that one cell names to that of another.
+/// Copies bytes from the object that one cell names to the object that another names.
 fn copy(
     heap: &mut Heap,
     roots: &Roots,
@@ -95,7 +96,8 @@ fn copy(
     requires some { 1 ≤ len }
     requires few { len ≤ 32 }
     requires rooted { AreRooted heap.old roots.now }
-    ensures performed { IsPerformed heap.old heap.new roots.now roots.now (Command.Copy to to_off from from_off len) result }
+    ensures performed { IsPerformed heap.old heap.new roots.now roots.now
+        (Command.Copy to to_off from from_off len) result }
     ensures rooted { AreRooted heap.new roots.now }
     ensures serial { heap.new.next_serial ≡ heap.old.next_serial }
 {
@@ -118,7 +120,7 @@ fn poke(heap: &mut Heap, roots: &Roots, addr: u32, byte: u8) -> Attempt
     stored(heap.poke(addr, byte))
 }
 
-/// What a store's answer is to its worker.
+/// The attempt that the result of a store amounts to.
 fn stored(stored: Stored) -> Attempt
     ensures { result ≡ attempt_of stored }
 {
@@ -161,11 +163,12 @@ fn free(heap: &mut Heap, roots: &Roots, cell: u8) -> Reply
     }
 }
 
-/// Stores in one cell the reference of another, where it names a live object.
+/// Stores in one cell the reference of another, if that names a live object.
 fn alias(heap: &Heap, roots: &mut Roots, to: u8, from: u8) -> Reply
     requires cells { length roots.old ≡ 256 }
     requires rooted { AreRooted heap.now roots.old }
-    ensures performed { IsPerformed heap.now heap.now roots.old roots.new (Command.Alias to from) (Attempt.Done result) }
+    ensures performed { IsPerformed heap.now heap.now roots.old roots.new (Command.Alias to from)
+        (Attempt.Done result) }
     ensures rooted { AreRooted heap.now roots.new }
     ensures cells { length roots.new ≡ 256 }
 {
@@ -199,7 +202,7 @@ pub fn peek(heap: &Heap, roots: &Roots, addr: u32) -> Reply
     }
 }
 
-/// The live object that a cell names: EMPTY where the cell holds no reference, FREED where its object isn't live.
+/// The live object that a cell names. EMPTY if the cell holds no reference, FREED if its object isn't live.
 fn live(heap: &Heap, roots: &Roots, cell: u8) -> Result<Ref, Refusal>
     requires { AreRooted heap.now roots.now }
     ensures named { IfOk result (IsNamedBy heap.now roots.now cell) }

@@ -40,7 +40,8 @@ impl Model for Book {
 
     ghost view = { λ b. record { heap = b.heap; cells = b.roots; entries = b.journal.entries; room = b.journal.room } };
 
-    ghost invariant = { λ b. IsBook (record { heap = b.heap; cells = b.roots; entries = b.journal.entries; room = b.journal.room }) };
+    ghost invariant = { λ b. IsBook
+        (record { heap = b.heap; cells = b.roots; entries = b.journal.entries; room = b.journal.room }) };
 }
 
 #[rattlefmt::skip]
@@ -49,7 +50,8 @@ impl Drop for Book {
 }
 
 impl Book {
-    /// A book with no object over `pages` physical pages, 1 to 4,096, whose journal has room for `history` entries, 0 to 65,536.
+    /// Opens a book without objects over `pages` physical pages, 1 to 4,096. Its journal has room for `history`
+    /// entries, 0 to 65,536. An error is an allocation failure.
     pub fn open(alloc: Global, pages: u32, history: u32) -> Result<Book, AllocError>
         requires some { 1 ≤ pages }
         requires most { pages ≤ 4096 }
@@ -69,7 +71,7 @@ impl Book {
         })
     }
 
-    /// The entries of the journal: a legal history of the plain memory, which ends in what heap and roots stand for.
+    /// The entries of the journal: a legal history of the reference memory, which ends in what heap and roots mean.
     pub fn journal(&self) -> &Journal
         ensures entries { result.now.entries ≡ self.now.entries }
         ensures room { result.now.room ≡ self.now.room }
@@ -78,14 +80,14 @@ impl Book {
         &self.journal
     }
 
-    /// The heap, for whoever looks at it: what it shows has no effect.
+    /// A shared reference to the heap, for queries.
     pub fn heap(&self) -> &Heap
         ensures { result.now ≡ self.now.heap }
     {
         &self.heap
     }
 
-    /// Heap, root cells and journal, for whoever hands the book out.
+    /// Returns heap, root cells and journal by value.
     pub fn into_parts(self) -> (Heap, Roots, Journal)
         ensures heap { result.0 ≡ self.heap }
         ensures roots { result.1 ≡ self.cells }
@@ -101,12 +103,15 @@ impl Book {
         (heap, roots, journal)
     }
 
-    /// What holds of a book at any moment, whatever it was asked before and however mutators and mesher took turns.
+    /// What holds of a book at any moment, whatever calls came before and however mutators and mesher took turns.
     ///
-    /// The journal is a legal history of the plain memory; its end is what heap and cells mean; two different bytes of live objects never
-    /// share a place; no free page holds a live object; the read-only pages are exactly those of the running meshes; the table is sound, and
-    /// names the live objects. So a `step` is refused only where no mesh of the class runs, and a `cancel` only there or once a page was
-    /// remapped (`model_heap::mesh_laws`). `docs/PROOF.md` tells what to read to be sure of it.
+    /// - The journal is a legal history of the reference memory, and its end is what heap and cells mean.
+    /// - Two different bytes of live objects never share a place, and no free page holds a live object.
+    /// - The read-only pages are exactly those of the running meshes.
+    /// - The table is sound, and names the live objects.
+    ///
+    /// So a `step` is refused only if no mesh of the class runs, and a `cancel` only then or once a page was remapped
+    /// (`model_heap::mesh_laws`). `docs/PROOF.md` lists what to read to be sure of the headline.
     pub fn headline(&self)
         ensures legal { IsHistory self.now.entries }
         ensures ends { EndsInMeaning self.now }
@@ -121,8 +126,9 @@ impl Book {
         self.heap.sound();
     }
 
-    /// What always holds of its heap: two different bytes of live objects never share a place, no free page holds a live object, the
-    /// read-only pages are exactly those of the running meshes, and groups, page map and arena lie as these meshes have them.
+    /// What always holds of its heap. Two different bytes of live objects never share a place, and no free page holds a
+    /// live object. The read-only pages are exactly those of the running meshes, and groups, page map and arena are
+    /// laid out as these meshes have them.
     pub fn always(&self)
         ensures objects { HasObjectsApart self.now.heap }
         ensures places { HasPlacesApart self.now.heap }
@@ -133,11 +139,12 @@ impl Book {
         self.heap.always();
     }
 
-    /// One attempt of a worker at a command.
+    /// Makes one attempt of a worker at a command.
     ///
-    /// HistoryFull comes before all else, where the journal is at its reserved length; then come refusals, then Blocked of a `Put`, a `Poke`
-    /// or a `Copy` that writes to a read-only page, then OutOfMemory of a `New` that needs a new span. Only a Done attempt is recorded: its
-    /// entry is added, and any other attempt leaves the book equal.
+    /// `HistoryFull` comes before all else, if the journal is at its reserved length. Then come refusals, then
+    /// `Blocked` of a `Put`, a `Poke` or a `Copy` that writes to a read-only page, then `OutOfMemory` of a `New` that
+    /// needs a new span. Only a `Done` attempt is recorded: its entry is added. Any other attempt leaves the book
+    /// unchanged.
     pub fn act(&mut self, worker: u32, command: &Command) -> Attempt
         requires { IsInRange command.now }
         ensures attempt { IsAttempt self.old self.new worker command.now result }
@@ -157,7 +164,7 @@ impl Book {
         attempt
     }
 
-    /// What a `Get`, a `Peek` or an `Addr` is answered now. Records nothing.
+    /// The answer that a `Get`, a `Peek` or an `Addr` gets now. It records nothing.
     pub fn look(&self, command: &Command) -> Reply
         requires { IsLook command.now }
         ensures { IsLooked self.now.heap self.now.cells command.now result }

@@ -4,7 +4,7 @@ ghost use Rattle.std.specs.Prelude.{◌≡◌};
 use crate::{Command, Reply};
 use std::marker::Model;
 
-/// One answered command: who gave it, what it was, and what it was answered.
+/// One answered command: the worker, the command, and its answer.
 #[derive(Debug, Drop, PartialEq, Eq)]
 pub struct Entry {
     /// The worker's number.
@@ -26,7 +26,7 @@ impl Model for Entry {
 }
 
 impl Entry {
-    /// The entry of a worker's command and its reply. It takes no memory.
+    /// The entry of a worker's command and its reply. It allocates nothing.
     pub fn of(worker: u32, command: &Command, reply: &Reply) -> Entry
         ensures { result ≡ record { worker = worker; command = command.now; reply = reply.now } }
     {

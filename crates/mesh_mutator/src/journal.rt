@@ -10,8 +10,8 @@ use std::marker::Model;
 
 /// Answered commands with their replies, in their order of effect.
 ///
-/// An entry is kept in 32 bytes, and the bytes that its command stores and its reply loads stand beside it, one behind another. The room is made
-/// once.
+/// An entry takes 32 bytes. The bytes that its command stores and its reply loads are kept in a separate list, one
+/// entry's after another's. The room is allocated once.
 pub struct Journal {
     entries: Vec<PackedEntry>,
     bytes: Vec<u8>,
@@ -42,7 +42,8 @@ impl Drop for Journal {
 }
 
 impl Journal {
-    /// A journal without an entry, with room for `room` of them, at most 65,536. An error is an allocation failure.
+    /// Makes a journal without entries, with room for `room` of them, at most 65,536. An error is an allocation
+    /// failure.
     pub(crate) fn with_capacity(alloc: Global, room: usize) -> Result<Journal, AllocError>
         requires { room ≤ 65536 }
         ensures entries { IfOk result (λ journal. journal.entries ≡ []) }
@@ -70,7 +71,7 @@ impl Journal {
         self.entries.is_empty()
     }
 
-    /// Whether there is room for no further entry.
+    /// Whether there is no room for a further entry.
     pub(crate) fn is_full(&self) -> bool
         ensures full { result ≡ true → self.now.room ≤ length self.now.entries }
         ensures free { result ≡ false → length self.now.entries < self.now.room }
@@ -86,7 +87,7 @@ impl Journal {
         self.entries[place].worker
     }
 
-    /// The entry at a place, counted from 0. It takes no memory.
+    /// The entry at a place, counted from 0. It allocates nothing.
     pub fn entry(&self, place: usize) -> Entry
         requires { place < length self.now.entries }
         ensures { (other : PlainEntry) → result ≡ slice_index_or self.now.entries place other }
@@ -99,10 +100,15 @@ impl Journal {
         }
     }
 
-    /// Adds the entry of a worker's command and its reply. It takes no memory.
+    /// Adds the entry of a worker's command and its reply. It allocates nothing.
     pub(crate) fn push(&mut self, worker: u32, command: &Command, reply: &Reply)
         requires { length self.old.entries < self.old.room }
-        ensures { self.new ≡ record { entries = self.old.entries ++ record { worker = worker; command = command.now; reply = reply.now } ∷ []; room = self.old.room } }
+        ensures { self.new
+            ≡ record {
+              entries = self.old.entries
+                  ++ record { worker = worker; command = command.now; reply = reply.now } ∷ [];
+              room = self.old.room;
+            } }
     {
         let command = pack_command(&mut self.bytes, command);
         let reply = pack_reply(&mut self.bytes, reply);

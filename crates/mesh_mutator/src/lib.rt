@@ -1,6 +1,6 @@
-//! Commands of mutators on a heap with 256 root cells, and the journal of what they were answered.
+//! Commands of mutators on a heap with 256 root cells, and the journal of their answers.
 //!
-//! The `Book` is what a caller drives: each attempt is one call, and every command that was answered stands in its journal.
+//! A caller drives the `Book`: each attempt is one call, and every command that was answered is in its journal.
 #![tactic(auto)]
 
 mod attempts;

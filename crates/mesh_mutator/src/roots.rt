@@ -32,14 +32,14 @@ impl Roots {
         }
     }
 
-    /// What a cell holds.
+    /// The content of a cell.
     pub fn get(&self, cell: u8) -> Option<Ref>
         ensures { result ≡ cell_at self.now cell }
     {
         self.cells[usize::from(cell)]
     }
 
-    /// Lets a cell hold a reference.
+    /// Stores a reference in a cell.
     pub(crate) fn set(&mut self, cell: u8, object: Ref)
         ensures value { self.new ≡ slice_set self.old cell (Some object) }
         ensures length { length self.new ≡ length self.old }

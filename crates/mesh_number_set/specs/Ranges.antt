@@ -50,12 +50,14 @@ pub record IsJoined (old new : ℕ → Option ℕ) (n first last : ℕ) : Type 0
   pub behind : new (n + 1) ≡ None
   pub others : (q : ℕ) → q ≢ first → q ≢ n + 1 → new q ≡ old q
 
--- the second has the numbers of a range that are behind this one as a range, if there are any, and the other ranges of the first
+-- the second has the numbers of a range that are behind this one as a range, if there are any, and the other ranges of
+-- the first
 pub record IsRest (old new : ℕ → Option ℕ) (n last : ℕ) : Type 0 where
   pub rest : n < last → new (n + 1) ≡ Some last
   pub others : (q : ℕ) → (n < last → q ≢ n + 1) → new q ≡ old q
 
--- the second has of the range that begins with `first` the numbers that are before this one, and the other ranges of the first
+-- the second has of the range that begins with `first` the numbers that are before this one, and the other ranges of
+-- the first
 pub record IsCut (old new : ℕ → Option ℕ) (n first : ℕ) : Type 0 where
   pub none : first ≡ n → new first ≡ None
   pub some : first < n → new first ≡ Some (n - 1)

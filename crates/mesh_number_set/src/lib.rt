@@ -1,7 +1,7 @@
-//! A set of numbers that is kept as ranges, so that numbers added one after another take no more memory than one.
+//! A set of numbers that is kept as ranges. Numbers added one after another take no more memory than a single number.
 //!
-//! Two ranges of a [`NumberSet`] never touch: a number that is added joins the ranges that end before it and begin
-//! behind it.
+//! Two ranges of a [`NumberSet`] never touch. A number that is added is merged with the range that ends just before it
+//! and with the range that begins just after it.
 #![tactic(auto)]
 
 mod ranges;

@@ -1,4 +1,4 @@
-//! The ranges of a set, in a map from the first number of each to its last.
+//! The ranges of a set, as a map from the first number of each range to its last.
 ghost use Rattle.std.specs.Prelude.{◌≡◌, ◌↔◌, ◌+◌, ◌≤◌, ◌<◌, ℕ, Some, IsSome, IsTrue, OnErr, OnOk};
 ghost use Rattle.std.specs.Ordering.{nat_cmp};
 ghost use Rattle.std.specs.BTreeMap.{IsUnchanged, get};
@@ -7,7 +7,7 @@ ghost use Rattle.mesh_number_set.specs.Ranges.{AreApart, HasIn, IsCut, IsFirst, 
 use std::alloc::AllocError;
 use std::collections::BTreeMap;
 
-/// The first and the last number of the range that begins last among those that begin at most at this number.
+/// The first and the last number of the last range that begins at or below this number.
 fn nearest(ranges: &BTreeMap<u32, u32>, number: u32) -> Option<(u32, u32)>
     ensures { IsNearest (get nat_cmp ranges.now) number result }
 {
@@ -15,7 +15,7 @@ fn nearest(ranges: &BTreeMap<u32, u32>, number: u32) -> Option<(u32, u32)>
     Some((*first, *last))
 }
 
-/// The first and the last number of the range that begins first among those that begin at least at this number.
+/// The first and the last number of the first range that begins at or above this number.
 fn next(ranges: &BTreeMap<u32, u32>, number: u32) -> Option<(u32, u32)>
     ensures { IsNext (get nat_cmp ranges.now) number result }
 {
@@ -23,7 +23,7 @@ fn next(ranges: &BTreeMap<u32, u32>, number: u32) -> Option<(u32, u32)>
     Some((*first, *last))
 }
 
-/// Whether one of the ranges has a number.
+/// Whether one of the ranges contains a number.
 pub(crate) fn has(ranges: &BTreeMap<u32, u32>, number: u32) -> bool
     requires { AreApart (get nat_cmp ranges.now) }
     ensures { IsTrue result ↔ HasIn (get nat_cmp ranges.now) number }
@@ -34,7 +34,7 @@ pub(crate) fn has(ranges: &BTreeMap<u32, u32>, number: u32) -> bool
     }
 }
 
-/// The first of the numbers that end with this one, where all of them but this one are in the ranges.
+/// The first number of the longest run that ends with `number`. All other numbers of the run are in the ranges.
 pub(crate) fn first_with(ranges: &BTreeMap<u32, u32>, number: u32) -> u32
     requires apart { AreApart (get nat_cmp ranges.now) }
     requires new { HasIn (get nat_cmp ranges.now) number → ⊥ }
@@ -51,7 +51,7 @@ pub(crate) fn first_with(ranges: &BTreeMap<u32, u32>, number: u32) -> u32
     }
 }
 
-/// The last of the numbers that begin with this one, where all of them but this one are in the ranges.
+/// The last number of the longest run that begins with `number`. All other numbers of the run are in the ranges.
 pub(crate) fn last_with(ranges: &BTreeMap<u32, u32>, number: u32) -> u32
     requires apart { AreApart (get nat_cmp ranges.now) }
     requires new { HasIn (get nat_cmp ranges.now) number → ⊥ }
@@ -68,7 +68,7 @@ pub(crate) fn last_with(ranges: &BTreeMap<u32, u32>, number: u32) -> u32
     }
 }
 
-/// Adds a number, as a range with those that it joins. An error is an allocation failure.
+/// Adds a number, as one range with the ranges that it touches. An error is an allocation failure.
 pub(crate) fn join(
     ranges: &mut BTreeMap<u32, u32>,
     number: u32,
@@ -87,8 +87,8 @@ pub(crate) fn join(
     Ok(())
 }
 
-/// Takes out a number that one of the ranges has. An error is an allocation failure, which can come only if the range has
-/// numbers on both sides of this one.
+/// Removes a number that one of the ranges contains. An error is an allocation failure, which can come only if the
+/// range has numbers on both sides of this one.
 pub(crate) fn part(ranges: &mut BTreeMap<u32, u32>, number: u32) -> Result<(), AllocError>
     requires apart { AreApart (get nat_cmp ranges.old) }
     requires has { HasIn (get nat_cmp ranges.old) number }
@@ -101,7 +101,7 @@ pub(crate) fn part(ranges: &mut BTreeMap<u32, u32>, number: u32) -> Result<(), A
     Ok(())
 }
 
-/// The first and the last number of the range that has a number.
+/// The first and the last number of the range that contains a number.
 fn range_of(ranges: &BTreeMap<u32, u32>, number: u32) -> (u32, u32)
     requires apart { AreApart (get nat_cmp ranges.now) }
     requires has { HasIn (get nat_cmp ranges.now) number }
@@ -112,7 +112,8 @@ fn range_of(ranges: &BTreeMap<u32, u32>, number: u32) -> (u32, u32)
     nearest(ranges, number).unwrap()
 }
 
-/// Adds what is behind a number in a range that has it and ends with `last`. An error is an allocation failure.
+/// Adds the numbers after `number`, up to `last`, as a range. `last` is the end of the range that contained `number`.
+/// An error is an allocation failure.
 fn add_rest(ranges: &mut BTreeMap<u32, u32>, number: u32, last: u32) -> Result<(), AllocError>
     requires { number ≤ last }
     ensures rest { OnOk result (IsRest (get nat_cmp ranges.old) (get nat_cmp ranges.new) number last) }
@@ -125,7 +126,7 @@ fn add_rest(ranges: &mut BTreeMap<u32, u32>, number: u32, last: u32) -> Result<(
     Ok(())
 }
 
-/// Leaves of the range that begins with `first` what is before a number in it.
+/// Shortens the range that begins with `first` to the numbers before `number`, which is in the range.
 fn cut(ranges: &mut BTreeMap<u32, u32>, number: u32, first: u32)
     requires is_range { IsSome (get nat_cmp ranges.old first) }
     requires from { first ≤ number }

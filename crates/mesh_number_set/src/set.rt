@@ -9,7 +9,7 @@ use std::marker::Model;
 
 /// A set of numbers, kept as ranges of which no two touch.
 ///
-/// What it takes in memory depends on how many ranges there are, and not on how many numbers.
+/// Its memory depends on the number of ranges, not on the count of numbers.
 #[derive(Drop)]
 pub struct NumberSet {
     // The last number of each range, by its first.
@@ -28,7 +28,7 @@ impl Model for NumberSet {
 }
 
 impl NumberSet {
-    /// A set without numbers. It allocates nothing.
+    /// Returns an empty set. It allocates nothing.
     pub fn new(alloc: Global) -> NumberSet
         ensures { (n : ℕ) → Has result n → ⊥ }
     {
@@ -44,7 +44,7 @@ impl NumberSet {
         has(&self.ranges, number)
     }
 
-    /// How many ranges the set is kept as. No two of them touch, so there are as few as can be.
+    /// The number of ranges. No two of them touch, so there are as few as possible.
     pub fn ranges(&self) -> usize
         ensures many { result ≡ length self.now }
         ensures apart { AreApart (last_in self.now) }
@@ -63,8 +63,8 @@ impl NumberSet {
         join(&mut self.ranges, number, first, last)
     }
 
-    /// Removes a number that is in the set. An error is an allocation failure; then the set is unchanged. It can come only
-    /// if the number before and the number behind are in the set too, since one range becomes two then.
+    /// Removes a number that is in the set. An error is an allocation failure; then the set is unchanged. It can come
+    /// only if the numbers just before and just after are in the set too, because one range then becomes two.
     pub fn remove(&mut self, number: u32) -> Result<(), AllocError>
         requires { Has self.old number }
         ensures removed { OnOk result ((n : ℕ) → Has self.new n ↔ (Has self.old n × (n ≢ number))) }

@@ -83,7 +83,7 @@ fn random_numbers_are_removed_as_from_an_array(rt: HostRuntime) {
     }
 }
 
-/// The set of some numbers, each of which is added where it isn't in the set. An error is an allocation failure.
+/// The set of some numbers, each added unless it is already in the set. An error is an allocation failure.
 fn set_of(alloc: Global, numbers: &[u32]) -> Result<NumberSet, AllocError> {
     let mut set = NumberSet::new(alloc);
     for number in numbers {

@@ -4,7 +4,7 @@ use crate::bytes::ObjectBytes;
 use mesh_configurations::Calls;
 use std::alloc::{AllocError, Global};
 
-/// The bytes of an object as what a judge follows.
+/// The bytes of an object as the state that a judge follows.
 pub struct ObjectAccesses;
 
 impl Calls for ObjectAccesses {

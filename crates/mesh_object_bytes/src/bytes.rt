@@ -14,11 +14,12 @@ use std::marker::Model;
 
 mod prints;
 
-/// The bytes of one object. Bytes that were never stored are 0, and take no memory but for those of a chunk of 64 in
-/// which a byte was stored.
+/// The bytes of one object. Bytes that were never stored are 0. They take no memory, except in a chunk of 64 bytes in
+/// which some byte was stored.
 ///
-/// Which chunks are kept depends only on which stores had their effect. So two configurations of a judge in which the
-/// same calls had their effect, and whose bytes are the same, keep the same chunks: they are one and not two.
+/// Which chunks are kept depends only on which stores took effect. So two configurations of a judge keep the same
+/// chunks if the same calls took effect in both and their bytes are equal. The judge then counts them as one
+/// configuration.
 #[derive(Drop)]
 pub struct ObjectBytes {
     len: u64,
@@ -34,7 +35,7 @@ impl Model for ObjectBytes {
 }
 
 impl ObjectBytes {
-    /// So many zeros. It allocates nothing.
+    /// Returns `len` zero bytes. It allocates nothing.
     pub fn new(alloc: Global, len: u64) -> ObjectBytes
         ensures first { result ≡ first_state len }
         ensures zeros { bytes_of result ≡ replicate len 0 }
@@ -52,7 +53,7 @@ impl ObjectBytes {
         self.len
     }
 
-    /// The bytes from an offset on.
+    /// Returns the `len` bytes from offset `off` on.
     pub fn load(&self, off: u64, len: u32) -> ArrayVec<u8, MAX_BYTES>
         requires fits { off + len ≤ length (bytes_of self.now) }
         requires few { len ≤ 32 }
@@ -64,7 +65,7 @@ impl ObjectBytes {
         bytes
     }
 
-    /// Copies the bytes from an offset on, as many as `out` has.
+    /// Fills `out` with the bytes from offset `off` on.
     fn read(&self, off: u64, out: &mut [u8])
         requires fits { off + length out.old ≤ length (bytes_of self.now) }
         requires few { length out.old ≤ 32 }
@@ -78,7 +79,7 @@ impl ObjectBytes {
         }
     }
 
-    /// A run of one chunk's bytes, from a place in it on.
+    /// The `len` bytes of one chunk from `place` on.
     fn run(&self, number: u64, place: usize, len: usize) -> &[u8]
         requires one_chunk { place + len ≤ 64 }
         requires fits { number * 64 + place + len ≤ length (bytes_of self.now) }
@@ -87,23 +88,24 @@ impl ObjectBytes {
         &chunk(self.chunks.as_slice(), number)[place..place + len]
     }
 
-    /// Whether a range ends past the bytes.
+    /// Whether the range of `len` bytes from `off` on ends past the object's bytes.
     pub(crate) fn ends_past(&self, off: u64, len: usize) -> bool
         ensures { result ≡ ends_past (bytes_of self.now) off len }
     {
         self.len < off || self.len - off < len as u64
     }
 
-    /// Whether a load of so many bytes from an offset on answers these bytes.
+    /// Whether a load of `len` bytes from offset `off` on answers `answered`.
     pub(crate) fn answers(&self, off: u64, len: u32, answered: &[u8]) -> bool
         requires { length answered.now ≤ 32 }
-        ensures { result ≡ (nat_eq len (length answered.now) && (not (ends_past (bytes_of self.now) off (length answered.now))
+        ensures { result ≡ (nat_eq len (length answered.now) &&
+            (not (ends_past (bytes_of self.now) off (length answered.now))
             && bytes_eq answered.now (slice_range (bytes_of self.now) off (off + length answered.now)))) }
     {
         len as usize == answered.len() && self.has(off, answered)
     }
 
-    /// Whether these bytes are there from an offset on.
+    /// Whether the object has these bytes from offset `off` on.
     fn has(&self, off: u64, bytes: &[u8]) -> bool
         requires { length bytes.now ≤ 32 }
         ensures { result ≡ (not (ends_past (bytes_of self.now) off (length bytes.now))
@@ -115,7 +117,7 @@ impl ObjectBytes {
         bytes == self.load(off, bytes.len() as u32).as_slice()
     }
 
-    /// The bytes with others stored from an offset on. An error is an allocation failure, here and below.
+    /// Returns a copy with other bytes stored from an offset on. An error is an allocation failure, here and below.
     pub(crate) fn stored(
         &self,
         alloc: Global,
@@ -123,7 +125,8 @@ impl ObjectBytes {
         bytes: &[u8],
     ) -> Result<ObjectBytes, AllocError>
         requires { length bytes.now ≤ 32 }
-        ensures { IfOk result (λ next. next ≡ record { len = self.now.len; chunks = stored self.now.chunks off bytes.now }) }
+        ensures { IfOk result
+            (λ next. next ≡ record { len = self.now.len; chunks = stored self.now.chunks off bytes.now }) }
     {
         let mut chunks = self.chunks.as_slice().to_vec(alloc)?;
         store_in(&mut chunks, off, bytes)?;
@@ -142,7 +145,7 @@ impl ObjectBytes {
         self.chunks.len()
     }
 
-    /// A copy.
+    /// Returns a copy.
     pub(crate) fn copied(&self, alloc: Global) -> Result<ObjectBytes, AllocError>
         ensures { IfOk result (λ copy. copy ≡ self.now) }
     {
@@ -171,7 +174,7 @@ fn store_in(chunks: &mut Vec<Chunk>, off: u64, bytes: &[u8]) -> Result<(), Alloc
     store_run(chunks, number + 1, 0, rest)
 }
 
-/// The chunk in which an offset lies, and the place in that chunk.
+/// The number of the chunk that contains an offset, and the offset's place in that chunk.
 fn chunk_and_place(offset: u64) -> (u64, usize)
     ensures offset { result.0 * 64 + result.1 ≡ offset }
     ensures place { result.1 < 64 }
@@ -181,7 +184,7 @@ fn chunk_and_place(offset: u64) -> (u64, usize)
     (offset / chunk_bytes, (offset % chunk_bytes) as usize)
 }
 
-/// How many of so many bytes from a place on lie in that place's chunk.
+/// How many of `len` bytes from `place` on are in that place's chunk.
 fn first_run(place: usize, len: usize) -> usize
     requires { place < 64 }
     ensures within { result ≤ len }

@@ -3,16 +3,16 @@
 /// How many bytes a chunk has. This project's own choice.
 pub(crate) const CHUNK_BYTES: usize = 64;
 
-/// Contracts name the number.
+/// Contracts contain the number itself.
 const _: () = prove!(CHUNK_BYTES == 64);
 
 /// The bytes of a chunk that isn't kept.
 pub(crate) static ZEROS: [u8; CHUNK_BYTES] = [0; CHUNK_BYTES];
 
-/// The bytes of an object from 64 times a number on.
+/// 64 bytes of an object, from offset 64 times `number` on.
 #[derive(Clone, Copy, PartialEq, Eq)]
 pub(crate) struct Chunk {
-    /// The number.
+    /// The number of the chunk.
     pub number: u64,
     /// The bytes.
     pub bytes: [u8; CHUNK_BYTES],

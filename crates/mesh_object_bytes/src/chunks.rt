@@ -1,4 +1,4 @@
-//! The chunks of an object's bytes that are kept, in the order of their numbers.
+//! The kept chunks of an object's bytes, in the order of their numbers.
 ghost use Rattle.std.specs.Prelude.{◌≡◌, ◌+◌, ◌*◌, ◌<◌, ◌≤◌, OnOk, length};
 ghost use Rattle.model_memory.specs.Memory.{overwritten};
 ghost use Rattle.mesh_object_bytes.specs.Chunks.{chunk_bytes, index_of, stored};
@@ -6,7 +6,7 @@ ghost use Rattle.mesh_object_bytes.specs.Chunks.{chunk_bytes, index_of, stored};
 use crate::chunk::{CHUNK_BYTES, Chunk, ZEROS};
 use std::alloc::AllocError;
 
-/// The bytes of the chunk of a number.
+/// The bytes of the chunk with a number.
 pub(crate) fn chunk(chunks: &[Chunk], number: u64) -> &[u8]
     ensures bytes { result.now ≡ chunk_bytes number chunks.now }
     ensures sized { length result.now ≡ 64 }
@@ -41,7 +41,7 @@ fn all_bytes(bytes: &[u8; CHUNK_BYTES]) -> &[u8]
     bytes.as_slice()
 }
 
-/// Stores bytes in the chunk of a number, from a place on. An error is an allocation failure.
+/// Stores bytes in the chunk with a number, from a place on. An error is an allocation failure.
 pub(crate) fn store_run(
     chunks: &mut Vec<Chunk>,
     number: u64,

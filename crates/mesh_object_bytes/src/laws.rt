@@ -1,7 +1,7 @@
 //! A lemma about accesses. It is the contract of a function that does nothing.
 ghost use Rattle.mesh_object_bytes.specs.ObjectBytes.{EffectIsAccess};
 
-/// What an access does to the state of an object is what it does to the bytes of the object.
+/// The effect of an access on an object's state is its effect on the object's bytes.
 pub fn effect_is_access()
     ensures { EffectIsAccess }
 {}

@@ -1,6 +1,7 @@
-//! The bytes of one object as the state of a judge of overlapping calls; only chunks with stored bytes take memory.
+//! The bytes of one object, as the state of a judge of overlapping calls. Only chunks with stored bytes take memory.
 //!
-//! An access of the object is recorded as an [`Access`]. [`ObjectAccesses`] says what accesses do to [`ObjectBytes`].
+//! An access of the object is recorded as an [`Access`]. [`ObjectAccesses`] defines what accesses do to
+//! [`ObjectBytes`].
 #![tactic(auto)]
 
 mod access;

@@ -31,7 +31,7 @@ fn bytes_of(some: &[u8]) -> ArrayVec<u8, MAX_BYTES> {
     bytes
 }
 
-/// A load from an offset on that is answered with these bytes, as many as it asks for.
+/// A load from an offset on that asks for as many bytes as it is answered with.
 fn load_of(off: u64, answered: &[u8]) -> Access {
     let bytes = bytes_of(answered);
     Access::Load(off, bytes.len() as u32, bytes)
@@ -75,7 +75,7 @@ fn random_access(seed: &mut u64, plain: &[u8; LEN]) -> Access {
     Access::Load(off as u64, asked as u32, bytes)
 }
 
-/// What the array has behind an access, `None` if it was answered wrongly.
+/// The array after an access. `None` if the access was answered wrongly.
 fn behind(plain: &[u8; LEN], access: &Access) -> Option<[u8; LEN]> {
     let mut next = *plain;
     match access {
@@ -107,7 +107,8 @@ fn behind(plain: &[u8; LEN], access: &Access) -> Option<[u8; LEN]> {
     Some(next)
 }
 
-/// Whether the state behind a random access is there where the array behind it is. Both go on to what is behind it.
+/// Whether a random access has an effect on the state if and only if it has one on the array. If so, state and array
+/// become those after the access.
 fn goes_on(
     alloc: Global,
     seed: &mut u64,
@@ -159,7 +160,7 @@ fn random_accesses_do_what_they_do_to_an_array(rt: HostRuntime) {
     }
 }
 
-/// The state behind stores, if all are within the object. An error is an allocation failure.
+/// The state after stores, if all of them are within the object. An error is an allocation failure.
 fn stored(
     alloc: Global,
     len: u64,

@@ -74,7 +74,7 @@ pub reply_within : (count count' : ℕ) (reply : PackedReply) → count ≤ coun
 reply_within count count' (Bytes run) most within = record { ends = omega (arith, most, within.ends); few = within.few }
 reply_within count count' reply most within = tt
 
--- packed commands that stand in a list stay
+-- packed commands in a list stay the same when more bytes are kept
 commands_stay : (kept kept' : List ℕ) (commands : List PackedCommand) → KeepsAll kept kept' → All (IsCommandWithin (length kept)) commands → map (command_in kept') commands ≡ map (command_in kept) commands
 commands_stay kept kept' [] keeps within = refl
 commands_stay kept kept' (command ∷ commands) keeps within =
@@ -83,7 +83,7 @@ commands_stay kept kept' (command ∷ commands) keeps within =
       commands_stay kept kept' commands keeps (All-tail (IsCommandWithin (length kept)) command commands within),
     ) refl
 
--- and a further one that was packed stands behind them
+-- and a further packed command is appended to them
 pub commands_pushed : (kept kept' : List ℕ) (commands : List PackedCommand) (packed : PackedCommand) (command : Command) → KeepsAll kept kept' → All (IsCommandWithin (length kept)) commands → command_in kept' packed ≡ command
     → map (command_in kept') (commands ++ packed ∷ []) ≡ map (command_in kept) commands ++ command ∷ []
 commands_pushed kept kept' commands packed command keeps within is = map-append (command_in kept') commands (packed ∷ []) ∙ rw (commands_stay kept kept' commands keeps within, is) refl

@@ -6,13 +6,13 @@ ghost use Rattle.mesh_packed.specs.Runs.{HasRoom, IsKeptOn};
 use crate::run::{Run, bytes_of, keep};
 use model_words::Command;
 
-/// A command without its bytes, in 16 bytes: what each says is what the command of its name says. The fields lie in memory in their order, so
-/// the two cells of `Copy` stand together, and of `Put` it is told where its bytes are kept.
+/// A command without its bytes, in 16 bytes. Each variant has the meaning of the command of that name. The fields are
+/// in memory in their order, so the two cells of `Copy` are adjacent. `Put` has the run of its bytes.
 #[derive(Drop)]
 pub enum PackedCommand {
     /// `New(cell, len, word)`.
     New(u8, u32, u64),
-    /// `Put(cell, off, run)`: the bytes that are stored are the run's.
+    /// `Put(cell, off, run)`: the stored bytes are those of the run.
     Put(u8, u32, Run),
     /// `Get(cell, off, len)`.
     Get(u8, u32, u32),
@@ -30,7 +30,7 @@ pub enum PackedCommand {
     Copy(u8, u8, u32, u32, u32),
 }
 
-/// Packs a command. Its bytes, at most 32, come behind those that are kept, for which there is room.
+/// Packs a command. Its bytes, at most 32, are appended to those that are kept; there must be room for them.
 pub fn pack_command(kept: &mut Vec<u8>, command: &Command) -> PackedCommand
     requires { HasRoom kept.old }
     ensures command { command_in kept.new.items result ≡ command.now }
@@ -53,7 +53,7 @@ pub fn pack_command(kept: &mut Vec<u8>, command: &Command) -> PackedCommand
     }
 }
 
-/// The command that was packed. It takes no memory.
+/// Returns the command that was packed. It allocates nothing.
 pub fn unpack_command(kept: &[u8], command: &PackedCommand) -> Command
     requires { IsCommandWithin (length kept.now) command.now }
     ensures { result ≡ command_in kept.now command.now }

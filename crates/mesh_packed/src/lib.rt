@@ -1,8 +1,8 @@
-//! Commands and replies in few bytes: what they store or load is kept beside them, since most have no bytes.
+//! Commands and replies in few bytes; the bytes that they store or load are kept in a separate list.
 //!
-//! A packed command takes 16 bytes and a packed reply 12, where a `Command` takes 48. Their bytes stand in one list, each one's behind those of
-//! the one before, and what was kept stays. Scripts and the journal keep theirs so. Contracts see what a packed command is unpacked to
-//! (`specs/Packed.antt`).
+//! Most commands and replies have no bytes. A packed command takes 16 bytes and a packed reply 12; a `Command` takes
+//! 48. All their bytes are in one list, in the order of packing, and bytes that were kept never change. Scripts and the
+//! journal are stored this way. Contracts see what a packed command is unpacked to (`specs/Packed.antt`).
 #![tactic(auto)]
 
 mod command;

@@ -23,7 +23,7 @@ pub enum PackedReply {
     Refused(Refusal),
 }
 
-/// Packs a reply. Its bytes, at most 32, come behind those that are kept, for which there is room.
+/// Packs a reply. Its bytes, at most 32, are appended to those that are kept; there must be room for them.
 pub fn pack_reply(kept: &mut Vec<u8>, reply: &Reply) -> PackedReply
     requires { HasRoom kept.old }
     ensures reply { reply_in kept.new.items result ≡ reply.now }
@@ -41,7 +41,7 @@ pub fn pack_reply(kept: &mut Vec<u8>, reply: &Reply) -> PackedReply
     }
 }
 
-/// The reply that was packed. It takes no memory.
+/// Returns the reply that was packed. It allocates nothing.
 pub fn unpack_reply(kept: &[u8], reply: &PackedReply) -> Reply
     requires { IsReplyWithin (length kept.now) reply.now }
     ensures { result ≡ reply_in kept.now reply.now }

@@ -6,16 +6,16 @@ ghost use Rattle.mesh_packed.specs.Runs.{HasRoom, IsKeptOn, IsRunWithin, run_in}
 use arrayvec::ArrayVec;
 use model_words::MAX_BYTES;
 
-/// Where some bytes stand among all that are kept: `len` of them from `place` on.
+/// The range of some bytes in the list of kept bytes: `len` bytes from `place` on.
 #[derive(Clone, Copy)]
 pub struct Run {
-    /// The place of the first.
+    /// The place of the first byte.
     pub place: u32,
-    /// How many there are.
+    /// How many bytes there are.
     pub len: u8,
 }
 
-/// Keeps up to 32 bytes behind the others, for which there is room, and tells where.
+/// Appends up to 32 bytes to the list, which has room for them, and returns their run.
 pub(crate) fn keep(kept: &mut Vec<u8>, bytes: &ArrayVec<u8, MAX_BYTES>) -> Run
     requires { HasRoom kept.old }
     ensures bytes { run_in kept.new.items result ≡ bytes.now }
@@ -31,7 +31,7 @@ pub(crate) fn keep(kept: &mut Vec<u8>, bytes: &ArrayVec<u8, MAX_BYTES>) -> Run
     run
 }
 
-/// The bytes that are kept where it is told.
+/// The bytes of a run.
 pub(crate) fn bytes_of(kept: &[u8], run: Run) -> ArrayVec<u8, MAX_BYTES>
     requires { IsRunWithin (length kept.now) run }
     ensures { result ≡ run_in kept.now run }

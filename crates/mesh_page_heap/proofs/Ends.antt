@@ -22,7 +22,8 @@ use Rattle.mesh_page_heap.proofs.LiveObjects.{calm_open}
 use Rattle.mesh_page_heap.proofs.Stores.{free_laid, store_laid}
 use Rattle.mesh_page_heap.proofs.Whole.{unwind_step}
 
--- a new object of zeros in a vacant slot of an open group: the slot is filled, and the bytes at its addresses are stored
+-- a new object of zeros in a vacant slot of an open group: the slot is filled, and the bytes at its addresses are
+-- stored
 pub page_heap_make : (arena arena' : Pages) (m : Entries) (old new : Index) (next : ℕ) (ms : List Mesh) (n k place : ℕ) (slot : Slot) (bytes : List ℕ)
     → IsIndex old.spans old.groups → IsIndex new.spans new.groups → IsPageHeap arena m old next ms → new.spans ≡ old.spans
     → new.groups ≡ with_entry old.groups n k (Some slot) → ((i : ℕ) → is_closed new i ≡ is_closed old i) → is_closed old n ≡ false

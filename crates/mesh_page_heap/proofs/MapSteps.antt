@@ -1,4 +1,5 @@
--- Each step that changes the page map alone, or nothing, leaves groups, map and arena laid out, and the bytes of live objects.
+-- Each step that changes the page map alone, or nothing, leaves groups, map and arena laid out, and the bytes of live
+-- objects.
 use Rattle.std.proofs.Common.{◌≡◌, ◌≢◌, ℕ, ◌+◌, ◌*◌, ◌/◌, ◌%◌, ◌<◌, ◌≤◌, true, false, ap, subst, refl, sym, ◌∙◌, arith, ◌⊎◌, inl, inr}
 use Rattle.std.proofs.lemmas.Bool.Decides.{eqb_tells}
 use Rattle.mesh_arena.specs.Pages.{Pages, byte_at}

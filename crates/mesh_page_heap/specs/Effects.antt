@@ -1,4 +1,4 @@
--- Arena and page map as what lies under a table, and what the steps of a mesh change of them.
+-- Arena and page map as the memory under a table, and what the steps of a mesh change in them.
 use Rattle.std.specs.Prelude.{◌≡◌, ℕ, not, find, Some}
 use Rattle.mesh_arena.specs.Pages.{IsTaken, Pages, is_taken}
 use Rattle.model_heap.specs.Places.{Place}

@@ -21,7 +21,7 @@ abbrev pub pages_in : Option GroupEntry → List ℕ
 pages_in None = []
 pages_in (Some group) = group.pages
 
--- what stands in its slots
+-- the contents of its slots
 abbrev pub slots_in : Option GroupEntry → List (Option Slot)
 slots_in None = []
 slots_in (Some group) = group.slots

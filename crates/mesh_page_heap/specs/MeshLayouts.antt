@@ -1,4 +1,4 @@
--- How far the mesh from each group has come, told by the list of running meshes.
+-- The progress of the mesh from each group, given by the list of running meshes.
 use Rattle.std.specs.Prelude.{ℕ, ◌+◌, ◌-◌, ◌*◌, if◌then◌else◌, nat_eq, nat_le, min, List, Option, Some, None, find}
 use Rattle.mesh_class.specs.Classes.{slots_of}
 use Rattle.model_heap.specs.Table.{Made, Mesh, Progress, Unwinding}

@@ -24,7 +24,7 @@ pub record IsPair (busy : Busy) (g : PageHeap) (source destination class : ℕ) 
   pub may : may_begin (busy_by busy) (table_in g) source destination ≡ Ok pair
   pub class_is : pair.source.class ≡ class
 
--- a mesh began: its groups are closed, so many steps are to come, and nothing lies elsewhere
+-- a mesh began: its groups are closed, `left` steps are to come, and memory is unchanged
 pub record IsBegun (busy : Busy) (old new : PageHeap) (source destination left : ℕ) : Type 0 where
   pub table : begin (busy_by busy) (table_in old) source destination ≡ Ok (record { count = left; table = table_in new })
   pub arena : new.arena ≡ old.arena
@@ -35,7 +35,8 @@ pub record IsRunning (g : PageHeap) (place : ℕ) (mesh : Mesh) : Type 0 where
   pub at : slice_get g.meshes place ≡ Some mesh
   pub found : mesh_in (table_in g) mesh.class ≡ Some mesh
 
--- the next step of the mesh of a class was made: the table's, with its effect and no other, and each byte of an object is as it was
+-- the next step of the mesh of a class was made: the table's, with its effect and no other, and each byte of an object
+-- is as it was
 pub record IsStepped (old new : PageHeap) (class : ℕ) (done : StepDone) : Type 0 where
   pub table : step (table_in old) (mesh_in (table_in old) class) ≡ Ok (record { kind = done.kind; left = done.left; table = table_in new })
   pub kept : Keeps (layout_of old.index) old.arena new.arena old.map new.map
@@ -43,7 +44,7 @@ pub record IsStepped (old new : PageHeap) (class : ℕ) (done : StepDone) : Type
   pub running : mesh_in (table_in old) class ≡ Some mesh
   pub effect : HasEffect old.index mesh old.arena new.arena old.map new.map
 
--- the mesh of a class was cancelled: so many unprotects are to come, and nothing lies elsewhere
+-- the mesh of a class was cancelled: `left` unprotects are to come, and memory is unchanged
 pub record IsCancelled (old new : PageHeap) (class left : ℕ) : Type 0 where
   pub table : cancel (table_in old) (mesh_in (table_in old) class) ≡ Ok (record { count = left; table = table_in new })
   pub arena : new.arena ≡ old.arena
@@ -61,13 +62,14 @@ pub record OpensBoth (old new : Index) (source destination : ℕ) : Type 0 where
   pub closed_source : is_closed new source ≡ false
   pub closed_destination : is_closed new destination ≡ false
 
--- a mesh stands in the list, and its two groups are there
+-- a mesh is in the list, and its two groups exist
 pub record CanWindBack (index : Index) (list : List Mesh) (place : ℕ) (mesh : Mesh) : Type 0 where
   pub listed : place < length list
   pub source : IsSome (group_at index.groups mesh.source)
   pub destination : IsSome (group_at index.groups mesh.destination)
 
--- a cancelled mesh with so many of its protected pages writable again: with all of them it is out of the list, and its two groups are open
+-- a cancelled mesh with so many of its protected pages writable again: with all of them it is out of the list, and its
+-- two groups are open
 pub record IsWoundBack (old new : Index) (list left : List Mesh) (place : ℕ) (mesh : Mesh) (protected unprotected : ℕ) : Type 0 where
   pub over : unprotected ≡ protected → OpensBoth old new mesh.source mesh.destination × (left ≡ remove list place)
   pub more : unprotected ≢ protected → (new ≡ old) × (left ≡ slice_set list place (record mesh { progress = Unwinding protected unprotected }))

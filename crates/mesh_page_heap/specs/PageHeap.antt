@@ -42,11 +42,11 @@ table_in g = table_with g.arena g.index g.next_page g.meshes
 abbrev pub open_group : Table → ℕ → Option Group
 open_group t class = find (is_open t class) t.groups
 
--- the counts that are told, as the definition of a report has them
+-- the reported counts, as the definition of a report has them
 abbrev pub counts_told : Report → PlainReport
 counts_told r = record { objects = r.objects; bytes = r.bytes; mapped = r.mapped; taken = r.taken; saved = r.saved }
 
--- an object stands in the slot, from this address on
+-- an object is in the slot, from this address on
 pub record IsStanding (index : Index) (span k serial len address : ℕ) : Type 0 where
   pub recorded : IsRecorded index span k serial len
   pub sound : IsSpan (span_at index.spans span)
@@ -80,7 +80,7 @@ table_with_object g span k serial len =
 abbrev pub table_emptied : PageHeap → ℕ → ℕ → Table
 table_emptied g span k = with_group (table_in g) (group_number g.index span) (emptied_at k)
 
--- objects stand where they stood, and each of their bytes is as it was
+-- objects stay at their addresses, and each of their bytes is unchanged
 pub record KeepsObjects (old new : PageHeap) : Type 0 where
   pub stay : (n k o x : ℕ) (slot : Slot) → IsLiveAt (layout_of old.index) n k o x slot → IsLiveAt (layout_of new.index) n k o x slot
   pub bytes : Keeps (layout_of old.index) old.arena new.arena old.map new.map

@@ -12,8 +12,8 @@ use Rattle.mesh_page_heap.specs.Indexes.{layout_of, table_with}
 use Rattle.mesh_page_heap.specs.Layout.{IsLaidOut}
 use Rattle.mesh_page_heap.specs.MeshLayouts.{stage_of}
 
--- no virtual page from the next one on is mapped or in a span, the groups lie as the running meshes have them, these close their groups, and the
--- table is sound
+-- no virtual page from the next one on is mapped or in a span, the groups lie as the running meshes have them, these
+-- close their groups, and the table is sound
 pub record IsPageHeap (arena : Pages) (map : Entries) (index : Index) (next_page : ℕ) (meshes : List Mesh) : Type 0 where
   pub some : 1 ≤ next_page
   pub most : next_page ≤ 65536

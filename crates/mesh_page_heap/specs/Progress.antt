@@ -5,7 +5,8 @@ use Rattle.model_heap.specs.Table.{Made, Unwinding}
 use Rattle.mesh_page_heap.specs.Layout.{Stage}
 use Rattle.mesh_page_heap.specs.MeshLayouts.{stage_at}
 
--- a stage of a mesh into group 7: its read-only pages from one number up to another, and how much was copied, remapped and released
+-- a stage of a mesh into group 7: its read-only pages from one number up to another, and how much was copied, remapped
+-- and released
 abbrev stage : ℕ → ℕ → ℕ → ℕ → ℕ → Stage
 stage from to copied remapped released = record {
   into = 7;
@@ -20,7 +21,8 @@ stage from to copied remapped released = record {
 abbrev pub stages : ℕ → ℕ → ℕ → List Stage
 stages total slots steps = map (λ d. stage_at total slots 7 (Made d)) (range_with_len 0 steps)
 
--- a source of two members of one page, with two slots, has nine steps: two protects, copies, remaps and unprotects, and a release
+-- a source of two members of one page, with two slots, has nine steps: two protects, copies, remaps and unprotects, and
+-- a release
 abbrev pub MeshesTwoMembers : Type 0
 MeshesTwoMembers = stages 2 2 9
     ≡ stage 0 0 0 0 0 ∷ stage 0 1 0 0 0 ∷ stage 0 2 0 0 0 ∷ stage 0 2 1 0 0 ∷ stage 0 2 2 0 0 ∷ stage 0 2 2 1 0 ∷ stage 0 2 2 2 0 ∷ stage 1 2 0 2 0

@@ -13,7 +13,8 @@ pub record CanUnmap (l : Layout) (m : Entries) (n : ℕ) : Type 0 where
   pub mapped : (i v : ℕ) → IsPageOf l n i v → IsMapped m v
   pub once : (i j v : ℕ) → IsPageOf l n i v → IsPageOf l n j v → i ≡ j
 
--- an empty group was taken out, so many pages came free, its virtual pages are unmapped, and each byte of an object is as it was
+-- an empty group was taken out, so many pages came free, its virtual pages are unmapped, and each byte of an object is
+-- as it was
 pub record HasGone (old new : PageHeap) (n count : ℕ) : Type 0 where
   pub table : sweep (table_in old) n ≡ Ok (record { count = count; table = table_in new })
   pub kept : Keeps (layout_of old.index) old.arena new.arena old.map new.map

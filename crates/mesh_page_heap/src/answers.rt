@@ -1,25 +1,25 @@
-//! What the page heap's calls answer.
+//! The results of the page heap's calls.
 ghost use Rattle.std.specs.Prelude.{◌+◌, ◌<◌, ◌≤◌};
 ghost use Rattle.std.specs.Bool.{OnFalse, OnTrue};
 
 use mesh_spans::{Slot, Span};
 
-/// What a heap counts.
+/// The counts of a heap.
 #[derive(Clone, Copy, Debug, PartialEq, Eq)]
 pub struct Report {
-    /// The live objects.
+    /// How many objects are live.
     pub objects: u32,
-    /// The lengths of the live objects together, in bytes.
+    /// The total length of the live objects, in bytes.
     pub bytes: u32,
-    /// The mapped virtual pages.
+    /// How many virtual pages are mapped.
     pub mapped: u32,
-    /// The taken physical pages.
+    /// How many physical pages are taken.
     pub taken: u32,
-    /// How many more pages are mapped than taken: those that meshing saves.
+    /// How many more pages are mapped than taken: the pages that meshing saves.
     pub saved: u32,
 }
 
-/// Where an object stands in whose slot an address is.
+/// The object in whose slot an address is, and where that slot is.
 #[derive(Clone, Copy)]
 pub struct Occupied {
     /// The object's span.
@@ -35,7 +35,7 @@ pub struct Occupied {
 }
 
 impl Occupied {
-    /// Whether `len` bytes from offset `off` on are within the object.
+    /// Whether the `len` bytes from offset `off` on are within the object.
     pub fn has_range(self, off: u32, len: u32) -> bool
         ensures within { OnTrue result (off + len ≤ self.len) }
         ensures past { OnFalse result (self.len < off + len) }

@@ -1,4 +1,4 @@
-//! `Busy`, which running meshes keep a mesh from beginning.
+//! `Busy`, which running meshes prevent a mesh from beginning.
 
 /// Which running meshes keep a class busy, so that no mesh of it begins.
 #[derive(Clone, Copy)]

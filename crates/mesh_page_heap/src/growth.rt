@@ -24,7 +24,7 @@ pub fn take_pages(arena: &mut Arena, count: u32) -> ArrayVec<Page, MAX_SPAN_PAGE
     pages
 }
 
-/// Gives taken pages back.
+/// Frees taken pages.
 pub fn give_pages(arena: &mut Arena, pages: &[Page])
     requires { AreTaken arena.old pages.now }
     ensures back { arena.new ≡ given_back arena.old pages.now }

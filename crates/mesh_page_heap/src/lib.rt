@@ -1,9 +1,13 @@
-//! The page heap: physical pages, page map, span index and running meshes together, without serials and without a meaning.
+//! The page heap: physical pages, page map, span index and running meshes together.
 //!
-//! `PageHeap` makes, finds, reads, stores and clears what stands in slots, and begins, steps and cancels meshes. How many steps a mesh has and which is
-//! next says `StepOrder` of `mesh_running`, and what one does to pages and page map `steps`. The heap of objects that mutators use stands on it (`mesh_steps`).
+//! The page heap assigns no serials, and doesn't define what a heap means.
 //!
-//! A contract sees a page heap as its physical pages, its page map, its span index, the next virtual page and the running meshes.
+//! `PageHeap` places, finds, reads, stores and clears objects in slots, and begins, steps and cancels meshes.
+//! `StepOrder` of `mesh_running` gives the number of steps of a mesh and which step is next. `steps` contains what a
+//! step does to pages and page map. The heap of objects that mutators use is built on this crate (`mesh_steps`).
+//!
+//! A contract sees a page heap as its physical pages, its page map, its span index, the next virtual page and the
+//! running meshes.
 #![tactic(auto)]
 
 mod answers;

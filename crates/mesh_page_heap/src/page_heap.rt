@@ -1,4 +1,4 @@
-//! `PageHeap`: physical pages, page map and span index together, without serials or meaning.
+//! `PageHeap`: physical pages, page map and span index together. It assigns no serials and defines no meaning.
 ghost use Rattle.std.specs.Prelude.{◌≡◌, ℕ, ◌+◌, ◌<◌, ◌≤◌, ◌↔◌, Some, replicate, length, IsTrue, slice_get, slice_index, IfOk, IfErr, IfSome, IsSome, IsSomeAnd};
 ghost use Rattle.std.specs.Bool.{OnFalse};
 ghost use Rattle.std.specs.Option.{option_map};
@@ -34,10 +34,10 @@ use std::marker::Model;
 /// The virtual page after the last one.
 const END_OF_VIRTUAL_PAGES: u32 = 65_536;
 
-/// What a new object holds.
+/// The bytes of a new object.
 static ZEROS: [u8; 2048] = [0; 2048];
 
-/// Physical pages, the page map over them, and the index of the spans that the map is for.
+/// Physical pages, the page map over them, and the index of the mapped spans.
 pub struct PageHeap {
     store: Store,
     spans: Spans,
@@ -56,7 +56,8 @@ impl Model for PageHeap {
 
     ghost coded = { page_heap_code };
 
-    ghost view = { λ g. record { arena = g.store.arena; map = g.store.map; index = g.spans; next_page = g.next_page; meshes = g.meshes.items } };
+    ghost view = { λ g.
+        record { arena = g.store.arena; map = g.store.map; index = g.spans; next_page = g.next_page; meshes = g.meshes.items } };
 
     ghost invariant = { λ g. IsPageHeap g.store.arena g.store.map g.spans g.next_page g.meshes.items };
 }
@@ -67,7 +68,7 @@ impl Drop for PageHeap {
 }
 
 impl PageHeap {
-    /// No span over `pages` physical pages, 1 to 4,096. An error is an allocation failure.
+    /// Creates a page heap over `pages` physical pages, 1 to 4,096, without spans. An error is an allocation failure.
     pub fn open(alloc: Global, pages: u32) -> Result<PageHeap, AllocError>
         requires some { 1 ≤ pages }
         requires most { pages ≤ 4096 }
@@ -84,7 +85,8 @@ impl PageHeap {
         })
     }
 
-    /// What always holds: groups, page map and arena lie as the running meshes have them, the table is sound, and spans and groups fit together.
+    /// The invariant: groups, page map and arena have the layout that the running meshes require, the table is sound,
+    /// and spans and groups agree.
     pub fn sound(&self)
         ensures pages { IsPageHeap self.now.arena self.now.map self.now.index self.now.next_page self.now.meshes }
         ensures index { IsIndex self.now.index.spans self.now.index.groups }
@@ -92,11 +94,12 @@ impl PageHeap {
         self.spans.sound();
     }
 
-    /// The slot that the next object of the class takes: that of `Spans::open_slot`, or, where no group is open, the one at place `word` modulo their
-    /// number of a new span.
+    /// Returns the slot that the next object of the class takes: that of `Spans::open_slot`, or, if no group is open, a
+    /// slot of a new span. In a new span it is the slot `word` modulo the number of slots.
     ///
-    /// Refused with NO_PAGES where the arena has fewer free pages than the new span wants, and with NO_ADDRESSES where fewer virtual pages are left, the
-    /// first that holds; Memory where its records are refused memory. Then nothing changes.
+    /// The error is NO_PAGES if the arena has fewer free pages than the new span needs, and NO_ADDRESSES if fewer
+    /// virtual pages are left, the first that applies. It is Memory if an allocation for the records fails. After an
+    /// error nothing has changed.
     pub fn place(&mut self, class: Class, word: u64) -> Result<(Span, Slot), NewFault>
         ensures ok { IfOk result (λ r. IsPlace self.old self.new class word r.0 r.1) }
         ensures err { IfErr result (IsPlaceFault self.old self.new class) }
@@ -112,7 +115,7 @@ impl PageHeap {
         }
     }
 
-    /// Adds a span of the class, on the lowest unused virtual pages. Where it is refused, the pages that it took are given back.
+    /// Adds a span of the class, on the lowest unused virtual pages. If it fails, the pages that it took are freed.
     fn add_span(&mut self, class: Class) -> Result<Span, NewFault>
         ensures ok { IfOk result (λ span. IsFreshSpan self.old self.new class span) }
         ensures err { IfErr result (IsSpanFault self.old self.new class) }
@@ -140,7 +143,7 @@ impl PageHeap {
         }
     }
 
-    /// Lets an object of `len` zeros stand in a vacant slot of a group that is in no mesh, and gives its address.
+    /// Places an object of `len` zeros in a vacant slot of a group that is in no mesh, and returns its address.
     pub fn put(&mut self, span: Span, slot: Slot, serial: u32, len: u32) -> u32
         requires free { IsFreeSlot self.old.index (span_at self.old.index.spans span).class span slot }
         requires some { 1 ≤ len }
@@ -160,7 +163,7 @@ impl PageHeap {
         addr
     }
 
-    /// Takes an object out of its slot. Its bytes stay.
+    /// Removes an object from its slot. Its bytes stay.
     pub fn take_out(&mut self, span: Span, slot: Slot)
         requires there { IsSome (record_at self.old.index span slot) }
         requires sound { IsSound (table_emptied self.old span slot) }
@@ -171,17 +174,19 @@ impl PageHeap {
         self.spans.vacate(span, slot);
     }
 
-    /// The object in whose slot an address is. None only where there is none.
+    /// Returns the object in whose slot an address is. `None` only if there is none.
     pub fn occupied_at(&self, addr: u32) -> Option<Occupied>
         ensures there { IfSome result (λ o. IsInSlotOf self.now.index addr o.span o.slot o.offset o.serial o.len) }
-        ensures found { (n place k o : ℕ) (group : GroupEntry) (serial len : ℕ) → group_at self.now.index.groups n ≡ Some group
+        ensures found { (n place k o : ℕ) (group : GroupEntry) (serial len : ℕ)
+            → group_at self.now.index.groups n ≡ Some group
             → place < length group.members → k < slots_of group.class → o < group.class
             → slice_get group.slots k ≡ Some (Some (record {
               member = (span_at self.now.index.spans (slice_index group.members place)).first;
               serial = serial;
               len = len;
             }))
-            → slot_address (span_at self.now.index.spans (slice_index group.members place)).first group.class k + o ≡ addr
+            → slot_address (span_at self.now.index.spans (slice_index group.members place)).first group.class k + o
+            ≡ addr
             → IsSomeAnd result (λ found. (found.serial ≡ serial) × (found.offset ≡ o) × (found.len ≡ len)) }
     {
         let (span, slot, offset) = self.spans.find(addr)?;
@@ -195,7 +200,7 @@ impl PageHeap {
         })
     }
 
-    /// The class of a group. None only where the number is no group.
+    /// The class of a group. `None` only if the number is no group.
     pub fn class_of(&self, n: u32) -> Option<Class>
         ensures { result ≡ option_map (λ g. g.class) (group_of (table_in self.now) n) }
     {
@@ -212,7 +217,7 @@ impl PageHeap {
         class_view(alloc, &self.spans, class)
     }
 
-    /// What it counts. No group and no page is looked at.
+    /// Returns the counts. It looks at no group and no page.
     pub fn report(&self) -> Report
         ensures { counts_told result ≡ report_of (length self.now.arena) (table_in self.now) }
     {
@@ -228,7 +233,7 @@ impl PageHeap {
         }
     }
 
-    /// The bytes from an address on, as many as `out` has, all of one object.
+    /// Fills `out` with the bytes from an address on. All of them belong to one object.
     pub fn load(&self, addr: u32, out: &mut [u8])
         requires some { 1 ≤ length out.old }
         requires few { length out.old ≤ 2048 }
@@ -251,7 +256,7 @@ impl PageHeap {
         self.store.blocked(addr, len)
     }
 
-    /// Lets addresses of one object hold these bytes, where a store to them isn't blocked.
+    /// Writes bytes at addresses of one object. A store to them must not be blocked.
     pub fn save(&mut self, addr: u32, bytes: &[u8])
         requires some { 1 ≤ length bytes.now }
         requires few { length bytes.now ≤ 2048 }
@@ -265,7 +270,7 @@ impl PageHeap {
     }
 }
 
-/// Lets the addresses of a new object hold zeros.
+/// Writes zeros at the addresses of a new object.
 fn clear(store: &mut Store, addr: u32, len: u32)
     requires some { 1 ≤ len }
     requires few { len ≤ 2048 }

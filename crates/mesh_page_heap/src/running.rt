@@ -1,4 +1,4 @@
-//! What is asked of the list of the running meshes, and done to it.
+//! Queries and changes of the list of running meshes.
 ghost use Rattle.std.specs.Prelude.{◌≡◌, nat_eq, position, slice_set, length, ◌<◌};
 ghost use Rattle.mesh_page_heap.specs.MeshLayouts.{mesh_from};
 
@@ -6,10 +6,10 @@ use arrayvec::ArrayVec;
 use mesh_class::Class;
 use mesh_running::Running;
 
-/// How many meshes run at most: one of each size class.
+/// The most meshes that run at once: one of each size class.
 pub(crate) const MAX_MESHES: usize = 10;
 
-/// Lets another mesh stand at a place.
+/// Replaces the mesh at a place.
 pub(crate) fn replace(meshes: &mut ArrayVec<Running, MAX_MESHES>, place: usize, mesh: Running)
     requires { place < length meshes.old.items }
     ensures { meshes.new.items ≡ slice_set meshes.old.items place mesh }
@@ -17,7 +17,7 @@ pub(crate) fn replace(meshes: &mut ArrayVec<Running, MAX_MESHES>, place: usize, 
     meshes[place] = mesh;
 }
 
-/// The place of the mesh of a class.
+/// The place of the mesh of a class in the list.
 pub(crate) fn place_of(meshes: &[Running], class: Class) -> Option<usize>
     ensures { result ≡ position (λ mesh. nat_eq mesh.class class) meshes.now }
 {
@@ -26,7 +26,7 @@ pub(crate) fn place_of(meshes: &[Running], class: Class) -> Option<usize>
         .position(|mesh| mesh.class().size() == class.size())
 }
 
-/// The place of the mesh from a group.
+/// The place of the mesh from a group in the list.
 fn source_place(meshes: &[Running], source: u32) -> Option<usize>
     ensures { result ≡ position (λ mesh. nat_eq mesh.source source) meshes.now }
 {

@@ -1,4 +1,4 @@
-//! What each step of a mesh makes of arena and page map.
+//! The effect of each step of a mesh on arena and page map.
 ghost use Rattle.std.specs.Prelude.{◌≡◌, ◌+◌, ◌*◌, ◌/◌, ◌%◌, ◌<◌, ◌≤◌};
 ghost use Rattle.mesh_arena.specs.Pages.{free_count};
 ghost use Rattle.mesh_class.specs.Classes.{pages_of};
@@ -26,7 +26,8 @@ pub(crate) fn make(
     i: u32,
 )
     requires { IsReady (layout_of spans.now) kind source destination i store.old.arena store.old.map }
-    ensures { Makes (layout_of spans.now) kind source destination i store.old.arena store.new.arena store.old.map store.new.map }
+    ensures { Makes
+        (layout_of spans.now) kind source destination i store.old.arena store.new.arena store.old.map store.new.map }
 {
     match kind {
         StepKind::Protect => {
@@ -59,7 +60,7 @@ fn pages_of_group(spans: &Spans, n: u32) -> u32
     spans.group(n).unwrap().class().pages()
 }
 
-/// The virtual page number `i` of a group, counted through its members.
+/// Virtual page number `i` of a group, counted through its members.
 pub(crate) fn virtual_page(spans: &Spans, n: u32, i: u32) -> u32
     requires { i < page_total (layout_of spans.now) n }
     ensures value { result ≡ virtual_page (layout_of spans.now) n i }
@@ -73,7 +74,7 @@ pub(crate) fn virtual_page(spans: &Spans, n: u32, i: u32) -> u32
     spans.first_page(member) + i % pages
 }
 
-/// The physical page number `j` of a group.
+/// Physical page number `j` of a group.
 pub(crate) fn physical_page(spans: &Spans, n: u32, j: u32) -> Page
     requires group { 0 < (layout_of spans.now).members n }
     requires within { j < pages_of ((layout_of spans.now).class n) }
@@ -85,7 +86,8 @@ pub(crate) fn physical_page(spans: &Spans, n: u32, j: u32) -> Page
 /// Copies the object in slot `k` of the source, if there is one.
 fn copy_slot(arena: &mut Arena, spans: &Spans, source: u32, destination: u32, k: u32)
     requires { CanCopy (layout_of spans.now) arena.old source destination k }
-    ensures { CopiesSlot (layout_of spans.now) arena.old arena.new source destination k ((layout_of spans.now).slot source k) }
+    ensures { CopiesSlot (layout_of spans.now) arena.old arena.new source destination k
+        ((layout_of spans.now).slot source k) }
 {
     let group = spans.group(source).unwrap();
     let size = group.class().size();
@@ -94,7 +96,7 @@ fn copy_slot(arena: &mut Arena, spans: &Spans, source: u32, destination: u32, k:
     }
 }
 
-/// Copies bytes that are in one page of the source's pages or in two, from an offset among these pages on.
+/// Copies bytes that are in one or two of the source's pages, from an offset among these pages on.
 fn copy_bytes(arena: &mut Arena, spans: &Spans, source: u32, destination: u32, from: u32, len: u32)
     requires pages { HaveBothPages (layout_of spans.now) arena.old source destination }
     requires some { 1 ≤ len }

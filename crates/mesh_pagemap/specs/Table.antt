@@ -10,7 +10,7 @@ entries_from v [] = []
 entries_from v (None ∷ places) = entries_from (v + 1) places
 entries_from v (Some entry ∷ places) = (v, entry) ∷ entries_from (v + 1) places
 
--- the map that a table stands for
+-- the map that a table represents
 unfoldable pub mapping : List (Option (ℕ × Prot)) → Entries
 mapping places = map.from_entries (entries_from 0 places)
 

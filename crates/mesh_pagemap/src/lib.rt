@@ -1,9 +1,10 @@
 //! The modelled page map: for each virtual page, at most one physical page and a protection.
 //!
-//! All memory is taken when the map is made, and every call after that is one index into its table.
-//! Contracts see a page map as the finite map from virtual pages to their entries. Each call is stated twice:
-//! as an equation on that map, and by virtual page (`is_mapped`, `page_of`, `is_read_only` and the records
-//! `Maps`, `Unmaps`, `Remaps`, `Protects` of `specs/Entries.antt`), so that a caller need not look inside the map.
+//! All memory is allocated when the map is created. Every later call is one index into the map's table.
+//!
+//! Contracts see a page map as the finite map from virtual pages to their entries. Each call is specified twice: as an
+//! equation on that map, and by virtual page (`is_mapped`, `page_of`, `is_read_only` and the records `Maps`, `Unmaps`,
+//! `Remaps`, `Protects` of `specs/Entries.antt`). So a caller need not look inside the map.
 #![tactic(auto)]
 
 mod mapping;

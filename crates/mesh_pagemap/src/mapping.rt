@@ -1,12 +1,12 @@
-//! `Mapping`, where a virtual page leads.
+//! `Mapping`, the physical page of a virtual page.
 
-/// Where a virtual page leads.
+/// The physical page that a virtual page is mapped to.
 #[derive(Clone, Copy, PartialEq, Eq)]
 pub struct Mapping {
     /// The virtual page.
     pub virtual_page: u32,
     /// The physical page.
     pub physical_page: u32,
-    /// Whether stores to it are held back.
+    /// Whether stores to it are blocked.
     pub read_only: bool,
 }

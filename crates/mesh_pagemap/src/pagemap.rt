@@ -8,22 +8,22 @@ use mesh_arena::Page;
 use std::alloc::{AllocError, Global};
 use std::marker::Model;
 
-/// The last virtual page that can be mapped; the first is 1, so that no address is 0.
+/// The last virtual page that can be mapped. The first is 1, so that no address is 0.
 ///
 /// Both are this project's own choice.
 pub const LAST_VIRTUAL_PAGE: u32 = 65535;
 
-/// Contracts name the number.
+/// Contracts use the literal number.
 const _: () = prove!(LAST_VIRTUAL_PAGE == 65535);
 
-/// How many places the table has room for; the one of virtual page 0 is never used.
+/// How many entries the table has room for. The entry of virtual page 0 is never used.
 const TABLE_PLACES: usize = 65536;
 
-/// Which physical page each virtual page leads to, and with which protection.
+/// The physical page and the protection of each virtual page.
 #[derive(Drop)]
 pub struct PageMap {
-    /// The entry of each virtual page, at the place of its number. Place 0 stays empty. A place comes to be when it or a later one is
-    /// first mapped, so that no more memory is touched than that.
+    /// The entry of each virtual page, at the index of its number. Index 0 stays empty. The table grows to an index
+    /// only when that page or a later one is first mapped, so no more memory is touched than needed.
     table: Vec<Option<(Page, Prot)>>,
 }
 
@@ -48,7 +48,7 @@ impl Model for PageMap {
 
 #[tactic(auto, using(crate::proofs::Changes::entry_changes))]
 impl PageMap {
-    /// The empty map. It takes all the memory that it will ever use.
+    /// Creates an empty map. Allocates all the memory that the map will ever use.
     pub fn new(alloc: Global) -> Result<PageMap, AllocError>
         ensures empty { IfOk result (λ m. m ≡ map.empty) }
         ensures unmapped { IfOk result (λ m. (v : ℕ) → is_mapped m v ≡ false) }
@@ -69,7 +69,7 @@ impl PageMap {
         self.table[vpage as usize] = Some((page, prot));
     }
 
-    /// Takes a mapped virtual page's entry out.
+    /// Removes the entry of a mapped virtual page.
     pub fn unmap(&mut self, vpage: u32)
         requires first { 1 ≤ vpage }
         requires last { vpage ≤ 65535 }
@@ -80,7 +80,7 @@ impl PageMap {
         self.table[vpage as usize] = None;
     }
 
-    /// Lets a mapped virtual page lead to another physical page, under the same protection.
+    /// Maps a mapped virtual page to another physical page, with the same protection.
     pub fn remap(&mut self, vpage: u32, page: Page)
         requires first { 1 ≤ vpage }
         requires last { vpage ≤ 65535 }
@@ -95,7 +95,7 @@ impl PageMap {
         }
     }
 
-    /// Gives a mapped virtual page another protection; it leads to the same physical page.
+    /// Changes the protection of a mapped virtual page. Its physical page stays the same.
     pub fn protect(&mut self, vpage: u32, prot: Prot)
         requires first { 1 ≤ vpage }
         requires last { vpage ≤ 65535 }
@@ -110,7 +110,7 @@ impl PageMap {
         }
     }
 
-    /// The physical page and the protection of a virtual page, `None` where it is not mapped.
+    /// The physical page and the protection of a virtual page. `None` if the page is not mapped.
     pub fn lookup(&self, vpage: u32) -> Option<(Page, Prot)>
         requires first { 1 ≤ vpage }
         requires last { vpage ≤ 65535 }
@@ -125,7 +125,7 @@ impl PageMap {
     }
 }
 
-/// Lets a table reach a place: those up to it come to be, and are empty.
+/// Extends a table with empty entries so that it includes an index.
 fn reach(table: &mut Vec<Option<(Page, Prot)>>, place: usize)
     requires within { place < 65536 }
     requires short { vec_len table.old ≤ 65536 }
@@ -140,7 +140,7 @@ fn reach(table: &mut Vec<Option<(Page, Prot)>>, place: usize)
     }
 }
 
-/// The entry at a place of a table, `None` where it is empty or has not come to be.
+/// The entry at an index of a table. `None` if the entry is empty or the table doesn't extend that far.
 fn entry_at(table: &[Option<(Page, Prot)>], place: usize) -> Option<(Page, Prot)>
     ensures { result ≡ slice_index_or table.now place None }
 {

@@ -3,7 +3,7 @@
 /// What a virtual page may be used for.
 #[derive(Clone, Copy, PartialEq, Eq)]
 pub enum Prot {
-    /// Loads alone; a store into the page is blocked.
+    /// Loads only; a store into the page is blocked.
     ReadOnly,
     /// Loads and stores.
     ReadWrite,

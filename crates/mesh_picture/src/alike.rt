@@ -1,4 +1,4 @@
-//! When two frames give one picture.
+//! Whether two frames give the same picture.
 ghost use Rattle.mesh_running.specs.StepOrders.{IsStepOrder};
 
 use crate::frame::{Counts, Frame, RunningMesh};
@@ -18,7 +18,7 @@ pub fn copied(frame: &Frame) -> Result<Frame, AllocError> {
     })
 }
 
-/// The frame of a heap with nothing in it.
+/// Returns the frame of an empty heap.
 pub fn empty_frame(alloc: Global) -> Frame {
     Frame {
         members: Vec::new(alloc),
@@ -30,12 +30,13 @@ pub fn empty_frame(alloc: Global) -> Frame {
     }
 }
 
-/// Whether a frame shows nothing.
+/// Whether a frame has neither members nor running meshes.
 pub fn shows_nothing(frame: &Frame) -> bool {
     frame.members.is_empty() && frame.meshes.is_empty()
 }
 
-/// Whether two frames give one picture, but for how far their meshes have come where no object was copied on the way.
+/// Whether two frames have the same members, mappings, objects and physical pages, and meshes that look alike. The page
+/// counts are not compared.
 pub fn are_alike(one: &Frame, other: &Frame) -> bool {
     one.members.as_slice() == other.members.as_slice()
         && one.leads.as_slice() == other.leads.as_slice()
@@ -44,7 +45,8 @@ pub fn are_alike(one: &Frame, other: &Frame) -> bool {
         && have_alike_meshes(one, other)
 }
 
-/// Whether two frames have the same meshes, each with as many objects copied.
+/// Whether two frames have the same number of meshes, and each mesh of one looks like the mesh at its place in the
+/// other.
 fn have_alike_meshes(one: &Frame, other: &Frame) -> bool {
     if one.meshes.len() != other.meshes.len() {
         return false;
@@ -57,7 +59,8 @@ fn have_alike_meshes(one: &Frame, other: &Frame) -> bool {
     true
 }
 
-/// Whether a mesh of one frame looks like a mesh of another.
+/// Whether two meshes, each in its frame, have the same groups and the same number of copied objects, and both or
+/// neither were cancelled.
 fn are_alike_meshes(one: &Frame, mine: &RunningMesh, other: &Frame, its: &RunningMesh) -> bool {
     mine.source == its.source
         && mine.destination == its.destination
@@ -73,7 +76,8 @@ fn is_unwinding(mesh: &RunningMesh) -> bool {
     }
 }
 
-/// The step order of a mesh. A source with more members than a group can have counts as one with the most.
+/// Returns the step order of a mesh. If its source has more members than a group can have, the order for the maximum is
+/// returned.
 pub fn order_of(frame: &Frame, mesh: &RunningMesh) -> StepOrder
     ensures { IsStepOrder result }
 {
@@ -85,7 +89,7 @@ pub fn order_of(frame: &Frame, mesh: &RunningMesh) -> StepOrder
     StepOrder::new(mesh.class, members.min(MAX_MEMBERS))
 }
 
-/// How many slots of its source a mesh has copied.
+/// Returns how many slots of its source a mesh has copied. The number is 0 for a cancelled mesh.
 pub fn copied_slots(frame: &Frame, mesh: &RunningMesh) -> u32 {
     match mesh.progress {
         Progress::Unwinding(_, _) => 0,
@@ -93,7 +97,7 @@ pub fn copied_slots(frame: &Frame, mesh: &RunningMesh) -> u32 {
     }
 }
 
-/// How many objects of its source a mesh has copied.
+/// Returns how many objects of its source a mesh has copied. The number is 0 for a cancelled mesh.
 fn copied_objects(frame: &Frame, mesh: &RunningMesh) -> u32 {
     let slots = copied_slots(frame, mesh);
     let mut count = 0u32;
@@ -105,7 +109,7 @@ fn copied_objects(frame: &Frame, mesh: &RunningMesh) -> u32 {
     count
 }
 
-/// How many objects a member has in the slots below one.
+/// Returns how many objects the member with the first page `first` has in the slots below `slots`.
 fn objects_below(frame: &Frame, first: u32, slots: u32) -> u32 {
     narrow(
         frame

@@ -1,14 +1,14 @@
-//! Where each virtual page leads, drawn.
+//! Drawing the arrow from each virtual page to its physical page.
 use crate::frame::{Frame, Mapping};
 use crate::layout::{LABELS, PAGE_HEIGHT};
 use crate::pages::{GROUP_COLOURS, Scene};
 use crate::parts::{group_of, lead_of};
 use mesh_svg::{Look, Text, add_path};
 
-/// How far an arrow goes straight at both ends.
+/// The length of the straight part at both ends of an arrow.
 const BEND: u32 = 320;
 
-/// Draws an arrow from each virtual page to the physical page that it leads to.
+/// Draws an arrow from each virtual page to the physical page that it is mapped to.
 pub(crate) fn draw_arrows(text: &mut Text, scene: &Scene) {
     for lead in scene.now.leads.as_slice() {
         if let Some(left) = scene.layout.find_page(lead.virtual_page) {
@@ -17,17 +17,18 @@ pub(crate) fn draw_arrows(text: &mut Text, scene: &Scene) {
     }
 }
 
-/// The middle of a page that begins at a place.
+/// Returns the horizontal middle of a page that begins at `left`.
 fn middle(scene: &Scene, left: u32) -> u32 {
     scene.across(left).saturating_add(scene.layout.page / 2)
 }
 
-/// The middle of a physical page.
+/// Returns the horizontal middle of a physical page.
 fn physical_middle(scene: &Scene, page: u32) -> u32 {
     middle(scene, scene.layout.physical_left(page))
 }
 
-/// Draws where a page leads, from a place; and where it led before, if that has changed.
+/// Draws the mapping of a virtual page as an arrow that starts at `from`. If the page was mapped to another physical
+/// page before, draws a curve to that page too.
 fn draw_lead(text: &mut Text, scene: &Scene, lead: &Mapping, from: u32) {
     let was = earlier_target(scene, lead);
     if let Some(page) = was {
@@ -51,7 +52,8 @@ fn draw_lead(text: &mut Text, scene: &Scene, lead: &Mapping, from: u32) {
     draw_head(text, scene, look, to);
 }
 
-/// The physical page that a page led to before, if it was another one.
+/// Returns the physical page that a virtual page was mapped to in the frame before. `None` if it was mapped to the same
+/// page, if it was not mapped, or if there is no frame before.
 fn earlier_target(scene: &Scene, lead: &Mapping) -> Option<u32> {
     let was = lead_of(scene.before?, lead.virtual_page)?;
     if was.physical_page == lead.physical_page {
@@ -61,7 +63,8 @@ fn earlier_target(scene: &Scene, lead: &Mapping) -> Option<u32> {
     }
 }
 
-/// The colour of an arrow: its group's, or that of a change.
+/// Returns the colour of an arrow: the colour of a change if the mapping has changed, and otherwise that of the page's
+/// group.
 fn lead_look(frame: &Frame, lead: &Mapping, changed: bool) -> Look {
     if changed {
         Look::of("chg")
@@ -70,7 +73,7 @@ fn lead_look(frame: &Frame, lead: &Mapping, changed: bool) -> Look {
     }
 }
 
-/// The rule of the style for an arrow's line: dashed where stores are held back.
+/// The style rule of an arrow's line: dashed if stores are blocked.
 fn line_rule(lead: &Mapping, changed: bool) -> &'static str {
     match (lead.read_only, changed) {
         (false, false) => "",

@@ -1,4 +1,4 @@
-//! What a picture shows of a heap.
+//! The content of a picture of a heap.
 use mesh_class::Class;
 pub use mesh_pagemap::Mapping;
 use mesh_running::Progress;
@@ -8,7 +8,7 @@ use mesh_running::Progress;
 pub struct Member {
     /// The group's number.
     pub group: u32,
-    /// The group's class, which tells how many pages and slots the span has.
+    /// The group's class, which determines how many pages and slots the span has.
     pub class: Class,
     /// The span's first virtual page.
     pub first: u32,
@@ -17,13 +17,13 @@ pub struct Member {
 /// A live object.
 #[derive(Clone, Copy, PartialEq, Eq)]
 pub struct Object {
-    /// The span that it is an object of, by its first virtual page.
+    /// The span of the object, by its first virtual page.
     pub member: u32,
-    /// Its slot.
+    /// The object's slot.
     pub slot: u32,
-    /// Its serial.
+    /// The object's serial.
     pub serial: u32,
-    /// How many bytes it has.
+    /// The object's length in bytes.
     pub len: u32,
 }
 
@@ -32,11 +32,11 @@ pub struct Object {
 pub struct Home {
     /// The group's number.
     pub group: u32,
-    /// Which of the group's pages it is.
+    /// The place among the group's pages.
     pub place: u32,
     /// The physical page.
     pub page: u32,
-    /// Whether it is still taken: a mesh releases its source's pages one by one.
+    /// Whether the page is still taken: a mesh releases its source's pages one by one.
     pub taken: bool,
 }
 
@@ -49,26 +49,26 @@ pub struct RunningMesh {
     pub source: u32,
     /// The number of the destination.
     pub destination: u32,
-    /// How far it has come.
+    /// The progress of the mesh.
     pub progress: Progress,
 }
 
-/// How many pages a heap has.
+/// The page counts of a heap.
 #[derive(Clone, Copy, Default, PartialEq, Eq)]
 pub struct Counts {
     /// The virtual pages that are mapped.
     pub mapped: u32,
     /// The physical pages that are taken.
     pub taken: u32,
-    /// How many fewer are taken than are mapped.
+    /// The number of mapped virtual pages less the number of taken physical pages.
     pub saved: u32,
 }
 
-/// What a picture shows of a heap.
+/// The content of a picture of a heap.
 pub struct Frame {
     /// The members of all groups: groups ascending by number, members in their order.
     pub members: Vec<Member>,
-    /// Where their pages lead: members in that order, each with its pages in theirs.
+    /// The mappings of their pages: members in that order, each with its pages in their order.
     pub leads: Vec<Mapping>,
     /// Their objects: members in that order, each with its objects ascending by slot.
     pub objects: Vec<Object>,
@@ -76,7 +76,7 @@ pub struct Frame {
     pub homes: Vec<Home>,
     /// The running meshes, ascending by class.
     pub meshes: Vec<RunningMesh>,
-    /// How many pages it has.
+    /// The page counts of the heap.
     pub counts: Counts,
 }
 

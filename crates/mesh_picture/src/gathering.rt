@@ -1,11 +1,12 @@
-//! The lines above a frame, and when a frame is due.
+//! The lines above a frame, and whether a new frame is to be drawn.
 use crate::alike::{are_alike, copied, empty_frame, shows_nothing};
 use crate::frame::Frame;
 use crate::numbers::narrow;
 use crate::pills::{Tone, is_step, tone_of};
 use std::alloc::{AllocError, Global};
 
-/// The most captions above one frame. What lies between the first ones and the last one is counted.
+/// The greatest number of captions above one frame. The lines between the first captions and the last one are only
+/// counted.
 pub const MAX_CAPTIONS: usize = 12;
 
 /// The most letters of a line's words.
@@ -14,36 +15,36 @@ const MAX_WORDS: usize = 60;
 /// The most letters of an answer.
 const MAX_ANSWER: usize = 72;
 
-/// A line of a plan that was played.
+/// A line of a plan that was run.
 #[derive(Clone, Copy)]
 pub struct Line<'a> {
-    /// Its number, counted from 1.
+    /// The line's number, counted from 1.
     pub number: u32,
-    /// Its words. A long text is cut, and what is no letter of ASCII is a question mark.
+    /// The line's words. A long text is cut, and any byte that is not printable ASCII becomes a question mark.
     pub words: &'a [u8],
-    /// Its answer, likewise. Its first word tells its colour.
+    /// The line's answer, cut in the same way. Its first word determines its colour.
     pub answer: &'a [u8],
 }
 
-/// A line of the plan with its answer, or several of them that say the same.
+/// A line of the plan with its answer, or several such lines in a row that are shown as one.
 #[derive(Drop)]
 pub struct Caption {
     /// The first line's number.
     pub from: u32,
     /// The last line's number.
     pub to: u32,
-    /// How many lines they are.
+    /// How many lines the caption stands for.
     pub times: u32,
     /// The words.
     pub words: Vec<u8>,
     /// The last answer.
     pub answer: Vec<u8>,
-    /// What kind of answer it is.
+    /// The kind of the answer.
     pub tone: Tone,
 }
 
 impl Caption {
-    /// Takes in a later one that says the same.
+    /// Merges a later caption with the same words into this caption.
     fn repeat(&mut self, later: Caption) {
         self.to = later.to;
         self.times = self.times.saturating_add(1);
@@ -52,15 +53,15 @@ impl Caption {
     }
 }
 
-/// The lines that have come since the last frame, and that frame.
+/// The lines since the last frame, and the last frame.
 pub struct Gathering {
-    /// The captions, in their order.
+    /// The captions, in order.
     pub captions: Vec<Caption>,
     /// How many lines are left out before the last caption.
     pub hidden: u32,
-    /// The last frame that was shown, with its meshes as they are now.
+    /// The last frame that was shown, with the current state of its meshes and the current counts.
     pub last: Frame,
-    /// Whether a frame was shown yet.
+    /// Whether a frame was shown already.
     pub begun: bool,
     alloc: Global,
 }
@@ -71,7 +72,7 @@ impl Drop for Gathering {
 }
 
 impl Gathering {
-    /// No lines, and no frame.
+    /// Returns a gathering with no lines, before the first frame.
     pub fn new(alloc: Global) -> Gathering {
         Gathering {
             captions: Vec::new(alloc),
@@ -94,7 +95,8 @@ impl Gathering {
         self.add_behind(caption)
     }
 
-    /// Adds a caption behind the others. Where there are as many as are shown, the last of them is left out.
+    /// Appends a caption. If there are `MAX_CAPTIONS` captions already, the last of them is removed first, and its
+    /// lines are counted as hidden.
     fn add_behind(&mut self, caption: Caption) -> Result<(), AllocError> {
         if self.captions.len() >= MAX_CAPTIONS {
             if let Some(left_out) = self.captions.pop() {
@@ -104,7 +106,8 @@ impl Gathering {
         Ok(self.captions.push(caption)?)
     }
 
-    /// Whether a frame differs from the last one that was shown.
+    /// Whether a frame doesn't look like the last one that was shown. Before the first frame, whether a frame shows
+    /// anything.
     pub fn is_due(&self, frame: &Frame) -> bool {
         if self.begun {
             !are_alike(&self.last, frame)
@@ -113,14 +116,14 @@ impl Gathering {
         }
     }
 
-    /// Takes over how far the meshes have come where the picture is the same.
+    /// Updates the meshes and the counts of the last frame to those of a frame that looks like it.
     pub fn keep_up(&mut self, frame: &Frame) -> Result<(), AllocError> {
         self.last.meshes = frame.meshes.clone()?;
         self.last.counts = frame.counts;
         Ok(())
     }
 
-    /// A frame was shown with all lines until now.
+    /// Records that a frame was shown, with the lines gathered until now above it.
     pub fn shown(&mut self, frame: &Frame) -> Result<(), AllocError> {
         self.last = copied(frame)?;
         self.begun = true;
@@ -129,20 +132,21 @@ impl Gathering {
         Ok(())
     }
 
-    /// How many lines of text stand above a frame.
+    /// How many lines of text are above a frame.
     pub fn height(&self) -> u32 {
         narrow(self.captions.len()).saturating_add(self.hidden.min(1))
     }
 }
 
-/// Whether a line says the same as the one before it and is answered in the same way.
+/// Whether a line has the same words and the same answer as the line before it.
 fn repeats(earlier: &Caption, later: &Caption) -> bool {
     earlier.words.as_slice() == later.words.as_slice()
         && earlier.tone == later.tone
         && has_same_answer(earlier, later)
 }
 
-/// Whether two answers are the same; of steps, which count those to come, the first words decide.
+/// Whether two answers are the same. For steps, whose answers contain the number of steps left, only the first words
+/// are compared.
 fn has_same_answer(earlier: &Caption, later: &Caption) -> bool {
     if is_step(later.answer.as_slice()) {
         first_word(earlier.answer.as_slice()) == first_word(later.answer.as_slice())
@@ -171,7 +175,8 @@ fn caption_of(alloc: Global, line: &Line<'_>) -> Result<Caption, AllocError> {
     })
 }
 
-/// The first letters of a text, with two dots where there are more, and a question mark for what is no letter of ASCII.
+/// The first `most` bytes of a text, with two dots if there are more. Any byte that is not printable ASCII becomes a
+/// question mark.
 pub fn cut(alloc: Global, words: &[u8], most: usize) -> Result<Vec<u8>, AllocError> {
     let mut all = Vec::new(alloc);
     for byte in words.iter().take(most) {

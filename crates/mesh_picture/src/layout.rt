@@ -1,44 +1,44 @@
-//! Where everything stands. Lengths are tenths of a pixel.
+//! The position of everything. Lengths are in tenths of a pixel.
 use crate::numbers::narrow;
 use crate::pills::{INDENT, LINE};
 use mesh_class::Class;
 
-/// Around the whole picture.
+/// The margin around the whole picture.
 pub const MARGIN: u32 = 200;
 
-/// Where the first row of cards begins.
+/// The top of the first row of cards.
 pub const HEAD: u32 = 720;
 
-/// Between two cards.
+/// The gap between two cards.
 pub const BETWEEN: u32 = 140;
 
-/// Between two pages of a span, and between two physical pages.
+/// The gap between two pages of a span, and between two physical pages.
 pub const GAP: u32 = 60;
 
-/// Between two spans.
+/// The gap between two spans.
 const SPAN_GAP: u32 = 160;
 
-/// How high a page is drawn.
+/// The height of a page.
 pub const PAGE_HEIGHT: u32 = 480;
 
-/// For the names of spans above their pages, each with its class in the same line.
+/// The height for the names of spans above their pages, each with its class on the same line.
 const HEADING: u32 = 300;
 
-/// For the names where pages are so narrow that a class has a line of its own.
+/// The height for the names if pages are so narrow that each class has a line of its own.
 const TALL_HEADING: u32 = 400;
 
-/// Below a virtual page: its number, and that it is read-only.
+/// The height below a virtual page for its number and its read-only mark.
 pub const LABELS: u32 = 260;
 
-/// Between the labels of virtual pages and the physical pages.
+/// The height between the labels of virtual pages and the physical pages.
 pub const LANE: u32 = 480;
 
-/// The widths of a page.
+/// The greatest and the least width of a page.
 const WIDE_PAGE: u32 = 1_160;
 
 const NARROW_PAGE: u32 = 580;
 
-/// The width that is aimed at.
+/// The preferred width of a row of cards.
 const WIDTH: u32 = 15_000;
 
 /// The least width of a card.
@@ -53,53 +53,54 @@ pub const MAX_PAGES: u32 = 40;
 /// The most groups of a map of occupancy.
 pub const MAX_ROWS: u32 = 200;
 
-/// From one group of a map to the next.
+/// The distance from one group of a map to the next.
 pub const ROW: u32 = 140;
 
-/// From one bar of a mesh to the next.
+/// The distance from one bar of a mesh to the next.
 pub const BAR: u32 = 180;
 
-/// A span that is shown in some frame.
+/// A span that is drawn in some frame.
 #[derive(Clone, Copy)]
 pub struct Shown {
-    /// Its first virtual page.
+    /// The span's first virtual page.
     pub first: u32,
-    /// Its class.
+    /// The span's class.
     pub class: Class,
-    /// Where it begins, from the card's left side.
+    /// The left side of the span, from the card's left side.
     pub x: u32,
 }
 
-/// What a frame needs room for.
+/// The parts of a frame that need room.
 #[derive(Clone, Copy)]
 pub struct Extent {
-    /// The lines above it.
+    /// The number of lines above the frame.
     pub lines: u32,
-    /// Its running meshes.
+    /// The number of running meshes.
     pub meshes: u32,
-    /// Its groups.
+    /// The number of groups.
     pub groups: u32,
 }
 
-/// Where everything stands in each card.
+/// The position of everything in a card.
 #[derive(Drop)]
 pub struct Layout {
     /// The spans, by their first pages.
     pub spans: Vec<Shown>,
     /// How many physical pages are shown.
     pub physical: u32,
-    /// Whether pages are drawn one by one; else a map of occupancy is drawn.
+    /// Whether pages are drawn one by one. Otherwise a map of occupancy is drawn.
     pub by_pages: bool,
-    /// How wide a page is.
+    /// The width of a page.
     pub page: u32,
-    /// How wide a card is.
+    /// The width of a card.
     pub card: u32,
-    /// How many cards stand side by side.
+    /// How many cards are side by side.
     pub columns: u32,
 }
 
 impl Layout {
-    /// The layout of so many frames with these spans and so many physical pages, whose captions need so much room.
+    /// Returns the layout of `frames` frames with these spans and this number of physical pages, in cards at least as
+    /// wide as `widest`. Without `columns`, the number of cards in a row is the number that fits.
     pub fn new(
         spans: Vec<Shown>,
         physical: u32,
@@ -128,25 +129,25 @@ impl Layout {
         }
     }
 
-    /// The width of all cards of a row.
+    /// Returns the width of a row of cards.
     pub fn width(&self) -> u32 {
         self.columns
             .saturating_mul(self.card.saturating_add(BETWEEN))
             .saturating_sub(BETWEEN)
     }
 
-    /// Where a physical page begins, from the card's left side.
+    /// The left side of a physical page, from the card's left side.
     pub fn physical_left(&self, page: u32) -> u32 {
         INDENT.saturating_add(page.saturating_mul(self.page.saturating_add(GAP)))
     }
 
-    /// Where a page of a span begins, from the card's left side.
+    /// The left side of a page of a span, from the card's left side.
     pub fn virtual_left(&self, span: &Shown, place: u32) -> u32 {
         span.x
             .saturating_add(place.saturating_mul(self.page.saturating_add(GAP)))
     }
 
-    /// How wide a span is.
+    /// The width of a span.
     pub fn span_width(&self, class: Class) -> u32 {
         class
             .pages()
@@ -154,7 +155,7 @@ impl Layout {
             .saturating_sub(GAP)
     }
 
-    /// Where a virtual page begins, from the card's left side, if its span is shown.
+    /// The left side of a virtual page, from the card's left side. `None` if its span is not drawn.
     pub fn find_page(&self, page: u32) -> Option<u32> {
         let span = self
             .spans
@@ -163,12 +164,12 @@ impl Layout {
         Some(self.virtual_left(span, page.saturating_sub(span.first)))
     }
 
-    /// Whether the class of a span stands in a line of its own.
+    /// Whether pages are so narrow that the class of a span is on a line of its own.
     pub fn is_narrow(&self) -> bool {
         self.page < 1_100
     }
 
-    /// How much room the names of spans take.
+    /// The height of the names of spans.
     pub fn heading(&self) -> u32 {
         if self.is_narrow() {
             TALL_HEADING
@@ -177,7 +178,7 @@ impl Layout {
         }
     }
 
-    /// How high a card is.
+    /// The height of a card.
     pub fn height(&self, extent: &Extent) -> u32 {
         let drawn = if self.by_pages {
             self.heading()
@@ -189,7 +190,7 @@ impl Layout {
     }
 }
 
-/// What the captions and the bars of meshes take.
+/// Returns the height of the captions and the bars of meshes together.
 pub fn above(extent: &Extent) -> u32 {
     extent
         .lines
@@ -198,7 +199,7 @@ pub fn above(extent: &Extent) -> u32 {
         .saturating_add(120)
 }
 
-/// What a map of so many groups takes.
+/// The height of a map of `groups` groups.
 fn map_height(groups: u32) -> u32 {
     groups
         .min(MAX_ROWS + 1)
@@ -206,7 +207,7 @@ fn map_height(groups: u32) -> u32 {
         .saturating_add(180)
 }
 
-/// How many pages spans have.
+/// Returns how many pages the spans have together.
 pub fn pages_of(spans: &[Shown]) -> u32 {
     let mut pages = 0u32;
     for span in spans {
@@ -215,14 +216,14 @@ pub fn pages_of(spans: &[Shown]) -> u32 {
     pages
 }
 
-/// How wide a page is drawn where so many stand side by side.
+/// The width of a page, if `pages` pages are side by side.
 fn page_width(spans: &[Shown], pages: u32) -> u32 {
     let gaps = narrow(spans.len()).saturating_mul(SPAN_GAP - GAP);
     let room = (WIDTH - INDENT).saturating_sub(gaps) / pages.max(1);
     room.saturating_sub(GAP).clamp(NARROW_PAGE, WIDE_PAGE)
 }
 
-/// Places spans side by side; gives where the last one ends.
+/// Places spans side by side, and returns the right side of the last one.
 fn place(spans: &mut Vec<Shown>, page: u32) -> u32 {
     let mut x = INDENT;
     for span in spans.iter_mut() {

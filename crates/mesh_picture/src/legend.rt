@@ -1,22 +1,22 @@
-//! What the signs of a picture mean, drawn.
+//! Drawing the legend: the signs of a picture and their meanings.
 use crate::layout::MARGIN;
 use crate::lettering::{Face, Label, width_of};
 use mesh_svg::{Area, Look, Text, add_rect};
 
-/// The colour that stands for all objects.
+/// The colour that represents all objects.
 const SAMPLE: u32 = 0;
 
-/// Where the signs stand.
+/// The top of the signs.
 const TOP: u32 = 430;
 
-/// A sign and what it means.
+/// A sign and its meaning.
 #[derive(Clone, Copy)]
 struct Sign {
-    /// What is drawn first.
+    /// The look of the whole sign, which is drawn first.
     look: Look,
-    /// What is drawn into its left part.
+    /// The look of what is drawn into the left part of the sign, if anything.
     inner: Option<Look>,
-    /// What it means.
+    /// The meaning of the sign.
     words: &'static str,
 }
 
@@ -49,7 +49,7 @@ fn signs_of_pages() -> [Sign; 5] {
         },
         plain_sign(object.with("copy"), "copied, not yet mapped"),
         plain_sign(object.with("old"), "bytes no longer mapped"),
-        plain_sign(Look::of("ro"), "read-only: stores are held back"),
+        plain_sign(Look::of("ro"), "read-only: stores are blocked"),
         plain_sign(Look::of("new"), "changed by the last of the lines"),
     ]
 }
@@ -62,7 +62,7 @@ fn signs_of_map() -> [Sign; 3] {
             "slots with an object in some span of the group",
         ),
         plain_sign(Look::of("pg"), "slots without one"),
-        plain_sign(Look::of("rom"), "read-only: stores are held back"),
+        plain_sign(Look::of("rom"), "read-only: stores are blocked"),
     ]
 }
 
@@ -76,7 +76,7 @@ fn draw_signs(text: &mut Text, signs: &[Sign]) {
     }
 }
 
-/// Draws a sign and what it means.
+/// Draws a sign and its meaning.
 fn draw_sign(text: &mut Text, sign: &Sign, x: u32) {
     let area = Area {
         x,

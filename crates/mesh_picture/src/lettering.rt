@@ -32,7 +32,7 @@ pub enum Face {
 }
 
 impl Face {
-    /// The rule of the style.
+    /// The style rule of the lettering.
     fn rule(self) -> &'static str {
         match self {
             Face::Title => "ft",
@@ -50,7 +50,7 @@ impl Face {
         }
     }
 
-    /// The height of its letters; the style has the same numbers.
+    /// Returns the height of the letters. The style has the same heights.
     fn size(self) -> u32 {
         match self {
             Face::Title => 170,
@@ -75,7 +75,8 @@ impl Face {
     }
 }
 
-/// The width of a letter of ordinary lettering, in hundredths of the height. What continues a letter of several bytes has none.
+/// The width of a letter of ordinary lettering, in hundredths of the height. A continuation byte of a letter of several
+/// bytes has width 0.
 fn plain_percent(byte: u8) -> u32 {
     match byte {
         b'i' | b'j' | b'l' | b'.' | b',' | b':' | b';' | b'|' | b'\'' | b'!' => 30,
@@ -89,7 +90,7 @@ fn plain_percent(byte: u8) -> u32 {
     }
 }
 
-/// How wide words are.
+/// The width of words.
 pub fn width_of(face: Face, words: &[u8]) -> u32 {
     let mut hundredths = 0u32;
     for byte in words {
@@ -100,28 +101,28 @@ pub fn width_of(face: Face, words: &[u8]) -> u32 {
     share(face.size(), hundredths, 100)
 }
 
-/// How and where words stand.
+/// The lettering and the place of words.
 #[derive(Clone, Copy)]
 pub struct Label {
-    /// Their lettering.
+    /// The lettering.
     pub face: Face,
-    /// Their colour.
+    /// The colour.
     pub ink: Look,
-    /// Which point of them stands at the place.
+    /// The point of the words that is at the place: their start, middle or end.
     pub anchor: Anchor,
-    /// The place, from the left.
+    /// The horizontal place of the words, from the left.
     pub x: u32,
-    /// The line that they stand on.
+    /// The baseline of the words.
     pub y: u32,
-    /// The greatest width that they may take.
+    /// The greatest width of the words.
     pub room: u32,
 }
 
-/// No bound on a label's width.
+/// The `room` of a label whose width has no bound.
 pub const ANY: u32 = u32::MAX;
 
 impl Label {
-    /// Words that start at a place.
+    /// Returns the label of words that start at a place.
     pub fn start(face: Face, ink: &'static str, x: u32, y: u32) -> Label {
         Label {
             face,
@@ -133,7 +134,7 @@ impl Label {
         }
     }
 
-    /// Words that end at a place.
+    /// Returns the label of words that end at a place.
     pub fn end(face: Face, ink: &'static str, x: u32, y: u32) -> Label {
         Label {
             anchor: Anchor::End,
@@ -141,7 +142,7 @@ impl Label {
         }
     }
 
-    /// Words with a place in their middle.
+    /// Returns the label of words that are centred at a place.
     pub fn middle(face: Face, ink: &'static str, x: u32, y: u32) -> Label {
         Label {
             anchor: Anchor::Middle,
@@ -149,17 +150,17 @@ impl Label {
         }
     }
 
-    /// The same in another colour.
+    /// Returns this label in another colour.
     pub fn inked(self, ink: Look) -> Label {
         Label { ink, ..self }
     }
 
-    /// The same with a bound on the width.
+    /// Returns this label with `room` as the greatest width of the words.
     pub fn within(self, room: u32) -> Label {
         Label { room, ..self }
     }
 
-    /// Adds words.
+    /// Adds words to a text, with this label's lettering and place.
     pub fn add(self, text: &mut Text, words: &[u8]) {
         let width = width_of(self.face, words).min(self.room).max(1);
         Words {
@@ -172,13 +173,13 @@ impl Label {
         .add(text, words);
     }
 
-    /// Adds words that were put together.
+    /// Adds the words in a text to another text. An allocation failure in `words` becomes one of `text`.
     pub fn add_text(self, text: &mut Text, words: &Text) {
         self.add(text, words.bytes());
         text.share_refusal(words);
     }
 
-    /// Adds words and a number behind them.
+    /// Adds words, and a number after them.
     pub fn add_numbered(self, text: &mut Text, words: &str, number: u32) {
         let mut all = text.empty();
         all.add(words.as_bytes());

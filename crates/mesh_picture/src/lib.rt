@@ -1,9 +1,12 @@
 //! A picture of frames of a heap, as one SVG file.
 //!
-//! A `Frame` is what a picture shows of a heap. Frames come one by one, each with the line of a plan behind which the heap looks so, and those that look
-//! alike are one card (`gathering`, `alike`). Since a picture's size stands before its first card, they come twice: first to a `Measure`, and then to the
-//! `Picture` that is made of it, which adds its text to a buffer as they come. What a card is measured by (`parts`, `rows`, `layout`, `lettering`, `pills`)
-//! comes before what draws it (`pages`, `objects`, `occupancy`, `mesh_bar`, `arrows`, `legend`).
+//! A `Frame` is the content of a picture of a heap. Frames come one by one, each with the line of a plan after which
+//! the heap is in that state. Frames that look alike share one card (`gathering`, `alike`).
+//!
+//! A picture's size is written before its first card, so the frames come twice. They come first to a `Measure`, and
+//! then to the `Picture` that is made from it, which appends its text to a buffer. The modules that measure a card
+//! (`parts`, `rows`, `layout`, `lettering`, `pills`) come before those that draw it (`pages`, `objects`, `occupancy`,
+//! `mesh_bar`, `arrows`, `legend`).
 #![tactic(auto)]
 
 mod alike;

@@ -1,4 +1,4 @@
-//! What has to be known before the first element is written.
+//! The measurements that must be known before the first element of a picture is written.
 ghost use Rattle.std.specs.Prelude.{◌≡◌, ◌+◌, OnOk};
 
 use crate::frame::Frame;
@@ -10,7 +10,7 @@ use crate::pills::caption_width;
 use std::alloc::{AllocError, Global};
 use std::marker::Model;
 
-/// What is known of a picture from its points.
+/// The measurements of a picture while its points are taken in. A point is a line of the plan with the heap after it.
 #[derive(Drop)]
 pub struct Measure {
     gathering: Gathering,
@@ -31,19 +31,19 @@ impl Model for Measure {
     ghost view = { λ measure. measure.next };
 }
 
-/// What a picture is drawn by.
+/// The final measurements, by which a picture is drawn.
 #[derive(Drop)]
 pub struct Measured {
-    /// Where things stand.
+    /// The position of everything.
     pub layout: Layout,
-    /// How high each row of cards is.
+    /// The height of each row of cards.
     pub rows: Vec<u32>,
-    /// The numbers of the first and of the last line, if there is one.
+    /// The numbers of the first and the last line that were measured, or `None` if no line was.
     pub lines: Option<(u32, u32)>,
 }
 
 impl Measure {
-    /// Nothing is known yet. The line of this number is taken in next.
+    /// Returns a measure without points. The next line to come has the number `next`.
     pub fn new(alloc: Global, next: usize) -> Measure
         ensures { result ≡ next }
     {
@@ -58,14 +58,14 @@ impl Measure {
         }
     }
 
-    /// The number of the line that is taken in next.
+    /// The number of the next line to come.
     pub fn next_line(&self) -> usize
         ensures { result ≡ self.now }
     {
         self.next
     }
 
-    /// Takes in a line of the plan, and what the heap looks like behind it. An error is an allocation failure.
+    /// Measures a line of the plan, and the heap after it. An error is an allocation failure.
     pub fn point(&mut self, line: &Line<'_>, frame: &Frame) -> Result<(), AllocError>
         ensures { OnOk result (self.new ≡ line.now.number + 1) }
     {
@@ -94,7 +94,7 @@ impl Measure {
         add_spans(&mut self.spans, frame)
     }
 
-    /// What the picture is drawn by, with so many columns if that is asked.
+    /// Returns the measurements by which the picture is drawn, with this number of columns if one is given.
     pub fn finish(mut self, columns: Option<u32>) -> Result<Measured, AllocError> {
         if !self.gathering.captions.is_empty() {
             self.extents.push(last_extent(&self.gathering))?;
@@ -117,7 +117,7 @@ impl Measure {
     }
 }
 
-/// What a frame needs room for, below the lines that were gathered.
+/// Returns the extent of a frame with the gathered lines above it.
 fn extent_of(gathering: &Gathering, frame: &Frame) -> Extent {
     Extent {
         lines: gathering.height(),
@@ -126,12 +126,12 @@ fn extent_of(gathering: &Gathering, frame: &Frame) -> Extent {
     }
 }
 
-/// What the last frame needs room for, below lines that change nothing.
+/// Returns the extent of the last card, which repeats the last frame below the lines gathered since.
 fn last_extent(gathering: &Gathering) -> Extent {
     extent_of(gathering, &gathering.last)
 }
 
-/// The greatest width of the captions that were gathered.
+/// Returns the greatest width that one of the gathered captions needs.
 fn widest_of(gathering: &Gathering) -> Result<u32, AllocError> {
     let mut widest = 0u32;
     for caption in gathering.captions.as_slice() {
@@ -140,7 +140,7 @@ fn widest_of(gathering: &Gathering) -> Result<u32, AllocError> {
     Ok(widest)
 }
 
-/// How many physical pages have to be shown for a frame.
+/// Returns how many physical pages must be drawn for a frame: all up to the last taken page.
 fn physical_of(frame: &Frame) -> u32 {
     let mut count = 0u32;
     for home in frame.homes.as_slice() {
@@ -151,7 +151,8 @@ fn physical_of(frame: &Frame) -> u32 {
     count
 }
 
-/// Adds the spans of a frame that are not known yet, while they may still be drawn page by page.
+/// Adds the spans of a frame that are new. No span is added once the spans have more than `MAX_PAGES` pages, because
+/// the picture is then a map of occupancy.
 fn add_spans(spans: &mut Vec<Shown>, frame: &Frame) -> Result<(), AllocError> {
     for member in frame.members.as_slice() {
         let known = spans.iter().any(|s| s.first == member.first);
@@ -166,7 +167,7 @@ fn add_spans(spans: &mut Vec<Shown>, frame: &Frame) -> Result<(), AllocError> {
     Ok(())
 }
 
-/// How high each row of cards is: as high as its highest card.
+/// Returns the height of each row of cards, which is the height of its highest card.
 fn row_heights(layout: &Layout, extents: &[Extent], alloc: Global) -> Result<Vec<u32>, AllocError> {
     let mut rows = Vec::new(alloc);
     let mut column = 0u32;

@@ -1,4 +1,4 @@
-//! The bars of running meshes, drawn.
+//! Drawing the bars of running meshes.
 ghost use Rattle.mesh_running.specs.StepOrders.{IsStepOrder};
 
 use crate::alike::order_of;
@@ -14,13 +14,13 @@ use model_words::StepKind;
 /// The room for a mesh's name.
 const NAME: u32 = 1_080;
 
-/// The least width of the part of a bar that is one kind of step.
+/// The least width of the part of a bar that represents one kind of step.
 const LEAST: u32 = 820;
 
-/// The greatest width of a bar beyond that.
+/// The greatest width that a bar gets beyond the least width of its parts.
 const MOST_MORE: u32 = 3_200;
 
-/// Draws a bar for each running mesh of a frame into a card of a width.
+/// Draws a bar for each running mesh of a frame into a card with a given width.
 pub(crate) fn draw_meshes(text: &mut Text, frame: &Frame, x: u32, y: u32, card: u32) {
     let mut top = y;
     for mesh in frame.meshes.as_slice() {
@@ -29,7 +29,7 @@ pub(crate) fn draw_meshes(text: &mut Text, frame: &Frame, x: u32, y: u32, card: 
     }
 }
 
-/// Draws how far a mesh has come.
+/// Draws the progress of a mesh.
 fn draw_mesh(text: &mut Text, frame: &Frame, mesh: &RunningMesh, x: u32, y: u32, card: u32) {
     draw_mesh_name(text, mesh, x, y);
     let left = x.saturating_add(NAME);
@@ -44,7 +44,7 @@ fn draw_mesh(text: &mut Text, frame: &Frame, mesh: &RunningMesh, x: u32, y: u32,
     }
 }
 
-/// Draws which groups a mesh is of.
+/// Draws the names of a mesh's groups.
 fn draw_mesh_name(text: &mut Text, mesh: &RunningMesh, x: u32, y: u32) {
     let mut words = text.empty();
     words.add(b"mesh ");
@@ -56,7 +56,7 @@ fn draw_mesh_name(text: &mut Text, mesh: &RunningMesh, x: u32, y: u32) {
         .add_text(text, &words);
 }
 
-/// Draws what a cancelled mesh has to undo.
+/// Draws how many pages a cancelled mesh still has to unprotect.
 fn draw_unwinding(text: &mut Text, left: u32, x: u32, y: u32) {
     let mut words = text.empty();
     words.add(b"cancelled: ");
@@ -69,7 +69,7 @@ fn draw_unwinding(text: &mut Text, left: u32, x: u32, y: u32) {
     Label::start(Face::Name, "red", x, y.saturating_add(112)).add_text(text, &words);
 }
 
-/// Draws a bar of the kinds of step of a mesh of this order, of which so many steps were made.
+/// Draws a bar with one part for each kind of step of a mesh. The mesh has this step order, and has made `made` steps.
 fn draw_bar(text: &mut Text, order: StepOrder, made: u32, x: u32, y: u32, room: u32)
     requires { IsStepOrder order }
 {
@@ -92,7 +92,7 @@ fn draw_bar(text: &mut Text, order: StepOrder, made: u32, x: u32, y: u32, room: 
     }
 }
 
-/// Draws so many steps of one kind, of which so many were made.
+/// Draws the part of a bar for one kind of step, of which the mesh has `count` steps and has made `made`.
 fn draw_kind(text: &mut Text, kind: StepKind, count: u32, made: u32, area: Area) {
     add_rect(text, Look::of("ahead"), area, 30);
     if made > 0 {

@@ -1,11 +1,11 @@
 //! Numbers of 32 bits.
 
-/// The part of a length that corresponds to a part of a number.
+/// Returns `length * part / whole`, rounded down, or 0 if `whole` is 0. The product saturates.
 pub fn share(length: u32, part: u32, whole: u32) -> u32 {
     length.saturating_mul(part).checked_div(whole).unwrap_or(0)
 }
 
-/// A count as a number of 32 bits.
+/// Returns a count as a `u32`, or `u32::MAX` if the count doesn't fit.
 pub fn narrow(count: usize) -> u32 {
     u32::try_from(count).unwrap_or(u32::MAX)
 }

@@ -1,4 +1,4 @@
-//! The slots and objects of a page, drawn.
+//! Drawing the slots and objects of a page.
 use crate::lettering::{Face, Label, width_of};
 use crate::numbers::share;
 use crate::parts::{Part, State};
@@ -8,7 +8,7 @@ use mesh_svg::{Area, Look, Text, add_point, add_rect, begin_path, end_path};
 /// The bytes of a page.
 const PAGE_BYTES: u32 = 4_096;
 
-/// The most slots that stand side by side in a page; more of them stand in rows.
+/// The most slots that are side by side in a page. If there are more, they are in several rows.
 const SLOTS_IN_ROW: u32 = 16;
 
 /// How many colours objects have.
@@ -19,7 +19,8 @@ fn row_bytes(size: u32) -> u32 {
     size.saturating_mul(SLOTS_IN_ROW).min(PAGE_BYTES)
 }
 
-/// Where the bytes from one to another lie in a page of slots of a size. All lie in one row.
+/// Returns the area of the bytes between two places in a page with slots of one size. All of these bytes are in one
+/// row.
 fn bytes_area(size: u32, from: u32, to: u32, area: Area) -> Area {
     let row = row_bytes(size);
     let above = from.checked_div(row).unwrap_or(0);
@@ -33,7 +34,7 @@ fn bytes_area(size: u32, from: u32, to: u32, area: Area) -> Area {
     }
 }
 
-/// Draws the bounds of the slots that lie in the page at a place of a span.
+/// Draws the bounds of the slots in the page at a place of a span.
 pub(crate) fn draw_grid(text: &mut Text, class: Class, place: u32, area: Area) {
     begin_path(text, Look::of("grid"));
     draw_row_bounds(text, class, area);
@@ -71,7 +72,7 @@ pub(crate) fn draw_parts(text: &mut Text, parts: &[Part], area: Area) {
     }
 }
 
-/// Draws the part of an object in a page: its slot, as much of it as is filled, and its serial.
+/// Draws the part of an object in a page: its slot, the filled part of the slot, and its serial.
 fn draw_part(text: &mut Text, part: &Part, area: Area) {
     let colour = Look::nth("o", part.serial % OBJECT_COLOURS);
     let slot = bytes_area(part.size, part.from, part.to, area);
@@ -88,7 +89,7 @@ fn draw_part(text: &mut Text, part: &Part, area: Area) {
     draw_serial(text, part, slot);
 }
 
-/// The rule of the style for the rest of a slot.
+/// The style rule of the rest of a slot.
 fn rest_rule(state: State) -> &'static str {
     match state {
         State::Live => "rest",
@@ -97,7 +98,7 @@ fn rest_rule(state: State) -> &'static str {
     }
 }
 
-/// The rule of the style for an object's bytes.
+/// The style rule of an object's bytes.
 fn filled_rule(state: State) -> &'static str {
     match state {
         State::Live => "",
@@ -106,7 +107,7 @@ fn filled_rule(state: State) -> &'static str {
     }
 }
 
-/// Draws an object's serial where there is room for it.
+/// Draws an object's serial, if there is room for it.
 fn draw_serial(text: &mut Text, part: &Part, slot: Area) {
     let mut digits = text.empty();
     digits.add_number(part.serial);

@@ -1,4 +1,4 @@
-//! The map of occupancy, drawn: a row for each group.
+//! Drawing the map of occupancy: a row for each group.
 use crate::frame::{Frame, RunningMesh};
 use crate::layout::{MAX_ROWS, ROW};
 use crate::lettering::{Face, Label};
@@ -12,7 +12,7 @@ use std::alloc::AllocError;
 /// The width of a group's slots.
 const SLOTS: u32 = 2_560;
 
-/// The columns of a row.
+/// The places of the columns of a row.
 const NAME: u32 = 120;
 
 const CLASS: u32 = 1_400;
@@ -27,7 +27,7 @@ const HELD: u32 = 5_560;
 
 const MESH: u32 = 6_240;
 
-/// The first of some items, and those behind them.
+/// The first items, up to `count`, and the items after them.
 fn split<T>(items: &[T], count: usize) -> (&[T], &[T]) {
     items.split_at(count.min(items.len()))
 }
@@ -58,12 +58,12 @@ pub(crate) fn draw_groups(text: &mut Text, scene: &Scene) -> Result<(), AllocErr
     Ok(())
 }
 
-/// Where a row is.
+/// The top of a row.
 fn row_top(scene: &Scene, row: u32) -> u32 {
     scene.top.saturating_add(row.saturating_mul(ROW))
 }
 
-/// Draws how many groups are left out.
+/// Draws how many of `groups` groups are left out, if there are more than `MAX_ROWS`.
 fn draw_more(text: &mut Text, scene: &Scene, groups: u32) {
     if groups <= MAX_ROWS {
         return;
@@ -76,7 +76,8 @@ fn draw_more(text: &mut Text, scene: &Scene, groups: u32) {
     Label::start(Face::Note, "soft", scene.across(NAME), line).add_text(text, &words);
 }
 
-/// Draws a group's row, unless there is none or enough are drawn; gives how many groups there were until now.
+/// Draws a group's row, unless the row is empty or `MAX_ROWS` rows are drawn already. Returns `drawn`, plus one if the
+/// row isn't empty.
 fn draw_row(text: &mut Text, scene: &Scene, row: &mut Row, drawn: u32) -> u32 {
     if row.members == 0 {
         return drawn;
@@ -92,7 +93,7 @@ fn draw_row(text: &mut Text, scene: &Scene, row: &mut Row, drawn: u32) -> u32 {
     drawn.saturating_add(1)
 }
 
-/// Draws which group it is, its class and its members.
+/// Draws a group's name, its class and its number of members.
 fn draw_group(text: &mut Text, scene: &Scene, row: &Row, top: u32) {
     let line = top.saturating_add(95);
     Label::start(Face::Name, "", scene.across(NAME), line)
@@ -141,7 +142,7 @@ fn draw_slots(text: &mut Text, scene: &Scene, row: &Row, top: u32) {
     draw_run(text, row.class, from, to, area);
 }
 
-/// Draws the occupied slots from one to another.
+/// Draws a run of occupied slots, from the slot `from` to the slot before `to`.
 fn draw_run(text: &mut Text, class: Class, from: u32, to: u32, area: Area) {
     if to <= from {
         return;
@@ -155,7 +156,7 @@ fn draw_run(text: &mut Text, class: Class, from: u32, to: u32, area: Area) {
     add_rect(text, Look::of("occ"), run.inset(2), 0);
 }
 
-/// Draws how many slots of a group are occupied, and whether stores to it are held back.
+/// Draws how many slots of a group are occupied, and whether stores to it are blocked.
 fn draw_count(text: &mut Text, scene: &Scene, row: &Row, top: u32) {
     let line = top.saturating_add(95);
     let mut words = text.empty();
@@ -168,14 +169,14 @@ fn draw_count(text: &mut Text, scene: &Scene, row: &Row, top: u32) {
     }
 }
 
-/// Draws what a group is in a running mesh.
+/// Draws the role of a group in each running mesh that it is in.
 fn draw_part_in_mesh(text: &mut Text, scene: &Scene, row: &Row, top: u32) {
     for mesh in scene.now.meshes.as_slice() {
         draw_part_in(text, scene, row, top, mesh);
     }
 }
 
-/// Draws what a group is in a mesh.
+/// Draws the role of a group in a mesh, if the group is in it.
 fn draw_part_in(text: &mut Text, scene: &Scene, row: &Row, top: u32, mesh: &RunningMesh) {
     let label = Label::start(
         Face::Mark,

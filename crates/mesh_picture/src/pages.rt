@@ -1,4 +1,4 @@
-//! The virtual and the physical pages of a frame, drawn.
+//! Drawing the virtual and the physical pages of a frame.
 use crate::frame::{Frame, Member};
 use crate::layout::{LABELS, LANE, Layout, PAGE_HEIGHT, Shown};
 use crate::lettering::{Face, Label};
@@ -13,11 +13,11 @@ pub(crate) const GROUP_COLOURS: u32 = 8;
 /// A frame, the one before it, and where it is drawn.
 #[derive(Drop)]
 pub(crate) struct Scene<'a> {
-    /// Where things stand.
+    /// The position of everything.
     pub layout: &'a Layout,
-    /// What is drawn.
+    /// The frame that is drawn.
     pub now: &'a Frame,
-    /// What was drawn before it.
+    /// The frame that was drawn before it.
     pub before: Option<&'a Frame>,
     /// The card's left side.
     pub x: u32,
@@ -31,7 +31,7 @@ impl Scene<'_> {
         self.top.saturating_add(PAGE_HEIGHT + LABELS + LANE)
     }
 
-    /// A place, from the card's left side.
+    /// The place at a distance from the card's left side.
     pub(crate) fn across(&self, x: u32) -> u32 {
         self.x.saturating_add(x)
     }
@@ -68,7 +68,7 @@ pub(crate) fn draw_virtual(text: &mut Text, scene: &Scene) -> Result<(), AllocEr
     Ok(())
 }
 
-/// Draws a span, or where it would be.
+/// Draws a span, or its empty place if the frame doesn't have the span.
 fn draw_span(text: &mut Text, scene: &Scene, span: &Shown) -> Result<(), AllocError> {
     match scene.now.members.iter().find(|m| m.first == span.first) {
         None => {
@@ -82,7 +82,7 @@ fn draw_span(text: &mut Text, scene: &Scene, span: &Shown) -> Result<(), AllocEr
     }
 }
 
-/// Draws where a span would be.
+/// Draws the empty place of a span.
 fn draw_absent(text: &mut Text, scene: &Scene, span: &Shown) {
     for place in 0..span.class.pages() {
         let area = scene.page(scene.layout.virtual_left(span, place), scene.top);
@@ -175,7 +175,7 @@ fn draw_virtual_page(
     Ok(())
 }
 
-/// Whether stores to a page are held back.
+/// Whether stores to a page are blocked.
 fn is_read_only(frame: &Frame, page: u32) -> bool {
     match lead_of(frame, page) {
         Some(lead) => lead.read_only,
@@ -183,7 +183,7 @@ fn is_read_only(frame: &Frame, page: u32) -> bool {
     }
 }
 
-/// Whether a page was mapped before with another protection.
+/// Whether a page was mapped in the frame before, and with another protection.
 fn has_other_protection(scene: &Scene, page: u32, read_only: bool) -> bool {
     match scene.before {
         Some(before) => match lead_of(before, page) {
@@ -202,7 +202,7 @@ fn draw_page_number(text: &mut Text, page: u32, area: Area) {
         .add_numbered(text, "page ", page);
 }
 
-/// Draws that a page is read-only, below its number.
+/// Draws the read-only mark of a page, below its number.
 fn draw_read_only(text: &mut Text, area: Area) {
     let line = area.bottom().saturating_add(230);
     Label::start(Face::Mark, "amber", area.x.saturating_add(20), line)
@@ -210,7 +210,7 @@ fn draw_read_only(text: &mut Text, area: Area) {
         .add(text, b"read-only");
 }
 
-/// Draws that a page has changed.
+/// Draws the mark of a page that has changed.
 fn draw_change(text: &mut Text, area: Area) {
     add_rect(text, Look::of("new"), area.grown(30), 50);
 }
@@ -229,7 +229,7 @@ pub(crate) fn draw_physical(text: &mut Text, scene: &Scene) -> Result<(), AllocE
     Ok(())
 }
 
-/// Draws what a physical page holds.
+/// Draws the contents of a physical page.
 fn draw_contents(text: &mut Text, held: &Contents, area: Area) {
     if held.taken {
         add_rect(text, Look::of("pg"), area, 30);

@@ -1,4 +1,4 @@
-//! What lies in a page: the parts of objects.
+//! The contents of a page: the parts of objects.
 use crate::alike::copied_slots;
 use crate::frame::{Frame, Home, Mapping, Member, Object, RunningMesh};
 use mesh_class::Class;
@@ -7,44 +7,44 @@ use std::alloc::{AllocError, Global};
 /// The bytes of a page.
 const PAGE_BYTES: u32 = 4_096;
 
-/// How an object's bytes in a page are used.
+/// The role of an object's bytes in a page.
 #[derive(Clone, Copy, PartialEq, Eq)]
 pub enum State {
-    /// The object is read and written here.
+    /// The bytes are where the object is read and written.
     Live,
-    /// They are a copy, to which the object is not mapped yet.
+    /// The bytes are a copy to which the object is not mapped yet.
     Copied,
-    /// The object is not mapped to them any more.
+    /// The object is no longer mapped to the bytes.
     Old,
 }
 
-/// The part of an object's slot that lies in one page.
+/// The part of an object's slot that is in one page.
 #[derive(Clone, Copy, PartialEq, Eq)]
 pub struct Part {
     /// The object's serial.
     pub serial: u32,
     /// The bytes of a slot.
     pub size: u32,
-    /// Its first byte in the page.
+    /// The first byte of the part in the page.
     pub from: u32,
-    /// Where the object's bytes end.
+    /// The end of the object's bytes in the page.
     pub filled: u32,
-    /// Where the slot's bytes end.
+    /// The end of the slot's bytes in the page.
     pub to: u32,
-    /// How the bytes are used.
+    /// The role of the bytes.
     pub state: State,
 }
 
-/// What a physical page holds.
+/// The contents of a physical page.
 #[derive(Drop)]
 pub struct Contents {
-    /// Whether it is taken.
+    /// Whether the page is taken.
     pub taken: bool,
-    /// The parts of objects in it.
+    /// The parts of objects in the page.
     pub parts: Vec<Part>,
 }
 
-/// The part of an object that lies in the page at a place of its span.
+/// Returns the part of an object that is in the page at a place of its span, if there is one.
 fn part_of(object: &Object, class: Class, place: u32, state: State) -> Option<Part> {
     let from = object.slot.saturating_mul(class.size());
     let to = from.saturating_add(class.size());
@@ -64,7 +64,8 @@ fn part_of(object: &Object, class: Class, place: u32, state: State) -> Option<Pa
     })
 }
 
-/// Adds the parts that a member's objects in the slots below one have in the page at a place of the span.
+/// Adds the parts of a member's objects that are in the page at `place` in the member's span. Only objects in the slots
+/// below `below` count.
 fn add_parts(
     parts: &mut Vec<Part>,
     frame: &Frame,
@@ -81,7 +82,7 @@ fn add_parts(
     Ok(())
 }
 
-/// Adds the part that an object has in the page at a place of its span, if it has one.
+/// Adds the part of an object that is in the page at a place of its span, if there is one.
 fn add_part(
     parts: &mut Vec<Part>,
     object: &Object,
@@ -95,12 +96,12 @@ fn add_part(
     Ok(())
 }
 
-/// Where a virtual page leads.
+/// The mapping of a virtual page.
 pub fn lead_of(frame: &Frame, page: u32) -> Option<&Mapping> {
     frame.leads.iter().find(|l| l.virtual_page == page)
 }
 
-/// What lies in a page of a member.
+/// Returns the parts of a member's objects that are in its page at `place`.
 pub fn member_parts(
     alloc: Global,
     frame: &Frame,
@@ -112,7 +113,7 @@ pub fn member_parts(
     Ok(parts)
 }
 
-/// What a physical page holds.
+/// The contents of a physical page.
 pub fn held_by(alloc: Global, frame: &Frame, page: u32) -> Result<Contents, AllocError> {
     let mut parts = Vec::new(alloc);
     let Some(home) = frame.homes.iter().find(|h| h.page == page && h.taken) else {
@@ -128,7 +129,7 @@ pub fn held_by(alloc: Global, frame: &Frame, page: u32) -> Result<Contents, Allo
     Ok(Contents { taken: true, parts })
 }
 
-/// Adds what a mesh has copied to a page, if the page is of its destination.
+/// Adds the objects that a mesh has copied to a page, if the page belongs to its destination.
 fn add_copies(
     parts: &mut Vec<Part>,
     frame: &Frame,
@@ -142,7 +143,8 @@ fn add_copies(
     add_group(parts, frame, home, mesh.source, below, State::Copied)
 }
 
-/// Adds what the members of a group have in a page, in the slots below one: live where they are mapped to it, else in a state.
+/// Adds the parts of a group's objects that are in a page, for the slots below `below`. Their role is live if their
+/// member is mapped to the page, and otherwise `unmapped`.
 fn add_group(
     parts: &mut Vec<Part>,
     frame: &Frame,
@@ -160,7 +162,7 @@ fn add_group(
     Ok(())
 }
 
-/// How a member's bytes in a page are used: live where the member is mapped to it, else in a state.
+/// The role of a member's bytes in a page: live if the member is mapped to it, and otherwise `unmapped`.
 fn state_in(frame: &Frame, member: &Member, home: &Home, unmapped: State) -> State {
     let page = member.first.saturating_add(home.place);
     match lead_of(frame, page) {
@@ -182,7 +184,7 @@ pub fn groups_of(frame: &Frame) -> u32 {
     count
 }
 
-/// The group whose member a virtual page is of.
+/// Returns the group of the member that a virtual page belongs to, or 0 if there is no such member.
 pub fn group_of(frame: &Frame, page: u32) -> u32 {
     let member = frame
         .members
@@ -194,7 +196,7 @@ pub fn group_of(frame: &Frame, page: u32) -> u32 {
     }
 }
 
-/// Whether a physical page held something else in the frame before, if there was one.
+/// Whether a physical page had other contents in the frame `before`. False if there is no such frame.
 pub fn held_otherwise(
     alloc: Global,
     before: Option<&Frame>,

@@ -25,14 +25,14 @@ const MAX_TITLE: usize = 64;
 /// The least width of a picture, for its legend.
 const LEAST_WIDTH: u32 = 12_200;
 
-/// What a job's header says.
+/// The values of a job's header.
 #[derive(Clone, Copy)]
 pub struct Header {
-    /// The version of its file.
+    /// The version of the job's file.
     pub version: u32,
-    /// The physical pages of its arena.
+    /// The physical pages of the job's arena.
     pub pages: u32,
-    /// How many workers it has.
+    /// How many workers the job has.
     pub workers: u32,
 }
 
@@ -62,19 +62,19 @@ impl Drop for Picture {
     fn drop(self) { let Picture { measured: _, title: _, header: _, gathering: _, row: _, column: _, y: _, next: _ } = self; }
 }
 
-/// How a picture is drawn.
+/// The options of a picture.
 #[derive(Clone, Copy)]
 pub struct Drawn<'a> {
-    /// What stands above it.
+    /// The title above the picture.
     pub title: &'a str,
-    /// How many frames stand side by side, if that is asked; else as many as fit.
+    /// How many frames are side by side. If `None`, as many as fit.
     pub columns: Option<u32>,
-    /// The number of the line that it is shown first.
+    /// The number of the first line of the picture.
     pub first: usize,
 }
 
 impl Picture {
-    /// A picture of what was measured, before its first frame. An error is an allocation failure.
+    /// Returns a picture with these measurements, before its first frame. An error is an allocation failure.
     pub fn new(
         alloc: Global,
         measure: Measure,
@@ -95,14 +95,14 @@ impl Picture {
         })
     }
 
-    /// The number of the line that is taken in next.
+    /// The number of the next line to come.
     pub fn next_line(&self) -> usize
         ensures { result ≡ self.now }
     {
         self.next
     }
 
-    /// Adds what stands before the first frame: a text that was empty begins as an SVG file does.
+    /// Appends the text that comes before the first frame. If `text` was empty, it then begins as an SVG file does.
     pub fn head(&self, text: &mut Text)
         ensures { text.old ≡ Some [] → IfSome text.new (Begins (codes "<svg")) }
     {
@@ -113,7 +113,7 @@ impl Picture {
         text.share_refusal(&head);
     }
 
-    /// Draws what stands before the first frame, behind the first word of the file.
+    /// Draws the head of the file: what comes after its first word `<svg` and before the first frame.
     fn draw_head(&self, text: &mut Text) {
         let width = self
             .measured
@@ -139,7 +139,7 @@ impl Picture {
         draw_legend(text, self.measured.layout.by_pages);
     }
 
-    /// Draws what the job's header says, behind the title.
+    /// Draws the values of the job's header, after the title.
     fn draw_note(&self, text: &mut Text, width: u32) {
         let mut words = text.empty();
         self.header.add(&mut words);
@@ -157,8 +157,8 @@ impl Picture {
             .add_text(text, &words);
     }
 
-    /// Takes in a line of the plan, and what the heap looks like behind it; adds a frame if the picture has changed. The points are those
-    /// that were measured, in the same order. An error is an allocation failure.
+    /// Takes a line of the plan and the heap after it, and adds a frame if the picture has changed. The points must be
+    /// those that were measured, in the same order. An error is an allocation failure.
     pub fn point(
         &mut self,
         line: &Line<'_>,
@@ -178,7 +178,8 @@ impl Picture {
         Ok(())
     }
 
-    /// Adds a last frame if there are lines behind the last change, and what stands behind all frames. An error is an allocation failure.
+    /// Adds a last frame if there are lines after the last change, and then the end of the file. An error is an
+    /// allocation failure.
     pub fn end(&self, text: &mut Text) -> Result<(), AllocError> {
         if !self.gathering.captions.is_empty() {
             self.draw_last(text)?;
@@ -187,17 +188,17 @@ impl Picture {
         Ok(())
     }
 
-    /// Draws a card for lines that change nothing.
+    /// Draws a last card for lines that didn't change the picture.
     fn draw_last(&self, text: &mut Text) -> Result<(), AllocError> {
         self.draw(&self.gathering.last, text)
     }
 
-    /// How high the row of the next card is.
+    /// The height of the next card's row.
     fn row_height(&self) -> u32 {
         self.measured.rows.get(self.row).copied().unwrap_or(0)
     }
 
-    /// Goes on to the place of the next card.
+    /// Moves on to the place of the next card.
     fn step(&mut self)
         ensures { self.new ≡ self.old }
     {
@@ -237,7 +238,7 @@ impl Picture {
         self.draw_heap(frame, text, card.x, below)
     }
 
-    /// Draws what a heap looks like, below a line.
+    /// Draws a heap below the height `y`.
     fn draw_heap(&self, frame: &Frame, text: &mut Text, x: u32, y: u32) -> Result<(), AllocError> {
         let layout = &self.measured.layout;
         let space = if layout.by_pages {
@@ -262,7 +263,7 @@ impl Picture {
         Ok(())
     }
 
-    /// The frame before the one that is drawn.
+    /// Returns the frame that was drawn last, or `None` if none was drawn.
     fn before(&self) -> Option<&Frame> {
         if self.gathering.begun {
             Some(&self.gathering.last)
@@ -273,7 +274,7 @@ impl Picture {
 }
 
 impl Header {
-    /// Adds what it says.
+    /// Appends the values of the header as words.
     fn add(self, words: &mut Text) {
         words.add(b"version ");
         words.add_number(self.version);
@@ -289,7 +290,7 @@ impl Header {
     }
 }
 
-/// How high a picture with these rows of cards is.
+/// The height of a picture with these rows of cards.
 fn total_height(rows: &[u32]) -> u32 {
     let mut height = HEAD;
     for row in rows {
@@ -298,7 +299,7 @@ fn total_height(rows: &[u32]) -> u32 {
     height.saturating_add(60)
 }
 
-/// Draws what a heap counts in the upper right corner of a card.
+/// Draws the counts of a heap in the upper right corner of a card.
 fn draw_counts(text: &mut Text, counts: &Counts, card: Area) {
     let mut words = text.empty();
     words.add_number(counts.mapped);

@@ -1,24 +1,24 @@
-//! The lines above a frame, drawn.
+//! Drawing the lines above a frame.
 use crate::gathering::{Caption, Gathering};
 use crate::lettering::{Face, Label, width_of};
 use mesh_svg::{Area, Look, Text, add_rect};
 use std::alloc::AllocError;
 
-/// What an answer says of a line.
+/// The kind of an answer to a line.
 #[derive(Clone, Copy, PartialEq, Eq)]
 pub enum Tone {
-    /// It was done.
+    /// The line was done.
     Done,
-    /// It is to be tried again.
+    /// The line was blocked, and is to be retried.
     Blocked,
-    /// It was refused, or could not be tried.
+    /// The line was refused, or could not be run.
     Refused,
     /// The mesher did something.
     Mesher,
 }
 
 impl Tone {
-    /// The rule of the style.
+    /// The style rule of the kind.
     fn rule(self) -> &'static str {
         match self {
             Tone::Done => "pd",
@@ -29,7 +29,7 @@ impl Tone {
     }
 }
 
-/// What an answer says of a line.
+/// The kind of an answer.
 pub fn tone_of(answer: &[u8]) -> Tone {
     if answer.starts_with(b"blocked") {
         Tone::Blocked
@@ -42,14 +42,14 @@ pub fn tone_of(answer: &[u8]) -> Tone {
     }
 }
 
-/// Whether an answer says that nothing was done.
+/// Whether an answer means that nothing was done.
 fn says_refused(answer: &[u8]) -> bool {
     answer.starts_with(b"refused")
         || answer.starts_with(b"over")
         || answer.starts_with(b"history full")
 }
 
-/// Whether an answer is one of the mesher's that tells of something done.
+/// Whether an answer is one of the mesher's, for something that was done.
 fn is_of_mesher(answer: &[u8]) -> bool {
     is_step(answer)
         || answer.starts_with(b"left ")
@@ -58,7 +58,7 @@ fn is_of_mesher(answer: &[u8]) -> bool {
         || answer.starts_with(b"found ")
 }
 
-/// Whether an answer tells of a step.
+/// Whether an answer is that of a step.
 pub fn is_step(answer: &[u8]) -> bool {
     answer.starts_with(b"protect ")
         || answer.starts_with(b"copy ")
@@ -67,22 +67,22 @@ pub fn is_step(answer: &[u8]) -> bool {
         || answer.starts_with(b"release ")
 }
 
-/// From one caption to the next.
+/// The distance from one caption to the next.
 pub const LINE: u32 = 190;
 
-/// Where the words of captions begin, from a card's left side.
+/// The left side of the words of captions, from a card's left side.
 pub const INDENT: u32 = 620;
 
-/// Between words and answer.
+/// The gap between words and answer.
 const SPACE: u32 = 120;
 
-/// Between an answer and the sides of its pill.
+/// The gap between an answer and the sides of its pill.
 const PAD: u32 = 70;
 
-/// What stands beside the first caption: the counts.
+/// The width of the page counts, which are next to the first caption.
 const BESIDE: u32 = 1_800;
 
-/// How wide a card has to be for a caption. An error is an allocation failure.
+/// The width that a card needs for a caption. An error is an allocation failure.
 pub fn caption_width(caption: &Caption) -> Result<u32, AllocError> {
     let words = width_of(Face::Line, told(caption).whole()?);
     let answer = width_of(Face::Pill, caption.answer.as_slice());
@@ -93,7 +93,7 @@ pub fn caption_width(caption: &Caption) -> Result<u32, AllocError> {
     )
 }
 
-/// The words of a caption, with how many lines say them.
+/// Returns the words of a caption. The number of its lines is appended if there are several.
 fn told(caption: &Caption) -> Text {
     let mut words = Text::new(*caption.words.allocator());
     words.add(caption.words.as_slice());
@@ -104,7 +104,7 @@ fn told(caption: &Caption) -> Text {
     words
 }
 
-/// Draws the captions of a frame into a card with this left upper corner.
+/// Draws the captions of a frame into a card whose upper left corner is given.
 pub fn draw_captions(text: &mut Text, gathering: &Gathering, x: u32, y: u32) {
     let count = gathering.captions.len();
     let mut top = y;

@@ -3,23 +3,23 @@ use crate::frame::{Mapping, Member, Object};
 use mesh_class::Class;
 use std::alloc::{AllocError, Global};
 
-/// A group, as its row shows it.
+/// The values of a group that its row shows.
 #[derive(Drop)]
 pub struct Row {
-    /// Its number.
+    /// The group's number.
     pub group: u32,
-    /// Its size class.
+    /// The group's size class.
     pub class: Class,
-    /// How many members it has.
+    /// How many members the group has.
     pub members: u32,
-    /// The slots of its objects.
+    /// The slots of the group's objects.
     pub slots: Vec<u32>,
-    /// Whether a page of it is read-only.
+    /// Whether a page of the group is read-only.
     pub read_only: bool,
 }
 
 impl Row {
-    /// No group yet.
+    /// Returns a row without a group.
     pub fn new(alloc: Global) -> Row {
         Row {
             group: 0,
@@ -30,12 +30,12 @@ impl Row {
         }
     }
 
-    /// Whether a member is of another group.
+    /// Whether a member begins a new row: it belongs to another group, or the row has no group yet.
     pub fn ends_before(&self, member: &Member) -> bool {
         self.members == 0 || self.group != member.group
     }
 
-    /// Begins with a member's group.
+    /// Clears the row and begins that of a member's group.
     pub fn begin(&mut self, member: &Member) {
         self.group = member.group;
         self.class = member.class;
@@ -44,7 +44,7 @@ impl Row {
         self.read_only = false;
     }
 
-    /// Adds a member with its leads and objects.
+    /// Adds a member with its mappings and objects.
     pub fn add(&mut self, leads: &[Mapping], objects: &[Object]) -> Result<(), AllocError> {
         self.members = self.members.saturating_add(1);
         self.read_only = self.read_only || leads.iter().any(|l| l.read_only);

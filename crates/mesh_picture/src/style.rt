@@ -1,7 +1,7 @@
-//! The style of a picture: its lettering, and its colours on light and on dark ground.
+//! The style of a picture: its lettering, and its colours on light and on dark background.
 use mesh_svg::{LETTERING as FAMILY, Text, add_lines, add_style};
 
-/// Lettering.
+/// The rules of lettering.
 static LETTERING: [&str; 6] = [
     FAMILY,
     ".fl,.fm,.fp{font-family:'DejaVu Sans Mono',Menlo,Consolas,monospace}",
@@ -11,7 +11,7 @@ static LETTERING: [&str; 6] = [
     ".ft,.fs,.fb,.fk,.fo{font-weight:bold}",
 ];
 
-/// Grounds, inks and lines.
+/// Backgrounds, text colours and lines.
 static GROUNDS: [&str; 11] = [
     ".bg{fill:#f3f4f6}.card{fill:#fff;stroke:#c8cdd4;stroke-width:10}",
     ".ink{fill:#1d2430}.soft{fill:#58626d}.green{fill:#1b6e3a}",
@@ -57,7 +57,7 @@ static STATES: [&str; 4] = [
     "rect.copy{fill-opacity:.32;stroke-width:12;stroke-dasharray:30 20}",
 ];
 
-/// Grounds, inks and lines on dark ground.
+/// Backgrounds, text colours and lines on dark background.
 static DARK_GROUNDS: [&str; 7] = [
     ".bg{fill:#101418}.card{fill:#1a2027;stroke:#39434e}",
     ".ink{fill:#e8ecf1}.soft{fill:#a4afbb}.green{fill:#6fd08c}",
@@ -68,7 +68,7 @@ static DARK_GROUNDS: [&str; 7] = [
     ".ahead{fill:#2a3543}.made{fill:#2f5f96}.occ{fill:#8fb4dd}",
 ];
 
-/// The colours of groups on dark ground.
+/// The colours of groups on dark background.
 static DARK_GROUPS: [&str; 5] = [
     ".k0{fill:#a9a0f0}.k1{fill:#f09a5a}.k2{fill:#6fc98a}.k3{fill:#e08ab5}",
     ".k4{fill:#5cc8d2}.k5{fill:#d0c750}.k6{fill:#dc8ed8}.k7{fill:#c4c9cf}",

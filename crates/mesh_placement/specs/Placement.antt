@@ -16,7 +16,8 @@ use Rattle.mesh_spans.specs.Index.{AreUnused, Index, SpanEntry, address_in, inde
 use Rattle.mesh_placement.specs.Records.{KeepsAddresses, KeepsOthers, KeepsRecords}
 use Rattle.mesh_placement.specs.Sweeps.{swept, table_after}
 
--- a placement: its index, the lowest virtual page that was never used, the physical pages of all groups, and the serial of the next object
+-- a placement: its index, the lowest virtual page that was never used, the physical pages of all groups, and the serial
+-- of the next object
 pub record Placement : Type 0 where
   pub index : Index
   pub next_page : ℕ
@@ -55,7 +56,8 @@ pub record HasMemory (serials : ℕ) (t : Table) : Type 0 where
   pub next_is : next_serial memory ≡ serials
   pub tied : IsTied memory t
 
--- what always holds: the table is sound and has a memory's objects, its pages are counted, its spans ascend, and no group is in a mesh
+-- what always holds: the table is sound and has a memory's objects, its pages are counted, its spans ascend, and no
+-- group is in a mesh
 pub record IsPlacement (p : Placement) : Type 0 where
   pub sound : IsSound (table_of p)
   pub named : HasMemory p.next_serial (table_of p)

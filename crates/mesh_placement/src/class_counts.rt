@@ -11,14 +11,14 @@ pub(crate) struct ClassCounts {
 }
 
 impl ClassCounts {
-    /// Nothing is counted.
+    /// Counts of zero.
     pub(crate) fn none() -> ClassCounts
         ensures { result.counts ≡ replicate 10 0 }
     {
         ClassCounts { counts: [0; 10] }
     }
 
-    /// The counts.
+    /// The counts by class.
     pub(crate) fn by_class(&self) -> &[u32; 10]
         ensures { result.now ≡ self.now.counts }
     {
@@ -28,7 +28,8 @@ impl ClassCounts {
     /// Raises the count of a class.
     pub(crate) fn raise(&mut self, class: Class, by: u32)
         requires { slice_index self.old.counts (class_index class) + by < 2 ^ 32 }
-        ensures { self.new.counts ≡ slice_set self.old.counts (class_index class) (slice_index self.old.counts (class_index class) + by) }
+        ensures { self.new.counts
+            ≡ slice_set self.old.counts (class_index class) (slice_index self.old.counts (class_index class) + by) }
     {
         self.counts[class.index() as usize] += by;
     }
@@ -36,7 +37,8 @@ impl ClassCounts {
     /// Lowers the count of a class.
     pub(crate) fn lower(&mut self, class: Class, by: u32)
         requires { by ≤ slice_index self.old.counts (class_index class) }
-        ensures { self.new.counts ≡ slice_set self.old.counts (class_index class) (slice_index self.old.counts (class_index class) - by) }
+        ensures { self.new.counts
+            ≡ slice_set self.old.counts (class_index class) (slice_index self.old.counts (class_index class) - by) }
     {
         self.counts[class.index() as usize] -= by;
     }

@@ -9,7 +9,8 @@ use mesh_class::Class;
 use mesh_spans::{MAX_SPAN_PAGES, Span, Spans};
 use std::alloc::AllocError;
 
-/// Adds a span of the class from a virtual page on. The index names physical page 0 for each of its pages: a placement only counts them.
+/// Adds a span of the class from a virtual page on. The index names physical page 0 for each of its pages: a placement
+/// only counts them.
 pub(crate) fn add_span(spans: &mut Spans, class: Class, first: u32) -> Result<Span, AllocError>
     requires first { 1 ≤ first }
     requires last { first + pages_of class ≤ 65536 }

@@ -1,10 +1,10 @@
-//! What a mesh of two groups comes to.
+//! The result of a mesh of two groups.
 
-/// What a mesh of two groups comes to.
+/// The result of a mesh of two groups.
 #[derive(Clone, Copy, Debug, PartialEq, Eq)]
 pub struct Meshed {
-    /// The physical pages that came free.
+    /// The number of physical pages that became free.
     pub pages: u32,
-    /// The lengths of the source's objects together: the bytes that a heap would copy.
+    /// The sum of the lengths of the source's objects: the bytes that a heap would copy.
     pub bytes: u32,
 }

@@ -27,12 +27,13 @@ use std::marker::Model;
 /// The virtual page after the last one.
 const END_OF_VIRTUAL_PAGES: u32 = 65_536;
 
-/// How many physical pages there are: so many more than virtual ones that a new span never wants for one.
+/// The number of physical pages: more than virtual pages, so that a new span never lacks one.
 const PHYSICAL_PAGES: u32 = 65_538;
 
 /// Where the objects of a heap are.
 ///
-/// Objects have serials, counted from 0. An object is in a slot of a span, and stays in it until it is freed, whatever is meshed.
+/// Objects have serials, counted from 0. An object is in a slot of a span, and stays in it until it is freed, whichever
+/// groups are meshed.
 pub struct Placement {
     spans: Spans,
     // The lowest virtual page that was never used.
@@ -55,7 +56,8 @@ impl Model for Placement {
 
     ghost coded = { placement_code };
 
-    ghost view = { λ p. record { index = p.spans; next_page = p.next_page; taken_pages = p.taken_pages; next_serial = p.next_serial } };
+    ghost view = { λ p.
+        record { index = p.spans; next_page = p.next_page; taken_pages = p.taken_pages; next_serial = p.next_serial } };
 
     ghost invariant = { λ p.
         IsPlacement (record { index = p.spans; next_page = p.next_page; taken_pages = p.taken_pages; next_serial = p.next_serial })
@@ -68,7 +70,8 @@ impl Drop for Placement {
 }
 
 impl Placement {
-    /// A placement with no object. The table of virtual pages is allocated here. An error is an allocation failure.
+    /// Makes a placement without objects. The table of virtual pages is allocated here. An error is an allocation
+    /// failure.
     pub fn open(alloc: Global) -> Result<Placement, AllocError>
         ensures table { IfOk result (λ p. table_of p ≡ empty_table supply) }
         ensures serial { IfOk result (λ p. p.next_serial ≡ 0) }
@@ -84,7 +87,8 @@ impl Placement {
         })
     }
 
-    /// What always holds: the table is sound, spans and groups fit together, and each class has the pages that its objects need.
+    /// The invariant: the table is sound, spans and groups fit together, and each class has the pages that its objects
+    /// need.
     pub fn sound(&self)
         ensures placement { IsPlacement self.now }
         ensures index { IsIndex self.now.index.spans self.now.index.groups }
@@ -101,11 +105,12 @@ impl Placement {
         self.next_serial == u32::MAX
     }
 
-    /// Makes an object of `len` bytes under the next serial, where a heap would make it: in the lowest group of its class that has a free slot, or in
-    /// a new span, in the slot that the word picks among the free ones. `is_full` reports whether there is no serial left.
+    /// Makes an object of `len` bytes with the next serial, where a heap would make it: in the lowest group of its
+    /// class that has a free slot, or else in a new span. The word selects the slot among the free ones. `is_full`
+    /// reports whether no serial is left.
     ///
-    /// Refused with ZERO, TOO_LARGE or NO_ADDRESSES, the first that holds; Memory where allocation for a new span fails. NO_PAGES never comes:
-    /// there are always enough physical pages.
+    /// Refused with ZERO, TOO_LARGE or NO_ADDRESSES, the first that holds. `Memory` if the allocation for a new span
+    /// fails. NO_PAGES never comes: there are always enough physical pages.
     pub fn new(&mut self, len: u32, word: u64) -> Result<(Span, Slot), NewFault>
         requires { self.old.next_serial < 2 ^ 32 - 1 }
         ensures made { IfOk result (λ r. IsMade self.old self.new len word r.0 r.1) }
@@ -156,7 +161,8 @@ impl Placement {
 
     /// Whether a `new` of `len` bytes finds room: an open group of its class, or virtual pages left for a new span.
     ///
-    /// The answer is the same for every word and every serial. `new` may still fail where memory for a new span can't be allocated.
+    /// The answer is the same for every word and every serial. `new` may still fail if memory for a new span can't be
+    /// allocated.
     pub fn has_room(&self, len: u32) -> bool
         requires some { 1 ≤ len }
         requires small { len ≤ 2048 }
@@ -186,7 +192,7 @@ impl Placement {
         self.class_objects.lower(class, 1);
     }
 
-    /// The physical pages of all groups together.
+    /// The number of physical pages of all groups together.
     pub fn taken_pages(&self) -> u32
         ensures free { result ≡ supply - (table_of self.now).free_pages }
         ensures groups { result ≡ span_pages (table_of self.now) }
@@ -194,14 +200,14 @@ impl Placement {
         self.taken_pages
     }
 
-    /// How many virtual pages were ever used. None of them is used again.
+    /// How many virtual pages were ever used. A virtual page is never reused.
     pub fn used_pages(&self) -> u32
         ensures { result ≡ (table_of self.now).next_page - 1 }
     {
         self.next_page - 1
     }
 
-    /// What the groups count together: objects, their bytes, and the virtual pages of members. No group is looked at.
+    /// The counts over all groups: objects, their bytes, and the virtual pages of members. It visits no group.
     pub fn totals(&self) -> Totals
         ensures objects { result.objects ≡ sum_by object_count (table_of self.now).groups }
         ensures bytes { result.bytes ≡ sum_by byte_count (table_of self.now).groups }
@@ -210,7 +216,7 @@ impl Placement {
         self.spans.totals()
     }
 
-    /// The physical pages of the groups of each class, in the order of the class table. No group is looked at.
+    /// The physical pages of the groups of each class, in the order of the class table. It visits no group.
     pub fn pages_by_class(&self) -> &[u32; 10]
         ensures value { result.now ≡ map (λ row. class_pages (table_of self.now) row.size) table }
         ensures few { All (λ n. n ≤ 65538) result.now }
@@ -218,7 +224,7 @@ impl Placement {
         self.class_pages.by_class()
     }
 
-    /// The objects of each class, in the order of the class table. No group is looked at.
+    /// The objects of each class, in the order of the class table. It visits no group.
     pub fn objects_by_class(&self) -> &[u32; 10]
         ensures value { result.now ≡ map (λ row. class_objects (table_of self.now) row.size) table }
         ensures few { All (λ n. n ≤ 2 ^ 24) result.now }
@@ -227,7 +233,7 @@ impl Placement {
         self.class_objects.by_class()
     }
 
-    /// Serial and length of the object in a slot of a span. None only where it has none.
+    /// Serial and length of the object in a slot of a span. `None` only if the slot has no object of the span.
     pub fn record(&self, span: Span, slot: Slot) -> Option<(u32, u32)>
         ensures value { result ≡ record_at self.now.index span slot }
         ensures object { IfSome result (λ r. IsRecorded self.now.index span slot r.0 r.1) }

@@ -55,7 +55,7 @@ abbrev pub IsHolder : (ℕ → Option Object) → ℕ → Option ℕ → Type 0
 IsHolder object address None = (k : ℕ) → holds_address (object k) address ≡ false
 IsHolder object address (Some serial) = (holds_address (object serial) address ≡ true) × ((k : ℕ) → k < serial → holds_address (object k) address ≡ false)
 
--- bytes are stored in the object of a serial, or it is told why not
+-- bytes are stored in the object of a serial, or the fault says why not
 abbrev pub IsOverwritten : (ℕ → Option Object) → (ℕ → Option Object) → ℕ → ℕ → List ℕ → Result (Unit {0}) PlainFault → Type 0
 IsOverwritten old new serial off bytes (Ok _) = (x : Object) × (old serial ≡ Some x) × (off + length bytes ≤ length x.bytes)
     × IsSetAt old new serial (Some (record x { bytes = overwritten x.bytes off bytes }))
@@ -63,7 +63,7 @@ IsOverwritten old new serial off bytes (Err Outside) = (x : Object) × (old seri
 IsOverwritten old new serial off bytes (Err Freed) = (old serial ≡ None) × IsSameAt old new
 IsOverwritten old new serial off bytes (Err _) = ⊥
 
--- a range of one object's bytes is stored in another or the same, or it is told why not
+-- a range of one object's bytes is stored in another or the same, or the fault says why not
 abbrev pub IsCopied : (ℕ → Option Object) → (ℕ → Option Object) → ℕ → ℕ → ℕ → ℕ → ℕ → Result (Unit {0}) PlainFault → Type 0
 IsCopied old new to to_off from from_off len (Ok _) = (x y : Object) × (old to ≡ Some x) × (old from ≡ Some y)
     × (to_off + len ≤ length x.bytes) × (from_off + len ≤ length y.bytes)

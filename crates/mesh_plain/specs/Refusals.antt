@@ -11,7 +11,7 @@ use Rattle.model_words.specs.declared.refusals.Refusal.TheVariants.{Empty as IsE
 use Rattle.mesh_plain.specs.declared.faults.PlainFault.{PlainFault}
 use Rattle.mesh_plain.specs.declared.faults.PlainFault.TheVariants.{Empty, Freed, Outside, Stray, Memory as OfMemory}
 
--- the step is refused, and the fault has the refusal's name; want of memory is no refusal
+-- the step is refused, and the fault has the refusal's name; out of memory is no refusal
 abbrev pub IsRefusedAs : {X : Type 0} → PlainFault → Result X Refusal → Type 0
 IsRefusedAs Empty step = step ≡ Err IsEmpty
 IsRefusedAs Freed step = step ≡ Err IsFreed

@@ -6,14 +6,14 @@ use arrayvec::ArrayVec;
 use model_words::MAX_BYTES;
 use std::alloc::{AllocError, Global};
 
-/// So many zeros.
+/// Returns `len` zeros. An error is an allocation failure.
 pub fn zeros(alloc: Global, len: usize) -> Result<Vec<u8>, AllocError>
     ensures { IfOk result (λ bytes. bytes.items ≡ replicate len 0) }
 {
     vec![in alloc; 0u8; len]
 }
 
-/// The bytes from an offset on.
+/// Returns `len` bytes from an offset on.
 pub fn loaded(all: &[u8], start: usize, len: usize) -> ArrayVec<u8, MAX_BYTES>
     requires fits { start + len ≤ length all.now }
     requires few { len ≤ 32 }
@@ -33,7 +33,8 @@ pub fn store_at(all: &mut Vec<u8>, start: usize, bytes: &[u8])
     all[start..start + bytes.len()].copy_from_slice(bytes);
 }
 
-/// Copies a range of bytes to where another begins. Where the two overlap, each byte is the one that was there before.
+/// Copies a range of bytes to the place where another begins. If the two overlap, the bytes from before the copy are
+/// copied.
 pub fn copy_within(all: &mut Vec<u8>, to: usize, from: usize, len: usize)
     requires target { to + len ≤ length all.old.items }
     requires source { from + len ≤ length all.old.items }

@@ -1,4 +1,4 @@
-//! What the commands of a journal do to the plain memory, and what it answers to a read.
+//! What the commands of a journal do to the reference memory, and what it answers to a read.
 ghost use Rattle.std.specs.Prelude.{◌≡◌, ℕ, ◌^◌, ◌+◌, ◌-◌, ◌≤◌, ◌<◌, true, Result, Ok, Err, IfErr, IfOk, IsErr, OnOk, OnErr};
 ghost use Rattle.model_words.specs.Commands.{IsInRange};
 ghost use Rattle.model_memory.specs.Memory.{Memory, next_serial};
@@ -14,11 +14,11 @@ use crate::plain::Plain;
 use model_words::{Command, Refusal, Reply};
 use std::alloc::AllocError;
 
-/// The most bytes that an object has.
+/// The greatest number of bytes of an object.
 const MAX_OBJECT_BYTES: u32 = 2048;
 
 impl Plain {
-    /// What it answers to a read: a refusal where it refuses. It takes no memory.
+    /// Returns the answer to a read, which may be a refusal. It allocates nothing.
     pub fn look(&self, command: &Command) -> Reply
         requires range { IsInRange command.now }
         requires read { is_read command.now ≡ true }
@@ -41,8 +41,8 @@ impl Plain {
         }
     }
 
-    /// Does a command and gives its reply; a new object is put at `address`. The error is an allocation failure, and comes of a `New` and of an
-    /// `Alias` alone; then nothing changed.
+    /// Performs a command and returns its reply. A new object is put at `address`. An error is an allocation failure,
+    /// and comes only from a `New` or an `Alias`. Then nothing has changed.
     pub fn answer(&mut self, command: &Command, address: u32) -> Result<Reply, AllocError>
         requires range { IsInRange command.now }
         requires few { next_serial self.old < 2 ^ 32 - 1 }
@@ -54,7 +54,7 @@ impl Plain {
         Ok(reply)
     }
 
-    /// Does a command and gives its reply.
+    /// Performs a command and returns its reply.
     fn answer_at(&mut self, command: &Command, address: u32) -> Result<Reply, AllocError>
         requires range { IsInRange command.now }
         requires few { next_serial self.old < 2 ^ 32 - 1 }
@@ -68,10 +68,12 @@ impl Plain {
         }
     }
 
-    /// Makes an object at an address, and gives the reply.
+    /// Makes an object at an address, and returns the reply.
     fn answer_new(&mut self, cell: u8, len: u32, address: u32) -> Result<Reply, AllocError>
         requires few { next_serial self.old < 2 ^ 32 - 1 }
-        ensures follows { IfOk result (λ reply. (word : ℕ) → Follows (plain self.old address (Command.New cell len word)) self.old reply self.new) }
+        ensures follows { IfOk result
+            (λ reply. (word : ℕ) → Follows
+            (plain self.old address (Command.New cell len word)) self.old reply self.new) }
         ensures unchanged { OnErr result (self.new ≡ self.old) }
     {
         if len == 0 {
@@ -86,8 +88,9 @@ impl Plain {
         }
     }
 
-    /// Does what an answered command did. For a `New` its reply tells the address; a reply that names no object changes nothing, nor does a command
-    /// that is refused. The error is an allocation failure, and comes of a `New` that made an object and of an `Alias` alone.
+    /// Does what an answered command did. For a `New` its reply has the address. A `New` whose reply names no object
+    /// changes nothing, nor does a command that is refused. An error is an allocation failure, and comes only from a
+    /// `New` that made an object or an `Alias`.
     pub fn apply(&mut self, command: &Command, reply: &Reply) -> Result<(), AllocError>
         requires few { next_serial self.old < 2 ^ 32 - 1 }
         ensures done { OnOk result (self.new ≡ left_by self.old command.now reply.now) }
@@ -108,7 +111,7 @@ impl Plain {
         }
     }
 
-    /// Does a command that changes the memory and makes no object. Memory is an error of an `Alias` alone.
+    /// Performs a command that changes the memory and makes no object. Only an `Alias` can fail with `Memory`.
     fn change(&mut self, command: &Command) -> Result<(), PlainFault>
         requires { IsChange command.now }
         ensures done { OnOk result (plain self.old 0 command.now ≡ Ok (Reply.Done, self.new)) }
@@ -131,7 +134,9 @@ impl Plain {
 /// The reply to a command that changes the memory, or an allocation failure.
 fn done(answer: Result<(), PlainFault>) -> Result<Reply, AllocError>
     ensures done { OnOk answer (result ≡ Ok Reply.Done) }
-    ensures refused { IfErr answer (λ fault. IfOk result (λ reply. (step : Result (Reply × Memory) Refusal) → IsRefusedOrMemory fault step → reply ≡ reply_in step × IsErr step)) }
+    ensures refused { IfErr answer
+        (λ fault. IfOk result (λ reply. (step : Result (Reply × Memory) Refusal) → IsRefusedOrMemory fault step
+        → reply ≡ reply_in step × IsErr step)) }
 {
     match answer {
         Ok(()) => Ok(Reply::Done),
@@ -153,7 +158,7 @@ fn refused(fault: PlainFault) -> Reply
     })
 }
 
-/// An allocation failure, where a call comes to it; a refusal is none.
+/// Returns an error if the call failed with an allocation failure. A refusal is no error here.
 fn only_memory(answer: Result<(), PlainFault>) -> Result<(), AllocError>
     ensures only { OnErr result (answer ≡ Err PlainFault.Memory) }
     ensures told { IfErr answer (λ fault. fault ≡ PlainFault.Memory → IsErr result) }

@@ -1,10 +1,10 @@
-//! Why a call on the plain memory changed nothing.
+//! Why a call on the reference memory changed nothing.
 use std::alloc::AllocError;
 use thiserror::Error;
 
-/// Why a call on the plain memory changed nothing.
+/// Why a call on the reference memory changed nothing.
 ///
-/// The first four are the refusals of those names. Memory is no refusal: only calls that take memory answer it.
+/// The first four are the refusals of those names. `Memory` is no refusal: only calls that allocate return it.
 #[derive(Clone, Copy, Debug, PartialEq, Eq, Error)]
 pub enum PlainFault {
     /// The root cell holds no serial.
@@ -19,7 +19,7 @@ pub enum PlainFault {
     /// The address is in no live object's range.
     #[error("no live object has the address")]
     Stray,
-    /// Memory was refused.
+    /// An allocation failed.
     #[error("memory was refused")]
     Memory,
 }

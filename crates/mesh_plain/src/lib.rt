@@ -1,7 +1,8 @@
-//! The plain memory as a program: separate objects by serial, with no spans, pages or meshes.
+//! The reference memory as a program: separate objects by serial, with no spans, pages or meshes.
 //!
-//! It is slow and says at once what every command must answer. A contract sees it as the plain memory of the definitions: the objects by serial,
-//! and for each of the 256 root cells the serial that it holds.
+//! The code calls the reference memory the plain memory. It is slow, and its code shows directly what every command
+//! must answer. A contract sees it as the reference memory of the definitions: the objects by serial, and for each of
+//! the 256 root cells the serial that it holds.
 #![tactic(auto)]
 
 mod bytes;

@@ -12,7 +12,7 @@ use std::alloc::{AllocError, Global};
 use std::collections::BTreeMap;
 use std::mem;
 
-/// Adds an object and lets a cell hold its serial.
+/// Adds an object and stores its serial in a cell.
 pub fn add(
     objects: &mut BTreeMap<u32, Stored>,
     roots: &mut BTreeMap<u8, u32>,
@@ -36,7 +36,7 @@ pub fn add(
     Ok(())
 }
 
-/// Lets a cell hold a serial.
+/// Stores a serial in a cell. An error is an allocation failure; nothing changes then.
 pub fn point(roots: &mut BTreeMap<u8, u32>, cell: u8, serial: u32) -> Result<(), AllocError>
     ensures done { OnOk result (Updates nat_cmp roots.old roots.new cell (Some serial)) }
     ensures same { OnErr result (IsSameAt (get nat_cmp roots.old) (get nat_cmp roots.new)) }
@@ -47,7 +47,7 @@ pub fn point(roots: &mut BTreeMap<u8, u32>, cell: u8, serial: u32) -> Result<(),
     }
 }
 
-/// The least serial whose object has the address.
+/// The least serial whose object has the address, or `None` if no object has it.
 pub fn holder(objects: &BTreeMap<u32, Stored>, address: u32) -> Option<u32>
     ensures { IsHolder (get nat_cmp objects.now) address result }
 {
@@ -94,7 +94,8 @@ pub fn overwrite(
     Ok(())
 }
 
-/// Copies a range of one live object's bytes into another's, or within one: each object by its serial and where its range begins.
+/// Copies a range of one live object's bytes into another's, or within one. Each object is given by its serial and the
+/// start of its range.
 pub fn copy(
     alloc: Global,
     objects: &mut BTreeMap<u32, Stored>,
@@ -123,17 +124,19 @@ pub fn copy(
 fn copy_in_one(objects: &mut BTreeMap<u32, Stored>, serial: u32, to: usize, from: usize, len: usize)
     requires { HasRange (get nat_cmp objects.old serial) to len × HasRange (get nat_cmp objects.old serial) from len }
     ensures { (x : Object) → get nat_cmp objects.old serial ≡ Some x
-        → IsSetAt (get nat_cmp objects.old) (get nat_cmp objects.new) serial (Some (record x { bytes = overwritten x.bytes to (slice_range x.bytes from (from + len)) })) }
+        → IsSetAt (get nat_cmp objects.old) (get nat_cmp objects.new) serial
+        (Some (record x { bytes = overwritten x.bytes to (slice_range x.bytes from (from + len)) })) }
 {
     if let Some(object) = objects.get_mut(&serial) {
         copy_within(&mut object.bytes, to, from, len);
     }
 }
 
-/// Takes the bytes of an object out of it.
+/// Removes the bytes from an object and returns them.
 fn take_bytes(alloc: Global, objects: &mut BTreeMap<u32, Stored>, serial: u32) -> Vec<u8>
     ensures { (x : Object) → get nat_cmp objects.old serial ≡ Some x
-        → (result.items ≡ x.bytes) × IsSetAt (get nat_cmp objects.old) (get nat_cmp objects.new) serial (Some (record x { bytes = [] })) }
+        → (result.items ≡ x.bytes)
+        × IsSetAt (get nat_cmp objects.old) (get nat_cmp objects.new) serial (Some (record x { bytes = [] })) }
 {
     match objects.get_mut(&serial) {
         Some(object) => mem::replace(&mut object.bytes, Vec::new(alloc)),
@@ -141,7 +144,7 @@ fn take_bytes(alloc: Global, objects: &mut BTreeMap<u32, Stored>, serial: u32) -
     }
 }
 
-/// Gives an object its bytes.
+/// Sets the bytes of an object.
 fn give_bytes(objects: &mut BTreeMap<u32, Stored>, serial: u32, bytes: Vec<u8>)
     ensures { (x : Object) → get nat_cmp objects.old serial ≡ Some x
         → IsSetAt (get nat_cmp objects.old) (get nat_cmp objects.new) serial (Some (record x { bytes = bytes.items })) }
@@ -165,7 +168,8 @@ fn copy_between(
     requires target { HasRange (get nat_cmp objects.old to) to_start len }
     requires source { HasRange (get nat_cmp objects.old from) from_start len }
     ensures { (x y : Object) → get nat_cmp objects.old to ≡ Some x → get nat_cmp objects.old from ≡ Some y
-        → IsSetAt (get nat_cmp objects.old) (get nat_cmp objects.new) to (Some (record x { bytes = overwritten x.bytes to_start (slice_range y.bytes from_start (from_start + len)) })) }
+        → IsSetAt (get nat_cmp objects.old) (get nat_cmp objects.new) to
+        (Some (record x { bytes = overwritten x.bytes to_start (slice_range y.bytes from_start (from_start + len)) })) }
 {
     let mut bytes = take_bytes(alloc, objects, to);
     if let Some(source) = objects.get(&from) {

@@ -32,7 +32,7 @@ impl Value for Text {
     }
 }
 
-/// A value whose fingerprint is the same for all.
+/// A value type whose values all have the same fingerprint.
 #[derive(Drop)]
 struct Alike {
     word: u32,

@@ -1,8 +1,8 @@
-//! Tests of the program's runs over memory, and of command lines that ask for no run.
+//! Tests of the program's runs in memory, and of command lines that start no run.
 //!
-//! The runs are explorations, live sessions and scripts in threads. Those of replays are in `mesh_replay_tests`.
+//! The runs are explorations, live sessions and scripts on threads. Tests of replays are in `mesh_replay_tests`.
 //!
-//! `memory` has what the tests share; of the rest nothing but the tests is proved.
+//! `memory` contains what the tests share. Apart from it, nothing but the tests is proved.
 #![tactic(auto)]
 
 pub mod memory;

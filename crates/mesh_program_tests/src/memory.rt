@@ -1,4 +1,5 @@
-//! What the tests share: devices in memory, a source that gives one byte a call, the worked files, and tables that are one text.
+//! What the tests share: devices in memory, a source that returns one byte per call, the golden files, and tables
+//! written as one text.
 
 pub mod files;
 mod ran;

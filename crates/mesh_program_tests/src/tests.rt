@@ -1,4 +1,4 @@
-//! Each expected text was worked out by hand from the rules, and none was copied from a run.
+//! The tests. Each expected text was worked out by hand from the rules, and none was copied from a run.
 
 use crate::memory::Ran;
 use std::fmt::Display;
@@ -6,12 +6,13 @@ use std::process::Abort;
 
 mod runs;
 
-/// Asserts that the run of a case went so. One function asserts it for all, since an assertion is proved anew wherever it stands.
+/// Asserts that `goes` is true for the run of a case. Every test asserts it through this function, because an assertion
+/// is proved again at each place where it is written.
 fn check<N: Display + Drop>(rt: &(impl Abort + AllocGlobal), goes: bool, run: &Ran, case: N) {
     assert!(rt; goes, "{case}: {run:?}");
 }
 
-/// Asserts that the text of a case is this.
+/// Asserts that the text of a case is `wanted`.
 fn check_text<N: Display>(rt: &impl Abort, text: &[u8], wanted: &[u8], case: &N) {
     assert_eq!(rt; text, wanted, "{case}");
 }

@@ -8,7 +8,7 @@ mod checks;
 mod replays;
 mod savings;
 
-/// Asserts that the run of a case went so.
+/// Asserts that the run of a case passed.
 fn check<N: Display + Drop>(rt: &(impl Abort + AllocGlobal), goes: bool, run: &Ran, case: N) {
     assert!(rt; goes, "{case}: {run:?}");
 }

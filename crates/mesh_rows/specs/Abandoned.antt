@@ -1,4 +1,4 @@
--- Worked rows: abandoned. Written by tools/gen/rows.py from jobs/golden/abandoned.
+-- Worked examples: abandoned. Written by tools/gen/rows.py from jobs/golden/abandoned.
 use Rattle.std.specs.Prelude.{Ok, codes}
 use Rattle.mesh_rows.specs.Rows.{Row}
 

@@ -1,4 +1,4 @@
--- Worked rows: cancels. Written by tools/gen/rows.py from jobs/golden/cancels.
+-- Worked examples: cancels. Written by tools/gen/rows.py from jobs/golden/cancels.
 use Rattle.std.specs.Prelude.{Ok, codes}
 use Rattle.mesh_rows.specs.Rows.{Row}
 

@@ -1,4 +1,4 @@
--- Worked rows: faults. Written by tools/gen/rows.py from jobs/golden/faults.
+-- Worked examples: faults. Written by tools/gen/rows.py from jobs/golden/faults.
 use Rattle.std.specs.Prelude.{Err, codes}
 use Rattle.mesh_rows.specs.Rows.{Row}
 use Rattle.model_words.specs.declared.faults.FaultKind.TheVariants.{Byte, Cut, Hex, LongLine, Number, Trailing, Word}

@@ -1,4 +1,4 @@
--- Worked rows: interleavings. Written by tools/gen/rows.py from jobs/golden/interleavings.
+-- Worked examples: interleavings. Written by tools/gen/rows.py from jobs/golden/interleavings.
 use Rattle.std.specs.Prelude.{Ok, codes}
 use Rattle.mesh_rows.specs.Rows.{Row}
 

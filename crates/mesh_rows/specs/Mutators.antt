@@ -1,4 +1,4 @@
--- Worked rows: mutators. Written by tools/gen/rows.py from jobs/golden/mutators.
+-- Worked examples: mutators. Written by tools/gen/rows.py from jobs/golden/mutators.
 use Rattle.std.specs.Prelude.{Ok, codes}
 use Rattle.mesh_rows.specs.Rows.{Row}
 

@@ -1,6 +1,6 @@
--- A worked row, written by tools/gen/rows.py: a file, and what it is replayed to.
+-- A worked example, written by tools/gen/rows.py: a file, and what it is replayed to.
 use Rattle.std.specs.Prelude.{◌≡◌, ℕ, List, Result}
--- (the proofs of the rows open it, to compute what is written in decimal)
+-- (the proofs of the examples open it, to compute what is written in decimal)
 pub use Rattle.std.specs.Fmt.{digits}
 use Rattle.model_jobs.specs.JobFiles.{replayed}
 use Rattle.model_words.specs.declared.faults.TextFault.{TextFault}

@@ -1,4 +1,4 @@
--- Worked rows: searches. Written by tools/gen/rows.py from jobs/golden/searches.
+-- Worked examples: searches. Written by tools/gen/rows.py from jobs/golden/searches.
 use Rattle.std.specs.Prelude.{Ok, codes}
 use Rattle.mesh_rows.specs.Rows.{Row}
 

@@ -1,4 +1,4 @@
--- Worked rows: small steps. Written by tools/gen/rows.py from jobs/golden/small_steps.
+-- Worked examples: small steps. Written by tools/gen/rows.py from jobs/golden/small_steps.
 use Rattle.std.specs.Prelude.{Ok, codes}
 use Rattle.mesh_rows.specs.Rows.{Row}
 

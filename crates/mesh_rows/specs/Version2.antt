@@ -1,4 +1,4 @@
--- Worked rows: version 2. Written by tools/gen/rows.py from jobs/golden/version_2.
+-- Worked examples: version 2. Written by tools/gen/rows.py from jobs/golden/version_2.
 use Rattle.std.specs.Prelude.{Ok, codes}
 use Rattle.mesh_rows.specs.Rows.{Row}
 

@@ -1,4 +1,4 @@
--- Worked rows: whole meshes. Written by tools/gen/rows.py from jobs/golden/whole_meshes.
+-- Worked examples: whole meshes. Written by tools/gen/rows.py from jobs/golden/whole_meshes.
 use Rattle.std.specs.Prelude.{Ok, codes}
 use Rattle.mesh_rows.specs.Rows.{Row}
 

@@ -1,6 +1,6 @@
-//! The worked rows as theorems: what the definitions of `model_jobs` give for each file under `jobs/golden`.
+//! The worked examples as theorems: what the definitions of `model_jobs` give for each golden file under `jobs/golden`.
 //!
-//! Each function does nothing; its clauses say that a file is replayed to the lines that were worked out by hand.
+//! Each function does nothing. Its clauses state that a file is replayed to the lines that were worked out by hand.
 //! Written by `tools/gen/rows.py`.
 #![tactic(auto)]
 

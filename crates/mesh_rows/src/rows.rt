@@ -1,4 +1,4 @@
-//! A function for each subject of the worked rows. Written by `tools/gen/rows.py`.
+//! A function for each subject of the worked examples. Written by `tools/gen/rows.py`.
 #![tactic(auto, unfolding(model_words::specs::Classes::pages_of, model_words::specs::Classes::slots_of, crate::specs::Rows::digits))]
 
 ghost use Rattle.mesh_rows.specs.Rows.{IsReplayed};
@@ -12,7 +12,7 @@ ghost use Rattle.mesh_rows.specs.SmallSteps.{addresses_after_meshing, begin_refu
 ghost use Rattle.mesh_rows.specs.Version2.{cancels_of_classes, copies, copies_across_pages_while_meshing, copies_and_the_history, copies_while_meshing, copies_within_an_object, copy_refusals_in_their_order, one_mesh_a_class, version_1_beside_another_class, whole_beside_another_class};
 ghost use Rattle.mesh_rows.specs.WholeMeshes.{bytes_of_three_pages, classes_of_three_pages, eight_members, four_on_one_page, overlap_before_members, refusals_of_whole, report, room_by_meshing, sweep};
 
-/// Worked rows: abandoned.
+/// Worked examples: abandoned.
 pub fn abandoned()
     ensures abandoned_after_00 { IsReplayed abandoned_after_00 }
     ensures abandoned_after_01 { IsReplayed abandoned_after_01 }
@@ -37,7 +37,7 @@ pub fn abandoned()
     ensures abandoned_after_20 { IsReplayed abandoned_after_20 }
 {}
 
-/// Worked rows: cancels.
+/// Worked examples: cancels.
 pub fn cancels()
     ensures cancel_after_three_protects { IsReplayed cancel_after_three_protects }
     ensures cancel_at_once { IsReplayed cancel_at_once }
@@ -45,7 +45,7 @@ pub fn cancels()
     ensures zeros_after_cancel { IsReplayed zeros_after_cancel }
 {}
 
-/// Worked rows: faults.
+/// Worked examples: faults.
 pub fn faults()
     ensures addr_of_two_cells { IsReplayed addr_of_two_cells }
     ensures address_before_byte { IsReplayed address_before_byte }
@@ -133,7 +133,7 @@ pub fn faults()
     ensures worker_out_of_order { IsReplayed worker_out_of_order }
 {}
 
-/// Worked rows: interleavings.
+/// Worked examples: interleavings.
 pub fn interleavings()
     ensures begun { IsReplayed begun }
     ensures cancelled { IsReplayed cancelled }
@@ -149,7 +149,7 @@ pub fn interleavings()
     ensures writable { IsReplayed writable }
 {}
 
-/// Worked rows: mutators.
+/// Worked examples: mutators.
 pub fn mutators()
     ensures first_bytes { IsReplayed first_bytes }
     ensures history_full { IsReplayed history_full }
@@ -167,7 +167,7 @@ pub fn mutators()
     ensures words_pick_free_slots { IsReplayed words_pick_free_slots }
 {}
 
-/// Worked rows: searches.
+/// Worked examples: searches.
 pub fn searches()
     ensures fewer_objects_is_source { IsReplayed fewer_objects_is_source }
     ensures groups_that_are_no_candidates { IsReplayed groups_that_are_no_candidates }
@@ -178,7 +178,7 @@ pub fn searches()
     ensures words_of_a_search { IsReplayed words_of_a_search }
 {}
 
-/// Worked rows: small steps.
+/// Worked examples: small steps.
 pub fn small_steps()
     ensures addresses_after_meshing { IsReplayed addresses_after_meshing }
     ensures begin_refusals { IsReplayed begin_refusals }
@@ -199,7 +199,7 @@ pub fn small_steps()
     ensures worked_mesh { IsReplayed worked_mesh }
 {}
 
-/// Worked rows: version 2.
+/// Worked examples: version 2.
 pub fn version_2()
     ensures cancels_of_classes { IsReplayed cancels_of_classes }
     ensures copies { IsReplayed copies }
@@ -213,7 +213,7 @@ pub fn version_2()
     ensures whole_beside_another_class { IsReplayed whole_beside_another_class }
 {}
 
-/// Worked rows: whole meshes.
+/// Worked examples: whole meshes.
 pub fn whole_meshes()
     ensures bytes_of_three_pages { IsReplayed bytes_of_three_pages }
     ensures classes_of_three_pages { IsReplayed classes_of_three_pages }

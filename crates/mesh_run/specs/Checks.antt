@@ -35,7 +35,7 @@ abbrev pub status_of_check : CheckError → ℕ
 status_of_check (Replay error) = status_of_error error
 status_of_check (Order line) = 2
 
--- the device that it tells of has failed
+-- the device that the error names has failed
 abbrev pub HasFailedCheck : Bool → Bool → CheckError → Type 0
 HasFailedCheck input output (Replay error) = HasFailed input output error
 HasFailedCheck input output (Order line) = Unit {0}
@@ -62,11 +62,12 @@ HasStoppedCheck most left left' written written' (Replay (Text fault)) = HasNotJ
 HasStoppedCheck most left left' written written' (Replay Memory) = Keeps written written'
 HasStoppedCheck most left left' written written' (Order line) = HasNotJudged left left' (CallOrder line) × Keeps written written'
 
--- the history was judged, the line of a judgement of this status was written, and nothing was told
+-- the history was judged, the line of a judgement of this status was written, and no message was printed
 abbrev pub IsJudged : ℕ → Seen → Seen → ℕ → Type 0
 IsJudged most before after status = IsDone (λ left left' written written'. HasToldVerdict most left left' written written' status) before after
 
--- a judgement ends: with status 0 a verdict was told, and with another one a verdict was, or it stopped for an error of that status
+-- a judgement ends: with status 0 a verdict was written; with another status a verdict was written, or it stopped for
+-- an error of that status
 pub record EndsCheck (most : ℕ) (before after : Seen) (status : ℕ) : Type 0 where
   pub done : status ≡ 0 → IsJudged most before after status
   pub found : 0 < status

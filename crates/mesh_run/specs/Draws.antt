@@ -9,7 +9,7 @@ use Rattle.mesh_run.specs.Status.{status_of_error}
 use Rattle.mesh_devices.specs.declared.faults.ReplayError.{ReplayError}
 use Rattle.mesh_devices.specs.declared.faults.ReplayError.TheVariants.{Read, Write, Memory, Text}
 
--- the device that an error tells of has failed, and where memory was refused the output hasn't
+-- the device that an error names has failed, and on an allocation failure the output hasn't
 abbrev pub HasFailedAlone : Bool → Bool → ReplayError → Type 0
 HasFailedAlone input output Memory = output ≡ false
 HasFailedAlone input output Read = HasFailed input output Read

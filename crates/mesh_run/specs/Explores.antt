@@ -1,4 +1,4 @@
--- What an exploration tells where it stops, and which device has failed.
+-- What an exploration prints when it stops, and which device has failed.
 use Rattle.std.specs.Prelude.{◌≡◌, ◌<◌, ◌≤◌, ◌⊎◌, ℕ, ◌+◌, Bool, true, false, List, ◌++◌, Option, Some, None, codes, decimal, map, slice_get, take}
 use Rattle.std.specs.Option.{option_copied}
 use Rattle.mesh_command_line.specs.declared.explore_args.ExploreArgs.{ExploreArgs}
@@ -22,7 +22,8 @@ use Rattle.mesh_run.specs.declared.verdict_error.VerdictError.TheVariants.{Explo
 use Rattle.mesh_verdict.specs.Patterns.{pattern_of, Wanted as Pattern}
 use Rattle.mesh_verdict.specs.Runs.{HasJudged}
 
--- an error's line, without its end, and the status: 2 where the file is at fault, or has no outcome of the number that was asked for; else 1
+-- an error's line, without its end, and the status: 2 where the file is at fault, or has no outcome of the number that
+-- was asked for; else 1
 abbrev explore_told : ℕ → ExploreError → List ℕ × ℕ
 explore_told states (Replay error) = (error_text error, status_of_error error)
 explore_told states TooManyStates = (codes "too many states: more than " ++ decimal states ++ codes "; --states raises the limit", 1)
@@ -36,7 +37,7 @@ explore_text states error = (explore_told states error).0
 abbrev pub explore_status : ExploreError → ℕ
 explore_status error = (explore_told 0 error).1
 
--- the device that an error tells of has failed
+-- the device that an error names has failed
 abbrev pub HasFailedExplore : Bool → Bool → ExploreError → Type 0
 HasFailedExplore input output (Replay error) = HasFailed input output error
 HasFailedExplore input output TooManyStates = Unit {0}
@@ -54,7 +55,8 @@ HasStoppedExplore pairs cancel most left left' written written' (Replay error) =
 HasStoppedExplore pairs cancel most left left' written written' NoOutcome = Unit {0}
 HasStoppedExplore pairs cancel most left left' written written' NotShown = Unit {0}
 
--- an exploration that gives no verdict ends: with status 0 what is wanted of this job, these meshes and this cancel was written
+-- an exploration that gives no verdict ends: with status 0 what is wanted of this job, these meshes and this cancel was
+-- written
 abbrev pub EndsListing : ExploreArgs → Wanted → Seen → Seen → ℕ → Type 0
 EndsListing args wanted before after status =
     EndsBy explore_status (explore_text args.states) HasFailedExplore (HasExplored (meshes_of args) args.cancel args.states wanted)
@@ -92,7 +94,7 @@ abbrev pub verdict_status : VerdictError → ℕ
 verdict_status (Explore error) = explore_status error
 verdict_status (NoPattern number) = 2
 
--- the device that an error tells of has failed
+-- the device that an error names has failed
 abbrev pub HasFailedVerdict : Bool → Bool → VerdictError → Type 0
 HasFailedVerdict input output (Explore error) = HasFailedExplore input output error
 HasFailedVerdict input output (NoPattern number) = Unit {0}
@@ -116,11 +118,12 @@ HasStoppedVerdict args criteria left left' written written' (Explore error) =
     HasStoppedExplore (meshes_of args) args.cancel args.states left left' written written' error
 HasStoppedVerdict args criteria left left' written written' (NoPattern number) = SpellsNone (never_of criteria) number
 
--- a verdict was written, and nothing was told
+-- a verdict was written, and no message was printed
 abbrev pub IsJudged : ExploreArgs → Criteria → Bool → Seen → Seen → Type 0
 IsJudged args criteria well before after = IsDone (HasJudgedBy args criteria well) before after
 
--- a verdict ends: with status 0 the outcomes meet the criteria, and with status 1 they don't, or else it stopped for an error of that status
+-- a verdict ends: with status 0 the outcomes meet the criteria, and with status 1 they don't, or else it stopped for an
+-- error of that status
 pub record EndsVerdict (args : ExploreArgs) (criteria : Criteria) (before after : Seen) (status : ℕ) : Type 0 where
   pub done : status ≡ 0 → IsJudged args criteria true before after
   pub found : 0 < status → ((status ≡ 1) × IsJudged args criteria false before after)
@@ -130,7 +133,7 @@ pub record EndsVerdict (args : ExploreArgs) (criteria : Criteria) (before after 
 
 -- ---- explorations
 
--- an exploration of which this is told ends
+-- an exploration with this kind of report ends
 abbrev pub EndsTold : ExploreArgs → Told → Criteria → Seen → Seen → ℕ → Type 0
 EndsTold args told.All criteria before after status = EndsListing args wanted.All before after status
 EndsTold args (told.Outcome number) criteria before after status = EndsListing args (wanted.Outcome number) before after status

@@ -28,16 +28,17 @@ abbrev pub HasToldOrder : ℕ → Option (List ℕ) → Option (List ℕ) → Op
 HasToldOrder most left left' written written' status =
     (text : List ℕ) × HasReadAll left left' text × (HasWrittenOrder text written written' status ⊎ HasWrittenVerdict most written written' status)
 
--- an order or a judgement of this status was written, and nothing was told
+-- an order or a judgement of this status was written, and no message was printed
 abbrev pub HasEndedWell : ℕ → Seen → Seen → ℕ → Type 0
 HasEndedWell most before after status = IsDone (λ left left' written written'. HasToldOrder most left left' written written' status) before after
 
--- why neither was written: the line of this error was told, which has this status
+-- why neither was written: the line of this error was printed, which has this status
 abbrev pub HasEndedFor : Seen → Seen → ℕ → CheckError → Type 0
 HasEndedFor before after status error =
     (status ≡ status_of_check error) × HasTold after.errors_failed before.told after.told (ended (check_error_text error))
 
--- a run that is asked for an order ends: with status 0 an order or a judgement was written, and with another one a judgement was, or it stopped for an error
+-- a run that is asked for an order ends: with status 0 an order or a judgement was written, and with another one a
+-- judgement was, or it stopped for an error
 pub record EndsOrder (most : ℕ) (before after : Seen) (status : ℕ) : Type 0 where
   pub done : status ≡ 0 → HasEndedWell most before after status
   pub found : 0 < status → HasEndedWell most before after status ⊎ ((error : CheckError) × HasEndedFor before after status error)

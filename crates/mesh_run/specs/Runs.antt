@@ -1,4 +1,4 @@
--- What a run tells a person, and how it ends.
+-- What a run prints for a person, and how it ends.
 use Rattle.std.specs.Prelude.{◌≡◌, ◌<◌, ◌≤◌, ℕ, Bool, true, false, List, ◌++◌, Option, codes}
 use Rattle.std.specs.Io.KnownBytes.{Appends, Keeps}
 use Rattle.model_words.specs.Faults.{kind_name_of}
@@ -21,12 +21,12 @@ error_text Write = codes "write fault"
 error_text Memory = codes "out of memory"
 error_text (Text fault) = fault_text fault
 
--- of this text a beginning was told, and the whole of it unless the device failed
+-- a beginning of this text was printed, and the whole of it unless the device failed
 pub record HasTold (failed : Bool) (told told' : Option (List ℕ)) (text : List ℕ) : Type 0 where
   pub part : AppendsBeginning told told' text
   pub whole : failed ≡ false → Appends told told' text
 
--- the device that an error tells of has failed
+-- the device that an error names has failed
 abbrev pub HasFailed : Bool → Bool → ReplayError → Type 0
 HasFailed input output Read = input ≡ true
 HasFailed input output Write = output ≡ true
@@ -38,7 +38,8 @@ pub record IsSound (seen : Seen) : Type 0 where
   pub input : seen.input_failed ≡ false
   pub output : seen.output_failed ≡ false
 
--- what was read and written, by what the input had left before and has left now, and what the output had taken before and has taken now
+-- what was read and written, by what the input had left before and has left now, and what the output had taken before
+-- and has taken now
 abbrev pub Moves : Type 1
 Moves = Option (List ℕ) → Option (List ℕ) → Option (List ℕ) → Option (List ℕ) → Type 0
 
@@ -46,13 +47,14 @@ Moves = Option (List ℕ) → Option (List ℕ) → Option (List ℕ) → Option
 abbrev pub MovesBy : Type 0 → Type 1
 MovesBy Error = Option (List ℕ) → Option (List ℕ) → Option (List ℕ) → Option (List ℕ) → Error → Type 0
 
--- a run that did what it was to do: this was read and written, no device failed, and nothing was told
+-- a run that did its work: this was read and written, no device failed, and no message was printed
 pub record IsDone (Does : Moves) (before after : Seen) : Type 0 where
   pub done : Does before.left after.left before.written after.written
   pub sound : IsSound after
   pub untold : Keeps before.told after.told
 
--- a run that stopped for an error: this is known of what was read and written, the device that the error tells of has failed, and its line was told
+-- a run that stopped for an error: this is known of what was read and written, the device that the error names has
+-- failed, and its line was printed
 pub record IsStoppedFor {Error : Type 0} (text_of : Error → List ℕ) (Fails : Bool → Bool → Error → Type 0) (Stops : MovesBy Error) (before after : Seen)
     (error : Error) : Type 0 where
   pub known : Stops before.left after.left before.written after.written error

@@ -49,12 +49,13 @@ abbrev pub savings_status : SavingsError → ℕ
 savings_status (Replay error) = status_of_error error
 savings_status (NotAHistory line) = 1
 
--- the device that an error tells of has failed
+-- the device that an error names has failed
 abbrev pub HasFailedSavings : Bool → Bool → SavingsError → Type 0
 HasFailedSavings input output (Replay error) = HasFailed input output error
 HasFailedSavings input output (NotAHistory line) = Unit {0}
 
--- the table or the plot was written, of the whole history or of the calls before one for which a heap had no virtual pages left
+-- the table or the plot was written, of the whole history or of the calls before one for which a heap had no virtual
+-- pages left
 abbrev pub HasWrittenReport : SavingsOptions → Option (List ℕ) → Option (List ℕ) → Option (List ℕ) → Option (List ℕ) → Option ℕ → Type 0
 HasWrittenReport options left left' written written' used_up =
     (text : List ℕ) × HasShown options left left' used_up text × Appends written written' text
@@ -78,8 +79,8 @@ pub record IsUsedUp (options : SavingsOptions) (before after : Seen) (call : ℕ
   pub sound : IsSound after
   pub told : HasTold after.errors_failed before.told after.told (ended (used_up_text call))
 
--- a report ends: with status 0 what shows the whole history was written, with 1 perhaps what shows the calls before one for which a heap had no virtual
--- pages left, and with another one, or else, it stopped for an error of that status
+-- a report ends: with status 0 what shows the whole history was written, with 1 perhaps what shows the calls before one
+-- for which a heap had no virtual pages left, and with another one, or else, it stopped for an error of that status
 pub record EndsSavings (options : SavingsOptions) (before after : Seen) (status : ℕ) : Type 0 where
   pub done : status ≡ 0 → IsDone (λ left left' written written'. HasWrittenReport options left left' written written' None) before after
   pub stopped : 0 < status → ((status ≡ 1) × ((call : ℕ) × IsUsedUp options before after call))

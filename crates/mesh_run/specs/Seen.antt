@@ -10,7 +10,8 @@ pub record Seen : Type 0 where
   pub output_failed : Bool
   pub errors_failed : Bool
 
--- what is seen of an input, an output and errors: what the input has left, what the output and the errors took, and which of them has failed
+-- what is seen of an input, an output and errors: what the input has left, what the output and the errors took, and
+-- which of them has failed
 abbrev pub seen : Option (List ℕ) → Option (List ℕ) → Option (List ℕ) → Bool → Bool → Bool → Seen
 seen left written told input_failed output_failed errors_failed = record {
   left = left;

@@ -29,13 +29,13 @@ FaultyTextsAreTold = (error : ReplayError) → (status_of_error error ≡ 2) ↔
 abbrev pub FaultyFilesAreTold : Type 0
 FaultyFilesAreTold = (error : ThreadsError) → (threads_status error ≡ 2) ↔ ((error ≡ TooShort) ⊎ ((fault : TextFault) × (error ≡ Replay (Text fault))))
 
--- a fault of the text is told by its line's number and its name
+-- a fault of the text is printed as its line's number and its name
 abbrev pub FaultsAreSpelt : Type 0
 FaultsAreSpelt = (error_text (Text (record { line = 7; kind = Cut })) ≡ codes "line 7: CUT")
     × (error_text (Text (record { line = 0; kind = TooLong })) ≡ codes "line 0: TOO_LONG")
     × (threads_text (Replay (Text (record { line = 20; kind = Cut }))) ≡ codes "line 20: CUT")
 
--- of what stops the threads, want of memory before their end alone is told as such
+-- among the errors that stop the threads, only an allocation failure before their end is printed as out of memory
 abbrev pub WantOfMemoryIsTold : Type 0
 WantOfMemoryIsTold = (error : RunError) → (stop_of error ≡ Replay Memory) ↔ (error ≡ RunMemory)
 

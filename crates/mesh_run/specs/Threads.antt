@@ -1,4 +1,4 @@
--- What a run of scripts in threads has read and written when it ends, and when it stops, and what it tells then.
+-- What a run of scripts in threads has read and written when it ends or stops, and what it prints then.
 use Rattle.std.specs.Prelude.{◌≡◌, ℕ, ◌<◌, ◌≤◌, Bool, false, List, [], Option, codes, length}
 use Rattle.std.specs.Io.KnownBytes.{Appends, Keeps}
 use Rattle.std.specs.List.{sum_by}
@@ -39,7 +39,8 @@ HasRoom job = command_count job.scripts ≤ job.history
 abbrev pub IsTooShort : Job → Type 0
 IsTooShort job = job.history < command_count job.scripts
 
--- what is printed of a run of so many workers that left this history: each one's answers, or the history as it is recorded
+-- what is printed of a run of so many workers that left this history: each one's answers, or the history as it is
+-- recorded
 abbrev pub text_of_run : Printed → ℕ → List Entry → List ℕ
 text_of_run Answers workers history = history_text workers history
 text_of_run Recorded workers history = recorded_text history
@@ -84,7 +85,7 @@ HasStoppedRun printed left left' written written' TooShort = HasReadTooShort lef
 HasStoppedRun printed left left' written written' Thread = HasReadRoomy left left' × Keeps written written'
 HasStoppedRun printed left left' written written' Run = HasReadRoomy left left' × Keeps written written'
 
--- which device has failed: the one that the error tells of, and none where a job was read and nothing was to be written
+-- which device has failed: the one that the error names, and none if a job was read and nothing was to be written
 abbrev pub HasFailedRun : Bool → Bool → ThreadsError → Type 0
 HasFailedRun input output (Replay error) = HasFailed input output error
 HasFailedRun input output TooShort = (input ≡ false) × (output ≡ false)
@@ -135,8 +136,8 @@ abbrev pub EndsThreads : Printed → Seen → Seen → ℕ → Type 0
 EndsThreads printed before after status =
     EndsBy threads_status threads_text HasFailedRun (HasWrittenRun printed) (HasStoppedRun printed) before after status
 
--- what stops threads stops the run: want of memory as such, a thread that failed as such, and what else leaves no history as a run that failed, a
--- fault of `finish` for want of memory too
+-- an error that stops threads stops the run: an allocation failure and a thread that failed as such, and any other
+-- cause of a missing history as a run that failed, which includes an allocation failure in `finish`
 abbrev pub stop_of : RunError → ThreadsError
 stop_of RunMemory = Replay NoMemory
 stop_of RunThread = Thread

@@ -14,14 +14,18 @@ use mesh_devices::{Sink, Source, write_lines};
 use mesh_judge::{Begun, CallVerdict, Judgement, Verdict, judge, judgement_line};
 use std::alloc::Global;
 
-/// Judges the recorded history that the input gives, writes the line of its verdict to the output or its fault to
-/// `errors`, and returns the exit status. Of a history of calls that overlap, at most `most` configurations of an object
-/// may be met at the end of a call.
+/// Judges the recorded history in the input, writes the line of its verdict to the output or its fault to `errors`, and
+/// returns the exit status. For a history of overlapping calls, at most `most` configurations of an object may be met
+/// at the end of a call.
 ///
-/// The status is 0 with the line `legal N entries` or `linearizable N entries`, and 1 with the line of another verdict. It
-/// is 1 with the line `read fault`, `write fault` or `out of memory` in `errors`, and 2 with the line `line L: KIND` where
-/// the text has a fault, or `line L: ORDER` where a call is out of order. Where that line can't be written the status
-/// stays.
+/// The status is:
+///
+/// - 0 with the line `legal N entries` or `linearizable N entries`;
+/// - 1 with the line of another verdict;
+/// - 1 with the line `read fault`, `write fault` or `out of memory` in `errors`;
+/// - 2 with the line `line L: KIND` if the text has a fault, or `line L: ORDER` if a call is out of order.
+///
+/// If a line for `errors` can't be written, the status is the same.
 pub fn check_run<I: Source + Drop, O: Sink, E: Sink>(
     alloc: Global,
     most: u32,
@@ -39,7 +43,7 @@ pub fn check_run<I: Source + Drop, O: Sink, E: Sink>(
     }
 }
 
-/// Judges the history that the input gives, writes the verdict, and returns its exit status.
+/// Judges the history in the input, writes the verdict, and returns its exit status.
 pub(crate) fn write_verdict<I: Source + Drop, O: Sink>(
     alloc: Global,
     most: u32,
@@ -49,9 +53,15 @@ pub(crate) fn write_verdict<I: Source + Drop, O: Sink>(
     requires input { I.has_failed input.old.inner ≡ false }
     requires output { O.has_failed output.old ≡ false }
     ensures ok { OnOk result ((I.has_failed input.new.inner ≡ false) × (O.has_failed output.new ≡ false)) }
-    ensures told { IfOk result (HasToldVerdict most (prepend_known input.old.begun.items (I.remaining input.old.inner)) (prepend_known input.new.begun.items (I.remaining input.new.inner)) (O.written output.old) (O.written output.new)) }
+    ensures told { IfOk result
+        (HasToldVerdict most (prepend_known input.old.begun.items (I.remaining input.old.inner))
+        (prepend_known input.new.begun.items (I.remaining input.new.inner)) (O.written output.old)
+        (O.written output.new)) }
     ensures small { IfOk result (λ status. status ≤ 1) }
-    ensures stopped { IfErr result (HasStoppedCheck most (prepend_known input.old.begun.items (I.remaining input.old.inner)) (prepend_known input.new.begun.items (I.remaining input.new.inner)) (O.written output.old) (O.written output.new)) }
+    ensures stopped { IfErr result
+        (HasStoppedCheck most (prepend_known input.old.begun.items (I.remaining input.old.inner))
+        (prepend_known input.new.begun.items (I.remaining input.new.inner)) (O.written output.old)
+        (O.written output.new)) }
     ensures failed { IfErr result (HasFailedCheck (I.has_failed input.new.inner) (O.has_failed output.new)) }
 {
     let judgement = judge(alloc, input, most as usize)?;
@@ -84,7 +94,7 @@ pub(crate) fn check_line_of(error: CheckError) -> Line
     }
 }
 
-/// The exit status where a history isn't judged.
+/// The exit status if a history isn't judged.
 pub(crate) fn status_of_check(error: CheckError) -> u8
     ensures { result ≡ status_of_check error }
 {

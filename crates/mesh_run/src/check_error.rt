@@ -7,7 +7,7 @@ use thiserror::Error;
 /// Why a recorded history isn't judged, or its verdict isn't written.
 #[derive(Clone, Copy, Debug, PartialEq, Eq, Error)]
 pub enum CheckError {
-    /// What stops a replay too.
+    /// A fault that stops a replay too.
     #[error("{0}")]
     Replay(ReplayError),
     /// The call of this line is out of order.

@@ -1,10 +1,10 @@
-//! What the outcomes of an exploration are to be.
+//! The criteria for the outcomes of an exploration.
 
-/// What the outcomes of an exploration are to be, where a verdict is asked for.
+/// The criteria that the outcomes of an exploration should meet, if a verdict is asked for.
 #[derive(Clone, Copy)]
 pub struct Criteria<'a> {
     /// The text that lists all outcomes, if there is one.
     pub expected: Option<&'a [u8]>,
-    /// The patterns that no outcome is to match, as texts: at most ten.
+    /// The texts of the patterns that no outcome may match: at most ten.
     pub never: &'a [&'a str],
 }

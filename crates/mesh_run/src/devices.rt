@@ -4,8 +4,8 @@ ghost use Rattle.std.specs.Prelude.{◌≡◌};
 use mesh_devices::{Sink, Source};
 use std::marker::Model;
 
-/// What a run reads its file from, and what it writes to: standard output, and standard error for a person. Contracts see what each has left or
-/// took, and whether it has failed.
+/// The devices of a run: the input, standard output, and standard error for a person. Contracts see what each has left
+/// or took, and whether it has failed.
 #[derive(Drop)]
 pub struct Devices<I: Source, O: Sink, E: Sink> {
     pub(crate) input: I,
@@ -42,7 +42,7 @@ impl<I: Source, O: Sink, E: Sink> Devices<I, O, E> {
         }
     }
 
-    /// The input, the output and what was written to for a person.
+    /// Returns the input, the output and the errors.
     pub fn into_parts(self) -> (I, O, E)
         ensures input { (I.remaining result.0 ≡ self.left) × (I.has_failed result.0 ≡ self.input_failed) }
         ensures output { (O.written result.1 ≡ self.written) × (O.has_failed result.1 ≡ self.output_failed) }

@@ -9,9 +9,11 @@ use mesh_devices::{Sink, Source};
 use mesh_draw::{DrawOptions, draw};
 use std::alloc::Global;
 
-/// Draws the plan of the job that the input gives, writes the picture to the output and a fault to `errors`, and gives the exit status.
+/// Draws the plan of the job in the input, writes the picture to the output and a fault to `errors`, and returns the
+/// exit status.
 ///
-/// Status and line are those of `replay_run`. Nothing is written to the output where the input failed or its text has a fault.
+/// Status and line are those of `replay_run`. Nothing is written to the output if the input failed or its text has a
+/// fault.
 pub fn draw_run<I: Source, O: Sink, E: Sink>(
     alloc: Global,
     title: &str,
@@ -26,7 +28,7 @@ pub fn draw_run<I: Source, O: Sink, E: Sink>(
     finished(&mut devices.errors, outcome)
 }
 
-/// What a picture is asked to show.
+/// The options of a picture.
 fn options_of<'a>(title: &'a str, args: &DrawArgs) -> DrawOptions<'a>
     ensures title { result.title.now ≡ title.now }
     ensures from { result.from ≡ args.now.from }

@@ -16,15 +16,22 @@ use mesh_explore_text::{ExploreError, ExploreOptions, Shown, Wanted, explore};
 use mesh_reach::Watch;
 use std::alloc::Global;
 
-/// Explores what the plan of the job that the input gives leaves of its scripts, writes what is told to the output or a
-/// fault to `errors`, and gives the exit status. A verdict is by these criteria. `watch` is told how many states
-/// were found.
+/// Explores the commands that the plan of the job in the input leaves, writes the report to the output or a fault to
+/// `errors`, and returns the exit status. These criteria decide a verdict. The number of states that were found is
+/// reported to `watch`.
 ///
-/// The status is 0 where everything was written; of a verdict, where all is well, and 1 where it isn't. It is 1 with the
-/// line `read fault`, `write fault`, `out of memory` or `too many states: more than N; --states raises the limit`, and 2
-/// with the line `line N: KIND` where the job's text has a fault, with `no such outcome` or `no such answer in that phase`
-/// where there is none of what was asked for, or with `--never K: no pattern 'worker W: ANSWER | ..'`. Nothing is written
-/// to the output then but where writing to it failed. Where that line can't be written the status stays.
+/// The status is:
+///
+/// - 0 if everything was written; for a verdict, if all is well;
+/// - 1 for a verdict if something isn't well;
+/// - 1 with the line `read fault`, `write fault`, `out of memory` or `too many states: more than N; --states raises the
+///   limit`;
+/// - 2 with the line `line N: KIND` if the job's text has a fault;
+/// - 2 with `no such outcome` or `no such answer in that phase` if what was asked for doesn't exist;
+/// - 2 with `--never K: no pattern 'worker W: ANSWER | ..'`.
+///
+/// After an error nothing is written to the output, unless it was the output that failed. If the line can't be written,
+/// the status is the same.
 pub fn explore_run<I: Source, O: Sink, E: Sink, W: Watch>(
     alloc: Global,
     args: &ExploreArgs<'_>,
@@ -60,7 +67,7 @@ fn shown_of<'a>(shown: &ShownArgs<'a>) -> Shown<'a>
     }
 }
 
-/// The same where no verdict is asked for.
+/// Does the same if no verdict is asked for.
 fn listing_run<I: Source, O: Sink, E: Sink, W: Watch>(
     alloc: Global,
     args: &ExploreArgs<'_>,
@@ -90,7 +97,7 @@ fn listing_run<I: Source, O: Sink, E: Sink, W: Watch>(
     }
 }
 
-/// Writes what is wanted of an exploration.
+/// Writes the selected report of an exploration.
 fn write_listing<I: Source, O: Sink, W: Watch>(
     alloc: Global,
     args: &ExploreArgs<'_>,
@@ -117,7 +124,7 @@ fn write_listing<I: Source, O: Sink, W: Watch>(
     explore(alloc, input, output, &options, watch)
 }
 
-/// The line of an error of an exploration of so many states at most, with its end.
+/// The line of an error of an exploration with a limit of `states` states, with its end.
 pub(crate) fn explore_line_of(error: ExploreError, states: u32) -> Line
     ensures { result.items ≡ ended (explore_text states error) }
 {

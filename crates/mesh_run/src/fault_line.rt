@@ -1,4 +1,4 @@
-//! The line that tells why a replay or a run in threads stopped.
+//! The line that reports why a replay or a run in threads stopped.
 ghost use Rattle.std.specs.Prelude.{◌≡◌, ◌+◌, ◌≤◌, [], ◌++◌, decimal, length};
 ghost use Rattle.model_jobs.specs.Texts.{ended};
 ghost use Rattle.mesh_run.specs.Runs.{error_text, fault_text};
@@ -52,7 +52,7 @@ pub(crate) fn line_with(bytes: &[u8]) -> Line
     line
 }
 
-/// A line of a number between these bytes, and its end.
+/// A line with a number between these bytes, and its end.
 pub(crate) fn number_line(before: &[u8], number: u32, behind: &[u8]) -> Line
     requires { length before.now + length behind.now ≤ 61 }
     ensures { result.items ≡ ended (before.now ++ decimal number ++ behind.now) }
@@ -66,7 +66,7 @@ pub(crate) fn number_line(before: &[u8], number: u32, behind: &[u8]) -> Line
     line
 }
 
-/// Adds what a fault's line says.
+/// Adds the text of a fault.
 fn add_fault(line: &mut Line, fault: TextFault)
     requires { line.old.items ≡ [] }
     ensures text { line.new.items ≡ fault_text fault }
@@ -79,7 +79,7 @@ fn add_fault(line: &mut Line, fault: TextFault)
     add(line, fault.kind.name().as_bytes());
 }
 
-/// Adds bytes for which there is room.
+/// Adds bytes; there must be room for them.
 pub(crate) fn add(line: &mut Line, bytes: &[u8])
     requires { length line.old.items + length bytes.now ≤ 72 }
     ensures { line.new.items ≡ line.old.items ++ bytes.now }

@@ -1,7 +1,8 @@
 //! What the program `meshrun` does, over any devices: its runs, with their exit statuses.
 //!
-//! Nothing here opens a file or prints by itself. The program hands in the words of its command line, which are passed on to
-//! `mesh_command_line`, a source for the file, and sinks for standard output and standard error, and ends with the status that it is given.
+//! Nothing in this crate opens a file or prints by itself. The program passes in the words of its command line, a
+//! source for the file, and sinks for standard output and standard error. The words go to `mesh_command_line`. The
+//! program exits with the returned status.
 #![tactic(auto)]
 
 mod check;

@@ -9,11 +9,12 @@ use mesh_devices::{Sink, Source};
 use mesh_live::{Sizes, live};
 use std::alloc::Global;
 
-/// Answers the lines that the input gives, one by one, on a fresh heap of these sizes, and gives the exit status. Each answer is a line of the
-/// output, and is written before the next line of the input is taken.
+/// Answers the lines of the input, one by one, on a fresh heap of these sizes, and returns the exit status. Each answer
+/// is a line of the output, and is written before the next line of the input is taken.
 ///
-/// The status is 0 where the line `end` was read, or the input to its end, and every answer was written. It is 1 with the line `read fault`, `write
-/// fault` or `out of memory` in `errors`. A line that is no line of a session is no fault of the run: it is answered.
+/// The status is 0 if the line `end` was read, or the input to its end, and every answer was written. It is 1 with the
+/// line `read fault`, `write fault` or `out of memory` in `errors`. A line that is not valid in a session is no fault
+/// of the run: it is answered.
 pub fn live_run<I: Source, O: Sink, E: Sink>(
     alloc: Global,
     args: &LiveArgs,

@@ -12,8 +12,8 @@ use mesh_devices::{Input, Sink, Source, read_all, write_lines};
 use mesh_judge::{Begun, ordered_history};
 use std::alloc::Global;
 
-/// Writes the calls of the history that the input gives in an order that explains them, as a history of version 1, and
-/// returns the exit status 0. If there is no such order, or the calls are in order already, the history is judged as
+/// Writes the calls of the history in the input in an order that explains them, as a history of version 1, and returns
+/// the exit status 0. If there is no such order, or the calls are already in order, it judges the history as
 /// `check_run` does, with the same lines and statuses.
 pub fn order_run<I: Source, O: Sink, E: Sink>(
     alloc: Global,
@@ -32,7 +32,7 @@ pub fn order_run<I: Source, O: Sink, E: Sink>(
     }
 }
 
-/// Writes the calls in an order, or the verdict where there is none, and returns the exit status.
+/// Writes the calls in an order, or the verdict if there is no order, and returns the exit status.
 fn write_order<I: Source, O: Sink>(
     alloc: Global,
     most: u32,
@@ -42,7 +42,9 @@ fn write_order<I: Source, O: Sink>(
     requires input { I.has_failed input.old ≡ false }
     requires output { O.has_failed output.old ≡ false }
     ensures ok { OnOk result ((I.has_failed input.new ≡ false) × (O.has_failed output.new ≡ false)) }
-    ensures told { IfOk result (HasToldOrder most (I.remaining input.old) (I.remaining input.new) (O.written output.old) (O.written output.new)) }
+    ensures told { IfOk result
+        (HasToldOrder most (I.remaining input.old) (I.remaining input.new) (O.written output.old)
+        (O.written output.new)) }
     ensures small { IfOk result (λ status. status ≤ 1) }
 {
     let text = read_all(alloc, input)?;

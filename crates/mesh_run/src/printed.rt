@@ -1,6 +1,6 @@
 //! What a run prints.
 
-/// What a run prints of what its workers asked for and were answered.
+/// What a run prints of its workers' calls and answers.
 #[derive(Clone, Copy, PartialEq, Eq)]
 pub(crate) enum Printed {
     /// The answers alone.

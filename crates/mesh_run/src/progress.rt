@@ -1,4 +1,4 @@
-//! How many states an exploration has found, for a person who waits.
+//! Progress lines of an exploration, for a person who waits.
 use crate::fault_line::{Line, add};
 use crate::runs::tell;
 use itoa::Buffer;
@@ -9,10 +9,10 @@ use std::time::{Clock, Duration, Instant};
 /// After how many states the clock is read.
 const STATES_BETWEEN: u32 = 256;
 
-/// How many seconds are between two lines.
+/// How many seconds pass between two lines.
 const SECONDS_BETWEEN: u64 = 1;
 
-/// Writes once a second how many states were found, and how many a second.
+/// Writes once a second how many states were found, and how many per second.
 #[derive(Drop)]
 pub struct Progress<'a, C: Clock, S: Sink> {
     clock: &'a C,
@@ -23,7 +23,7 @@ pub struct Progress<'a, C: Clock, S: Sink> {
     unread: u32,
 }
 
-/// When something began, and when it was last told of.
+/// When something began, and when it was last reported.
 #[derive(Clone, Copy)]
 struct Times {
     begun: Instant,
@@ -31,7 +31,7 @@ struct Times {
 }
 
 impl<'a, C: Clock, S: Sink> Progress<'a, C, S> {
-    /// Begins now. Nothing is written where it isn't wanted, or the clock can't be read.
+    /// Starts the clock now. Nothing is written if progress isn't wanted or the clock can't be read.
     pub fn new(clock: &'a C, sink: S, is_wanted: bool) -> Progress<'a, C, S> {
         let times = match Instant::now(clock) {
             Ok(now) if is_wanted => Some(Times {
@@ -74,7 +74,7 @@ impl<'a, C: Clock, S: Sink> Watch for Progress<'a, C, S> {
     }
 }
 
-/// The line of so many states after so long, with its end.
+/// The line for a number of states and the time passed, with its end.
 fn progress_line(states: usize, passed: Duration) -> Line {
     let millis = passed.as_millis().max(1);
     let a_second = (states as u128).saturating_mul(1000) / millis;
@@ -88,7 +88,7 @@ fn progress_line(states: usize, passed: Duration) -> Line {
     line
 }
 
-/// A number in 32 bits, or their greatest.
+/// A number in 32 bits, or their greatest value if it doesn't fit.
 fn narrow(number: u128) -> u32 {
     u32::try_from(number).unwrap_or(u32::MAX)
 }

@@ -17,10 +17,11 @@ use mesh_devices::{ReplayError, Sink, Source, write_all};
 use mesh_text::{replay, replay_recorded};
 use std::alloc::Global;
 
-/// Replays the job that the input gives, writes its answers to the output and its fault to `errors`, and returns the exit status.
+/// Replays the job in the input, writes its answers to the output and its fault to `errors`, and returns the exit
+/// status.
 ///
-/// The status is 0 where everything was written. It is 1 with the line `read fault`, `write fault` or `out of memory`, and 2 with
-/// the line `line N: KIND` where the job's text has a fault. Where that line can't be written the status stays.
+/// The status is 0 if everything was written. It is 1 with the line `read fault`, `write fault` or `out of memory`, and
+/// 2 with the line `line N: KIND` if the job's text has a fault. If the line can't be written, the status is the same.
 pub fn replay_run<I: Source, O: Sink, E: Sink>(
     alloc: Global,
     input: &mut I,
@@ -29,15 +30,17 @@ pub fn replay_run<I: Source, O: Sink, E: Sink>(
 ) -> u8
     requires input { I.has_failed input.old ≡ false }
     requires output { O.has_failed output.old ≡ false }
-    ensures { Ends HasReplayed HasStopped (seen (I.remaining input.old) (O.written output.old) (E.written errors.old) (I.has_failed input.old) (O.has_failed output.old) (E.has_failed errors.old))
+    ensures { Ends HasReplayed HasStopped
+        (seen (I.remaining input.old) (O.written output.old) (E.written errors.old) (I.has_failed input.old)
+        (O.has_failed output.old) (E.has_failed errors.old))
         (seen (I.remaining input.new) (O.written output.new) (E.written errors.new) (I.has_failed input.new) (O.has_failed output.new) (E.has_failed errors.new)) result }
 {
     let outcome = replay(alloc, input, output);
     finished(errors, outcome)
 }
 
-/// Replays the job that the input gives, writes the recorded history of its journal to the output and its fault to `errors`, and returns the exit
-/// status.
+/// Replays the job in the input, writes the recorded history of its journal to the output and its fault to `errors`,
+/// and returns the exit status.
 ///
 /// Status and line are those of `replay_run`. Nothing is written to the output before the plan is over.
 pub fn replay_history_run<I: Source, O: Sink, E: Sink>(
@@ -51,14 +54,16 @@ pub fn replay_history_run<I: Source, O: Sink, E: Sink>(
     finished(&mut devices.errors, outcome)
 }
 
-/// Writes help to the output, or what else a stop says to `errors`, and gives its exit status.
+/// Writes help to the output, or any other text of a stop to `errors`, and returns its exit status.
 ///
-/// Where the text can't be written the status stays.
+/// If the text can't be written, the status is the same.
 pub fn stop_run<O: Sink, E: Sink>(stop: &Stop, output: &mut O, errors: &mut E) -> u8
     ensures status { result ≡ stop.now.status }
-    ensures help { result ≡ 0 → HasTold (O.has_failed output.new) (O.written output.old) (O.written output.new) (cow_str_bytes stop.now.text)
+    ensures help { result ≡ 0
+        → HasTold (O.has_failed output.new) (O.written output.old) (O.written output.new) (cow_str_bytes stop.now.text)
         × Keeps (E.written errors.old) (E.written errors.new) }
-    ensures fault { 0 < result → HasTold (E.has_failed errors.new) (E.written errors.old) (E.written errors.new) (cow_str_bytes stop.now.text)
+    ensures fault { 0 < result
+        → HasTold (E.has_failed errors.new) (E.written errors.old) (E.written errors.new) (cow_str_bytes stop.now.text)
         × Keeps (O.written output.old) (O.written output.new) }
 {
     let text = stop.text.as_str().as_bytes();
@@ -70,17 +75,18 @@ pub fn stop_run<O: Sink, E: Sink>(stop: &Stop, output: &mut O, errors: &mut E) -
     stop.status
 }
 
-/// Writes to `errors` that the file can't be read, because it can't be opened, and gives the exit status.
+/// Writes `read fault` to `errors`, because the file can't be opened, and returns the exit status.
 pub fn unopened_run<E: Sink>(errors: &mut E) -> u8
     ensures status { result ≡ 1 }
-    ensures told { HasTold (E.has_failed errors.new) (E.written errors.old) (E.written errors.new) (ended (error_text ReplayError.Read)) }
+    ensures told { HasTold (E.has_failed errors.new) (E.written errors.old) (E.written errors.new)
+        (ended (error_text ReplayError.Read)) }
 {
     tell_error(errors, ReplayError::Read);
     FAILED
 }
 
-/// Writes to `errors` why a run stopped, where it did, and gives the exit status: 0 where it was done. Where the line can't be written the
-/// status stays.
+/// Writes to `errors` why a run stopped, if it did, and returns the exit status: 0 if the run was done. If the line
+/// can't be written, the status is the same.
 pub(crate) fn finished<E: Sink>(errors: &mut E, outcome: Result<(), ReplayError>) -> u8
     ensures done { result ≡ 0 → outcome ≡ Ok tt }
     ensures untold { result ≡ 0 → Keeps (E.written errors.old) (E.written errors.new) }
@@ -99,12 +105,13 @@ pub(crate) fn finished<E: Sink>(errors: &mut E, outcome: Result<(), ReplayError>
 
 /// Writes the line of an error.
 pub(crate) fn tell_error<E: Sink>(errors: &mut E, error: ReplayError)
-    ensures { HasTold (E.has_failed errors.new) (E.written errors.old) (E.written errors.new) (ended (error_text error)) }
+    ensures { HasTold (E.has_failed errors.new) (E.written errors.old) (E.written errors.new)
+        (ended (error_text error)) }
 {
     tell(errors, line_of(error).as_slice());
 }
 
-/// Writes a text for a person. Where it can't be written there is nobody left to tell.
+/// Writes a text for a person. A failure to write it is ignored, because there is no other device to report it on.
 pub(crate) fn tell<S: Sink>(sink: &mut S, text: &[u8])
     ensures { HasTold (S.has_failed sink.new) (S.written sink.old) (S.written sink.new) text.now }
 {

@@ -13,13 +13,13 @@ use mesh_devices::{Sink, Source, write_lines};
 use mesh_savings_report::{Form, SavingsError, SavingsOptions, Settings, Window, Words, report};
 use std::alloc::Global;
 
-/// Follows the recorded history that the input gives on two heaps, writes what meshing saves to the output, as a table or
-/// a plot, and returns the exit status. If there is none, it writes the reason to `errors`.
+/// Follows the recorded history in the input on two heaps, writes what meshing saves to the output, as a table or a
+/// plot, and returns the exit status. If there is nothing to write, it writes the reason to `errors`.
 ///
-/// The status is 0 with the table. It is 1 with the table and the line `addresses used up at call N` if a heap has no
-/// virtual pages left for the `new` of call N: the table is of the calls before it. It is 1 with the line
-/// `line L: not a history`, `read fault`, `write fault` or `out of memory`, and 2 with the line `line L: KIND` if the text
-/// has a fault before anything else. If the line can't be written, the status is the same.
+/// The status is 0 with the table. If a heap has no virtual pages left for the `new` of call N, it is 1 with the table
+/// of the calls before it and the line `addresses used up at call N`. It is 1 with the line `line L: not a history`,
+/// `read fault`, `write fault` or `out of memory`, and 2 with the line `line L: KIND` if the text has a fault before
+/// anything else. If the line can't be written, the status is the same.
 pub fn savings_run<I: Source, O: Sink, E: Sink>(
     alloc: Global,
     args: &SavingsArgs,
@@ -67,7 +67,7 @@ fn options_of(args: &SavingsArgs) -> SavingsOptions
     }
 }
 
-/// Reports on the history that the input gives, writes the table or the plot, and returns the call for which a heap had no
+/// Reports on the history in the input and writes the table or the plot. Returns the call for which a heap had no
 /// virtual pages left, if there is one.
 fn write_report<I: Source, O: Sink>(
     alloc: Global,
@@ -78,8 +78,12 @@ fn write_report<I: Source, O: Sink>(
     requires input { I.has_failed input.old ≡ false }
     requires output { O.has_failed output.old ≡ false }
     ensures ok { OnOk result ((I.has_failed input.new ≡ false) × (O.has_failed output.new ≡ false)) }
-    ensures written { IfOk result (HasWrittenReport options.now (I.remaining input.old) (I.remaining input.new) (O.written output.old) (O.written output.new)) }
-    ensures stopped { IfErr result (HasStoppedSavings options.now (I.remaining input.old) (I.remaining input.new) (O.written output.old) (O.written output.new)) }
+    ensures written { IfOk result
+        (HasWrittenReport options.now (I.remaining input.old) (I.remaining input.new) (O.written output.old)
+        (O.written output.new)) }
+    ensures stopped { IfErr result
+        (HasStoppedSavings options.now (I.remaining input.old) (I.remaining input.new) (O.written output.old)
+        (O.written output.new)) }
     ensures failed { IfErr result (HasFailedSavings (I.has_failed input.new) (O.has_failed output.new)) }
 {
     let report = report(alloc, input, options)?;

@@ -10,9 +10,10 @@ use std::alloc::{AllocError, Global};
 /// How many words a round of meshing has.
 const ROUND_WORDS: usize = 256;
 
-/// The words of so many rounds, 256 for each: the first ones of xoshiro256++ (Blackman and Vigna), seeded by SplitMix64 from this number.
+/// The words for this number of rounds, 256 each: the first ones of xoshiro256++ (Blackman and Vigna), seeded by
+/// SplitMix64 from this seed.
 ///
-/// They are the words of the Rust crate `rand_xoshiro`. Fails only where memory runs out.
+/// They are the words of the Rust crate `rand_xoshiro`. Fails only on an allocation failure.
 pub fn words(alloc: Global, seed: u64, rounds: u32) -> Result<Vec<u64>, AllocError>
     ensures { IfOk result (λ words. words.items ≡ words_of seed rounds) }
 {

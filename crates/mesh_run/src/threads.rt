@@ -28,15 +28,24 @@ use std::alloc::{AllocError, Global};
 use std::sync::Wait;
 use std::thread::Threads;
 
-/// Runs the scripts of the job that the input gives, each on a thread of its own while meshers search and mesh, writes the answers of each worker and
-/// the number of all entries to the output, or a fault to `errors`, and returns the exit status. The file's plan isn't used.
+/// Runs the scripts of the job in the input, each on a thread of its own while meshers search and mesh. Writes the
+/// answers of each worker and the number of all entries to the output, or a fault to `errors`, and returns the exit
+/// status. The file's plan isn't used.
 ///
-/// The status is 0 where everything was written, and nothing is written before all threads have ended. It is 2 with the line `line N: KIND`
-/// where the job's text has a fault, and with the line `history too short` where the file's history has fewer entries than its scripts have
-/// commands; then nothing is run. It is 1 with the line `read fault`, `write fault` or `out of memory`, with `thread fault` where a thread
-/// couldn't be started or a searcher's answer isn't the one that was asked for, and with `run fault` where the journal was full or `finish` has a fault,
-/// out of memory inside it included. Of several faults the first in this order is told: reading, the text, a history too short, the run, writing.
-/// Where the line can't be written the status stays.
+/// The status is 0 if everything was written; nothing is written before all threads have ended. It is 2, and nothing is
+/// run, in two cases:
+///
+/// - `line N: KIND` if the job's text has a fault;
+/// - `history too short` if the file's history has fewer entries than its scripts have commands.
+///
+/// It is 1 with one of these lines:
+///
+/// - `read fault`, `write fault` or `out of memory`;
+/// - `thread fault` if a thread couldn't be started or a searcher's answer isn't the one that was asked for;
+/// - `run fault` if the journal was full or `finish` has a fault, out of memory inside it included.
+///
+/// Of several faults the first in this order is reported: reading, the text, a history too short, the run, writing. If
+/// the line can't be written, the status is the same.
 pub fn threads_run<R: Threads + Wait + Sync, I: Source, O: Sink, E: Sink>(
     rt: &R,
     alloc: Global,
@@ -47,7 +56,9 @@ pub fn threads_run<R: Threads + Wait + Sync, I: Source, O: Sink, E: Sink>(
 ) -> u8
     requires input { I.has_failed input.old ≡ false }
     requires output { O.has_failed output.old ≡ false }
-    ensures { EndsThreads Printed.Answers (seen (I.remaining input.old) (O.written output.old) (E.written errors.old) (I.has_failed input.old) (O.has_failed output.old) (E.has_failed errors.old))
+    ensures { EndsThreads Printed.Answers
+        (seen (I.remaining input.old) (O.written output.old) (E.written errors.old) (I.has_failed input.old)
+        (O.has_failed output.old) (E.has_failed errors.old))
         (seen (I.remaining input.new) (O.written output.new) (E.written errors.new) (I.has_failed input.new) (O.has_failed output.new) (E.has_failed errors.new)) result }
 {
     match run_file(rt, alloc, input, output, args, Printed::Answers) {
@@ -56,7 +67,8 @@ pub fn threads_run<R: Threads + Wait + Sync, I: Source, O: Sink, E: Sink>(
     }
 }
 
-/// The same as `threads_run`, but writes the recorded history of all threads to the output in place of each worker's answers.
+/// Does the same as `threads_run`, but writes the recorded history of all threads to the output instead of each
+/// worker's answers.
 pub fn threads_history_run<R: Threads + Wait + Sync, I: Source, O: Sink, E: Sink>(
     rt: &R,
     alloc: Global,
@@ -80,17 +92,18 @@ pub fn threads_history_run<R: Threads + Wait + Sync, I: Source, O: Sink, E: Sink
     }
 }
 
-/// Writes the line of an error that a run in threads stopped for to `errors`, and returns the exit status: 2 for a fault of the file, else 1. Where the
-/// line can't be written the status stays.
+/// Writes to `errors` the line of an error that stopped a run in threads, and returns the exit status: 2 for a fault of
+/// the file, otherwise 1. If the line can't be written, the status is the same.
 pub fn threads_stopped<E: Sink>(errors: &mut E, error: ThreadsError) -> u8
     ensures status { result ≡ threads_status error }
-    ensures told { HasTold (E.has_failed errors.new) (E.written errors.old) (E.written errors.new) (ended (threads_text error)) }
+    ensures told { HasTold (E.has_failed errors.new) (E.written errors.old) (E.written errors.new)
+        (ended (threads_text error)) }
 {
     tell(errors, threads_line_of(error).as_slice());
     threads_status_of(error)
 }
 
-/// Runs the scripts of the job that the input gives, and writes what is printed of their history.
+/// Runs the scripts of the job in the input, and writes the text of their history.
 fn run_file<R: Threads + Wait + Sync, I: Source, O: Sink>(
     rt: &R,
     alloc: Global,
@@ -102,8 +115,12 @@ fn run_file<R: Threads + Wait + Sync, I: Source, O: Sink>(
     requires input { I.has_failed input.old ≡ false }
     requires output { O.has_failed output.old ≡ false }
     ensures ok { OnOk result ((I.has_failed input.new ≡ false) × (O.has_failed output.new ≡ false)) }
-    ensures written { OnOk result (HasWrittenRun printed (I.remaining input.old) (I.remaining input.new) (O.written output.old) (O.written output.new)) }
-    ensures stopped { IfErr result (HasStoppedRun printed (I.remaining input.old) (I.remaining input.new) (O.written output.old) (O.written output.new)) }
+    ensures written { OnOk result
+        (HasWrittenRun printed (I.remaining input.old) (I.remaining input.new) (O.written output.old)
+        (O.written output.new)) }
+    ensures stopped { IfErr result
+        (HasStoppedRun printed (I.remaining input.old) (I.remaining input.new) (O.written output.old)
+        (O.written output.new)) }
     ensures failed { IfErr result (HasFailedRun (I.has_failed input.new) (O.has_failed output.new)) }
 {
     let job = read_job(alloc, input)?;
@@ -111,7 +128,7 @@ fn run_file<R: Threads + Wait + Sync, I: Source, O: Sink>(
     write_text(output, text.as_slice())
 }
 
-/// What is printed of the history that a run of a job's scripts leaves.
+/// The text of the history of a run of a job's scripts.
 fn run_job<R: Threads + Wait + Sync>(
     rt: &R,
     alloc: Global,
@@ -132,7 +149,7 @@ fn run_job<R: Threads + Wait + Sync>(
     Ok(text)
 }
 
-/// What is printed of a history of so many workers.
+/// The text of a history of this number of workers.
 fn text_of(
     alloc: Global,
     printed: Printed,
@@ -148,14 +165,15 @@ fn text_of(
     }
 }
 
-/// Runs a job's scripts on a fresh book, while meshers do what is asked for.
+/// Runs a job's scripts on a fresh book, while meshers do what the arguments ask for.
 fn run_scripts<R: Threads + Wait + Sync>(
     rt: &R,
     alloc: Global,
     job: &Job,
     args: &ThreadsArgs,
 ) -> Result<Ended, ThreadsError>
-    ensures ended { IfOk result (λ ended. HasRun job.now.scripts ended.history.items (memory_in ended.heap ended.roots)) }
+    ensures ended { IfOk result
+        (λ ended. HasRun job.now.scripts ended.history.items (memory_in ended.heap ended.roots)) }
     ensures none { HasRoom job.now → IfErr result (IsNoRun job.now) }
 {
     let plan = plan_of(alloc, args)?;
@@ -164,8 +182,8 @@ fn run_scripts<R: Threads + Wait + Sync>(
     run_book(rt, alloc, job, args, &plan, scripts.as_slice())
 }
 
-/// Runs a job's scripts on a fresh book, while meshers do what the plan of the arguments says. The book is opened last, so that nothing else is left
-/// to go wrong while it is held.
+/// Runs a job's scripts on a fresh book, while meshers follow the plan of the arguments. The book is opened last, so
+/// that no other step can fail while it is open.
 fn run_book<R: Threads + Wait + Sync>(
     rt: &R,
     alloc: Global,
@@ -179,7 +197,8 @@ fn run_book<R: Threads + Wait + Sync>(
     requires some { 1 ≤ length scripts.now }
     requires few { length scripts.now ≤ 64 }
     requires range { All (λ script. All IsInRange script.now) scripts.now }
-    ensures ended { IfOk result (λ ended. HasRun job.now.scripts ended.history.items (memory_in ended.heap ended.roots)) }
+    ensures ended { IfOk result
+        (λ ended. HasRun job.now.scripts ended.history.items (memory_in ended.heap ended.roots)) }
     ensures none { HasRoom job.now → IfErr result (IsNoRun job.now) }
 {
     let book = book_of(alloc, job)?;
@@ -187,14 +206,14 @@ fn run_book<R: Threads + Wait + Sync>(
     Ok(ended)
 }
 
-/// A fresh book of a job.
+/// A fresh book with a job's sizes.
 fn book_of(alloc: Global, job: &Job) -> Result<Book, AllocError>
     ensures { IfOk result (IsBookOf job.now) }
 {
     Book::open(alloc, job.pages, job.history)
 }
 
-/// What the meshers do.
+/// The plan of the meshers.
 fn plan_of(alloc: Global, args: &ThreadsArgs) -> Result<MeshPlan, AllocError>
     ensures asked { IfOk result (IsPlanOf args.now) }
     ensures searchers { IfOk result (λ plan. (1 ≤ plan.workers) × (plan.workers ≤ 16)) }
@@ -220,7 +239,7 @@ fn commands_of(alloc: Global, scripts: &Scripts) -> Result<Vec<Commands>, AllocE
     Ok(all)
 }
 
-/// The commands of each script, lent.
+/// The commands of each script, as slices.
 fn slices_of<'a>(alloc: Global, scripts: &'a [Commands]) -> Result<Vec<&'a [Command]>, AllocError>
     ensures value { IfOk result (λ slices. map (λ script. script.now) slices.items ≡ scripts.now) }
     ensures range { IfOk result (λ slices. All (λ script. All IsInRange script.now) slices.items) }
@@ -232,7 +251,7 @@ fn slices_of<'a>(alloc: Global, scripts: &'a [Commands]) -> Result<Vec<&'a [Comm
     Ok(slices)
 }
 
-/// Whether a history of so many entries has room for all commands of the scripts.
+/// Whether a history of `history` entries has room for all commands of the scripts.
 fn has_room(scripts: &Scripts, history: u32) -> bool
     ensures { IsTrue result ↔ (command_count scripts.now ≤ history) }
 {
@@ -247,7 +266,7 @@ fn has_room(scripts: &Scripts, history: u32) -> bool
     true
 }
 
-/// Writes a text. Where the output fails, a beginning of it was written.
+/// Writes a text. If the output fails, a beginning of the text was written.
 fn write_text<O: Sink>(output: &mut O, text: &[u8]) -> Result<(), ThreadsError>
     requires { O.has_failed output.old ≡ false }
     ensures ok { OnOk result (Appends (O.written output.old) (O.written output.new) text.now) }

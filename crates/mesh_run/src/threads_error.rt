@@ -12,8 +12,8 @@ use thiserror::Error;
 /// Why a run of scripts in threads stopped before its whole text was written.
 #[derive(Clone, Copy, Debug, PartialEq, Eq, Error)]
 pub enum ThreadsError {
-    /// What stops a replay too: the input failed, its text is no job file, memory was refused, or the output failed. A beginning of the text
-    /// was written where the output failed, and nothing else.
+    /// A fault that stops a replay too: the input failed, its text is no job file, an allocation failed, or the output
+    /// failed. If the output failed, a beginning of the text was written; otherwise nothing was.
     #[error("{0}")]
     Replay(ReplayError),
     /// The file's history has fewer entries than its scripts have commands. Nothing was run.
@@ -22,7 +22,7 @@ pub enum ThreadsError {
     /// A thread couldn't be started, or a searcher's answer isn't the one that was asked for. Nothing was written.
     #[error("thread fault")]
     Thread,
-    /// The journal was full, or `finish` has a fault, whichever it is: out of memory inside `finish` too. Nothing was written.
+    /// The journal was full, or `finish` has any fault, including out of memory inside `finish`. Nothing was written.
     #[error("run fault")]
     Run,
 }

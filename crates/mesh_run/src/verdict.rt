@@ -16,7 +16,7 @@ use mesh_reach::Watch;
 use mesh_verdict::{Pattern, VerdictOptions, verdict};
 use std::alloc::{AllocError, Global};
 
-/// Reads the outcomes that are expected, or writes to `errors` why it can't, and gives the exit status then.
+/// Reads the expected outcomes. If it can't, writes the reason to `errors` and returns the exit status.
 pub fn expected_run<I: Source, E: Sink>(
     alloc: Global,
     input: &mut I,
@@ -34,7 +34,7 @@ pub fn expected_run<I: Source, E: Sink>(
     }
 }
 
-/// Explores, and writes whether the outcomes meet the criteria. Gives the exit status.
+/// Explores, and writes whether the outcomes meet the criteria. Returns the exit status.
 pub(crate) fn verdict_run<I: Source, O: Sink, E: Sink, W: Watch>(
     alloc: Global,
     args: &ExploreArgs<'_>,
@@ -66,7 +66,7 @@ pub(crate) fn verdict_run<I: Source, O: Sink, E: Sink, W: Watch>(
     }
 }
 
-/// Writes the verdict, and gives whether all is well.
+/// Writes the verdict, and returns whether all is well.
 fn write_verdict<I: Source, O: Sink, W: Watch>(
     alloc: Global,
     args: &ExploreArgs<'_>,
@@ -96,7 +96,7 @@ fn write_verdict<I: Source, O: Sink, W: Watch>(
     Ok(well)
 }
 
-/// The patterns that these texts spell.
+/// Parses these texts as patterns.
 fn patterns(alloc: Global, texts: &[&str]) -> Result<Vec<Pattern>, VerdictError>
     requires { length texts.now ≤ 10 }
     ensures patterns { IfOk result (λ patterns. AreSpelt (map (λ text. text.now) texts.now) patterns.items) }
@@ -134,7 +134,7 @@ fn verdict_line_of(error: VerdictError, states: u32) -> Line
     }
 }
 
-/// The exit status of a verdict that isn't given.
+/// The exit status if a verdict isn't given.
 fn verdict_status_of(error: VerdictError) -> u8
     ensures { result ≡ verdict_status error }
 {

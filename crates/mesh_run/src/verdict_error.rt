@@ -6,7 +6,7 @@ use thiserror::Error;
 /// Why a verdict isn't given.
 #[derive(Clone, Copy, Debug, PartialEq, Eq, Error)]
 pub enum VerdictError {
-    /// The text of this `--never`, counted from 1, spells no pattern.
+    /// The text of this `--never`, counted from 1, is no pattern.
     #[error("--never {0}: no pattern 'worker W: ANSWER | ..'")]
     NoPattern(u32),
     /// The exploration stopped.

@@ -1,6 +1,7 @@
-//! A running mesh: its two groups, and how far it has come.
+//! A running mesh: its two groups, and its progress.
 //!
-//! The heap keeps a list of them, and so does the table as a program. A contract sees a running mesh as that of the definitions.
+//! The heap keeps a list of running meshes, and so does the table as a program. A contract sees a running mesh as the
+//! definitions' running mesh.
 #![tactic(auto)]
 
 mod progress;

@@ -1,10 +1,10 @@
-//! `Progress`, how far a mesh has come.
+//! `Progress`, the progress of a mesh.
 
-/// How far a mesh has come.
+/// The progress of a mesh.
 #[derive(Clone, Copy, PartialEq, Eq)]
 pub enum Progress {
-    /// `Made(d)`: so many of its steps were made.
+    /// `Made(d)`: `d` of its steps are done.
     Made(u32),
-    /// `Unwinding(q, u)`: it was cancelled, and of the `q` pages that it had protected `u` can be written again.
+    /// `Unwinding(q, u)`: it was cancelled. Of the `q` pages that it had protected, `u` are writable again.
     Unwinding(u32, u32),
 }

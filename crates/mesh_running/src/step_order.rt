@@ -22,7 +22,7 @@ pub const KINDS: [StepKind; 5] = [
     StepKind::Release,
 ];
 
-/// The place of a kind of step in `KINDS`.
+/// The index of a kind of step in `KINDS`.
 pub fn place_of(kind: StepKind) -> usize
     ensures place { slice_get KINDS result ≡ Some kind }
     ensures before { (order : StepOrder) → steps_before order kind ≡ sum (map (steps_of order) (take result KINDS)) }
@@ -36,7 +36,7 @@ pub fn place_of(kind: StepKind) -> usize
     }
 }
 
-/// The name of a kind of step, as answer lines, explorations and pictures have it.
+/// The name of a kind of step, as printed in answer lines, explorations and pictures.
 pub fn kind_name(kind: StepKind) -> &'static str
     ensures { result.now ≡ kind_text kind }
 {
@@ -52,16 +52,16 @@ pub fn kind_name(kind: StepKind) -> &'static str
 /// How many steps of each kind a mesh makes.
 #[derive(Clone, Copy, PartialEq, Eq)]
 pub struct StepOrder {
-    /// The source's virtual pages: each is protected, remapped and unprotected.
+    /// How many virtual pages the source has: each is protected, remapped and unprotected.
     pub virtual_pages: u32,
-    /// The slots of the class: each is copied.
+    /// How many slots the class has: each is copied.
     pub slots: u32,
-    /// The source's physical pages: each is released.
+    /// How many physical pages the source has: each is released.
     pub pages: u32,
 }
 
 impl StepOrder {
-    /// The order of a mesh from a group of a class with so many members.
+    /// The step order of a mesh whose source is a group of this class with `members` members.
     pub fn new(class: Class, members: usize) -> StepOrder
         requires { members ≤ 8 }
         ensures value { result ≡ order_with class members }
@@ -94,7 +94,8 @@ impl StepOrder {
         }
     }
 
-    /// The kind of the step after so many, and its number among those of its kind. Past the last step it is a release.
+    /// The kind of the step after the first `made` steps, and its number among the steps of that kind. Past the last
+    /// step the kind is release.
     pub fn step_after(self, made: u32) -> (StepKind, u32)
         ensures number { made ≡ steps_before self result.0 + result.1 }
         ensures within { made < order_steps self → result.1 < steps_of self result.0 }
@@ -119,14 +120,14 @@ impl StepOrder {
         (StepKind::Release, made - self.virtual_pages)
     }
 
-    /// How many slots were copied after so many steps.
+    /// How many slots are copied after `made` steps.
     pub fn copied_after(self, made: u32) -> u32
         ensures { result ≡ min (made - steps_before self Copy) self.slots }
     {
         made.saturating_sub(self.virtual_pages).min(self.slots)
     }
 
-    /// How many pages were released after so many steps.
+    /// How many pages are released after `made` steps.
     pub fn released_after(self, made: u32) -> u32
         requires { IsStepOrder self }
         ensures { result ≡ made - steps_before self Release }

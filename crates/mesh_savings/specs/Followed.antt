@@ -17,8 +17,8 @@ pub data Live : Type 0 where
   Small : (serial len : ℕ) → Live
   Large : (len : ℕ) → Live
 
--- the number of the object that each cell was given last; the live objects by number; the counts; the state of the generator of the words of `new`;
--- and both heaps
+-- the number of the object that each cell was given last; the live objects by number; the counts; the state of the
+-- generator of the words of `new`; and both heaps
 pub record Followed : Type 0 where
   pub cells : ℕ → Option ℕ
   pub live : ℕ → Option Live
@@ -89,8 +89,8 @@ abbrev pub small_placed : Settings → Followed → ℕ → ℕ → ℕ → Resu
 small_placed settings f cell len class (Ok without) (Ok with) = Goes (small_made settings f cell len class without.table with.table)
 small_placed settings f cell len class _ _ = NoAddresses
 
--- an object of a class is made in both heaps, of the same length, by the same word and under the same serial. One above 2,048 bytes, which has no
--- class, is only counted
+-- an object of a class is made in both heaps, of the same length, by the same word and under the same serial. One above
+-- 2,048 bytes, which has no class, is only counted
 abbrev pub made : Settings → Followed → ℕ → ℕ → Option ℕ → Outcome
 made settings f cell len None = Goes (large_made f cell len)
 made settings f cell len (Some class) =

@@ -1,4 +1,4 @@
--- What the code keeps, and which state of the definitions it stands for.
+-- The code's state, and the state of the definitions that it represents.
 use Rattle.std.specs.Prelude.{◌≡◌, ℕ, ◌*◌, ◌+◌, ◌-◌, ◌^◌, ◌<◌, ◌≤◌, List, Option, Some, None, nat_eq}
 use Rattle.std.specs.Map.{lookup}
 use Rattle.mesh_savings.specs.Counts.{IsFew}
@@ -45,7 +45,7 @@ kept_of settings objects counts new_words heaps = record {
   heaps = heaps;
 }
 
--- the code stands for the state
+-- the code represents the state
 pub record Follows (code : Kept) (f : Followed) : Type 0 where
   pub cells : (cell : ℕ) → lookup (nat_eq cell) code.cells ≡ f.cells cell
   pub objects : (number : ℕ) → IsKept code.heaps (lookup (nat_eq number) code.objects) (f.live number)
@@ -72,7 +72,7 @@ pub record HasNumbers (code : Kept) : Type 0 where
   pub calls : code.counts.calls < 2 ^ 32 - 1
   pub heaps : HaveSerial code.heaps
 
--- the code stands for what the call comes to; where the call can't be made, for the same state as before
+-- the code represents the state after the call; if the call can't be made, the state before it
 abbrev pub IsTaken : Kept → Followed → Outcome → Taken → Type 0
 IsTaken new f (Goes next) Made = Follows new next
 IsTaken new f HasNoObject NoObject = Follows new f

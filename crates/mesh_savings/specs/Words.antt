@@ -1,4 +1,5 @@
--- The words of `new` and of the shuffles: those of xoshiro256++ (Blackman and Vigna), its state made of a seed by SplitMix64.
+-- The words of `new` and of the shuffles: those of xoshiro256++ (Blackman and Vigna), its state made of a seed by
+-- SplitMix64.
 use Rattle.std.specs.Prelude.{ℕ, zero, suc, ◌+◌, ◌%◌, ◌^◌, List}
 use Rattle.rand_xoshiro.specs.SplitMix64.{splitmix_seed}
 use Rattle.rand_xoshiro.specs.Xoshiro256.{of_seed, plus_plus}

@@ -1,4 +1,4 @@
-//! The calls of a recorded history that the heaps follow.
+//! The calls of a recorded history that both heaps replay.
 ghost use Rattle.std.specs.Prelude.{◌≡◌};
 ghost use Rattle.mesh_history.specs.RecordedWords.{plain_entry};
 ghost use Rattle.mesh_savings.specs.Calls.{call_of};
@@ -16,8 +16,8 @@ pub enum Call {
     Alias(u32, u32),
 }
 
-/// The call of an entry: of a `new` that was answered by an object, or of a `free` or an `alias` that was answered by `done`. All other entries
-/// have none.
+/// The call of an entry: of a `new` that was answered with an object, or of a `free` or an `alias` that was answered
+/// with `done`. `None` for all other entries.
 pub fn call_of(entry: &RecordedEntry) -> Option<Call>
     ensures { result ≡ call_of (plain_entry entry.now) }
 {

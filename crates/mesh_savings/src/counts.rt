@@ -1,4 +1,4 @@
-//! What is counted along the calls.
+//! The counts of the calls.
 ghost use Rattle.std.specs.Prelude.{◌≡◌, ◌<◌, ◌-◌, ◌^◌};
 ghost use Rattle.mesh_savings.specs.Counts.{IsFew, alias_counted, large_free_counted, large_new_counted, no_count, no_mesh, small_free_counted, small_new_counted, whole_pages};
 
@@ -7,7 +7,7 @@ use mesh_class::Class;
 /// The bytes of a page.
 const PAGE: u128 = 4096;
 
-/// What was counted of the calls so far. Objects of up to 2,048 bytes are small, all others are large.
+/// The counts of the calls so far. Objects of up to 2,048 bytes are small, all others are large.
 #[derive(Clone, Copy, Debug)]
 pub struct Counts {
     /// Calls that were made.
@@ -18,7 +18,7 @@ pub struct Counts {
     pub small: u32,
     /// The most small objects that were live at once.
     pub most_small: u32,
-    /// Large objects that were made.
+    /// The pages of the live large objects, each rounded up to whole pages. Their number may need more than 64 bits.
     pub large: u32,
     /// The pages of the live large objects, each in whole pages. Their number may need more than 64 bits.
     pub large_pages: u128,
@@ -26,13 +26,13 @@ pub struct Counts {
     pub most_large_pages: u128,
     /// Frees of small objects.
     pub freed: u32,
-    /// Rounds that were made.
+    /// Mesh rounds that were made.
     pub rounds: u32,
-    /// For each class, the least first, whether it ever held an object.
+    /// For each class, the least first, whether it has ever had an object.
     pub used: [bool; 10],
 }
 
-/// What all meshes came to.
+/// The counts of all meshes.
 #[derive(Clone, Copy, Debug, PartialEq, Eq)]
 pub struct MeshCounts {
     /// Pairs that were meshed.
@@ -44,7 +44,7 @@ pub struct MeshCounts {
 }
 
 impl MeshCounts {
-    /// Before the first mesh.
+    /// The counts before the first mesh.
     pub(crate) fn none() -> MeshCounts
         ensures { result ≡ no_mesh }
     {
@@ -56,7 +56,7 @@ impl MeshCounts {
     }
 }
 
-/// So many bytes in whole pages, rounded up.
+/// The number of pages of `len` bytes, rounded up.
 fn whole_pages(len: u64) -> u128
     ensures { result ≡ whole_pages len }
 {
@@ -64,7 +64,7 @@ fn whole_pages(len: u64) -> u128
 }
 
 impl Counts {
-    /// Before the first call.
+    /// The counts before the first call.
     pub(crate) fn none() -> Counts
         ensures value { result ≡ no_count }
         ensures few { IsFew result }
@@ -83,7 +83,7 @@ impl Counts {
         }
     }
 
-    /// After a small object of a class was made, with which so many are live.
+    /// The counts after a small object of a class was made. With it, `live` small objects are live.
     pub(crate) fn small_new(&self, class: Class, live: u32) -> Counts
         requires few { IsFew self.now }
         requires calls { self.now.calls < 2 ^ 32 - 1 }
@@ -102,7 +102,7 @@ impl Counts {
         }
     }
 
-    /// After a large object was made.
+    /// The counts after a large object was made.
     pub(crate) fn large_new(&self, len: u64) -> Counts
         requires few { IsFew self.now }
         requires calls { self.now.calls < 2 ^ 32 - 1 }
@@ -120,7 +120,7 @@ impl Counts {
         }
     }
 
-    /// After a small object was freed, behind which a round is made or not.
+    /// The counts after a small object was freed. If `is_due`, a round follows.
     pub(crate) fn small_free(&self, is_due: bool) -> Counts
         requires few { IsFew self.now }
         requires calls { self.now.calls < 2 ^ 32 - 1 }
@@ -135,7 +135,7 @@ impl Counts {
         }
     }
 
-    /// After a large object was freed.
+    /// The counts after a large object was freed.
     pub(crate) fn large_free(&self, len: u64) -> Counts
         requires few { IsFew self.now }
         requires calls { self.now.calls < 2 ^ 32 - 1 }
@@ -149,7 +149,7 @@ impl Counts {
         }
     }
 
-    /// After a reference was stored in another cell.
+    /// The counts after a reference was stored in another cell.
     pub(crate) fn alias(&self) -> Counts
         requires few { IsFew self.now }
         requires calls { self.now.calls < 2 ^ 32 - 1 }

@@ -1,4 +1,4 @@
-//! Both heaps.
+//! `TwoHeaps`: the heap that doesn't mesh and the heap that does.
 ghost use Rattle.std.specs.Prelude.{◌≡◌, ℕ, ◌+◌, ◌<◌, ◌-◌, ◌^◌, ◌≤◌, IfOk, OnOk, is_ok, true, false, if◌then◌else◌, sum_by, IsTrue, Some};
 ghost use Rattle.model_heap.specs.Table.{object_count, place_new};
 ghost use Rattle.mesh_placement.specs.Placement.{IsFreed, IsMade, table_of};
@@ -25,7 +25,8 @@ pub(crate) struct TwoHeaps {
 
 /// Frees the object in a slot of a span, if there is one.
 fn free_at(placement: &mut Placement, place: (Span, Slot))
-    ensures freed { (serial len : ℕ) → record_at placement.old.index place.0 place.1 ≡ Some (serial, len) → IsFreed placement.old placement.new place.0 place.1 }
+    ensures freed { (serial len : ℕ) → record_at placement.old.index place.0 place.1 ≡ Some (serial, len)
+        → IsFreed placement.old placement.new place.0 place.1 }
 {
     let (span, slot) = place;
     if placement.record(span, slot).is_some() {
@@ -33,7 +34,7 @@ fn free_at(placement: &mut Placement, place: (Span, Slot))
     }
 }
 
-/// Makes an object where a heap makes it. An error is an allocation failure.
+/// Makes an object in a heap, in the slot that the heap chooses. An error is an allocation failure.
 fn place(placement: &mut Placement, len: u32, word: u64) -> Result<(Span, Slot), AllocError>
     requires room { is_ok (place_new (table_of placement.old) len word placement.old.next_serial) ≡ true }
     requires serial { placement.old.next_serial < 2 ^ 32 - 1 }
@@ -47,7 +48,7 @@ fn place(placement: &mut Placement, len: u32, word: u64) -> Result<(Span, Slot),
 }
 
 impl TwoHeaps {
-    /// Both heaps with no object. An error is an allocation failure.
+    /// Returns both heaps without objects. An error is an allocation failure.
     pub(crate) fn open(alloc: Global, shuffle_seed: u64) -> Result<TwoHeaps, AllocError>
         ensures heaps { IfOk result (λ heaps. heaps_of heaps ≡ empty_heaps shuffle_seed) }
         ensures without_serial { IfOk result (λ heaps. heaps.without.next_serial ≡ 0) }
@@ -71,7 +72,7 @@ impl TwoHeaps {
         self.without.is_full() || self.mesher.placement.is_full()
     }
 
-    /// Whether an object of this length finds room in both heaps.
+    /// Whether both heaps have room for an object of this length.
     pub(crate) fn has_room(&self, len: u32) -> bool
         requires some { 1 ≤ len }
         requires small { len ≤ 2048 }
@@ -80,11 +81,12 @@ impl TwoHeaps {
         self.without.has_room(len) && self.mesher.placement.has_room(len)
     }
 
-    /// Makes an object of this length in both heaps, by the same word. An error is an allocation failure.
+    /// Makes an object of this length in both heaps, with the same word. An error is an allocation failure.
     pub(crate) fn new(&mut self, len: u32, word: u64) -> Result<Places, AllocError>
         requires serials { HaveSerial self.old }
         requires without { is_ok (place_new (table_of self.old.without) len word self.old.without.next_serial) ≡ true }
-        requires with { is_ok (place_new (table_of self.old.mesher.placement) len word self.old.mesher.placement.next_serial) ≡ true }
+        requires with { is_ok (place_new
+            (table_of self.old.mesher.placement) len word self.old.mesher.placement.next_serial) ≡ true }
         ensures made { IfOk result (λ places. IsMadeIn self.old self.new len word places) }
         ensures counts { self.new.mesher.counts ≡ self.old.mesher.counts }
     {
@@ -102,7 +104,8 @@ impl TwoHeaps {
         free_at(&mut self.mesher.placement, places.with);
     }
 
-    /// Makes a round: takes out the empty groups of both heaps, and searches and meshes each class of the one that meshes.
+    /// Makes a round: removes the empty groups of both heaps, and searches and meshes each class of the heap that
+    /// meshes.
     ///
     /// An error is an allocation failure.
     fn round(&mut self, alloc: Global, probe: u32) -> Result<(), AllocError>
@@ -116,7 +119,7 @@ impl TwoHeaps {
         self.mesher.mesh_classes(alloc, probe)
     }
 
-    /// Frees an object in both heaps, and makes a round where it is due. An error is an allocation failure.
+    /// Frees an object in both heaps, and makes a round if it is due. An error is an allocation failure.
     pub(crate) fn free_and_round(
         &mut self,
         alloc: Global,

@@ -1,4 +1,4 @@
-//! What holds of both heaps after any calls. The contracts of functions that do nothing.
+//! Lemmas about both heaps after any calls. Each is the contract of a function that does nothing.
 ghost use Rattle.mesh_savings.specs.Alike.{ClassesAreAlike, HeapsAreAlike, HeapsAreSound, RunsGoOn};
 
 /// After any calls, both heaps have the same live objects: the same serials and lengths, in the same classes.
@@ -12,7 +12,7 @@ pub fn heaps_are_sound()
     ensures { HeapsAreSound }
 {}
 
-/// Calls lead where the last of them leads from the state that the others lead to.
+/// The state after a list of calls is the state after its last call, made in the state after the others.
 pub fn runs_go_on()
     ensures { RunsGoOn }
 {}

@@ -12,7 +12,7 @@ use mesh_search::{Pair, search_one};
 use rand_xoshiro::Xoshiro256PlusPlus;
 use std::alloc::{AllocError, Global};
 
-/// The heap that meshes, what its meshes came to, and the generator of the words of its shuffles.
+/// The heap that meshes, the counts of its meshes, and the generator of the words of its shuffles.
 #[derive(Drop)]
 pub(crate) struct Mesher {
     pub placement: Placement,
@@ -21,7 +21,7 @@ pub(crate) struct Mesher {
 }
 
 impl Mesher {
-    /// Meshes a pair, or counts that it was refused.
+    /// Meshes a pair, or counts its refusal.
     fn mesh_pair(&mut self, pair: Pair)
         requires { Fits self.old.counts 1 }
         ensures value { meshing_of self.new ≡ pair_meshed (meshing_of self.old) pair }
@@ -38,7 +38,7 @@ impl Mesher {
         }
     }
 
-    /// Meshes pairs, one after another.
+    /// Meshes pairs, in order.
     fn mesh_pairs(&mut self, pairs: &[Pair])
         requires { Fits self.old.counts (length pairs.now) }
         ensures value { meshing_of self.new ≡ pairs_meshed (meshing_of self.old) pairs.now }

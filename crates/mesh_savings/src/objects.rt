@@ -1,4 +1,4 @@
-//! The live objects, and the cells that hold them.
+//! The live objects, and the cells that refer to them.
 ghost use Rattle.std.specs.Prelude.{◌≡◌, ℕ, Some, None, IfNone, IfOk, IfSome, OnOk};
 ghost use Rattle.mesh_savings.specs.Objects.{IsAliased, IsTakenOut, cell_of, entry_of, number_in};
 ghost use Rattle.mesh_savings.specs.Followed.{with_at};
@@ -23,7 +23,7 @@ pub(crate) enum Object {
     Large(u64),
 }
 
-/// The number of the object that each cell was given last, and the live objects by number.
+/// The number of the last object that each cell was given, and the live objects by number.
 #[derive(Drop)]
 pub(crate) struct Objects {
     pub cells: HashMap<u32, u32>,
@@ -31,7 +31,7 @@ pub(crate) struct Objects {
 }
 
 impl Objects {
-    /// No object, and cells that hold nothing.
+    /// Returns no objects, with empty cells.
     pub(crate) fn new(alloc: Global) -> Objects
         ensures cells { (cell : ℕ) → cell_of result cell ≡ None }
         ensures live { (number : ℕ) → entry_of result number ≡ None }
@@ -54,17 +54,19 @@ impl Objects {
         }
     }
 
-    /// Adds a live object, and has the cell hold it. An error is an allocation failure.
+    /// Adds a live object, and stores its number in the cell. An error is an allocation failure.
     pub(crate) fn add(&mut self, cell: u32, number: u32, object: Object) -> Result<(), AllocError>
         ensures cells { OnOk result ((c : ℕ) → cell_of self.new c ≡ with_at cell (Some number) (cell_of self.old) c) }
-        ensures live { OnOk result ((n : ℕ) → entry_of self.new n ≡ with_at number (Some object) (entry_of self.old) n) }
+        ensures live { OnOk result
+            ((n : ℕ) → entry_of self.new n ≡ with_at number (Some object) (entry_of self.old) n) }
     {
         self.live.insert(number, object)?;
         self.cells.insert(cell, number)?;
         Ok(())
     }
 
-    /// Has the cell `to` hold the live object that `from` holds, and returns whether there is one. An error is an allocation failure.
+    /// Copies the live object's number from the cell `from` to the cell `to`. Returns whether `from` holds a live
+    /// object. An error is an allocation failure.
     pub(crate) fn alias(&mut self, to: u32, from: u32) -> Result<bool, AllocError>
         ensures aliased { IfOk result (λ done. IsAliased self.old self.new to done (number_in self.old from)) }
     {
@@ -75,7 +77,8 @@ impl Objects {
         Ok(true)
     }
 
-    /// Takes out the live object that a cell holds, and its reference out of the cell. None, and nothing changes, where there is none.
+    /// Removes the live object that a cell holds, and the cell's reference. `None` if the cell holds no live object;
+    /// then nothing changes.
     pub(crate) fn take_out(&mut self, cell: u32) -> Option<(u32, Object)>
         ensures some { IfSome result (λ r. IsTakenOut self.old self.new cell r.0 r.1) }
         ensures none { IfNone result ((number_in self.old cell ≡ None) × (self.new ≡ self.old)) }

@@ -1,4 +1,4 @@
-//! `Savings`: the follower.
+//! `Savings`: the replay on both heaps.
 ghost use Rattle.std.specs.Prelude.{◌≡◌, ◌≢◌, ℕ, ◌+◌, ◌≤◌, ◌<◌, ◌-◌, ◌^◌, ◌↔◌, false, None, Some, IfOk, IfSome, IsTrue};
 ghost use Rattle.model_words.specs.Classes.{class_for};
 ghost use Rattle.mesh_placement.specs.Placement.{table_of};
@@ -19,7 +19,7 @@ use rand_xoshiro::Xoshiro256PlusPlus;
 use std::alloc::{AllocError, Global};
 use std::marker::Model;
 
-/// The allocations of a program on two heaps, one that meshes and one that doesn't.
+/// A replay of a program's allocations on two heaps, one that meshes and one that doesn't.
 pub struct Savings {
     alloc: Global,
     settings: Settings,
@@ -45,7 +45,7 @@ impl Drop for Savings {
 }
 
 impl Savings {
-    /// Both heaps with no object. An error is an allocation failure.
+    /// Returns a replay with two empty heaps. An error is an allocation failure.
     pub fn new(alloc: Global, settings: Settings) -> Result<Savings, AllocError>
         ensures follows { IfOk result (λ savings. Follows savings (start settings)) }
         ensures settings { IfOk result (λ savings. savings.settings ≡ settings) }
@@ -70,13 +70,15 @@ impl Savings {
         self.counts.calls == u32::MAX || self.heaps.is_full()
     }
 
-    /// Takes the next call of the program, and makes it in both heaps.
+    /// Makes the next call of the program in both heaps.
     ///
-    /// A call that can't be made changes nothing: `NoObject` for a `free` or an `alias` of a cell that holds no live object, `NoAddresses` for a
-    /// `new` for which a heap has too few virtual pages left. An error is an allocation failure: the heaps are unspecified then.
+    /// A call that can't be made changes nothing. The result is then `NoObject` for a `free` or an `alias` of a cell
+    /// that holds no live object, and `NoAddresses` for a `new` for which a heap has too few virtual pages left. An
+    /// error is an allocation failure: the state of the heaps is unspecified then.
     pub fn take(&mut self, call: &Call) -> Result<Taken, AllocError>
         requires { HasNumbers self.old }
-        ensures taken { (f : Followed) → Follows self.old f → IfOk result (IsTaken self.new f (step self.old.settings f call.now)) }
+        ensures taken { (f : Followed) → Follows self.old f
+            → IfOk result (IsTaken self.new f (step self.old.settings f call.now)) }
         ensures unchanged { IfOk result (λ taken. taken ≢ Made → self.new ≡ self.old) }
         ensures settings { self.new.settings ≡ self.old.settings }
     {
@@ -87,14 +89,14 @@ impl Savings {
         }
     }
 
-    /// How the heaps follow the program.
+    /// The settings of the replay.
     pub fn settings(&self) -> Settings
         ensures { result ≡ self.now.settings }
     {
         self.settings
     }
 
-    /// What was counted of the calls so far.
+    /// The counts of the calls so far.
     pub fn counts(&self) -> Counts
         ensures counts { result ≡ self.now.counts }
         ensures follows { (f : Followed) → Follows self.now f → result ≡ f.counts }
@@ -102,7 +104,7 @@ impl Savings {
         self.counts
     }
 
-    /// What all meshes came to.
+    /// The counts of all meshes.
     pub fn mesh_counts(&self) -> MeshCounts
         ensures { (f : Followed) → Follows self.now f → result ≡ f.heaps.meshing.counts }
     {
@@ -123,10 +125,11 @@ impl Savings {
         &self.heaps.mesher.placement
     }
 
-    /// Has the cell `to` hold the live object that `from` holds.
+    /// Stores in the cell `to` the reference to the live object that `from` holds.
     fn alias(&mut self, to: u32, from: u32) -> Result<Taken, AllocError>
         requires { HasNumbers self.old }
-        ensures taken { (f : Followed) → Follows self.old f → IfOk result (IsTaken self.new f (aliased f to (object_in f from))) }
+        ensures taken { (f : Followed) → Follows self.old f
+            → IfOk result (IsTaken self.new f (aliased f to (object_in f from))) }
         ensures unchanged { IfOk result (λ taken. taken ≢ Made → self.new ≡ self.old) }
         ensures settings { self.new.settings ≡ self.old.settings }
     {
@@ -140,7 +143,8 @@ impl Savings {
     /// Frees the live object that a cell holds.
     fn free(&mut self, cell: u32) -> Result<Taken, AllocError>
         requires { HasNumbers self.old }
-        ensures taken { (f : Followed) → Follows self.old f → IfOk result (IsTaken self.new f (freed self.old.settings f cell (object_in f cell))) }
+        ensures taken { (f : Followed) → Follows self.old f
+            → IfOk result (IsTaken self.new f (freed self.old.settings f cell (object_in f cell))) }
         ensures unchanged { IfOk result (λ taken. taken ≢ Made → self.new ≡ self.old) }
         ensures settings { self.new.settings ≡ self.old.settings }
     {
@@ -159,10 +163,11 @@ impl Savings {
         Ok(Taken::Made)
     }
 
-    /// Makes an object above 2,048 bytes: it is only counted.
+    /// Counts an object above 2,048 bytes. It is in neither heap.
     fn new_large(&mut self, cell: u32, len: u64) -> Result<Taken, AllocError>
         requires { HasNumbers self.old }
-        ensures taken { (f : Followed) → Follows self.old f → IfOk result (IsTaken self.new f (made self.old.settings f cell len None)) }
+        ensures taken { (f : Followed) → Follows self.old f
+            → IfOk result (IsTaken self.new f (made self.old.settings f cell len None)) }
         ensures unchanged { IfOk result (λ taken. taken ≢ Made → self.new ≡ self.old) }
         ensures settings { self.new.settings ≡ self.old.settings }
     {
@@ -177,7 +182,8 @@ impl Savings {
         requires numbers { HasNumbers self.old }
         requires some { 1 ≤ len }
         requires small { len ≤ 2048 }
-        ensures taken { (f : Followed) → Follows self.old f → IfOk result (IsTaken self.new f (made self.old.settings f cell len (Some class))) }
+        ensures taken { (f : Followed) → Follows self.old f
+            → IfOk result (IsTaken self.new f (made self.old.settings f cell len (Some class))) }
         ensures unchanged { IfOk result (λ taken. taken ≢ Made → self.new ≡ self.old) }
         ensures settings { self.new.settings ≡ self.old.settings }
     {
@@ -197,7 +203,8 @@ impl Savings {
     fn new_object(&mut self, cell: u32, len: u64) -> Result<Taken, AllocError>
         requires numbers { HasNumbers self.old }
         requires some { 1 ≤ len }
-        ensures taken { (f : Followed) → Follows self.old f → IfOk result (IsTaken self.new f (made self.old.settings f cell len (class_for len))) }
+        ensures taken { (f : Followed) → Follows self.old f
+            → IfOk result (IsTaken self.new f (made self.old.settings f cell len (class_for len))) }
         ensures unchanged { IfOk result (λ taken. taken ≢ Made → self.new ≡ self.old) }
         ensures settings { self.new.settings ≡ self.old.settings }
     {
@@ -208,7 +215,7 @@ impl Savings {
     }
 }
 
-/// The class of an object of `len` bytes, 1 at least. None above 2,048 bytes.
+/// The class of an object of `len` bytes, at least 1. `None` above 2,048 bytes.
 fn class_within(len: u64) -> Option<Class>
     requires { 1 ≤ len }
     ensures class { result ≡ class_for len }

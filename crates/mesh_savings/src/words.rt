@@ -10,7 +10,7 @@ use rand_core::utils::NextWord;
 use rand_xoshiro::Xoshiro256PlusPlus;
 use std::alloc::{AllocError, Global};
 
-/// The generator of a seed.
+/// Returns the generator with a seed.
 pub(crate) fn seeded(seed: u64) -> Xoshiro256PlusPlus
     ensures { result ≡ state_of seed }
 {

@@ -62,8 +62,8 @@ no_interval = record { without = no_span; with = no_span; perfect = no_span; liv
 abbrev pub interval_at : List Interval → ℕ → Interval
 interval_at intervals k = slice_index_or intervals k no_interval
 
--- what a contract sees of `Curves`: the calls that are measured, how many calls were looked at and how many of them were
--- measured, the calls of an interval, and the intervals
+-- what a contract sees of `Curves`: the calls that are measured, how many calls were looked at and how many of them
+-- were measured, the calls of an interval, and the intervals
 pub record Gathered : Type 0 where
   pub window : Window
   pub calls : ℕ

@@ -1,11 +1,11 @@
-//! The axes: MiB upwards, calls to the right.
+//! The axes: MiB on the vertical one, calls on the horizontal one.
 use crate::plot::PLOT;
 use crate::scale::{Axis, MARKS};
 use crate::style::MARK;
 use crate::words::{add_calls, add_tenths};
 use mesh_svg::{Anchor, Label, Look, Text, add_path};
 
-/// How long the mark of a call is.
+/// The length of the mark of a call.
 const TICK: u32 = 50;
 
 /// Draws the axis of pages, with a line across the plot at each mark.

@@ -1,4 +1,4 @@
-//! `Curves`, which gathers what is looked at behind each call.
+//! `Curves`, which gathers the samples after each call.
 ghost use Rattle.std.specs.Prelude.{◌≡◌, ◌<◌, ◌≤◌, ◌^◌, ◌↔◌, ◌∷◌, [], ◌++◌, List, IfOk, IsTrue, codes};
 ghost use Rattle.mesh_figures.specs.declared.samples.Sample.{Sample};
 ghost use Rattle.mesh_figures.specs.declared.samples.Window.{Window};
@@ -14,8 +14,8 @@ use mesh_svg::Text;
 use std::alloc::{AllocError, Global};
 use std::marker::Model;
 
-/// Four curves over the calls that are measured, kept in at most 600 intervals of equally many calls each. It takes one
-/// sample behind each call. Of each curve an interval keeps the least and the greatest value.
+/// Four curves over the calls that are measured, kept in at most 600 intervals of equally many calls each. `Curves`
+/// takes one sample after each call. For each curve an interval keeps the least and the greatest value.
 #[derive(Drop)]
 pub struct Curves {
     window: Window,
@@ -44,7 +44,8 @@ impl Model for Curves {
 }
 
 impl Curves {
-    /// The curves of no calls yet, with all the memory that they take. An error is an allocation failure.
+    /// Makes the curves of no calls, and allocates all the memory that they will use. An error is an allocation
+    /// failure.
     pub fn new(alloc: Global, window: Window) -> Result<Curves, AllocError>
         ensures { IfOk result (λ curves. IsOf curves window []) }
     {
@@ -62,14 +63,15 @@ impl Curves {
         self.calls == u32::MAX
     }
 
-    /// Looks at both heaps behind the next call. Only calls in the window are measured. It allocates nothing.
+    /// Takes the sample of both heaps after the next call. Only calls in the window are measured. It allocates nothing.
     pub fn look(&mut self, sample: &Sample)
         requires room { self.old.calls < 4294967295 }
         requires without { AreFew sample.now.without }
         requires with { AreFew sample.now.with }
         requires perfect { AreFew sample.now.perfect }
         requires bytes { sample.now.live_bytes < 2 ^ 40 }
-        ensures { (window : Window) (samples : List Sample) → IsOf self.old window samples → IsOf self.new window (samples ++ sample.now ∷ []) }
+        ensures { (window : Window) (samples : List Sample) → IsOf self.old window samples
+            → IsOf self.new window (samples ++ sample.now ∷ []) }
     {
         self.calls += 1;
         if self.window.from <= self.calls && self.calls <= self.window.to {
@@ -77,7 +79,7 @@ impl Curves {
         }
     }
 
-    /// The plot, as an SVG file. An error is an allocation failure.
+    /// Returns the plot as an SVG file. An error is an allocation failure.
     pub fn picture(&self, alloc: Global) -> Result<Vec<u8>, AllocError>
         ensures { IfOk result (λ file. Begins (codes "<svg") file.items) }
     {
@@ -89,7 +91,7 @@ impl Curves {
         Ok(file)
     }
 
-    /// What is plotted.
+    /// The data of the plot.
     fn plotted(&self) -> Plotted<'_> {
         Plotted {
             intervals: self.intervals.used(),

@@ -8,7 +8,7 @@ use crate::readings::Reading;
 use crate::spans::{Interval, Span};
 use std::alloc::{AllocError, Global};
 
-/// The most intervals.
+/// The greatest number of intervals.
 pub const MOST: usize = 600;
 
 /// An interval of no calls.
@@ -17,19 +17,19 @@ const NOTHING: Span = Span {
     greatest: 0,
 };
 
-/// Intervals of equally many calls each, of which the last may have fewer.
+/// Intervals of equally many calls each, except that the last may have fewer.
 #[derive(Drop)]
 pub struct Intervals {
-    /// The intervals; behind those that the calls make it holds no more than room.
+    /// The intervals. Entries after those that the calls make are unused room.
     pub list: Vec<Interval>,
-    /// The calls of an interval: a power of two.
+    /// The number of calls of an interval: a power of two.
     pub width: u32,
-    /// The calls of all intervals.
+    /// The number of calls of all intervals.
     pub count: u32,
 }
 
 impl Intervals {
-    /// No intervals yet, with room for all. An error is an allocation failure.
+    /// Makes an empty list of intervals, with room for all. An error is an allocation failure.
     pub fn new(alloc: Global) -> Result<Intervals, AllocError>
         ensures value { IfOk result (λ intervals. AreOf intervals []) }
         ensures sound { IfOk result (λ intervals. IsSound intervals) }
@@ -48,7 +48,7 @@ impl Intervals {
         })
     }
 
-    /// Takes the reading behind the next call.
+    /// Takes the reading after the next call.
     pub fn add(&mut self, reading: Reading)
         requires room { self.old.count < 4294967295 }
         requires sound { IsSound self.old }
@@ -71,13 +71,15 @@ impl Intervals {
         &self.list[..used]
     }
 
-    /// Joins neighbours, so that intervals are of twice as many calls. All intervals are full.
+    /// Joins neighbours, so that intervals have twice as many calls. All intervals must be full.
     fn join(&mut self)
         requires sound { IsSound self.old }
         requires full { self.old.count ≡ 600 * self.old.width }
         ensures pieces { (rs : List Reading) → self.old.count ≡ length rs
-            → ((k : ℕ) → k * self.old.width < length rs → interval_at self.old.list.items k ≡ interval_of (piece self.old.width k rs))
-            → (k : ℕ) → k * self.new.width < length rs → interval_at self.new.list.items k ≡ interval_of (piece self.new.width k rs) }
+            → ((k : ℕ) → k * self.old.width < length rs
+            → interval_at self.old.list.items k ≡ interval_of (piece self.old.width k rs))
+            → (k : ℕ) → k * self.new.width < length rs
+            → interval_at self.new.list.items k ≡ interval_of (piece self.new.width k rs) }
         ensures width { self.new.width ≡ 2 * self.old.width }
         ensures count { self.new.count ≡ self.old.count }
         ensures room { length self.new.list.items ≡ 600 }
@@ -88,15 +90,17 @@ impl Intervals {
         self.width *= 2;
     }
 
-    /// Takes the reading behind the next call where there is room for it: in the last interval, or in a new one.
+    /// Takes the reading after the next call when there is room for it: in the last interval, or in a new one.
     fn put(&mut self, reading: Reading)
         requires few { self.old.count < 4294967295 }
         requires room { length self.old.list.items ≡ 600 }
         requires wide { 0 < self.old.width }
         requires space { self.old.count < 600 * self.old.width }
         ensures pieces { (rs : List Reading) → self.old.count ≡ length rs
-            → ((k : ℕ) → k * self.old.width < length rs → interval_at self.old.list.items k ≡ interval_of (piece self.old.width k rs))
-            → (k : ℕ) → k * self.new.width < length rs + 1 → interval_at self.new.list.items k ≡ interval_of (piece self.new.width k (rs ++ reading ∷ [])) }
+            → ((k : ℕ) → k * self.old.width < length rs
+            → interval_at self.old.list.items k ≡ interval_of (piece self.old.width k rs))
+            → (k : ℕ) → k * self.new.width < length rs + 1
+            → interval_at self.new.list.items k ≡ interval_of (piece self.new.width k (rs ++ reading ∷ [])) }
         ensures width { self.new.width ≡ self.old.width }
         ensures count { self.new.count ≡ self.old.count + 1 }
         ensures room { length self.new.list.items ≡ 600 }

@@ -4,13 +4,13 @@ use crate::plot::PLOT;
 use crate::style::NOTE;
 use mesh_svg::{Anchor, Label, Look, Text, add_path};
 
-/// Between the starts of two names.
+/// The distance between the starts of two names.
 const COLUMN: u32 = 1_900;
 
-/// How long a piece of a line is.
+/// The length of a piece of a line.
 const PIECE: u32 = 420;
 
-/// The line that the names stand on.
+/// The baseline of the names.
 const LINE: u32 = 720;
 
 /// Draws the legend.

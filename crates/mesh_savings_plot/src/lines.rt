@@ -17,7 +17,7 @@ pub enum Curve {
     Live,
 }
 
-/// The curves, in the order of the legend. Later ones are drawn above earlier ones.
+/// The curves, in the order of the legend. Later curves are drawn on top of earlier ones.
 pub static CURVES: [Curve; 4] = [Curve::Without, Curve::With, Curve::Perfect, Curve::Live];
 
 impl Curve {
@@ -31,7 +31,7 @@ impl Curve {
         }
     }
 
-    /// Its rule of the style.
+    /// Its style rule.
     pub fn look(self) -> Look {
         match self {
             Curve::Without => Look::of("without"),
@@ -56,7 +56,7 @@ impl Curve {
 #[derive(Clone, Copy)]
 pub struct Drawn<'a> {
     pub intervals: &'a [Interval],
-    /// The calls of an interval.
+    /// The number of calls of an interval.
     pub width: u32,
     pub calls: Axis,
     pub pages: Axis,
@@ -91,8 +91,8 @@ impl Drawn<'_> {
         end_path(text);
     }
 
-    /// The points of an interval that begins behind so many calls: its least and its greatest value, at its first and its
-    /// last call. Which comes first is not kept: where the curve rises, it is the least.
+    /// The points of an interval that begins after `begin` calls: its least and its greatest value, at its first and
+    /// its last call. Which of the two values came first is not recorded: if the curve rises, the least is drawn first.
     fn points(&self, begin: u32, span: Span, rising: bool) -> [(u32, u32); 2] {
         let end = begin.saturating_add(self.width).min(self.calls.last);
         let first = self.x(begin.saturating_add(1).min(end));
@@ -106,12 +106,12 @@ impl Drawn<'_> {
         }
     }
 
-    /// Where a call lies.
+    /// The horizontal position of a call.
     fn x(&self, call: u32) -> u32 {
         self.calls.place(call, PLOT.w).saturating_add(PLOT.x)
     }
 
-    /// Where so many pages lie.
+    /// The vertical position of a number of pages.
     fn y(&self, pages: u32) -> u32 {
         let height = self.pages.place_of_pages(pages, PLOT.h);
         PLOT.bottom().saturating_sub(height)

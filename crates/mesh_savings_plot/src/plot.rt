@@ -7,7 +7,7 @@ use crate::spans::Interval;
 use crate::style::{HEADING, NOTE, add_rules};
 use mesh_svg::{Anchor, Area, Label, Look, Text, add_rect, add_root};
 
-/// The size of the picture, in tenths of a pixel as all lengths.
+/// The width of the picture. All lengths are in tenths of a pixel.
 const WIDTH: u32 = 9_000;
 
 const HEIGHT: u32 = 4_700;
@@ -20,23 +20,23 @@ pub const PLOT: Area = Area {
     h: 3_200,
 };
 
-/// What stands above the plot.
+/// The title above the plot.
 const TITLE: &str = "Physical memory with and without meshing";
 
-/// What is plotted.
+/// The data of the plot.
 #[derive(Clone, Copy)]
 pub struct Plotted<'a> {
     pub intervals: &'a [Interval],
-    /// The calls of an interval.
+    /// The number of calls of an interval.
     pub width: u32,
-    /// The calls before the first one that is measured.
+    /// The number of calls before the first one that is measured.
     pub before: u32,
-    /// The calls of all intervals.
+    /// The number of calls of all intervals.
     pub count: u32,
 }
 
 impl Plotted<'_> {
-    /// Draws the plot, behind the first word of the file.
+    /// Draws the plot, after the first word of the file.
     pub fn draw(&self, text: &mut Text) {
         let mut title = text.empty();
         title.add(TITLE.as_bytes());
@@ -53,7 +53,7 @@ impl Plotted<'_> {
         text.add(b"</svg>\n");
     }
 
-    /// Draws the curves, or says that there are none.
+    /// Draws the curves, or a note that there are none.
     fn draw_curves(&self, text: &mut Text, calls: Axis, pages: Axis) {
         if self.count == 0 {
             return draw_nothing(text);
@@ -69,7 +69,7 @@ impl Plotted<'_> {
         }
     }
 
-    /// Draws the title, and what the numbers are of.
+    /// Draws the title, and a note on what the numbers are.
     fn draw_head(&self, text: &mut Text) {
         let title = Label {
             look: Look::of("ink").with(HEADING),
@@ -95,7 +95,7 @@ impl Plotted<'_> {
     }
 }
 
-/// Draws the grounds of the picture and of the plot.
+/// Draws the backgrounds of the picture and of the plot.
 fn draw_grounds(text: &mut Text) {
     let all = Area {
         x: 0,
@@ -107,7 +107,7 @@ fn draw_grounds(text: &mut Text) {
     add_rect(text, Look::of("card"), PLOT, 0);
 }
 
-/// Says that there are no curves.
+/// Draws a note that there are no curves.
 fn draw_nothing(text: &mut Text) {
     Label {
         look: Look::of("soft").with(NOTE),

@@ -1,4 +1,4 @@
-//! The pages that the curves show of a sample.
+//! The numbers of pages that the curves show of a sample.
 ghost use Rattle.std.specs.Prelude.{◌≡◌, ◌<◌, ◌^◌, sum};
 ghost use Rattle.std.specs.Int.{div_ceil};
 ghost use Rattle.mesh_figures.specs.Samples.{AreFew};
@@ -6,13 +6,13 @@ ghost use Rattle.mesh_savings_plot.specs.Intervals.{reading};
 
 use mesh_figures::Sample;
 
-/// The size classes.
+/// The number of size classes.
 const CLASSES: usize = 10;
 
-/// The bytes of a page.
+/// The number of bytes of a page.
 const PAGE: u64 = 4096;
 
-/// The pages behind a call, one number for each curve.
+/// The numbers of pages after a call, one for each curve.
 #[derive(Clone, Copy, Debug)]
 pub struct Reading {
     /// Pages of the heap that doesn't mesh.
@@ -26,7 +26,7 @@ pub struct Reading {
 }
 
 impl Reading {
-    /// The pages of a sample.
+    /// The numbers of pages of a sample.
     pub fn of(sample: &Sample) -> Reading
         requires without { AreFew sample.now.without }
         requires with { AreFew sample.now.with }
@@ -43,7 +43,7 @@ impl Reading {
     }
 }
 
-/// The pages of all classes together.
+/// The sum of the pages of all classes.
 fn total(pages: &[u32; CLASSES]) -> u32
     requires { AreFew pages.now }
     ensures { result ≡ sum pages.now }

@@ -1,6 +1,6 @@
-//! Axes with round steps, and where calls and pages lie on them.
+//! Axes with round steps, and the positions of calls and pages on them.
 
-/// The most marks of an axis.
+/// The greatest number of marks of an axis.
 pub const MARKS: u32 = 8;
 
 /// The steps of an axis.
@@ -44,7 +44,7 @@ pub struct Axis {
 }
 
 impl Axis {
-    /// The axis of so many calls behind the first `before` ones.
+    /// The axis of `calls` calls after the first `before` ones.
     pub fn of_calls(before: u32, calls: u32) -> Axis {
         let calls = calls.max(1);
         Axis {
@@ -54,7 +54,7 @@ impl Axis {
         }
     }
 
-    /// The axis of tenths of a MiB from 0 to the least mark that is no less than so many pages.
+    /// The axis in tenths of a MiB, from 0 to the least mark that is at least `most` pages.
     pub fn of_pages(most: u32) -> Axis {
         let tenths = tenths_of(most).max(1);
         let step = round_step(tenths).max(1);
@@ -80,14 +80,14 @@ impl Axis {
         }
     }
 
-    /// How far from its start a number is, on an axis of this length.
+    /// The distance of a number from the start of the axis, if the axis has this length.
     pub fn place(self, number: u32, length: u32) -> u32 {
         let part = u64::from(number.saturating_sub(self.first));
         let whole = u64::from(self.last.saturating_sub(self.first));
         share(length, part, whole)
     }
 
-    /// How far from its start so many pages are, on an axis of tenths of a MiB with this length.
+    /// The distance of a number of pages from the start of an axis in tenths of a MiB, if the axis has this length.
     pub fn place_of_pages(self, pages: u32, length: u32) -> u32 {
         share(length, 5 * u64::from(pages), 128 * u64::from(self.last))
     }
@@ -98,7 +98,7 @@ fn tenths_of(pages: u32) -> u32 {
     (5 * u64::from(pages)).div_ceil(128) as u32
 }
 
-/// The least step of which at most seven come within this span.
+/// The least step that makes at most seven marks within this span.
 fn round_step(span: u32) -> u32 {
     for step in &STEPS {
         if span.div_ceil(6) <= *step {
@@ -108,7 +108,7 @@ fn round_step(span: u32) -> u32 {
     1_000_000_000
 }
 
-/// The part of a length that corresponds to a part of a number.
+/// The part of a length that is proportional to a part of a number.
 fn share(length: u32, part: u64, whole: u64) -> u32 {
     let share = u64::from(length)
         .saturating_mul(part)

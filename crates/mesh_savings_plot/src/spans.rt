@@ -32,7 +32,7 @@ impl Span {
         }
     }
 
-    /// The span of both.
+    /// The span of both spans together.
     pub fn joined(self, next: Span) -> Span
         ensures least { result.least ≡ min self.least next.least }
         ensures greatest { result.greatest ≡ max self.greatest next.greatest }
@@ -43,7 +43,7 @@ impl Span {
         }
     }
 
-    /// Twice the number between both.
+    /// Twice the middle between least and greatest.
     pub fn middle(self) -> u64
         ensures { result ≡ self.least + self.greatest }
     {
@@ -64,9 +64,10 @@ impl Interval {
         }
     }
 
-    /// The interval of the calls of both. Neither is of no calls.
+    /// The interval of the calls of both intervals. Neither may be empty.
     pub fn joined(self, next: Interval) -> Interval
-        ensures { (these those : List Reading) → 0 < length these → 0 < length those → self ≡ interval_of these → next ≡ interval_of those
+        ensures { (these those : List Reading) → 0 < length these → 0 < length those → self ≡ interval_of these
+            → next ≡ interval_of those
             → result ≡ interval_of (these ++ those) }
     {
         Interval {

@@ -1,30 +1,30 @@
-//! The style of the plot: its lettering, and its colours on light and on dark ground.
+//! The style of the plot: its fonts, and its colours on light and dark backgrounds.
 use mesh_svg::{LETTERING as FAMILY, Text, add_style};
 
-/// The lettering of the title.
+/// The font rule of the title.
 pub const HEADING: &str = "ft";
 
-/// The lettering of notes.
+/// The font rule of notes.
 pub const NOTE: &str = "fn";
 
-/// The lettering of the marks of axes.
+/// The font rule of the marks of axes.
 pub const MARK: &str = "fa";
 
-/// Lettering.
+/// The font rules.
 static LETTERING: [&str; 2] = [
     FAMILY,
     ".ft{font-size:170px;font-weight:bold}.fn{font-size:110px}.fa{font-size:110px}",
 ];
 
-/// Grounds, inks, and the lines of the axes.
+/// Rules of backgrounds, of text colours, and of the lines of the axes.
 static GROUNDS: [&str; 3] = [
     ".bg{fill:#f3f4f6}.card{fill:#fff;stroke:#c8cdd4;stroke-width:10}",
     ".ink{fill:#1d2430}.soft{fill:#58626d}",
     ".grid{fill:none;stroke:#dfe3e8;stroke-width:8}.tick{fill:none;stroke:#7b848d;stroke-width:10}",
 ];
 
-/// The lines of the curves. Most colour-blind readers can tell their colours apart. Where curves lie on one another, all
-/// are seen: the first is wider than those above it, and two are broken.
+/// Rules of the lines of the curves. Most colour-blind readers can tell their colours apart. If curves overlap, all are
+/// visible: the first is wider than those above it, and two are dashed.
 static CURVES: [&str; 5] = [
     ".without,.with,.perfect,.live{fill:none;stroke-linecap:round;stroke-linejoin:round}",
     ".without{stroke:#d55e00;stroke-width:20}",
@@ -33,7 +33,7 @@ static CURVES: [&str; 5] = [
     ".live{stroke:#cc79a7;stroke-width:16;stroke-dasharray:1 32}",
 ];
 
-/// Grounds, inks and lines on dark ground.
+/// Rules of backgrounds, text colours and lines for a dark background.
 static DARK: [&str; 5] = [
     ".bg{fill:#101418}.card{fill:#1a2027;stroke:#39434e}",
     ".ink{fill:#e8ecf1}.soft{fill:#a4afbb}",

@@ -1,7 +1,7 @@
 //! Numbers as the marks of the axes spell them.
 use mesh_svg::Text;
 
-/// Adds tenths as a number, with a decimal if the axis has marks between whole numbers.
+/// Adds a number in tenths, with a decimal if the axis has marks between whole numbers.
 pub fn add_tenths(words: &mut Text, tenths: u32, step: u32) {
     words.add_number(tenths / 10);
     if tenths > 0 && step % 10 > 0 {

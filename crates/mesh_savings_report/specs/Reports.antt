@@ -59,7 +59,8 @@ abbrev pub report_with : Option ℕ → Followed → List Sample → Report
 report_with None f samples = Whole f samples
 report_with (Some call) f samples = UsedUp call f samples
 
--- the text that shows these samples in this form: the table, or a plot, of which it is known that it begins as an SVG file
+-- the text that shows these samples in this form: the table, or a plot, of which it is known that it begins as an SVG
+-- file
 abbrev pub IsShownAs : Form → Window → List Sample → Counts → List ℕ → Type 0
 IsShownAs Table window samples counts text = text ≡ figures_text window samples counts
 IsShownAs Plot window samples counts text = Begins (codes "<svg") text

@@ -1,4 +1,4 @@
-//! Why there is no report.
+//! The errors of a report.
 ghost use Rattle.std.specs.Prelude.{◌≡◌};
 ghost use Rattle.mesh_savings_report.specs.declared.errors.SavingsError.{SavingsError};
 ghost use Rattle.mesh_devices.specs.declared.faults.ReplayError.{ReplayError};
@@ -7,10 +7,10 @@ use mesh_devices::ReplayError;
 use std::alloc::AllocError;
 use thiserror::Error;
 
-/// Why there is no report.
+/// The reason why there is no report.
 #[derive(Clone, Copy, Debug, PartialEq, Eq, Error)]
 pub enum SavingsError {
-    /// What stops a replay too: the input failed, its text has a fault, or an allocation failed.
+    /// One of the errors of a replay: the input failed, its text has a fault, or an allocation failed.
     #[error("{0}")]
     Replay(ReplayError),
     /// The entry on this line is the first `free` or `alias` of a cell that holds no live object.

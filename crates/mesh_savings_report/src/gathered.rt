@@ -1,4 +1,4 @@
-//! `Gathered`: what was looked at behind each call, for a table or for a plot.
+//! `Gathered`: the data for a table or a plot, gathered from a sample after each call.
 ghost use Rattle.std.specs.Prelude.{◌≡◌, ◌-◌, ◌<◌, ◌≤◌, ◌^◌, ◌↔◌, ◌++◌, ◌∷◌, [], List, IfOk, IsTrue};
 ghost use Rattle.mesh_figures.specs.Samples.{AreFew};
 ghost use Rattle.mesh_figures.specs.declared.samples.Sample.{Sample};
@@ -11,17 +11,17 @@ use mesh_figures::{Counts, Figures, Sample};
 use mesh_savings_plot::Curves;
 use std::alloc::{AllocError, Global};
 
-/// What was looked at behind each call.
+/// The data gathered from a sample after each call.
 #[derive(Drop)]
 pub(crate) enum Gathered {
-    /// The figures of a table.
+    /// The figures for a table.
     Table(Figures),
-    /// The curves of a plot.
+    /// The curves for a plot.
     Plot(Curves),
 }
 
 impl Gathered {
-    /// Nothing yet, for the form that is asked for. An error is an allocation failure.
+    /// Returns the data of no samples, in the form that the options ask for. An error is an allocation failure.
     pub(crate) fn new(alloc: Global, options: &SavingsOptions) -> Result<Gathered, AllocError>
         ensures { IfOk result (λ gathered. IsOf gathered options.now []) }
     {
@@ -31,7 +31,7 @@ impl Gathered {
         }
     }
 
-    /// Whether 2^32 - 1 calls were looked at. `look` must not be called then.
+    /// Whether 2^32 - 1 samples were added. `look` must not be called then.
     pub(crate) fn is_full(&self) -> bool
         ensures { IsTrue result ↔ 2 ^ 32 - 1 ≤ calls_in self.now }
     {
@@ -41,14 +41,15 @@ impl Gathered {
         }
     }
 
-    /// Looks at both heaps behind the next call.
+    /// Adds the sample of both heaps after the next call.
     pub(crate) fn look(&mut self, sample: &Sample)
         requires room { calls_in self.old < 2 ^ 32 - 1 }
         requires without { AreFew sample.now.without }
         requires with { AreFew sample.now.with }
         requires perfect { AreFew sample.now.perfect }
         requires bytes { sample.now.live_bytes < 2 ^ 40 }
-        ensures { (options : SavingsOptions) (samples : List Sample) → IsOf self.old options samples → IsOf self.new options (samples ++ sample.now ∷ []) }
+        ensures { (options : SavingsOptions) (samples : List Sample) → IsOf self.old options samples
+            → IsOf self.new options (samples ++ sample.now ∷ []) }
     {
         match self {
             Gathered::Table(figures) => figures.look(sample),
@@ -56,7 +57,8 @@ impl Gathered {
         }
     }
 
-    /// The table, with these counts of the whole run, or the plot, which shows no counts. An error is an allocation failure.
+    /// Returns the text of the table or of the plot. The table shows these counts of the whole run; the plot shows no
+    /// counts. An error is an allocation failure.
     pub(crate) fn text(&self, alloc: Global, counts: &Counts) -> Result<Vec<u8>, AllocError>
         ensures { (options : SavingsOptions) (samples : List Sample) → IsOf self.now options samples
             → IfOk result (λ text. IsShownAs options.form options.window samples counts.now text.items) }

@@ -1,4 +1,4 @@
-//! The report on the history that a device gives.
+//! The report on a history that is read from a device.
 ghost use Rattle.std.specs.Prelude.{◌≡◌, [], Err, false, true, IfErr, IfOk, OnOk};
 ghost use Rattle.mesh_devices.specs.declared.faults.ReplayError.{ReplayError};
 ghost use Rattle.mesh_history.specs.Inputs.{IsFresh};
@@ -16,13 +16,15 @@ use mesh_devices::Source;
 use mesh_history::HistoryInput;
 use std::alloc::Global;
 
-/// Follows the recorded history that the input gives on two heaps, and reports what meshing saves.
+/// Replays the recorded history that is read from `input` on two heaps, and reports what meshing saves.
 ///
-/// The input is read to its end, or until a heap has too few virtual pages left for a `new`: the report is of the calls
-/// before it, and `used_up_at` is its number. Nothing behind it is looked at.
+/// The input is read to its end, or until a heap has too few virtual pages left for a `new`. In the second case the
+/// report covers the calls before that `new`, `used_up_at` is the number of that call, and nothing after it is looked
+/// at.
 ///
-/// Errors: Text if a line has a fault, and NotAHistory if a `free` or an `alias` is of a cell that holds no live
-/// object, whichever is first; Read exactly if the input failed; Memory if an allocation failed. Write is never returned.
+/// Errors: Text if a line has a fault; NotAHistory if a `free` or an `alias` is of a cell that holds no live object;
+/// Read if and only if the input failed; Memory if an allocation failed. If both Text and NotAHistory apply, the one
+/// that comes first in the input is returned. Write is never returned.
 pub fn report<I: Source>(
     alloc: Global,
     input: &mut I,
@@ -30,7 +32,9 @@ pub fn report<I: Source>(
 ) -> Result<Report, SavingsError>
     requires { I.has_failed input.old ≡ false }
     ensures ok { OnOk result (I.has_failed input.new ≡ false) }
-    ensures reported { IfOk result (λ report. HasShown options.now (I.remaining input.old) (I.remaining input.new) report.used_up_at report.text.items) }
+    ensures reported { IfOk result
+        (λ report. HasShown options.now (I.remaining input.old)
+        (I.remaining input.new) report.used_up_at report.text.items) }
     ensures fault { IfErr result (HasNotReported options.now (I.remaining input.old) (I.remaining input.new)) }
     ensures read { result ≡ Err (SavingsError.Replay ReplayError.Read) → I.has_failed input.new ≡ true }
     ensures failed { I.has_failed input.new ≡ true → result ≡ Err (SavingsError.Replay ReplayError.Read) }
@@ -44,8 +48,8 @@ pub fn report<I: Source>(
     })
 }
 
-/// Makes the calls of the entries that the input gives, up to the first for which a heap has too few virtual pages
-/// left: returns its number, from 1.
+/// Makes the calls of the input's entries, up to the first call for which a heap has too few virtual pages left.
+/// Returns the number of that call, counted from 1, or `None` if there is no such call.
 ///
 /// Errors: those of `report`.
 fn follow<I: Source>(

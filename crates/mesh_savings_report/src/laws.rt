@@ -1,10 +1,10 @@
-//! What holds of every sample that a run takes. The contracts of functions that do nothing.
+//! Lemmas about every sample of a run. Each is the contract of a function that does nothing.
 ghost use Rattle.mesh_savings_report.specs.Laws.{PerfectFiguresAreLeast, PerfectIsLeast};
 
 use mesh_placement::class_laws::objects_fit_pages;
 use mesh_savings::laws::{heaps_are_alike, heaps_are_sound};
 
-/// Behind any calls, perfect packing takes at most the pages of either heap, class by class.
+/// After any calls, perfect packing takes at most the pages of either heap, class by class.
 pub fn perfect_is_least()
     ensures { PerfectIsLeast }
 {
@@ -13,8 +13,8 @@ pub fn perfect_is_least()
     heaps_are_alike();
 }
 
-/// If perfect packing takes at most the pages of either heap in each sample, it does so in the table too: in peak, mean
-/// and end.
+/// If perfect packing takes at most the pages of either heap in each sample, class by class, then its total pages in
+/// the table are at most those of either heap: in peak, mean and end.
 pub fn perfect_figures_are_least()
     ensures { PerfectFiguresAreLeast }
 {}

@@ -1,8 +1,9 @@
-//! The report on a recorded history: the table or the plot of what meshing saves, or why there is none.
+//! The report on a recorded history: the table or the plot of what meshing saves, or the reason why there is none.
 //!
-//! From the bottom up: `samples` has what is looked at behind a call and what is counted of a run, and `gathered` keeps it in the form that `options`
-//! ask for. `runs` makes calls on both heaps, and `inputs` makes those of the history that a device gives. `reports` and `errors` have what comes of
-//! it, and `laws` what holds of every sample.
+//! The modules from the bottom up: `samples` measures the heaps after a call and counts the calls of a run. `gathered`
+//! keeps the samples in the form that `options` ask for. `runs` makes calls on both heaps, and `inputs` makes the calls
+//! of a history that is read from a device. `reports` and `errors` define the results, and `laws` contains lemmas about
+//! every sample.
 #![tactic(auto)]
 
 mod errors;

@@ -1,20 +1,20 @@
-//! What a report is asked for.
+//! The options of a report.
 
 use mesh_figures::Window;
 use mesh_savings::Settings;
 
-/// How a history is followed, which of its calls are measured, and how what was measured is shown.
+/// How a history is replayed, which of its calls are measured, and how the measurements are shown.
 #[derive(Clone, Copy, Debug)]
 pub struct SavingsOptions {
-    /// How both heaps follow the calls.
+    /// The settings of the replay.
     pub settings: Settings,
     /// The calls that are measured.
     pub window: Window,
-    /// How what was measured is shown.
+    /// How the measurements are shown.
     pub form: Form,
 }
 
-/// The forms of a report.
+/// The form of a report.
 #[derive(Clone, Copy, Debug, PartialEq, Eq)]
 pub enum Form {
     /// The table of what meshing saves.

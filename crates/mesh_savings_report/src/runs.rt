@@ -1,4 +1,4 @@
-//! `Run`: calls on both heaps, which are looked at behind each.
+//! `Run`: calls on both heaps, with a sample after each.
 ghost use Rattle.std.specs.Prelude.{◌≡◌, ◌-◌, ◌^◌, ◌≤◌, [], List, true, false, length, IfErr, IfOk, IfSome, IsNone};
 ghost use Rattle.mesh_figures.specs.declared.samples.Sample.{Sample};
 ghost use Rattle.mesh_history.specs.Readings.{too_long};
@@ -20,7 +20,7 @@ use mesh_savings::{Call, RecordedEntry, Savings, Taken, call_of};
 use model_words::{FaultKind, TextFault};
 use std::alloc::{AllocError, Global};
 
-/// The calls so far: both heaps, and what was gathered of them.
+/// The state after the calls so far: both heaps, and the data gathered from the samples.
 #[derive(Drop)]
 pub(crate) struct Run {
     savings: Savings,
@@ -28,7 +28,7 @@ pub(crate) struct Run {
 }
 
 impl Run {
-    /// Before the first call. An error is an allocation failure.
+    /// Returns a run before its first call. An error is an allocation failure.
     pub(crate) fn new(alloc: Global, options: &SavingsOptions) -> Result<Run, AllocError>
         ensures { IfOk result (λ run. IsRun run options.now (start options.now.settings) []) }
     {
@@ -41,21 +41,22 @@ impl Run {
     /// Whether 2^32 - 1 calls were made.
     pub(crate) fn is_full(&self) -> bool
         ensures left { result ≡ false → HasRoom self.now }
-        ensures full { (options : SavingsOptions) (f : Followed) (samples : List Sample) → IsRun self.now options f samples
+        ensures full { (options : SavingsOptions) (f : Followed) (samples : List Sample)
+            → IsRun self.now options f samples
             → result ≡ true → 2 ^ 32 - 1 ≤ length samples }
     {
         self.savings.is_full() || self.gathered.is_full()
     }
 
-    /// The number of calls that were made.
+    /// Returns the number of calls that were made.
     pub(crate) fn calls(&self) -> u32
         ensures { result ≡ self.now.savings.counts.calls }
     {
         self.savings.counts().calls
     }
 
-    /// Makes the next call in both heaps, and looks at them behind it. One that can't be made changes nothing. An error
-    /// is an allocation failure.
+    /// Makes the next call in both heaps, and adds a sample. A call that can't be made changes nothing. An error is an
+    /// allocation failure.
     pub(crate) fn take(&mut self, call: &Call) -> Result<Taken, AllocError>
         requires { HasRoom self.old }
         ensures { IfOk result (IsTakenBy self.old self.new (λ options f. step options.settings f call.now)) }
@@ -68,18 +69,21 @@ impl Run {
         Ok(taken)
     }
 
-    /// Takes the entry on a line: makes its call, if it has one. Returns the number of the call, from 1, if a heap has
-    /// too few virtual pages left for it.
+    /// Makes the call of the entry on a line, if the entry has one. If a heap has too few virtual pages left for the
+    /// call, returns the number of the call, counted from 1.
     ///
     /// Errors: NotAHistory if the call is a `free` or an `alias` of a cell that holds no live object, and Memory if an
-    /// allocation failed. TOO_LONG would come behind 2^32 - 1 calls, but each of them has a line before this one.
+    /// allocation failed. A TOO_LONG fault is returned for a call after 2^32 - 1 others, but a text with that many
+    /// calls has too many lines already.
     pub(crate) fn take_entry(
         &mut self,
         entry: &RecordedEntry,
         line: u32,
     ) -> Result<Option<u32>, SavingsError>
-        ensures passed { IfOk result (λ used_up. IsNone used_up → Passes self.old self.new line (call_of (plain_entry entry.now))) }
-        ensures used_up { IfOk result (λ used_up. IfSome used_up (UsesUp self.old self.new line (call_of (plain_entry entry.now)))) }
+        ensures passed { IfOk result
+            (λ used_up. IsNone used_up → Passes self.old self.new line (call_of (plain_entry entry.now))) }
+        ensures used_up { IfOk result
+            (λ used_up. IfSome used_up (UsesUp self.old self.new line (call_of (plain_entry entry.now)))) }
         ensures fault { IfErr result (Fails self.old line (call_of (plain_entry entry.now))) }
     {
         let Some(call) = call_of(entry) else {
@@ -96,7 +100,7 @@ impl Run {
         }
     }
 
-    /// The table of the calls so far, or their plot. An error is an allocation failure.
+    /// Returns the table of the calls so far, or their plot. An error is an allocation failure.
     pub(crate) fn text(&self, alloc: Global) -> Result<Vec<u8>, AllocError>
         ensures { (options : SavingsOptions) (f : Followed) (samples : List Sample) → IsRun self.now options f samples
             → IfOk result (λ text. IsShown options f samples text.items) }
@@ -105,7 +109,7 @@ impl Run {
     }
 }
 
-/// The fault of a text with more calls than there are numbers for them.
+/// Returns the fault of a text with more calls than can be numbered.
 fn too_many_calls() -> SavingsError
     ensures { result ≡ SavingsError.Replay (ReplayError.Text too_long) }
 {

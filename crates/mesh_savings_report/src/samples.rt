@@ -1,4 +1,4 @@
-//! What both heaps hold, and what was counted.
+//! The sample of both heaps after a call, and the counts of a run.
 ghost use Rattle.std.specs.Prelude.{◌≡◌, ◌<◌, ◌≤◌, ◌^◌};
 ghost use Rattle.mesh_figures.specs.Samples.{AreFew};
 ghost use Rattle.mesh_placement.specs.ClassLaws.{FitsPages, pages_needed};
@@ -11,7 +11,7 @@ use mesh_class::{Class, all_classes};
 use mesh_figures::{Counts, Sample};
 use mesh_savings::{Placement, Savings};
 
-/// What both heaps hold.
+/// Returns the sample of both heaps: their pages, those of perfect packing, and the live bytes.
 pub(crate) fn sample_of(savings: &Savings) -> Sample
     ensures value { (f : Followed) → Follows savings.now f → result ≡ sample_of f }
     ensures without { AreFew result.without }
@@ -28,7 +28,7 @@ pub(crate) fn sample_of(savings: &Savings) -> Sample
     }
 }
 
-/// What was counted of the calls so far.
+/// Returns the counts of the calls so far.
 pub(crate) fn counts_of(savings: &Savings) -> Counts
     ensures { (f : Followed) → Follows savings.now f → result ≡ counts_of f }
 {
@@ -48,7 +48,7 @@ pub(crate) fn counts_of(savings: &Savings) -> Counts
     }
 }
 
-/// The pages of the fewest spans of each class that the objects of a heap fit in.
+/// Returns for each class the pages of the fewest spans in which the heap's objects of the class fit.
 fn perfect_pages(placement: &Placement) -> [u32; 10]
     ensures value { result ≡ perfect_pages (table_of placement.now) }
     ensures fits { FitsPages (table_of placement.now) }
@@ -63,7 +63,7 @@ fn perfect_pages(placement: &Placement) -> [u32; 10]
     pages
 }
 
-/// The pages of the fewest spans of a class that so many objects fit in.
+/// Returns the pages of the fewest spans of a class in which `objects` objects fit.
 fn pages_needed(class: Class, objects: u32) -> u32
     requires { objects ≤ 2 ^ 24 }
     ensures { result ≡ pages_needed class objects }

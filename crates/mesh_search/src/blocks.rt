@@ -1,14 +1,15 @@
-//! A list in blocks, out of whose middle an element is taken in few steps.
+//! A list in blocks, so that removing an element from the middle takes few steps.
 ghost use Rattle.std.specs.Prelude.{◌≡◌, ◌+◌, ◌<◌, ◌++◌, length, slice_index, slice_index_or, take, IfOk, OnOk};
 ghost use Rattle.std.specs.List.{flat_map, remove};
 ghost use Rattle.std.specs.Vec.{vec_items};
 
 use std::alloc::{AllocError, Global};
 
-/// How many elements a block has at first. One that is taken out moves at most as many, and 4,096 elements lie in 16 blocks.
+/// The initial number of elements of a block. Removing an element moves at most this number, and 4,096 elements are in
+/// 16 blocks.
 const BLOCK: usize = 256;
 
-/// The list in blocks, one after another.
+/// Splits a list into consecutive blocks.
 pub(crate) fn blocks_of(alloc: Global, list: &[u32]) -> Result<Vec<Vec<u32>>, AllocError>
     ensures { IfOk result (λ blocks. flat_map vec_items blocks.items ≡ list.now) }
 {
@@ -22,7 +23,7 @@ pub(crate) fn blocks_of(alloc: Global, list: &[u32]) -> Result<Vec<Vec<u32>>, Al
     Ok(blocks)
 }
 
-/// The block of a place, and the place in it.
+/// Returns the number of the block that contains a place of the list, and the place within that block.
 fn block_at(blocks: &[Vec<u32>], place: usize) -> (usize, usize)
     requires { place < length (flat_map vec_items blocks.now) }
     ensures block { result.0 < length blocks.now }
@@ -38,7 +39,7 @@ fn block_at(blocks: &[Vec<u32>], place: usize) -> (usize, usize)
     (k, left)
 }
 
-/// Takes out the element at a place.
+/// Removes and returns the element at a place.
 pub(crate) fn take_out(blocks: &mut Vec<Vec<u32>>, place: usize) -> u32
     requires { place < length (flat_map vec_items blocks.old.items) }
     ensures element { result ≡ slice_index (flat_map vec_items blocks.old.items) place }
@@ -48,7 +49,7 @@ pub(crate) fn take_out(blocks: &mut Vec<Vec<u32>>, place: usize) -> u32
     blocks[k].remove(within)
 }
 
-/// Adds what is in the blocks.
+/// Appends the elements of the blocks to `order`.
 pub(crate) fn add_blocks(order: &mut Vec<u32>, blocks: &[Vec<u32>]) -> Result<(), AllocError>
     ensures { OnOk result (order.new.items ≡ order.old.items ++ flat_map vec_items blocks.now) }
 {

@@ -9,7 +9,7 @@ use thiserror::Error;
 /// Why a search ended without an answer.
 #[derive(Debug, Drop, PartialEq, Eq, Error)]
 pub enum SearchError {
-    /// Memory was refused.
+    /// An allocation failed.
     #[error("out of memory")]
     Memory,
     /// A thread couldn't be started, or its result isn't the one that was asked for.

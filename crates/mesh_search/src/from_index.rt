@@ -1,4 +1,4 @@
-//! The view of a class, from the index.
+//! Builds the view of a class from the index.
 ghost use Rattle.std.specs.Prelude.{◌≡◌, filter, IfOk};
 ghost use Rattle.model_search.specs.Search.{may_be_paired, viewed};
 ghost use Rattle.mesh_spans.specs.Groups.{groups_of, is_closed};
@@ -9,11 +9,12 @@ use mesh_class::Class;
 use mesh_spans::Spans;
 use std::alloc::{AllocError, Global};
 
-/// The candidates of a class in the index: its groups that are in no mesh, not empty and not full, ascending.
+/// Returns the candidates of a class in the index, ascending: its groups that are in no mesh, not empty and not full.
 ///
 /// An error is an allocation failure.
 pub fn class_view(alloc: Global, spans: &Spans, class: Class) -> Result<ClassView, AllocError>
-    ensures { IfOk result (λ view. view ≡ viewed class (filter (may_be_paired (is_closed spans.now) class) (groups_of spans.now))) }
+    ensures { IfOk result
+        (λ view. view ≡ viewed class (filter (may_be_paired (is_closed spans.now) class) (groups_of spans.now))) }
 {
     spans.sound();
     let mut candidates = Vec::new(alloc);

@@ -1,4 +1,4 @@
-//! The gate: where a test may hold a thread.
+//! The gate: points at which a test may stop a thread.
 use model_words::StepKind;
 
 /// Who arrives at a gate.
@@ -12,28 +12,28 @@ pub enum Actor {
     Searcher(u32),
 }
 
-/// Where an actor arrives. The lock isn't held there, but at `Reading`.
+/// A point at which an actor arrives. The lock is not held there, except at `Reading`.
 #[derive(Clone, Copy, Debug, PartialEq, Eq)]
 pub enum Point {
-    /// A worker's call, counted from 0, was answered.
+    /// A worker's call, counted from 0, has returned.
     Called(u32),
     /// A mesh was begun.
     Begun,
-    /// A step of this kind was made, and so many are left.
+    /// A step of this kind was made, and this number of steps is left.
     Stepped(StepKind, u32),
     /// A searcher is about to work on the class of this size.
     Class(u32),
-    /// A worker is inside a call that reads, counted from 0, under the shared lock.
+    /// A worker is inside a reading call, counted from 0, under the shared lock.
     Reading(u32),
 }
 
-/// Learns that a thread has come to a point. It may wait, and promises nothing.
+/// Is called when a thread arrives at a point. It may wait, and promises nothing.
 pub trait Gate {
-    /// An actor has come to a point.
+    /// Reports that an actor has arrived at a point.
     fn arrive(&self, actor: Actor, point: Point);
 }
 
-/// A gate that holds nobody.
+/// A gate that stops no thread.
 #[derive(Clone, Copy, Debug, Drop)]
 pub struct NoGate;
 

@@ -1,9 +1,12 @@
 //! The split search: which groups of a class a mesher may pair.
 //!
-//! A `ClassView` has the candidates of one class; `class_view` makes it from the index. `search_one` shuffles them, cuts the order into two lists and
-//! tries them against one another in rounds; `split_mesh` does so with an order that it is given. `search` has each round made by as many scoped
-//! threads as it has workers, and returns the same pairs; for every view that a heap has `search_one` is the faster call. A contract sees a view as
-//! the definition does: its candidates, each a number and a set of slots.
+//! A `ClassView` contains the candidates of one class; `class_view` builds it from the index. `search_one` shuffles the
+//! candidates, cuts the order into two lists and tries these lists against one another in rounds. `split_mesh` does the
+//! same with a given order.
+//!
+//! `search` runs each round on as many scoped threads as it has workers, and returns the same pairs. `search_one` is
+//! the faster call for every view that a heap has. A contract sees a view as the definition does: its candidates, each
+//! a number and a set of slots.
 #![tactic(auto)]
 
 mod blocks;

@@ -1,4 +1,4 @@
--- What meshers do in a run, and what they tell of it.
+-- What meshers do in a run, and what they report.
 use Rattle.std.specs.Prelude.{◌≡◌, ℕ, suc, ◌*◌, ◌%◌, ◌<◌, ◌≤◌, ◌==◌, if◌then◌else◌, List, [], ◌∷◌, Option, Some, None, drop, length, map, slice_index_or, take}
 use Rattle.model_search.specs.Search.{Found, View, search, views}
 use Rattle.model_heap.specs.Table.{Table}
@@ -30,14 +30,14 @@ pub record HasSearched (plan : MeshPlan) (number round : ℕ) (own : List View) 
   pub of_classes : AreOwn plan number own
   pub by_words : found ≡ map (λ view. search view (words_in plan.words.items round) plan.t) own
 
--- what a mesher tells: its number; that it made all rounds, each pair of which was refused or meshed to its end, unless its calls were over or it was
--- stopped; and with an end to its calls, that no more were answered
+-- what a mesher reports: its number; that it made all rounds, each pair of which was refused or meshed to its end,
+-- unless its calls were over or it was stopped; and if its calls are limited, that no more were answered
 pub record HasMeshed (rounds number : ℕ) (most : Option ℕ) (told : Meshed) (stop : Option EarlyExit) : Type 0 where
   pub named : told.number ≡ number
   pub whole : (most ≡ Some told.calls → ⊥) → stop ≡ None → told.rounds ≡ rounds
   pub few : (n : ℕ) → most ≡ Some n → told.calls ≤ n
 
--- each mesher of the plan tells so, none was stopped, and each has its own number
+-- each mesher of the plan reports so, none was stopped, and each has its own number
 pub record AreMeshed (plan : MeshPlan) (most : Option ℕ) (told : List Meshed) : Type 0 where
   pub many : length told ≡ plan.meshers
   pub each : (q : ℕ) (d : Meshed) → q < plan.meshers → HasMeshed plan.rounds q most (slice_index_or told q d) None

@@ -1,4 +1,4 @@
--- What no run of scripts leaves, and which of several stops is told.
+-- What no run of scripts leaves, and which of several stops is reported.
 use Rattle.std.specs.Prelude.{◌≡◌, ℕ, ◌≤◌, List, [], ◌∷◌, Option, Some, None, slice_get}
 use Rattle.model_memory.specs.Memory.{Memory, empty_memory}
 use Rattle.model_memory.specs.Plain.{Entry}
@@ -60,13 +60,13 @@ ExchangedIsNoRun = (end : Memory) → HasRun two_scripts exchanged end → ⊥
 abbrev pub ExchangedIsNoBeginning : Type 0
 ExchangedIsNoBeginning = (end : Memory) → HasBegun two_scripts exchanged end → ⊥
 
--- the order in which stops are told: want of memory, a thread, the journal
+-- the order in which stops are reported: out of memory, a thread, the journal
 abbrev pub place_of : EarlyExit → ℕ
 place_of NoMemory = 0
 place_of Thread = 1
 place_of History = 2
 
--- what is told stopped some thread
+-- the stop that is reported stopped some thread
 abbrev pub ToldIsThere : Type 0
 ToldIsThere = (stops : List (Option EarlyExit)) (stop : EarlyExit) → first_stop stops ≡ Some stop → (i : ℕ) × (slice_get stops i ≡ Some (Some stop))
 
@@ -75,6 +75,6 @@ abbrev pub ToldIsFirst : Type 0
 ToldIsFirst = (stops : List (Option EarlyExit)) (stop other : EarlyExit) (i : ℕ) → first_stop stops ≡ Some stop → slice_get stops i ≡ Some (Some other)
     → place_of stop ≤ place_of other
 
--- nothing is told only where nothing stopped a thread
+-- no stop is reported only if nothing stopped a thread
 abbrev pub NothingIsToldOfNone : Type 0
 NothingIsToldOfNone = (stops : List (Option EarlyExit)) (stop : EarlyExit) (i : ℕ) → first_stop stops ≡ None → slice_get stops i ≡ Some (Some stop) → ⊥

@@ -27,7 +27,8 @@ commands_by worker entries = map (λ call. call.command) (calls_of worker entrie
 abbrev pub script_of : List (List Command) → ℕ → List Command
 script_of scripts w = slice_index_or scripts w []
 
--- the entries of each worker are its whole script, with its answers in their order; the history is legal and ends in this memory
+-- the entries of each worker are its whole script, with its answers in their order; the history is legal and ends in
+-- this memory
 pub record HasRun (scripts : List (List Command)) (history : List Entry) (end : Memory) : Type 0 where
   pub legal : IsLegal history end
   pub whole : (w : ℕ) → w < length scripts → commands_by w history ≡ script_of scripts w
@@ -37,7 +38,8 @@ pub record HasRun (scripts : List (List Command)) (history : List Entry) (end : 
 abbrev pub IsBeginning : List Command → List Command → Type 0
 IsBeginning commands script = commands ≡ take (length commands) script
 
--- the entries of each worker are a beginning of its script, with its answers in their order; the history is legal and ends in this memory
+-- the entries of each worker are a beginning of its script, with its answers in their order; the history is legal and
+-- ends in this memory
 pub record HasBegun (scripts : List (List Command)) (history : List Entry) (end : Memory) : Type 0 where
   pub legal : IsLegal history end
   pub begun : (w : ℕ) → w < length scripts → IsBeginning (commands_by w history) (script_of scripts w)
@@ -47,17 +49,20 @@ pub record HasBegun (scripts : List (List Command)) (history : List Entry) (end 
 abbrev pub commands_in : List Kept → List Command
 commands_in calls = map (λ kept. kept.command) calls
 
--- a worker's calls are its whole script, and it gave up no command; or it gave up the next one, after as many attempts as it makes at a command
+-- a worker's calls are its whole script, and it gave up no command; or it gave up the next one, after as many attempts
+-- as it makes at a command
 abbrev pub HasEnded : Option ℕ → List Command → List Command → ℕ → Type 0
 HasEnded tries script called tried = ((called ≡ script) × (tried ≡ 0)) ⊎ ((tries ≡ Some tried) × (length called < length script))
 
--- the calls are a beginning of the script, and all of it where tries had no end and nothing stopped the worker; where nothing stopped it, it tells how it ended
+-- the calls are a prefix of the script, and all of it if tries were unlimited and nothing stopped the worker; if
+-- nothing stopped it, it reports how it ended
 pub record HasWorked (tries : Option ℕ) (script : List Command) (calls : List Kept) (tried : ℕ) (stop : Option EarlyExit) : Type 0 where
   pub begun : IsBeginning (commands_in calls) script
   pub whole : tries ≡ None → stop ≡ None → commands_in calls ≡ script
   pub ended : stop ≡ None → HasEnded tries script (commands_in calls) tried
 
--- there is a seat for each script, whose calls are a beginning of it, and all of it where tries had no end; and each worker tells how it ended
+-- there is a seat for each script, whose calls are a prefix of it, and all of it if tries were unlimited; and each
+-- worker reports how it ended
 pub record AreServed (tries : Option ℕ) (scripts : List (List Command)) (seats : List Seat) (told : List Worked) : Type 0 where
   pub many : length seats ≡ length scripts
   pub begun : (w : ℕ) → w < length scripts → IsBeginning (commands_in (kept_by (calls_of_seats seats) w)) (script_of scripts w)
@@ -66,7 +71,7 @@ pub record AreServed (tries : Option ℕ) (scripts : List (List Command)) (seats
   pub ended : (w : ℕ) (d : Worked) → w < length scripts
       → HasEnded tries (script_of scripts w) (commands_in (kept_by (calls_of_seats seats) w)) (slice_index_or told w d).tried
 
--- each worker tells how it ended: the commands of its entries are its whole script, or it gave up the next one
+-- each worker reports how it ended: the commands of its entries are its whole script, or it gave up the next one
 pub record AreWorked (tries : Option ℕ) (scripts : List (List Command)) (history : List Entry) (told : List Worked) : Type 0 where
   pub many : length told ≡ length scripts
   pub each : (w : ℕ) (d : Worked) → w < length scripts → HasEnded tries (script_of scripts w) (commands_by w history) (slice_index_or told w d).tried

@@ -9,7 +9,7 @@ use Rattle.mesh_shared.specs.declared.stops.RunError.TheVariants.{Memory}
 use Rattle.mesh_shared.specs.declared.stops.EarlyExit.{EarlyExit}
 use Rattle.mesh_shared.specs.declared.worker.Served.{Served}
 
--- where something stopped a thread, the first stop is told; where nothing did, what the threads did, or want of memory
+-- if something stopped a thread, the first stop is returned; otherwise what the threads did, or out of memory
 pub record IsAnswer (refused : Option EarlyExit) (ends : List MesherEnd) (served : List Served) (answer : Result Service RunError) : Type 0 where
   pub stopped : (stop : EarlyExit) → first_stop (stops_of refused ends served) ≡ Some stop → answer ≡ Err (error_of stop)
   pub unstopped : OnOk answer (first_stop (stops_of refused ends served) ≡ None)

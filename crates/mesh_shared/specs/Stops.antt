@@ -1,4 +1,4 @@
--- Which of several stops of a run is told.
+-- Which of several stops of a run is reported.
 use Rattle.std.specs.Prelude.{List, [], ◌∷◌, Option, Some, None}
 use Rattle.mesh_search.specs.declared.faults.SearchError.{SearchError}
 use Rattle.mesh_search.specs.declared.faults.SearchError.TheVariants.{Memory as SearchMemory, Thread as SearchThread}
@@ -7,7 +7,7 @@ use Rattle.mesh_shared.specs.declared.stops.RunError.TheVariants.{Memory as NoMe
 use Rattle.mesh_shared.specs.declared.stops.EarlyExit.{EarlyExit}
 use Rattle.mesh_shared.specs.declared.stops.EarlyExit.TheVariants.{Memory, Thread, History}
 
--- of two stops want of memory is told first, then a thread, then the journal
+-- of two stops out of memory is reported first, then a thread, then the journal
 abbrev pub first_of : EarlyExit → EarlyExit → EarlyExit
 first_of Memory other = Memory
 first_of Thread Memory = Memory
@@ -15,7 +15,7 @@ first_of Thread Thread = Thread
 first_of Thread History = Thread
 first_of History other = other
 
--- of two ends, where a thread that came to its own end has none to tell
+-- of two ends; a thread that came to its own end has no stop to report
 abbrev pub either_stop : Option EarlyExit → Option EarlyExit → Option EarlyExit
 either_stop None other = other
 either_stop (Some stop) None = Some stop
@@ -26,13 +26,13 @@ abbrev pub first_stop : List (Option EarlyExit) → Option EarlyExit
 first_stop [] = None
 first_stop (stop ∷ stops) = either_stop stop (first_stop stops)
 
--- the error that tells a stop
+-- the error that reports a stop
 abbrev pub error_of : EarlyExit → RunError
 error_of Memory = NoMemory
 error_of Thread = NoThread
 error_of History = NoRoom
 
--- the stop that tells why a search ended
+-- the stop that reports why a search ended
 abbrev pub stop_of : SearchError → EarlyExit
 stop_of SearchMemory = Memory
 stop_of SearchThread = Thread

@@ -1,7 +1,7 @@
-//! What a mesher does with the book that one taking of the lock gives it.
+//! The calls that a mesher makes on the book while it holds the lock.
 //!
-//! The book under the lock isn't known to who takes it. So what is done with it stands here, over the book itself, and a call is a taking of the
-//! lock and one of these.
+//! A lock's contract says nothing about the book that it guards. So these functions take the `Book` itself and carry
+//! the full contract. Each call of a mesher takes the lock and runs one of these functions.
 ghost use Rattle.std.specs.Prelude.{◌≡◌, OnErr, OnOk};
 ghost use Rattle.model_heap.specs.Mesh.{begin, mesh_in, mesh_of_class, step};
 ghost use Rattle.mesh_mutator.specs.Book.{table_of_book};
@@ -15,10 +15,11 @@ use mesh_mutator::{Book, Refusal};
 use mesh_search::Pair;
 use mesh_steps::StepDone;
 
-/// Begins a mesh of a pair, as the book does. A call that is answered is counted.
+/// Begins a mesh of a pair by the book's `begin`. Counts the call if it isn't refused.
 pub(crate) fn begin(book: &mut Book, pair: Pair, calls: &mut CallBudget) -> Result<u32, Refusal>
     requires { IsUsedUp calls.old → ⊥ }
-    ensures answered { IsAnswered KeepsBook book.old book.new (begin mesh_of_class (table_of_book book.old) pair.source pair.destination) result
+    ensures answered { IsAnswered KeepsBook book.old book.new
+        (begin mesh_of_class (table_of_book book.old) pair.source pair.destination) result
         (IsMeshBegun mesh_of_class book.old.heap book.new.heap pair.source pair.destination) }
     ensures counted { OnOk result (IsSpent calls.old calls.new) }
     ensures uncounted { OnErr result (calls.new ≡ calls.old) }
@@ -28,14 +29,15 @@ pub(crate) fn begin(book: &mut Book, pair: Pair, calls: &mut CallBudget) -> Resu
     Ok(left)
 }
 
-/// Makes the next step of the mesh of a class, as the book does. A call that is answered is counted.
+/// Makes the next step of the mesh of a class by the book's `step`. Counts the call if it isn't refused.
 pub(crate) fn step(
     book: &mut Book,
     class: Class,
     calls: &mut CallBudget,
 ) -> Result<StepDone, Refusal>
     requires { IsUsedUp calls.old → ⊥ }
-    ensures answered { IsAnswered KeepsBook book.old book.new (step (table_of_book book.old) (mesh_in (table_of_book book.old) class)) result
+    ensures answered { IsAnswered KeepsBook book.old book.new
+        (step (table_of_book book.old) (mesh_in (table_of_book book.old) class)) result
         (IsStepMade book.old.heap book.new.heap class) }
     ensures counted { OnOk result (IsSpent calls.old calls.new) }
     ensures uncounted { OnErr result (calls.new ≡ calls.old) }

@@ -1,4 +1,4 @@
-//! What the threads of a run gave back, and what comes of it.
+//! Joins the threads of a run, and gathers the run's answer from their results.
 ghost use Rattle.std.specs.Prelude.{◌≡◌, ◌++◌, ◌∷◌, Err, IfErr, IfOk, None, OnOk, Some, map};
 ghost use Rattle.mesh_shared.specs.Joined.{HaveMeshed, HaveServed, stops_of};
 ghost use Rattle.mesh_shared.specs.Services.{IsAnswer};
@@ -15,14 +15,15 @@ use std::alloc::{AllocError, Global};
 use std::thread;
 use std::thread::{PromisedHandle, Threads};
 
-/// What the threads of a run gave back.
+/// The results of the threads of a run.
 #[derive(Drop)]
 pub(crate) struct Joined {
     pub served: Vec<Served>,
     pub ends: Vec<MesherEnd>,
 }
 
-/// Joins all threads. The handles are joined also where memory for the list of their results is refused, since dropping a handle leaks its result.
+/// Joins all threads and returns their results. The error is an allocation failure for the lists of the results. All
+/// threads are joined in that case too, because dropping a handle leaks its result.
 pub(crate) fn join_all<'a, R: Threads>(
     rt: &R,
     workers: Vec<PromisedHandle<Served, Works<'a>>>,
@@ -49,7 +50,7 @@ pub(crate) fn join_all<'a, R: Threads>(
     Ok(Joined { served, ends })
 }
 
-/// What the threads of a run did, where nothing stopped one.
+/// The service of a run in which nothing stopped a thread: the seats, and what each worker and each mesher did.
 #[derive(Drop)]
 pub(crate) struct Service {
     pub seats: Vec<Seat>,
@@ -57,7 +58,8 @@ pub(crate) struct Service {
     pub meshers: Vec<Meshed>,
 }
 
-/// The answer of a run by what its threads gave back. Memory comes where they couldn't be joined into lists.
+/// Returns the answer of a run, from the results of its threads. The error is `Memory` if the allocation for the lists
+/// of these results failed.
 pub(crate) fn answer_of(
     alloc: Global,
     refused: Option<EarlyExit>,
@@ -70,17 +72,19 @@ pub(crate) fn answer_of(
     service_of(alloc, refused, threads.served, threads.ends)
 }
 
-/// What the threads did, where each was started and none was stopped; else the first stop in the order of `RunError`. Without a stop it fails where
-/// memory for the lists is refused.
+/// Returns what the threads did, if each was started and none was stopped. Otherwise the error is the first stop in the
+/// order of `RunError`. If nothing was stopped, the only error is an allocation failure for the lists.
 fn service_of(
     alloc: Global,
     refused: Option<EarlyExit>,
     served: Vec<Served>,
     ends: Vec<MesherEnd>,
 ) -> Result<Service, RunError>
-    ensures stopped { (stop : EarlyExit) → first_stop (stops_of refused ends.items served.items) ≡ Some stop → result ≡ Err (error_of stop) }
+    ensures stopped { (stop : EarlyExit) → first_stop (stops_of refused ends.items served.items) ≡ Some stop
+        → result ≡ Err (error_of stop) }
     ensures unstopped { OnOk result (first_stop (stops_of refused ends.items served.items) ≡ None) }
-    ensures memory { first_stop (stops_of refused ends.items served.items) ≡ None → IfErr result (λ error. error ≡ RunError.Memory) }
+    ensures memory { first_stop (stops_of refused ends.items served.items) ≡ None
+        → IfErr result (λ error. error ≡ RunError.Memory) }
     ensures seats { IfOk result (λ service. service.seats.items ≡ map (λ one. one.seat) served.items) }
     ensures workers { IfOk result (λ service. service.workers.items ≡ map (λ one. one.worked) served.items) }
     ensures meshers { IfOk result (λ service. service.meshers.items ≡ map (λ one. one.meshed) ends.items) }
@@ -91,7 +95,7 @@ fn service_of(
     Ok(lists_of(alloc, served, ends)?)
 }
 
-/// The lists of what the threads did.
+/// Returns the seats, and what each worker and each mesher did, as lists.
 fn lists_of(alloc: Global, served: Vec<Served>, ends: Vec<MesherEnd>) -> Result<Service, AllocError>
     ensures seats { IfOk result (λ service. service.seats.items ≡ map (λ one. one.seat) served.items) }
     ensures workers { IfOk result (λ service. service.workers.items ≡ map (λ one. one.worked) served.items) }
@@ -107,7 +111,8 @@ fn lists_of(alloc: Global, served: Vec<Served>, ends: Vec<MesherEnd>) -> Result<
     })
 }
 
-/// The first of what stopped the threads of a run: where one was refused, then of the meshers and of the workers.
+/// Returns the first stop in the order of `RunError`, among the failure to start a thread, the stops of the meshers and
+/// those of the workers.
 fn first_stop_of(
     refused: Option<EarlyExit>,
     ends: &[MesherEnd],
@@ -125,7 +130,7 @@ fn first_stop_of(
     stop
 }
 
-/// What the meshers did, in their order.
+/// Returns what each mesher did, in the order of the meshers.
 fn meshers_of_ends(alloc: Global, ends: Vec<MesherEnd>) -> Result<Vec<Meshed>, AllocError>
     ensures { IfOk result (λ meshers. meshers.items ≡ map (λ one. one.meshed) ends.items) }
 {
@@ -136,7 +141,7 @@ fn meshers_of_ends(alloc: Global, ends: Vec<MesherEnd>) -> Result<Vec<Meshed>, A
     Ok(meshers)
 }
 
-/// How the scripts ended, in their order.
+/// Returns how each script ended, in the order of the scripts.
 fn workers_of_served(alloc: Global, served: &[Served]) -> Result<Vec<Worked>, AllocError>
     ensures { IfOk result (λ workers. workers.items ≡ map (λ one. one.worked) served.now) }
 {
@@ -147,7 +152,7 @@ fn workers_of_served(alloc: Global, served: &[Served]) -> Result<Vec<Worked>, Al
     Ok(workers)
 }
 
-/// The seats that the workers gave back, in their order.
+/// Returns the seats of the workers, in the order of the workers.
 fn seats_of_served(alloc: Global, served: Vec<Served>) -> Result<Vec<Seat>, AllocError>
     ensures { IfOk result (λ seats. seats.items ≡ map (λ one. one.seat) served.items) }
 {

@@ -1,7 +1,10 @@
-//! Scripts run in threads, on a book that they share, beside threads that search and mesh.
+//! Runs scripts in threads, on a book that they share, while other threads search and mesh.
 //!
-//! `run_threads` serves each script in a thread of its own (`worker`), while meshers in threads of theirs search for pairs and mesh them (`mesher`), and
-//! settles the seats at the end. `run_abandoned` lets meshers go and workers give up; `run_within` also returns what meshers and workers did. All go past a gate, by which tests hold a thread at a point.
+//! `run_threads` serves each script in a thread of its own (`worker`). Meshers in their own threads search for pairs
+//! and mesh them (`mesher`). At the end `run_threads` settles the seats. All threads call a gate, at which a test can
+//! hold a thread.
+//!
+//! `run_abandoned` lets meshers stop early and workers give up. `run_within` also returns what meshers and workers did.
 #![tactic(auto)]
 
 mod guarded;

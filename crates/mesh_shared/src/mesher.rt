@@ -16,7 +16,7 @@ use std::alloc::{AllocError, Global};
 use std::sync::Wait;
 use std::thread::{Promise, Threads};
 
-/// One mesher of a run, with what its thread was lent.
+/// A mesher of a run, with the references that its thread uses.
 #[derive(Drop)]
 pub(crate) struct Mesher<'a, R, G> {
     pub rt: &'a R,
@@ -33,22 +33,23 @@ pub(crate) struct Mesher<'a, R, G> {
 pub struct Meshed {
     /// The mesher's number.
     pub number: u32,
-    /// How many rounds it made of which each pair that was found was refused, or meshed until no step was left.
+    /// The number of rounds in which each pair that was found was either refused or meshed until no step was left.
     pub rounds: u32,
-    /// How many of its calls were answered, where there is an end to them.
+    /// The number of its calls that weren't refused, if its calls are limited.
     pub calls: u32,
 }
 
-/// What a mesher's thread gives back.
+/// What a mesher's thread returns.
 #[derive(Clone, Copy)]
 pub(crate) struct MesherEnd {
     /// What the mesher did.
     pub meshed: Meshed,
-    /// Why it ended before its rounds did. A mesher whose calls were over has nothing to tell.
+    /// Why the mesher ended before it made all rounds. `None` if it made them all, or used up its calls.
     pub stop: Option<EarlyExit>,
 }
 
-/// That a mesher has its number, made all rounds where nothing ended it, and was answered no more often than it may be.
+/// The promise of a mesher: it has its number, made all rounds unless something ended it, and made no more calls that
+/// weren't refused than its limit allows.
 #[derive(Clone, Copy)]
 pub(crate) struct Meshes {
     pub rounds: u32,
@@ -60,21 +61,21 @@ impl Promise<MesherEnd> for Meshes {
     ghost kept_by = { λ p end. HasMeshed p.rounds p.number p.most end.meshed end.stop };
 }
 
-/// What a round of a mesher was.
+/// What a mesher did in one round.
 #[derive(Drop)]
 struct Round {
-    /// Which round, counted from 0.
+    /// The number of the round, counted from 0.
     round: u32,
     /// The views that were searched.
     views: Vec<ClassView>,
-    /// What was found in each.
+    /// The result of the search of each view.
     found: Vec<Found>,
-    /// Of how many of them each pair was refused, or meshed to its end.
+    /// The number of views in which each pair was either refused or meshed until no step was left.
     whole: usize,
 }
 
 impl Round {
-    /// Whether it is this round, and each pair was refused or meshed to its end.
+    /// Whether the round has this number, and each of its pairs was either refused or meshed until no step was left.
     fn is_whole(&self, round: u32) -> bool
         ensures { IsTrue result ↔ ((self.now.round ≡ round) × (self.now.whole ≡ length self.now.found.items)) }
     {
@@ -83,8 +84,8 @@ impl Round {
 }
 
 impl<'a, R: Threads + Wait + Sync, G: Gate + Sync> Mesher<'a, R, G> {
-    /// Makes all rounds, unless the calls that it may make are over before, and tells what it did. It leaves no mesh running but where its
-    /// calls are over within one.
+    /// Makes all rounds, unless the mesher uses up its calls first, and returns what the mesher did. A mesh is left
+    /// running only if the calls are used up before its last step.
     pub(crate) fn mesh(&self, most: Option<u32>) -> MesherEnd
         requires some { 1 ≤ self.now.plan.now.workers }
         requires most { self.now.plan.now.workers ≤ 16 }
@@ -101,7 +102,8 @@ impl<'a, R: Threads + Wait + Sync, G: Gate + Sync> Mesher<'a, R, G> {
         MesherEnd { meshed, stop }
     }
 
-    /// Makes the rounds one after another: how many were made to their ends, and what stopped it.
+    /// Makes the rounds one after another. Returns how many rounds were made to their ends, and what stopped the
+    /// mesher.
     fn make_rounds(&self, calls: &mut CallBudget) -> (u32, Option<EarlyExit>)
         requires some { 1 ≤ self.now.plan.now.workers }
         requires most { self.now.plan.now.workers ≤ 16 }
@@ -126,13 +128,15 @@ impl<'a, R: Threads + Wait + Sync, G: Gate + Sync> Mesher<'a, R, G> {
         (whole, None)
     }
 
-    /// Searches the views of its classes, outside the lock, and meshes what was found, classes ascending.
+    /// Searches the views of the mesher's classes, outside the lock, and meshes the pairs that were found, classes
+    /// ascending.
     fn make_round(&self, round: u32, calls: &mut CallBudget) -> Result<Round, EarlyExit>
         requires some { 1 ≤ self.now.plan.now.workers }
         requires most { self.now.plan.now.workers ≤ 16 }
         requires own { 1 ≤ self.now.plan.now.meshers }
         ensures round { IfOk result (λ made. made.round ≡ round) }
-        ensures searched { IfOk result (λ made. HasSearched self.now.plan.now self.now.number round made.views.items made.found.items) }
+        ensures searched { IfOk result
+            (λ made. HasSearched self.now.plan.now self.now.number round made.views.items made.found.items) }
         ensures whole { (IsUsedUp calls.new → ⊥) → IfOk result (λ made. made.whole ≡ length made.found.items) }
         ensures most { calls.new.most ≡ calls.old.most }
     {
@@ -156,7 +160,7 @@ impl<'a, R: Threads + Wait + Sync, G: Gate + Sync> Mesher<'a, R, G> {
         })
     }
 
-    /// The views of its classes, taken under the shared lock.
+    /// Returns the views of the mesher's classes, taken under the shared lock. An error is an allocation failure.
     fn own_views(&self) -> Result<Vec<ClassView>, AllocError>
         requires { 1 ≤ self.now.plan.now.meshers }
         ensures { IfOk result (λ own. AreOwn self.now.plan.now self.now.number own.items) }
@@ -165,7 +169,8 @@ impl<'a, R: Threads + Wait + Sync, G: Gate + Sync> Mesher<'a, R, G> {
         own_of(self.alloc, views, self.plan.meshers, self.number)
     }
 
-    /// Meshes what was found in each view. Gives in how many of them each pair was refused, or meshed to its end.
+    /// Meshes the pairs that were found in each view. Returns in how many views each pair was either refused or meshed
+    /// until no step was left.
     fn mesh_all(&self, views: &[ClassView], found: &[Found], calls: &mut CallBudget) -> usize
         requires { length views.now ≡ length found.now }
         ensures whole { (IsUsedUp calls.new → ⊥) → result ≡ length found.now }
@@ -182,7 +187,8 @@ impl<'a, R: Threads + Wait + Sync, G: Gate + Sync> Mesher<'a, R, G> {
         whole
     }
 
-    /// Meshes pairs of a class one after another, as long as there are calls. Gives how many were refused, or meshed to their ends.
+    /// Meshes pairs of a class one after another, as long as calls are left. Returns how many pairs were either refused
+    /// or meshed until no step was left.
     fn mesh_pairs(&self, class: Class, pairs: &[Pair], calls: &mut CallBudget) -> usize
         ensures whole { (IsUsedUp calls.new → ⊥) → result ≡ length pairs.now }
         ensures over { IsUsedUp calls.old → IsUsedUp calls.new }
@@ -200,7 +206,8 @@ impl<'a, R: Threads + Wait + Sync, G: Gate + Sync> Mesher<'a, R, G> {
         ended
     }
 
-    /// Meshes a pair step by step, unless it is refused by now: how many steps were left when it ended.
+    /// Meshes a pair step by step, unless it is refused by now. Returns how many steps were left when the mesher
+    /// stopped.
     fn mesh_pair(&self, class: Class, pair: Pair, calls: &mut CallBudget) -> Result<u32, Refusal>
         requires { IsUsedUp calls.old → ⊥ }
         ensures ended { (IsUsedUp calls.new → ⊥) → IfOk result (λ left. left ≡ 0) }
@@ -219,7 +226,7 @@ impl<'a, R: Threads + Wait + Sync, G: Gate + Sync> Mesher<'a, R, G> {
         unreachable!()
     }
 
-    /// Begins a mesh under the exclusive lock: how many steps are to come.
+    /// Begins a mesh under the exclusive lock. Returns the number of its steps.
     fn begin(&self, pair: Pair, calls: &mut CallBudget) -> Result<u32, Refusal>
         requires { IsUsedUp calls.old → ⊥ }
         ensures { calls.new.most ≡ calls.old.most }
@@ -229,7 +236,7 @@ impl<'a, R: Threads + Wait + Sync, G: Gate + Sync> Mesher<'a, R, G> {
         Ok(left)
     }
 
-    /// Makes a step of the mesh that it began, under the exclusive lock.
+    /// Makes a step of the mesh that this mesher began, under the exclusive lock.
     fn step(&self, class: Class, calls: &mut CallBudget) -> Result<StepDone, Refusal>
         requires { IsUsedUp calls.old → ⊥ }
         ensures { calls.new.most ≡ calls.old.most }
@@ -244,7 +251,7 @@ impl<'a, R: Threads + Wait + Sync, G: Gate + Sync> Mesher<'a, R, G> {
     }
 }
 
-/// Whether a pair was refused, or meshed until no step was left.
+/// Whether a pair was refused, or was meshed until no step was left.
 fn has_ended(tried: Result<u32, Refusal>) -> bool
     ensures { IsTrue result ↔ IfOk tried (λ left. left ≡ 0) }
 {
@@ -254,7 +261,7 @@ fn has_ended(tried: Result<u32, Refusal>) -> bool
     }
 }
 
-/// Of the views of all classes those whose place leaves a number when divided.
+/// Returns those of the views of all classes whose place, modulo the number of meshers, is this number.
 fn own_of(
     alloc: Global,
     all: Vec<ClassView>,

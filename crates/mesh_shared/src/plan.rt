@@ -1,24 +1,26 @@
-//! What meshers do in a run, and how long threads go on.
+//! The work of the meshers in a run, and the limits at which threads stop.
 ghost use Rattle.std.specs.Prelude.{◌≡◌, None};
 ghost use Rattle.mesh_shared.specs.MesherRuns.{words_in};
 
-/// What meshers do while scripts run. In each of its rounds a mesher takes the views of its classes, searches them, and meshes each pair.
+/// The work of the meshers while scripts run. In each of its rounds a mesher takes the views of its classes, searches
+/// them, and meshes each pair.
 #[derive(Drop)]
 pub struct MeshPlan {
-    /// How many rounds of tries a search makes at most.
+    /// The greatest number of rounds of tries in a search.
     pub t: u32,
     /// How many times each mesher searches and meshes.
     pub rounds: u32,
-    /// How many searchers make the parts of a search, 1 to 16.
+    /// The number of searchers that share a search, 1 to 16.
     pub workers: u32,
-    /// 256 words for each round, from which a search takes its order; missing ones count as 0.
+    /// The words by which searches shuffle their candidates, 256 for each round; missing ones count as 0.
     pub words: Vec<u64>,
-    /// How many meshers there are, 1 to 10. Mesher q serves the classes whose place by size, from 0, leaves q when divided by this number.
+    /// The number of meshers, 1 to 10. Mesher q serves the classes whose place by size, from 0, modulo this number is
+    /// q.
     pub meshers: u32,
 }
 
 impl MeshPlan {
-    /// The words of a round, as far as there are any.
+    /// Returns the words of a round, or those of them that the plan has.
     pub(crate) fn words_of(&self, round: u32) -> &[u64]
         ensures { result.now ≡ words_in self.now.words.items round }
     {
@@ -32,12 +34,12 @@ impl MeshPlan {
 /// How many words a round has.
 const WORDS_A_ROUND: usize = 256;
 
-/// How long the threads of a run go on; None has no end.
+/// The limits at which the threads of a run stop. `None` means no limit.
 #[derive(Clone, Copy)]
 pub struct Limits {
-    /// After how many calls that were answered a mesher ends, also within a mesh.
+    /// The number of calls that aren't refused after which a mesher ends, even within a mesh.
     pub calls: Option<u32>,
-    /// How many attempts a worker makes at a command, 1 or more.
+    /// The greatest number of attempts that a worker makes at a command, 1 or more.
     pub tries: Option<u32>,
 }
 

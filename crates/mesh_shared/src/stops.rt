@@ -1,4 +1,4 @@
-//! Why a run in threads hands out nothing.
+//! Why a run in threads returns no result.
 ghost use Rattle.std.specs.Prelude.{◌≡◌};
 ghost use Rattle.mesh_shared.specs.Stops.{either_stop, error_of, first_of, stop_of};
 ghost use Rattle.mesh_shared.specs.declared.stops.RunError.{RunError};
@@ -9,10 +9,12 @@ use mesh_search::SearchError;
 use std::alloc::AllocError;
 use thiserror::Error;
 
-/// Why a run in threads hands out nothing: the first of these that some thread met, in the order in which they stand here.
+/// The reason why a run in threads returns no result: of the errors that its threads met, the first in the order of the
+/// variants.
 #[derive(Debug, Drop, PartialEq, Eq, Error)]
 pub enum RunError {
-    /// Memory was refused: for the seats, for the threads, or to a worker's `New`, to the views of a mesher or to its search.
+    /// An allocation failed: for the seats, for the threads, for a worker's `New`, for the views of a mesher or in its
+    /// search.
     #[error("out of memory")]
     Memory,
     /// A thread couldn't be started, or a searcher's answer isn't the one that was asked for.
@@ -21,7 +23,8 @@ pub enum RunError {
     /// The journal had no room for a worker's command.
     #[error("history full")]
     History,
-    /// All threads came to their ends, but journal and seats make no history, or memory was refused for it.
+    /// All threads came to their ends, but the journal and the seats make no history, or an allocation for the history
+    /// failed.
     #[error("{0}")]
     Finish(FinishError),
 }
@@ -67,7 +70,7 @@ impl From<EarlyExit> for RunError {
 /// Why a thread ended before it was done.
 #[derive(Clone, Copy, PartialEq, Eq)]
 pub(crate) enum EarlyExit {
-    /// Memory was refused.
+    /// An allocation failed.
     Memory,
     /// A thread couldn't be started, or a searcher's answer isn't the one that was asked for.
     Thread,
@@ -95,7 +98,7 @@ impl From<SearchError> for EarlyExit {
 }
 
 impl EarlyExit {
-    /// The one of two that is told.
+    /// Returns which of two stops is reported.
     fn first_of(self, other: EarlyExit) -> EarlyExit
         ensures { result ≡ first_of self other }
     {
@@ -107,7 +110,7 @@ impl EarlyExit {
     }
 }
 
-/// The one of two ends that is told.
+/// Returns which stop is reported, given those of two threads, if there are any.
 pub(crate) fn either_stop(one: Option<EarlyExit>, other: Option<EarlyExit>) -> Option<EarlyExit>
     ensures { result ≡ either_stop one other }
 {

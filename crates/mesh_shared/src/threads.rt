@@ -1,4 +1,4 @@
-//! Scripts on threads, with meshers at work between their commands.
+//! Runs scripts on threads, with meshers that run between the commands.
 ghost use Rattle.std.specs.Prelude.{◌≡◌, ◌≤◌, [], None, length, map, vec_capacity, vec_len, IfOk, IfSome};
 ghost use Rattle.std.specs.List.{All};
 ghost use Rattle.model_words.specs.Commands.{IsInRange};
@@ -21,15 +21,20 @@ use std::sync::Wait;
 use std::thread;
 use std::thread::{PromisedHandle, Scope, Threads};
 
-/// Runs 1 to 64 scripts, each in a thread of its own, on a book with an empty journal, and meshes meanwhile as the plan says, each mesher in a
-/// thread of its own. Hands out heap, root cells and the one history, in which each worker's entries are its whole script.
+/// Runs 1 to 64 scripts, each in a thread of its own, on a book with an empty journal. Meanwhile it meshes as the plan
+/// states, each mesher in a thread of its own. Returns the heap, the root cells and one history, in which each worker's
+/// entries are its whole script.
 ///
-/// A worker attempts its next command again while it is Blocked. Each command, and each call of a mesher, is one step under one taking of the
-/// book's lock; searches run outside it, and reads beside one another. No mesh is left running. A gate hears of each point on the way, for
-/// tests; `NoGate` holds nobody. Threads that were started are joined whatever comes of it.
+/// A worker retries its next command while it is `Blocked`. Each command, and each call of a mesher, is one step in one
+/// critical section of the book's lock. Searches run outside the lock, and reads run concurrently. No mesh is left
+/// running.
 ///
-/// A worker that meets an allocation failure or a full journal ends, as a mesher does whose views or search fail, and all others run to their own
-/// ends. Of several errors the first of Memory, Thread, History and Finish is told.
+/// Threads call the gate at points on their way, for tests; `NoGate` blocks no thread. Threads that were started are
+/// joined in every case.
+///
+/// A worker that meets an allocation failure or a full journal ends, and so does a mesher whose views or search fail.
+/// All others run to their own ends. If there are several errors, the first in the order `Memory`, `Thread`, `History`
+/// and `Finish` is returned.
 pub fn run_threads<R: Threads + Wait + Sync, G: Gate + Sync>(
     rt: &R,
     alloc: Global,
@@ -40,7 +45,9 @@ pub fn run_threads<R: Threads + Wait + Sync, G: Gate + Sync>(
 ) -> Result<Ended, RunError>
     requires ready { IsReady book.entries (length scripts.now) plan.now }
     requires range { All (λ script. All IsInRange script.now) scripts.now }
-    ensures { IfOk result (λ ended. HasRun (map (λ script. script.now) scripts.now) ended.history.items (memory_in ended.heap ended.roots)) }
+    ensures { IfOk result
+        (λ ended. HasRun (map (λ script. script.now) scripts.now) ended.history.items
+        (memory_in ended.heap ended.roots)) }
 {
     let ran = run_within(rt, alloc, book, scripts, plan, Limits::none(), gate)?;
     Ok(ended_of(ran, scripts, plan, Limits::none()))
@@ -48,9 +55,10 @@ pub fn run_threads<R: Threads + Wait + Sync, G: Gate + Sync>(
 
 /// Runs scripts as `run_threads` does, with meshers that are abandoned and workers that give up.
 ///
-/// Each mesher ends after `stop_after` calls of `begin` or `step` that were answered, also within a mesh. A worker makes at most `tries`
-/// attempts at a command, at least one, and ends where the last one is Blocked, which is no error. So each worker's entries are a beginning of
-/// its script, and the heap that is handed out may have running meshes, which its owner may step on or cancel.
+/// Each mesher ends after `stop_after` calls of `begin` or `step` that weren't refused, even within a mesh. A worker
+/// makes at most `tries` attempts at a command, at least one. It ends if the last attempt is `Blocked`, which is no
+/// error. So each worker's entries are a prefix of its script. The heap that is returned may have running meshes, which
+/// its owner may step or cancel.
 pub fn run_abandoned<R: Threads + Wait + Sync, G: Gate + Sync>(
     rt: &R,
     alloc: Global,
@@ -64,7 +72,9 @@ pub fn run_abandoned<R: Threads + Wait + Sync, G: Gate + Sync>(
     requires ready { IsReady book.entries (length scripts.now) plan.now }
     requires range { All (λ script. All IsInRange script.now) scripts.now }
     requires tries { 1 ≤ tries }
-    ensures { IfOk result (λ ended. HasBegun (map (λ script. script.now) scripts.now) ended.history.items (memory_in ended.heap ended.roots)) }
+    ensures { IfOk result
+        (λ ended. HasBegun (map (λ script. script.now) scripts.now) ended.history.items
+        (memory_in ended.heap ended.roots)) }
 {
     let limits = Limits {
         calls: Some(stop_after),
@@ -78,18 +88,18 @@ pub fn run_abandoned<R: Threads + Wait + Sync, G: Gate + Sync>(
     Ok(ended_of(ran, scripts, plan, asked))
 }
 
-/// A run's result, and what its threads did.
+/// The result of a run, and what its threads did.
 #[derive(Drop)]
 pub struct Ran {
-    /// Heap, root cells and the one history.
+    /// The heap, the root cells and the history.
     pub ended: Ended,
     /// What each mesher did, in the order of their numbers.
     pub meshers: Vec<Meshed>,
-    /// How each script ended, in their order.
+    /// How each script ended, in the order of the scripts.
     pub workers: Vec<Worked>,
 }
 
-/// What the threads of a run share.
+/// The references that the threads of a run share.
 #[derive(Drop)]
 struct RunContext<'s, R, G> {
     rt: &'s R,
@@ -98,10 +108,12 @@ struct RunContext<'s, R, G> {
     shared: &'s Shared,
 }
 
-/// Runs scripts as `run_threads` does, with meshers and workers that stop at these limits, and also returns what each of them did.
+/// Runs scripts as `run_threads` does, with meshers and workers that stop at these limits, and also returns what each
+/// of them did.
 ///
-/// It is for callers who want to know that: `run_threads` sets no limits, and `run_abandoned` both. A mesher that wasn't stopped by its limit of calls
-/// made all rounds of the plan. A worker's entries are its whole script, or it gave up the next command, after as many attempts as the limit says.
+/// `run_threads` sets no limits, and `run_abandoned` sets both. A mesher that wasn't stopped by its limit of calls made
+/// all rounds of the plan. A worker's entries are its whole script, or the worker gave up its next command after the
+/// number of attempts that the limit allows.
 pub fn run_within<R: Threads + Wait + Sync, G: Gate + Sync>(
     rt: &R,
     alloc: Global,
@@ -114,11 +126,17 @@ pub fn run_within<R: Threads + Wait + Sync, G: Gate + Sync>(
     requires ready { IsReady book.entries (length scripts.now) plan.now }
     requires range { All (λ script. All IsInRange script.now) scripts.now }
     requires tries { IfSome limits.tries (λ tries. 1 ≤ tries) }
-    ensures begun { IfOk result (λ ran. HasBegun (map (λ script. script.now) scripts.now) ran.ended.history.items (memory_in ran.ended.heap ran.ended.roots)) }
+    ensures begun { IfOk result
+        (λ ran. HasBegun (map (λ script. script.now) scripts.now) ran.ended.history.items
+        (memory_in ran.ended.heap ran.ended.roots)) }
     ensures whole { limits.tries ≡ None
-        → IfOk result (λ ran. HasRun (map (λ script. script.now) scripts.now) ran.ended.history.items (memory_in ran.ended.heap ran.ended.roots)) }
+        → IfOk result
+        (λ ran. HasRun (map (λ script. script.now) scripts.now) ran.ended.history.items
+        (memory_in ran.ended.heap ran.ended.roots)) }
     ensures meshed { IfOk result (λ ran. AreMeshed plan.now limits.calls ran.meshers.items) }
-    ensures worked { IfOk result (λ ran. AreWorked limits.tries (map (λ script. script.now) scripts.now) ran.ended.history.items ran.workers.items) }
+    ensures worked { IfOk result
+        (λ ran. AreWorked limits.tries
+        (map (λ script. script.now) scripts.now) ran.ended.history.items ran.workers.items) }
 {
     let counts = counts_of(alloc, scripts)?;
     let (shared, seats) = Shared::open(alloc, book, counts.as_slice())?;
@@ -137,10 +155,11 @@ pub fn run_within<R: Threads + Wait + Sync, G: Gate + Sync>(
     })
 }
 
-/// The result of a run of this plan within these limits. A run of another plan, or within other limits, is not to be passed.
+/// Returns the result of a run. The run must be one of this plan within these limits.
 fn ended_of(ran: Ran, scripts: &[&[Command]], plan: &MeshPlan, limits: Limits) -> Ended
     requires meshed { AreMeshed plan.now limits.calls ran.meshers.items }
-    requires worked { AreWorked limits.tries (map (λ script. script.now) scripts.now) ran.ended.history.items ran.workers.items }
+    requires worked { AreWorked limits.tries
+        (map (λ script. script.now) scripts.now) ran.ended.history.items ran.workers.items }
     ensures { result ≡ ran.ended }
 {
     ran.ended
@@ -157,7 +176,8 @@ fn counts_of(alloc: Global, scripts: &[&[Command]]) -> Result<Vec<usize>, AllocE
     Ok(counts)
 }
 
-/// Serves each script from its seat, and meshes meanwhile. Gives the seats back once all threads have ended, and what meshers and workers tell.
+/// Serves each script from its seat, and meshes meanwhile. Once all threads have ended, it returns the seats, and what
+/// each mesher and each worker did.
 fn serve_all<R: Threads + Wait + Sync, G: Gate + Sync>(
     context: RunContext<'_, R, G>,
     seats: Vec<Seat>,
@@ -170,7 +190,9 @@ fn serve_all<R: Threads + Wait + Sync, G: Gate + Sync>(
     requires range { All (λ script. All IsInRange script.now) scripts.now }
     requires plan { IsFairPlan plan.now }
     requires tries { IfSome limits.tries (λ tries. 1 ≤ tries) }
-    ensures served { IfOk result (λ service. AreServed limits.tries (map (λ script. script.now) scripts.now) service.seats.items service.workers.items) }
+    ensures served { IfOk result
+        (λ service. AreServed limits.tries
+        (map (λ script. script.now) scripts.now) service.seats.items service.workers.items) }
     ensures meshed { IfOk result (λ service. AreMeshed plan.now limits.calls service.meshers.items) }
 {
     let rt = context.rt;
@@ -186,7 +208,9 @@ fn serve_all<R: Threads + Wait + Sync, G: Gate + Sync>(
             requires range { All (λ script. All IsInRange script.now) scripts.now }
             requires plan { IsFairPlan plan.now }
             requires tries { IfSome limits.tries (λ tries. 1 ≤ tries) }
-            ensures served { IfOk result (λ service. AreServed limits.tries (map (λ script. script.now) scripts.entry.now) service.seats.items service.workers.items) }
+            ensures served { IfOk result
+                (λ service. AreServed limits.tries
+                (map (λ script. script.now) scripts.entry.now) service.seats.items service.workers.items) }
             ensures meshed { IfOk result (λ service. AreMeshed plan.entry.now limits.calls service.meshers.items) }
         {
             let mut workers = Vec::with_capacity(alloc, seats.len())?;
@@ -213,7 +237,8 @@ fn serve_all<R: Threads + Wait + Sync, G: Gate + Sync>(
     )
 }
 
-/// Starts a thread for each seat, which serves its script, until one is refused: what refused it is told.
+/// Starts a thread for each seat, which serves the seat's script, until a thread can't be started. Returns why that
+/// thread couldn't be started, or `None` if all were.
 fn start_workers<'s, E, R: Threads + Wait + Sync, G: Gate + Sync>(
     scope: &'s Scope<'s, E>,
     context: RunContext<'s, R, G>,
@@ -248,7 +273,8 @@ fn start_workers<'s, E, R: Threads + Wait + Sync, G: Gate + Sync>(
     None
 }
 
-/// Starts a thread for each mesher, and tells what refused the last that was refused.
+/// Starts a thread for each mesher. Returns why the last thread that couldn't be started failed, or `None` if all were
+/// started.
 fn start_meshers<'s, E, R: Threads + Wait + Sync, G: Gate + Sync>(
     scope: &'s Scope<'s, E>,
     context: RunContext<'s, R, G>,

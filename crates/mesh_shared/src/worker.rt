@@ -14,22 +14,23 @@ use std::thread::Promise;
 /// How a worker's script ended in a run.
 #[derive(Clone, Copy)]
 pub struct Worked {
-    /// How many attempts the worker made at the command that it gave up; 0 if it gave up none.
+    /// How many attempts the worker made at the command that it gave up, or 0 if it gave up none.
     pub tried: u32,
 }
 
-/// What a worker's thread gives back.
+/// What a worker's thread returns.
 #[derive(Drop)]
 pub(crate) struct Served {
     /// The seat, with the calls that were answered.
     pub seat: Seat,
-    /// How the script ended.
+    /// The way in which the script ended.
     pub worked: Worked,
-    /// Why the worker ended before its script did. A worker that gave up a command which was held back has nothing to tell.
+    /// Why the worker ended before its script did. `None` if its script ended, or if it gave up a blocked command.
     pub stop: Option<EarlyExit>,
 }
 
-/// That the calls of a worker's seat are a beginning of its script, and all of it where nothing stopped it and it gave up no command.
+/// The promise of a worker: the commands of its seat's calls are a prefix of its script. They are the whole script if
+/// nothing stopped the worker and it gave up no command.
 #[derive(Clone, Copy)]
 pub(crate) struct Works<'a> {
     pub script: &'a [Command],
@@ -40,7 +41,8 @@ impl<'a> Promise<Served> for Works<'a> {
     ghost kept_by = { λ p served. HasWorked p.tries p.script.now served.seat.calls served.worked.tried served.stop };
 }
 
-/// Serves a script from a seat without calls, one command after another, each again while it is Blocked, as long as there are tries.
+/// Serves a script from a seat without calls, one command after another. Each command is retried while it is `Blocked`,
+/// as long as tries are left.
 pub(crate) fn serve<R: Wait, G: Gate>(
     rt: &R,
     gate: &G,
@@ -58,7 +60,7 @@ pub(crate) fn serve<R: Wait, G: Gate>(
     Served { seat, worked, stop }
 }
 
-/// Makes the calls of a script: how it ended, and why it stopped before its end.
+/// Makes the calls of a script. Returns how the script ended, and why the worker stopped before its end, if it did.
 fn work<R: Wait, G: Gate>(
     rt: &R,
     gate: &G,

@@ -30,7 +30,8 @@ pub absorbed_is : (groups : List (Option GroupEntry)) (s d : ℕ) (a b : GroupEn
     → absorbed groups s d a ≡ merged_groups groups s d a b
 absorbed_is groups s d a b two at = grind (arith, get_or-set_other)
 
--- the groups of a mergeable pair after the source was taken out, the destination took its members and slots, and its spans were led there
+-- the groups of a mergeable pair after the source was taken out, the destination took its members and slots, and its
+-- spans were led there
 pub record HasMerged (spans spans' : List SpanEntry) (groups after : List (Option GroupEntry)) (s d : ℕ) (a : GroupEntry) : Type 0 where
   pub pair : IsMergeable (record { spans = spans; groups = groups }) d s
   pub at : group_at groups s ≡ Some a

@@ -31,7 +31,8 @@ pub record IsMoved (new : List SpanEntry) (members : List ℕ) (count group i : 
   pub is : slice_index members place ≡ i
   pub belongs : (span_at new i).group ≡ group
 
--- the first `count` of these spans belong to the group, and every other span to the one that it did; nothing else changes
+-- the first `count` of these spans belong to the group, and every other span to the one that it did; nothing else
+-- changes
 pub record Regroups (old new : List SpanEntry) (members : List ℕ) (count group : ℕ) : Type 0 where
   pub long : length new ≡ length old
   pub firsts : (i : ℕ) → (span_at new i).first ≡ (span_at old i).first

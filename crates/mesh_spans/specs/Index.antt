@@ -1,4 +1,4 @@
--- The span index as two lists: the spans, and the groups with what stands in their slots.
+-- The span index as two lists: the spans, and the groups with the content of their slots.
 use Rattle.std.specs.Prelude.{◌≡◌, ℕ, ◌+◌, ◌<◌, ◌≤◌, Bool, false, ◌&&◌, not, if◌then◌else◌, nat_eq, nat_lt, count_by, is_some, List, [], ◌∷◌, Option, Some, None, length, replicate, slice_get, slice_index, slice_index_or, slice_set, refl}
 use Rattle.std.specs.Option.{option_map}
 use Rattle.std.specs.Coded.{Coded, code_by, coded×, coded_ℕ, coded_bool, coded_list, coded_option}
@@ -12,7 +12,8 @@ pub record SpanEntry : Type 0 where
   pub class : ℕ
   pub group : ℕ
 
--- a group: its class by its size, its members by their numbers, its physical pages, what stands in each slot, and whether it is in a mesh
+-- a group: its class by its size, its members by their numbers, its physical pages, the content of each slot, and
+-- whether it is in a mesh
 pub record GroupEntry : Type 0 where
   pub class : ℕ
   pub members : List ℕ
@@ -46,7 +47,7 @@ index_code =
     code_by (List SpanEntry × List (Option GroupEntry)) (coded× (coded_list span_code) (coded_list (coded_option group_code)))
     (λ x. (x.spans, x.groups)) (λ p. record { spans = p.0; groups = p.1 }) (λ _. refl)
 
--- what stands for a span that there is not
+-- the default for a span that doesn't exist
 abbrev pub no_span : SpanEntry
 no_span = record { first = 0; class = 0; group = 0 }
 
@@ -62,7 +63,7 @@ group_at groups n = slice_index_or groups n None
 abbrev pub address_in : SpanEntry → ℕ → ℕ
 address_in span k = slot_address span.first span.class k
 
--- what stands in a slot of a group
+-- the content of a slot of a group
 abbrev pub slot_in : Option GroupEntry → ℕ → Option Slot
 slot_in None k = None
 slot_in (Some group) k = slice_index_or group.slots k None
@@ -72,7 +73,7 @@ abbrev pub named_in : ℕ → Option Slot → Option (ℕ × ℕ)
 named_in member None = None
 named_in member (Some slot) = if nat_eq slot.member member then Some (slot.serial, slot.len) else None
 
--- the record of a slot of a span: what stands in this slot of its group, where it is an object of the span
+-- the record of a slot of a span: the content of this slot of its group, if it is an object of the span
 abbrev pub span_record : Option SpanEntry → List (Option GroupEntry) → ℕ → Option (ℕ × ℕ)
 span_record None groups k = None
 span_record (Some span) groups k = named_in span.first (slot_in (group_at groups span.group) k)
@@ -163,7 +164,7 @@ pub record IsOwned (spans : List SpanEntry) (groups : List (Option GroupEntry)) 
 abbrev pub AreUnused : Index → ℕ → Type 0
 AreUnused index page = (i : ℕ) → i < length index.spans → (span_at index.spans i).first + pages_of (span_at index.spans i).class ≤ page
 
--- the slot is one of a span of the class, and nothing stands in it in the span's group
+-- the slot is one of a span of the class, and it is free in the span's group
 pub record IsVacant (index : Index) (class span k : ℕ) : Type 0 where
   pub group : GroupEntry
   pub there : group_at index.groups (span_at index.spans span).group ≡ Some group
@@ -173,7 +174,7 @@ pub record IsVacant (index : Index) (class span k : ℕ) : Type 0 where
   pub in_range : k < slots_of class
   pub free : slice_get group.slots k ≡ Some None
 
--- an object of this serial and this length stands in the slot of the span
+-- an object of this serial and this length is in the slot of the span
 pub record IsRecorded (index : Index) (span k serial len : ℕ) : Type 0 where
   pub below : span < length index.spans
   pub group : GroupEntry

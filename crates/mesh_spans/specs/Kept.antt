@@ -7,7 +7,8 @@ use Rattle.mesh_spans.specs.GroupBins.{IsFiled}
 use Rattle.mesh_spans.specs.Index.{GroupEntry, IsGroup, group_at}
 use Rattle.mesh_spans.specs.declared.totals.Totals.{Totals}
 
--- the groups are no more than there are numbers, each is one, each is in its bin, and the counts are those over all of them
+-- the groups are no more than there are numbers, each is one, each is in its bin, and the counts are those over all of
+-- them
 pub record AreKept (groups : List (Option GroupEntry)) (bins : List (set.FinSet nat_cmp)) (totals : Totals) : Type 0 where
   pub few : length groups ≤ 65536
   pub each : (n : ℕ) (group : GroupEntry) → group_at groups n ≡ Some group → IsGroup group

@@ -1,4 +1,4 @@
-//! `Extent`, where one span lies.
+//! `Extent`, the location of one span.
 ghost use Rattle.std.specs.Prelude.{◌≡◌, ℕ, ◌+◌, ◌*◌, ◌<◌, ◌≤◌, Some, IfSome};
 ghost use Rattle.mesh_class.specs.Classes.{pages_of, slots_of};
 ghost use Rattle.mesh_spans.specs.Changes.{in_group};
@@ -8,10 +8,10 @@ use crate::Slot;
 use mesh_class::Class;
 use std::marker::Model;
 
-/// The bytes of a page, as a part of addresses.
+/// The number of bytes of a page, for arithmetic on addresses.
 pub(crate) const PAGE_BYTES: u32 = 4096;
 
-/// Where one span lies, and which group it belongs to.
+/// The location of one span, and the group that it belongs to.
 #[derive(Drop)]
 pub(crate) struct Extent {
     // The first virtual page.
@@ -32,7 +32,7 @@ impl Model for Extent {
 }
 
 impl Extent {
-    /// The span of a class from a virtual page on, of a group.
+    /// Returns the span of a class that starts at the virtual page `first` and belongs to the group `group`.
     pub fn new(first: u32, class: Class, group: u32) -> Extent
         requires first { 1 ≤ first }
         requires last { first + pages_of class ≤ 65536 }
@@ -69,14 +69,14 @@ impl Extent {
         self.class
     }
 
-    /// Lets the span belong to another group.
+    /// Moves the span to another group.
     pub fn join(&mut self, group: u32)
         ensures { self.new ≡ in_group group self.old }
     {
         self.group = group;
     }
 
-    /// The slot and the offset in it of an address. None only where the address is outside the span.
+    /// Returns the slot of an address and the offset in the slot. `None` only if the address is outside the span.
     pub fn find(&self, addr: u32) -> Option<(Slot, u32)>
         ensures slot { IfSome result (λ r. r.0 < slots_of self.now.class) }
         ensures offset { IfSome result (λ r. r.1 < self.now.class) }

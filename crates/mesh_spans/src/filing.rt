@@ -1,4 +1,4 @@
-//! How a group is filed: the bin of its class and fullness in which its number is, and what it counts.
+//! The filing of groups: which bin of a class and fullness has a group's number, and what the group adds to the counts.
 ghost use Rattle.std.specs.Prelude.{◌≡◌, ℕ, ◌+◌, ◌*◌, ◌<◌, ◌≤◌, ◌||◌, length, IfOk, IfSome};
 ghost use Rattle.std.specs.FinSet as set;
 ghost use Rattle.mesh_bins.specs.Words.{IsLeast};
@@ -21,14 +21,14 @@ const BINS: usize = 30;
 /// How a group is filed.
 #[derive(Clone, Copy)]
 pub(crate) struct Filed {
-    /// The bin that it is in, where it is in one.
+    /// The place of the bin that has the group's number, or `None` if no bin has it.
     pub bin: Option<u32>,
-    /// What it counts.
+    /// What the group adds to the counts.
     pub counts: Totals,
 }
 
 impl Filed {
-    /// How a group is to be filed, or a number that is none.
+    /// Returns how a group, or a number without a group (`None`), is to be filed.
     pub fn of(group: &Option<Group>) -> Filed
         ensures bin { result.bin ≡ file_of group.now }
         ensures place { IfSome result.bin (λ place. place < 30) }
@@ -43,7 +43,7 @@ impl Filed {
     }
 }
 
-/// The bins, with no group in any of them. They take all the memory that they will ever use.
+/// Makes the bins, with no group in any of them. It allocates all the memory that they will ever use.
 pub(crate) fn new_bins(alloc: Global) -> Result<Vec<Bin>, AllocError>
     ensures long { IfOk result (λ bins. length bins.items ≡ 30) }
     ensures none { IfOk result (λ bins. (place : ℕ) → bin_at bins.items place ≡ set.empty) }
@@ -55,7 +55,7 @@ pub(crate) fn new_bins(alloc: Global) -> Result<Vec<Bin>, AllocError>
     Ok(bins)
 }
 
-/// The bin of a group.
+/// The bin that a group is to be filed in, or `None` if it belongs in none.
 fn bin_of(group: &Option<Group>) -> Option<u32>
     ensures bin { result ≡ file_of group.now }
     ensures few { IfSome result (λ place. place < 30) }
@@ -67,7 +67,7 @@ fn bin_of(group: &Option<Group>) -> Option<u32>
     Some(bin_place(group.class(), group.fullness()))
 }
 
-/// The place of the bin of a class and a fullness among all bins.
+/// Returns the place, among all bins, of the bin for a class and a fullness.
 fn bin_place(class: Class, fullness: Fullness) -> u32
     ensures place { result ≡ 3 * class_index class + fullness_place fullness }
     ensures few { result < 30 }
@@ -77,7 +77,7 @@ fn bin_place(class: Class, fullness: Fullness) -> u32
     3 * class.index() + fullness.place()
 }
 
-/// What a group counts, nothing where there is none.
+/// Returns what a group adds to the counts, which is nothing if there is no group.
 fn counts_of(group: &Option<Group>) -> Totals
     ensures counts { result ≡ counts_of group.now }
     ensures few { IsWithin 1 result }
@@ -93,7 +93,7 @@ fn counts_of(group: &Option<Group>) -> Totals
     }
 }
 
-/// Moves a number from one bin to another. Nothing is written where both are one.
+/// Moves a number from the bin at `from` to the bin at `to`. Nothing is written if both are the same bin.
 pub(crate) fn rebin(bins: &mut Vec<Bin>, n: u32, from: Option<u32>, to: Option<u32>)
     requires number { n < 65536 }
     requires sized { length bins.old.items ≡ 30 }
@@ -107,7 +107,7 @@ pub(crate) fn rebin(bins: &mut Vec<Bin>, n: u32, from: Option<u32>, to: Option<u
     }
 }
 
-/// Takes a number out of a bin.
+/// Removes a number from a bin.
 pub(crate) fn unfile(bins: &mut Vec<Bin>, n: u32, place: Option<u32>)
     requires { HasPlace bins.old.items n place }
     ensures { IsLeftWith bins.new.items (unfiled bins.old.items n place) }
@@ -127,12 +127,14 @@ pub(crate) fn file(bins: &mut Vec<Bin>, n: u32, place: Option<u32>)
     }
 }
 
-/// The lowest group of the class that is in no mesh and has a free slot.
+/// The lowest group of the class that is in no mesh and has a free slot, or `None` if there is no such group.
 pub(crate) fn lowest_open(bins: &[Bin], class: Class) -> Option<u32>
     requires sized { length bins.now ≡ 30 }
     ensures place { class_index class < 10 }
     ensures one { (size : ℕ) → IsClass size → class_index size ≡ class_index class → size ≡ class }
-    ensures least { IsLeast (λ n. set.contains (bin_at bins.now (3 * class_index class)) n || set.contains (bin_at bins.now (3 * class_index class + 1)) n) 0 65536 result }
+    ensures least { IsLeast (λ n.
+        set.contains (bin_at bins.now (3 * class_index class)) n || set.contains
+        (bin_at bins.now (3 * class_index class + 1)) n) 0 65536 result }
 {
     let empty = bin_place(class, Fullness::Empty);
     let partial = bin_place(class, Fullness::Partial);
@@ -142,7 +144,8 @@ pub(crate) fn lowest_open(bins: &[Bin], class: Class) -> Option<u32>
     )
 }
 
-/// The lowest group of the class from a number on that is in no mesh, not empty and not full.
+/// The lowest group of the class from a number on that is in no mesh, not empty and not full, or `None` if there is no
+/// such group.
 pub(crate) fn lowest_partial(bins: &[Bin], class: Class, from: u32) -> Option<u32>
     requires sized { length bins.now ≡ 30 }
     ensures place { class_index class < 10 }

@@ -2,7 +2,7 @@
 ghost use Rattle.std.specs.Prelude.{◌≡◌, ◌≤◌};
 ghost use Rattle.mesh_spans.specs.GroupBins.{fullness_place};
 
-/// How full a group is: a class has a bin for each.
+/// How full a group is. A class has a bin for each case.
 #[derive(Clone, Copy, PartialEq, Eq)]
 pub(crate) enum Fullness {
     /// No slot is occupied.
@@ -14,7 +14,7 @@ pub(crate) enum Fullness {
 }
 
 impl Fullness {
-    /// Which of the three bins of a class.
+    /// Returns the position, among the three bins of a class, of the bin for this fullness.
     pub(crate) fn place(self) -> u32
         ensures place { result ≡ fullness_place self }
         ensures few { result ≤ 2 }

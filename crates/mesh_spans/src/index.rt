@@ -25,7 +25,7 @@ use std::marker::Model;
 
 /// The index of all spans and groups.
 ///
-/// Spans and groups are numbered in the order of their making, and no number is used again.
+/// Spans and groups are numbered in the order in which they are made, and no number is reused.
 pub struct Spans {
     // Takes the memory of new spans.
     alloc: Global,
@@ -53,7 +53,8 @@ impl Drop for Spans {
 }
 
 impl Spans {
-    /// An index with no span. It keeps the allocator for the spans that are added. The table of virtual pages is allocated here.
+    /// Makes an index without spans. It keeps the allocator for the spans that are added. The table of virtual pages is
+    /// allocated here.
     ///
     /// An error is an allocation failure.
     pub fn new(alloc: Global) -> Result<Spans, AllocError>
@@ -70,15 +71,15 @@ impl Spans {
         })
     }
 
-    /// What always holds: spans and groups fit together.
+    /// States the invariant for callers: spans and groups fit together. The call changes nothing.
     pub fn sound(&self)
         ensures { IsIndex self.now.spans self.now.groups }
     {
         let _spans = self.spans.len();
     }
 
-    /// Adds a span of these virtual and physical pages, with a group of its own, and returns its number. No other call on an index that was made
-    /// allocates. An error is an allocation failure; the index is unchanged then.
+    /// Adds a span of these virtual and physical pages, with a group of its own, and returns its number. An error is an
+    /// allocation failure; the index is unchanged then. Once an index is made, no other call on it allocates.
     pub fn add_span(&mut self, class: Class, first: u32, pages: &[Page]) -> Result<Span, AllocError>
         requires first { 1 ≤ first }
         requires last { first + pages_of class ≤ 65536 }
@@ -88,7 +89,8 @@ impl Spans {
         ensures spans { IfOk result (λ span. self.new.spans ≡ self.old.spans ++ new_span first class span ∷ []) }
         ensures groups { IfOk result (λ span.
             self.new.groups ≡ self.old.groups ++ Some (new_group class span pages.now) ∷ []) }
-        ensures table { IfOk result (λ span. groups_of self.new ≡ groups_of self.old ++ fresh_group span class first ∷ []) }
+        ensures table { IfOk result
+            (λ span. groups_of self.new ≡ groups_of self.old ++ fresh_group span class first ∷ []) }
         ensures vacant { IfOk result (λ span. (slot : ℕ) → slot < slots_of class → IsVacant self.new class span slot) }
         ensures err { OnErr result (self.new ≡ self.old) }
     {
@@ -102,10 +104,14 @@ impl Spans {
         Ok(span)
     }
 
-    /// The slot that the next object of the class takes: in the lowest group of the class that is in no mesh and has a free slot, the
-    /// free slot at place `word mod count` among its free ones, ascending, of its first member. None only where there is no such group.
+    /// Returns the slot that the next object of the class takes, with its span. The group is the lowest of the class
+    /// that is in no mesh and has a free slot. The slot is at place `word mod count` in the ascending list of the
+    /// group's free slots, of which there are `count`. The span is the group's first member.
+    ///
+    /// `None` only if there is no such group.
     pub fn open_slot(&self, class: Class, word: u64) -> Option<(Span, Slot)>
-        ensures picked { IfSome result (λ r. IsSomeAnd (find (takes_objects (is_closed self.now) class) (groups_of self.now))
+        ensures picked { IfSome result
+            (λ r. IsSomeAnd (find (takes_objects (is_closed self.now) class) (groups_of self.now))
             (λ group. IsPicked self.now group word r.0 r.1)) }
         ensures vacant { IfSome result (λ r. IsVacant self.now class r.0 r.1) }
         ensures none { IfNone result (find (takes_objects (is_closed self.now) class) (groups_of self.now) ≡ None) }
@@ -116,10 +122,12 @@ impl Spans {
         Some((group.first_member(), slot))
     }
 
-    /// The lowest group of the class at or above `from` that is in no mesh, not empty and not full. None only where there is none.
+    /// The lowest group of the class at or above `from` that is in no mesh, not empty and not full. `None` only if
+    /// there is no such group.
     pub fn next_candidate(&self, class: Class, from: u32) -> Option<u32>
         ensures least { IsLeast (λ n. is_partial (group_at self.now.groups n) class) from 65536 result }
-        ensures table { result ≡ option_map (λ g. g.number) (find (candidate_from (is_closed self.now) class from) (groups_of self.now)) }
+        ensures table { result ≡ option_map (λ g. g.number)
+            (find (candidate_from (is_closed self.now) class from) (groups_of self.now)) }
         ensures next { IfSome result (λ n. IsSomeAnd (group_at self.now.groups n) (λ group.
             candidates_from self.now class from ≡ table_group self.now.spans n group ∷ candidates_from self.now class (n + 1))) }
         ensures none { IfNone result (candidates_from self.now class from ≡ []) }
@@ -150,19 +158,20 @@ impl Spans {
         self.groups.put(group, slot, Some(object));
     }
 
-    /// Takes the record of a slot out.
+    /// Removes the record of a slot.
     pub fn vacate(&mut self, span: Span, slot: Slot)
         requires { IsSome (record_at self.old span slot) }
         ensures spans { self.new.spans ≡ self.old.spans }
         ensures groups { self.new.groups ≡ with_entry self.old.groups (span_at self.old.spans span).group slot None }
-        ensures table { groups_of self.new ≡ map (changed_at (span_at self.old.spans span).group (emptied_at slot)) (groups_of self.old) }
+        ensures table { groups_of self.new
+            ≡ map (changed_at (span_at self.old.spans span).group (emptied_at slot)) (groups_of self.old) }
         ensures closed { (n : ℕ) → is_closed self.new n ≡ is_closed self.old n }
     {
         let group = self.extent(span).group();
         self.groups.put(group, slot, None);
     }
 
-    /// Says that a group is in a mesh: it takes no new objects.
+    /// Marks a group as being in a mesh. It then takes no new objects.
     pub fn close(&mut self, n: u32)
         requires { IsSome (group_at self.old.groups n) }
         ensures spans { self.new.spans ≡ self.old.spans }
@@ -173,7 +182,7 @@ impl Spans {
         self.set_in_mesh(n, true);
     }
 
-    /// Says that a group is in no mesh.
+    /// Marks a group as being in no mesh.
     pub fn reopen(&mut self, n: u32)
         requires { IsSome (group_at self.old.groups n) }
         ensures spans { self.new.spans ≡ self.old.spans }
@@ -184,11 +193,12 @@ impl Spans {
         self.set_in_mesh(n, false);
     }
 
-    /// Merges the group `src` into `dst`: its members and objects are those of `dst`, after its own, on the pages of `dst`. The number
-    /// `src` is no group any more.
+    /// Merges the group `src` into `dst`: the members and objects of `src` are appended to those of `dst`, on the pages
+    /// of `dst`. After that no group has the number `src`.
     pub fn merge(&mut self, dst: u32, src: u32)
         requires pair { IsMergeable self.old dst src }
-        ensures merges { (a b : GroupEntry) → group_at self.old.groups src ≡ Some a → group_at self.old.groups dst ≡ Some b
+        ensures merges { (a b : GroupEntry) → group_at self.old.groups src ≡ Some a
+            → group_at self.old.groups dst ≡ Some b
             → Merges self.old self.new src dst a b }
         ensures table { (a : TableGroup) → find (has_number src) (groups_of self.old) ≡ Some a
             → groups_of self.new ≡ merged (groups_of self.old) a dst }
@@ -200,7 +210,7 @@ impl Spans {
         }
     }
 
-    /// Takes a group out; its number is no group any more.
+    /// Removes a group. After that no group has its number.
     pub fn retire(&mut self, n: u32)
         requires { IsSome (group_at self.old.groups n) }
         ensures spans { self.new.spans ≡ self.old.spans }
@@ -211,9 +221,9 @@ impl Spans {
         self.groups.take(n);
     }
 
-    /// What the groups count together: their live objects, the bytes of these, and the virtual pages of their members.
+    /// The counts over all groups: their live objects, the bytes of these, and the virtual pages of their members.
     ///
-    /// The counts are kept as groups change; no group is looked at here.
+    /// The counts are updated as groups change. This call visits no group.
     pub fn totals(&self) -> Totals
         ensures objects { result.objects ≡ sum_by object_count (groups_of self.now) }
         ensures bytes { result.bytes ≡ sum_by byte_count (groups_of self.now) }
@@ -222,7 +232,8 @@ impl Spans {
         self.groups.totals()
     }
 
-    /// Serial and length of the object that stands in a slot of a span. None only where none of its objects does.
+    /// Returns serial and length of the object in a slot of a span. `None` only if no object of the span is in the
+    /// slot.
     pub fn record(&self, span: Span, slot: Slot) -> Option<(u32, u32)>
         ensures value { result ≡ record_at self.now span slot }
         ensures object { IfSome result (λ r. IsRecorded self.now span slot r.0 r.1) }
@@ -232,8 +243,8 @@ impl Spans {
         group.object_of(extent.first(), slot)
     }
 
-    /// The span, the slot and the offset in the slot of an address: a span of a group that there is now. None only where the address is in no
-    /// member of a group.
+    /// Returns the span and the slot that contain an address, and the address's offset in the slot. The span belongs to
+    /// a current group. `None` only if the address is in no member of a group.
     pub fn find(&self, addr: u32) -> Option<(Span, Slot, u32)>
         ensures span { IfSome result (λ r. r.0 < length self.now.spans) }
         ensures sound { IfSome result (λ r. IsSpan (span_at self.now.spans r.0)) }
@@ -241,7 +252,8 @@ impl Spans {
         ensures slot { IfSome result (λ r. r.1 < slots_of (span_at self.now.spans r.0).class) }
         ensures offset { IfSome result (λ r. r.2 < (span_at self.now.spans r.0).class) }
         ensures address { IfSome result (λ r. address_in (span_at self.now.spans r.0) r.1 + r.2 ≡ addr) }
-        ensures found { (n place k o : ℕ) (group : GroupEntry) → group_at self.now.groups n ≡ Some group → place < length group.members
+        ensures found { (n place k o : ℕ) (group : GroupEntry) → group_at self.now.groups n ≡ Some group
+            → place < length group.members
             → k < slots_of group.class → o < group.class
             → slot_address (span_at self.now.spans (slice_index group.members place)).first group.class k + o ≡ addr
             → IsFoundAt self.now n (slice_index group.members place) k o result }
@@ -278,18 +290,19 @@ impl Spans {
         self.extent(span).address(slot)
     }
 
-    /// The group of a number. None only where the number is no group now.
+    /// Returns the group with this number. `None` only if no group has the number now.
     pub fn group(&self, number: u32) -> Option<&Group>
         ensures { option_copied result ≡ group_at self.now.groups number }
     {
         self.groups.get(number)
     }
 
-    /// The span that has the virtual page of an address, where its group is one now.
+    /// Returns the span that owns the virtual page of an address, if the span's group still exists.
     fn live_span(&self, addr: u32) -> Option<Span>
         ensures span { IfSome result (λ span. span < length self.now.spans) }
         ensures live { IfSome result (λ span. IsSome (group_at self.now.groups (span_at self.now.spans span).group)) }
-        ensures found { (n place k o : ℕ) (group : GroupEntry) → group_at self.now.groups n ≡ Some group → place < length group.members
+        ensures found { (n place k o : ℕ) (group : GroupEntry) → group_at self.now.groups n ≡ Some group
+            → place < length group.members
             → k < slots_of group.class → o < group.class
             → slot_address (span_at self.now.spans (slice_index group.members place)).first group.class k + o ≡ addr
             → IsLedTo self.now n (slice_index group.members place) group.class result }
@@ -300,7 +313,7 @@ impl Spans {
         Some(span)
     }
 
-    /// Where a span lies.
+    /// The location of a span.
     fn extent(&self, span: Span) -> &Extent
         requires { span < length self.now.spans }
         ensures { result.now ≡ span_at self.now.spans span }
@@ -308,7 +321,7 @@ impl Spans {
         &self.spans[span.index()]
     }
 
-    /// Says that a group is in a mesh, or in none.
+    /// Sets whether a group is in a mesh.
     fn set_in_mesh(&mut self, n: u32, in_mesh: bool)
         requires { IsSome (group_at self.old.groups n) }
         ensures spans { self.new.spans ≡ self.old.spans }
@@ -319,7 +332,7 @@ impl Spans {
     }
 }
 
-/// Lets spans belong to another group.
+/// Moves spans to another group.
 fn regroup(spans: &mut Vec<Extent>, members: &[Span], group: u32)
     requires { (place : ℕ) → place < length members.now → slice_index members.now place < length spans.old.items }
     ensures { Regroups spans.old.items spans.new.items members.now (length members.now) group }

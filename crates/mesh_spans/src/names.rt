@@ -3,7 +3,7 @@ ghost use Rattle.std.specs.Prelude.{◌≡◌, ◌*◌, ◌<◌, ◌^◌};
 
 use std::marker::Model;
 
-/// The number of a span, in the order of making, from 0. A group has the number of its first span.
+/// The number of a span, from 0, in the order in which spans are made. A group has the number of its first span.
 #[derive(Clone, Copy, Default, PartialEq, Eq)]
 pub struct Span(u32);
 

@@ -1,4 +1,4 @@
-//! `Owners`, which span has each virtual page.
+//! `Owners`, the table of the spans that own the virtual pages.
 ghost use Rattle.std.specs.Prelude.{◌≡◌, ℕ, ◌+◌, ◌<◌, ◌≤◌, ◌/◌, None, [], IfOk, length, slice_index_or, vec_capacity};
 ghost use Rattle.mesh_spans.specs.Index.{OwnsUpTo};
 
@@ -7,13 +7,13 @@ use crate::extent::PAGE_BYTES;
 use std::alloc::{AllocError, Global};
 use std::marker::Model;
 
-/// How many numbers of virtual pages there are, the unused 0 among them.
+/// How many numbers of virtual pages there are, including the unused number 0.
 const VIRTUAL_PAGES: usize = 65_536;
 
-/// By virtual page the span that has it.
+/// For each virtual page number, the span that owns the page.
 ///
-/// There is room for all pages from the beginning; a page's place comes to be when it or a later page is first owned, so that no more
-/// memory is touched than that.
+/// Capacity for all pages is allocated at the start. The list grows to a page's place when that page or a later one is
+/// first owned, so memory beyond that is never touched.
 #[derive(Drop)]
 pub(crate) struct Owners {
     spans: Vec<Option<Span>>,
@@ -30,7 +30,7 @@ impl Model for Owners {
 }
 
 impl Owners {
-    /// Owners of no page.
+    /// Makes a table in which no page has an owner. An error is an allocation failure.
     pub(crate) fn new(alloc: Global) -> Result<Owners, AllocError>
         ensures { IfOk result (λ owners. owners ≡ []) }
     {
@@ -38,7 +38,7 @@ impl Owners {
         Ok(Owners { spans })
     }
 
-    /// The span that has the virtual page of an address.
+    /// Returns the span that owns the virtual page of an address, or `None` if no span owns it.
     pub(crate) fn of(&self, addr: u32) -> Option<Span>
         ensures { result ≡ slice_index_or self.now (addr / 4096) None }
     {
@@ -46,7 +46,7 @@ impl Owners {
         self.spans.get(page).copied().flatten()
     }
 
-    /// Notes for each page of a span that the span has it.
+    /// Records a span as the owner of each of its pages.
     pub(crate) fn own(&mut self, first: u32, pages: u32, span: Span)
         requires { first + pages ≤ 65536 }
         ensures { OwnsUpTo self.old self.new first (first + pages) span }
@@ -55,7 +55,7 @@ impl Owners {
     }
 }
 
-/// The same, in the list by virtual page.
+/// Does the same as `Owners::own`, on the list of the owners.
 fn own_pages(spans: &mut Vec<Option<Span>>, first: u32, pages: u32, span: Span)
     requires short { length spans.old.items ≤ 65536 }
     requires room { 65536 ≤ vec_capacity spans.old }
@@ -70,7 +70,7 @@ fn own_pages(spans: &mut Vec<Option<Span>>, first: u32, pages: u32, span: Span)
     }
 }
 
-/// Lets the list reach a place: those up to it come to be, and are empty.
+/// Extends the list, if necessary, until it has an entry at `place`. The new entries are `None`.
 fn reach(spans: &mut Vec<Option<Span>>, place: usize)
     requires within { place < 65536 }
     requires short { length spans.old.items ≤ 65536 }

@@ -8,11 +8,11 @@ use crate::index::Spans;
 use mesh_class::Refusal;
 
 impl Spans {
-    /// The group `source`, where it may be merged into the group `destination`: both are of one class, no slot number is occupied in both, and they
-    /// have eight members at most together. `is_busy` says whether something keeps the class of the source busy; no group's own mark of a mesh is
-    /// asked.
+    /// Returns the group `source` if it may be merged into the group `destination`: both are of one class, no slot
+    /// number is occupied in both, and they have at most eight members together. `is_busy` states whether the class of
+    /// the source is busy. The groups' own mesh flags are not read.
     ///
-    /// Refused with NO_GROUP, SAME, CLASS, BUSY, OVERLAP or MEMBERS, the first that holds.
+    /// The refusal is the first of these that holds: NO_GROUP, SAME, CLASS, BUSY, OVERLAP, MEMBERS.
     pub fn may_merge(&self, source: u32, destination: u32, is_busy: bool) -> Result<&Group, Refusal>
         ensures may { IfOk result (λ from. MayMerge self.now source destination is_busy from.now) }
         ensures refused { IfErr result (IsRefusedPair self.now source destination is_busy) }
@@ -39,10 +39,11 @@ impl Spans {
         Ok(from)
     }
 
-    /// Two groups, where both numbers are such.
+    /// Returns the groups with these two numbers, or `None` if one of the numbers has no group.
     fn both(&self, source: u32, destination: u32) -> Option<(&Group, &Group)>
         ensures some { IfSome result (λ both. AreBoth self.now source destination both.0.now both.1.now) }
-        ensures none { IfNone result (group_at self.now.groups source ≡ None ⊎ group_at self.now.groups destination ≡ None) }
+        ensures none { IfNone result
+            (group_at self.now.groups source ≡ None ⊎ group_at self.now.groups destination ≡ None) }
     {
         Some((self.group(source)?, self.group(destination)?))
     }

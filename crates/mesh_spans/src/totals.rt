@@ -1,20 +1,20 @@
-//! `Totals`, what groups count together.
+//! `Totals`, the counts over groups.
 ghost use Rattle.std.specs.Prelude.{◌≡◌, ◌≤◌, None};
 ghost use Rattle.mesh_spans.specs.Counts.{IsPart, IsWithin, counts_of, with_group, without_group};
 
-/// What groups count together.
+/// The counts over groups.
 #[derive(Clone, Copy, PartialEq, Eq)]
 pub struct Totals {
-    /// The live objects.
+    /// The number of live objects.
     pub objects: u32,
-    /// The lengths of the live objects together, in bytes.
+    /// The sum of the lengths of the live objects, in bytes.
     pub bytes: u32,
-    /// The mapped virtual pages: those of all members.
+    /// The number of mapped virtual pages: those of all members.
     pub mapped: u32,
 }
 
 impl Totals {
-    /// The counts over no group.
+    /// Returns the counts over no groups, which are all 0.
     pub(crate) fn none() -> Totals
         ensures { result ≡ counts_of None }
     {
@@ -38,7 +38,7 @@ impl Totals {
         }
     }
 
-    /// The counts with those of one group taken out.
+    /// The counts with those of one group subtracted.
     pub(crate) fn without_group(self, group: Totals) -> Totals
         requires { IsPart group self }
         ensures { result ≡ without_group self group }

@@ -7,7 +7,7 @@ use Rattle.model_jobs.specs.Texts.{ended, number_field, reply_text}
 use Rattle.model_words.specs.declared.commands.Reply.{Reply}
 use Rattle.model_words.specs.declared.commands.Reply.TheVariants.{Object as Made, Done, Bytes, At, Byte, Refused}
 
--- what is told of a reply: neither serial nor address, which depend on how the threads fall
+-- what is printed of a reply: neither serial nor address, which depend on the scheduling of the threads
 abbrev pub told_text : Reply → List ℕ
 told_text (Made serial address) = codes "object"
 told_text (At address) = codes "at"

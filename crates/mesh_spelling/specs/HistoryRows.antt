@@ -1,4 +1,4 @@
--- Worked histories and their texts: two workers take turns, and each one's answers stand together.
+-- Worked histories and their texts: two workers take turns, and each one's answers are together.
 use Rattle.std.specs.Prelude.{◌≡◌, List, [], ◌∷◌, codes}
 use Rattle.model_memory.specs.Plain.{Entry}
 use Rattle.model_words.specs.declared.commands.Command.TheVariants.{New, Put, Get, Free, Addr, Peek}

@@ -1,4 +1,4 @@
-//! The answer lines, without their ends, and the words that they are made of.
+//! The answer lines, without their ends, and the words that they consist of.
 ghost use Rattle.std.specs.Prelude.{◌≡◌, ◌+◌, ◌<◌, ◌≤◌, ◌++◌, decimal, length, vec_capacity, vec_len, OnOk};
 ghost use Rattle.model_jobs.specs.Texts.{address_text, byte_text, bytes_text, hex_digit, refusal_text, reply_text};
 ghost use Rattle.mesh_spelling.specs.Addresses.{wide_text};
@@ -11,7 +11,7 @@ pub use mesher::{add_counted, add_found, add_report, add_step};
 use model_words::{MAX_BYTES, Refusal, Reply};
 use std::alloc::AllocError;
 
-/// Adds what a reply's line says. An error is an allocation failure.
+/// Appends the line of a reply. An error is an allocation failure.
 pub fn add_reply(text: &mut Vec<u8>, reply: &Reply) -> Result<(), AllocError>
     ensures { OnOk result (text.new.items ≡ text.old.items ++ reply_text reply.now) }
 {

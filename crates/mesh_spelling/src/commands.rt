@@ -44,7 +44,9 @@ pub fn add_command(text: &mut Vec<u8>, command: &Command) -> Result<(), AllocErr
 /// Adds a `put`.
 fn add_put(text: &mut Vec<u8>, cell: u8, off: u32, bytes: &[u8]) -> Result<(), AllocError>
     requires { length bytes.now ≤ 32 }
-    ensures { OnOk result (text.new.items ≡ text.old.items ++ codes "put" ++ number_field cell ++ number_field off ++ field (bytes_text bytes.now)) }
+    ensures { OnOk result
+        (text.new.items ≡ text.old.items ++ codes "put" ++ number_field cell ++ number_field off
+        ++ field (bytes_text bytes.now)) }
 {
     add_named(text, b"put", &[u64::from(cell), u64::from(off)])?;
     add_run(text, bytes)
@@ -52,7 +54,8 @@ fn add_put(text: &mut Vec<u8>, cell: u8, off: u32, bytes: &[u8]) -> Result<(), A
 
 /// Adds a `poke`.
 fn add_poke(text: &mut Vec<u8>, address: u32, byte: u8) -> Result<(), AllocError>
-    ensures { OnOk result (text.new.items ≡ text.old.items ++ codes "poke " ++ address_text address ++ field (bytes_text (byte ∷ []))) }
+    ensures { OnOk result
+        (text.new.items ≡ text.old.items ++ codes "poke " ++ address_text address ++ field (bytes_text (byte ∷ []))) }
 {
     add_placed(text, b"poke ", address)?;
     add_run(text, &[byte])
@@ -66,7 +69,7 @@ pub(crate) fn add_named(text: &mut Vec<u8>, name: &[u8], numbers: &[u64]) -> Res
     add_numbers(text, numbers)
 }
 
-/// Adds the name of a command with the space behind it, and an address.
+/// Adds the name of a command, which ends in a space, and an address.
 fn add_placed(text: &mut Vec<u8>, name: &[u8], address: u32) -> Result<(), AllocError>
     ensures { OnOk result (text.new.items ≡ text.old.items ++ name.now ++ address_text address) }
 {

@@ -10,11 +10,13 @@ use mesh_mutator::Entry;
 use model_words::Reply;
 use std::alloc::{AllocError, Global};
 
-/// The lines of a history of so many workers, each with its end: for each worker, ascending, `worker W` and the answers to its
-/// commands in their order, and last `history N` with the number of all entries.
+/// The lines of a history of `workers` workers, each with its end. For each worker, in ascending order, there is a line
+/// `worker W` and then the answers to its commands in their order. The last line is `history N` with the number of all
+/// entries.
 ///
-/// Of a new object `object` alone is told, and of an address `at` alone, since serials and addresses depend on how threads fall; any
-/// other answer is as in a replay. The history is walked once. An error is an allocation failure.
+/// A new object is printed as `object`, and an address as `at`, because serials and addresses depend on the scheduling
+/// of the threads. Any other answer is printed as in a replay. The history is traversed once. An error is an allocation
+/// failure.
 pub fn history_lines(alloc: Global, workers: u32, history: &[Entry]) -> Result<Vec<u8>, AllocError>
     requires { All (λ entry. entry.worker < workers) history.now }
     ensures { IfOk result (λ text. text.items ≡ history_text workers history.now) }
@@ -31,7 +33,8 @@ pub fn history_lines(alloc: Global, workers: u32, history: &[Entry]) -> Result<V
 /// The part of each worker.
 fn parts_of(alloc: Global, workers: u32, history: &[Entry]) -> Result<Vec<Vec<u8>>, AllocError>
     requires { All (λ entry. entry.worker < workers) history.now }
-    ensures { IfOk result (λ parts. map vec_items parts.items ≡ map (worker_text history.now) (range_with_len 0 workers)) }
+    ensures { IfOk result
+        (λ parts. map vec_items parts.items ≡ map (worker_text history.now) (range_with_len 0 workers)) }
 {
     let mut parts = begun_parts(alloc, workers)?;
     for entry in history {
@@ -40,7 +43,7 @@ fn parts_of(alloc: Global, workers: u32, history: &[Entry]) -> Result<Vec<Vec<u8
     Ok(parts)
 }
 
-/// The part of each worker where there is no entry.
+/// The part of each worker before any entry.
 fn begun_parts(alloc: Global, workers: u32) -> Result<Vec<Vec<u8>>, AllocError>
     ensures { IfOk result (λ parts. map vec_items parts.items ≡ map worker_line (range_with_len 0 workers)) }
 {
@@ -62,7 +65,7 @@ fn begun_part(alloc: Global, worker: u32) -> Result<Vec<u8>, AllocError>
     Ok(part)
 }
 
-/// Adds the line of what is told of a reply.
+/// Appends the line of a reply, without serial and address.
 fn add_told(text: &mut Vec<u8>, reply: &Reply) -> Result<(), AllocError>
     ensures { OnOk result (text.new.items ≡ text.old.items ++ ended (told_text reply.now)) }
 {
@@ -75,7 +78,7 @@ fn add_told(text: &mut Vec<u8>, reply: &Reply) -> Result<(), AllocError>
     Ok(())
 }
 
-/// Adds the line that ends a history of so many entries.
+/// Appends the line that ends a history of `entries` entries.
 fn add_count_line(text: &mut Vec<u8>, entries: usize) -> Result<(), AllocError>
     ensures { OnOk result (text.new.items ≡ text.old.items ++ count_line entries) }
 {

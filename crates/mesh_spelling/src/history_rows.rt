@@ -1,8 +1,8 @@
-//! Worked histories, which the definition of a history's text must answer so. Each is the contract of a function that does nothing.
+//! Worked examples of the text of a history. Each is the contract of a function that does nothing.
 ghost use Rattle.mesh_spelling.specs.HistoryRows.{IdleWorkersAreNamed, NoneIsCounted, WorkersStandTogether};
 
-/// The text of a history has a part for each worker, ascending, with its answers in their order and without serials and addresses, and
-/// ends with the number of all entries.
+/// The text of a history has a part for each worker, ascending, with its answers in their order and without serials and
+/// addresses, and ends with the number of all entries.
 pub fn histories_are_told_by_worker()
     ensures none { NoneIsCounted }
     ensures idle { IdleWorkersAreNamed }

@@ -1,8 +1,10 @@
 //! Commands, lines of a plan, jobs, answers and histories as text.
 //!
-//! The `add_..` functions add to a text what a line of a replay says: the answer to a command, a search, a step or a report; or a command or a line of
-//! a plan as a job file has it, or a whole job. `history_lines` is the text of a history in which each worker's answers stand together, and `recorded_history` that of one whose
-//! entries stand in their order, each with its command. An error is an allocation failure throughout.
+//! The `add_..` functions append a line of a replay to a text: the answer to a command, a search, a step or a report.
+//! Others append a command or a line of a plan as it is spelt in a job file, or a whole job.
+//!
+//! `history_lines` is the text of a history in which each worker's answers are together. `recorded_history` is the text
+//! of a history whose entries are in order, each with its command. An error is an allocation failure throughout.
 #![tactic(auto)]
 
 mod answers;

@@ -32,21 +32,24 @@ pub fn add_plan_line(text: &mut Vec<u8>, line: &PlanLine) -> Result<(), AllocErr
     }
 }
 
-/// Adds the name of a mesh's line and its two groups.
+/// Appends the name of a mesh's line and its two groups.
 fn add_groups(
     text: &mut Vec<u8>,
     name: &[u8],
     source: u32,
     destination: u32,
 ) -> Result<(), AllocError>
-    ensures { OnOk result (text.new.items ≡ text.old.items ++ (name.now ++ number_field source ++ number_field destination)) }
+    ensures { OnOk result
+        (text.new.items ≡ text.old.items ++ (name.now ++ number_field source ++ number_field destination)) }
 {
     add_named(text, name, &[u64::from(source), u64::from(destination)])
 }
 
 /// Adds a search with its words.
 fn add_search(text: &mut Vec<u8>, search: &Search) -> Result<(), AllocError>
-    ensures { OnOk result (text.new.items ≡ text.old.items ++ line_text (PairClass search.now.class search.now.rounds search.now.words.items)) }
+    ensures { OnOk result
+        (text.new.items ≡ text.old.items
+        ++ line_text (PairClass search.now.class search.now.rounds search.now.words.items)) }
 {
     let numbers = [u64::from(search.class.size()), u64::from(search.rounds)];
     add_named(text, b"pair", &numbers)?;

@@ -1,4 +1,4 @@
-//! Recorded histories: the text of what workers asked for and were answered.
+//! Recorded histories: the text of workers' commands and their answers.
 ghost use Rattle.std.specs.Prelude.{◌≡◌, ◌++◌, IfOk, OnOk};
 ghost use Rattle.mesh_spelling.specs.Recordings.{entry_line, recorded_head, recorded_text};
 
@@ -9,7 +9,8 @@ use std::alloc::{AllocError, Global};
 
 /// The lines of a recorded history, each with its end: `history 1`, and for each entry `W COMMAND -> ANSWER`.
 ///
-/// A command is as in a job file, and an answer as in a replay, with serials and addresses. An error is an allocation failure.
+/// A command is spelt as in a job file, and an answer as in a replay, with serials and addresses. An error is an
+/// allocation failure.
 pub fn recorded_history(alloc: Global, history: &[Entry]) -> Result<Vec<u8>, AllocError>
     ensures { IfOk result (λ text. text.items ≡ recorded_text history.now) }
 {
@@ -20,7 +21,7 @@ pub fn recorded_history(alloc: Global, history: &[Entry]) -> Result<Vec<u8>, All
     Ok(text)
 }
 
-/// The lines of the recorded history that a journal is. An error is an allocation failure.
+/// The lines of the recorded history in a journal. An error is an allocation failure.
 pub fn recorded_journal(alloc: Global, journal: &Journal) -> Result<Vec<u8>, AllocError>
     ensures { IfOk result (λ text. text.items ≡ recorded_text journal.now.entries) }
 {

@@ -1,4 +1,5 @@
--- A heap: pages, page map and index with the next serial, the plain memory that it stands for, and what its calls do to both.
+-- A heap: pages, page map and index with the next serial, the reference memory that it represents, and what its calls
+-- do to both.
 use Rattle.std.specs.Prelude.{◌≡◌, ℕ, ◌+◌, ◌-◌, ◌<◌, ◌≤◌, Bool, true, false, not, nat_eq, List, [], ◌∷◌, length, Option, Some, None, Result, Ok, Err, IsOk, slice_index, slice_range, refl}
 use Rattle.std.specs.Coded.{Coded, code_by, coded×, coded_ℕ}
 use Rattle.mesh_arena.specs.Pages.{Pages}
@@ -48,7 +49,7 @@ index_of h = h.pages.index
 abbrev pub live_records : Heap → List Record
 live_records h = records_of (table_of h)
 
--- the plain memory that the heap stands for with these roots: its objects, read from the arena through the page map
+-- the reference memory that the heap represents with these roots: its objects, read from the arena through the page map
 abbrev pub memory_of : Heap → List (Option ℕ) → Memory
 memory_of h roots = meaning h.next_serial (live_records h) (targets_of (map_of h)) (bytes_in (arena_of h)) roots
 
@@ -61,7 +62,7 @@ pub record IsHeap (h : Heap) : Type 0 where
   pub sound : IsSound (table_of h)
   pub tied : IsTied (plain_of h) (table_of h)
 
--- the live object that a reference names: the one of its serial, where that stands at its address
+-- the live object that a reference names: the one with its serial, if that one is at its address
 abbrev pub referred : Memory → Ref → Result Named Refusal
 referred m object =
     or_refuse Freed (object_of m object.serial) >>= λ live. refuse_if Freed (not (nat_eq live.address object.addr)) >>= λ _.
@@ -77,7 +78,8 @@ abbrev pub stored_at : Memory → Ref → ℕ → List ℕ → Result Memory Ref
 stored_at m object off bytes =
     referred m object >>= λ named. refuse_if Outside (ends_outside named.object off (length bytes)) >>= λ _. Ok (stored m named off bytes)
 
--- the memory after a copy between ranges of two references, whether the two are one or not; FREED of either comes before OUTSIDE of either
+-- the memory after a copy between ranges of two references, whether the two are one or not; FREED of either comes
+-- before OUTSIDE of either
 abbrev pub copied_at : Memory → Ref → ℕ → Ref → ℕ → ℕ → Result Memory Refusal
 copied_at m to to_off from from_off len =
     referred m to >>= λ target. referred m from >>= λ source. refuse_if Outside (ends_outside target.object to_off len) >>= λ _.
@@ -132,7 +134,7 @@ pub record IsFree (old new : Heap) (object : Ref) : Type 0 where
   pub arena : arena_of new ≡ arena_of old
   pub map : map_of new ≡ map_of old
 
--- what a new object comes to: it stands where the table places it, and holds zeros
+-- the effect of a `new`: the object is where the table places it, and contains zeros
 pub record IsMade (old new : Heap) (len word : ℕ) (object : Ref) : Type 0 where
   pub placed : Placed
   pub placed_is : place_new (table_of old) len word old.next_serial ≡ Ok placed
@@ -143,7 +145,7 @@ pub record IsMade (old new : Heap) (len word : ℕ) (object : Ref) : Type 0 wher
   pub next : new.next_serial ≡ old.next_serial + 1
   pub pages : HasAsManyPages old new
 
--- a new object needs a new span, for which there is room: no group of its class, which its length tells, is open
+-- a new object needs a new span, for which there is room: no group of its class, which its length determines, is open
 pub record NeedsSpan (old : Heap) (len word : ℕ) : Type 0 where
   pub class : ℕ
   pub class_is : class_for len ≡ Some class
@@ -163,17 +165,17 @@ pub record IsObjectAt (h : Heap) (addr : ℕ) (o : Occupied) : Type 0 where
   pub recorded : record_with o.serial (live_records h) ≡ Some (record { serial = o.serial; address = address; len = o.len })
   pub in_slot : IsInSlotOf (index_of h) addr o.span o.slot o.offset o.serial o.len
 
--- a live object of this serial stands at the address, and has so many bytes
+-- a live object with this serial is at the address, and has at least this many bytes
 pub record IsLiveFor (h : Heap) (serial address bytes : ℕ) : Type 0 where
   pub len : ℕ
   pub recorded : record_with serial (live_records h) ≡ Some (record { serial = serial; address = address; len = len })
   pub enough : bytes ≤ len
 
--- the memory after bytes were stored in the object of a serial, which stands at the address
+-- the memory after bytes were stored in the object of a serial, which is at the address
 abbrev pub stored_in : Heap → ℕ → ℕ → ℕ → List ℕ → Result Memory Refusal
 stored_in h serial address off bytes = stored_at (plain_of h) (record { serial = serial; addr = address }) off bytes
 
--- the object that a record stands for in the heap
+-- the object that a record represents in the heap
 abbrev pub object_in : Heap → Record → Object
 object_in h r = object_at (targets_of (map_of h)) (bytes_in (arena_of h)) r
 

@@ -9,25 +9,26 @@ use Rattle.model_words.specs.declared.refusals.Refusal.{Refusal}
 use Rattle.mesh_pagemap.specs.Entries.{is_mapped}
 use Rattle.mesh_steps.specs.Heap.{HasAsManyPages, Heap, arena_of, index_of, map_of, memory_of, table_of}
 
--- the heap stands for the same memory, whatever the roots
+-- the heap represents the same memory, whatever the roots
 abbrev pub MeansTheSame : Heap → Heap → Type 0
 MeansTheSame old new = (roots : List (Option ℕ)) → memory_of new roots ≡ memory_of old roots
 
--- what a call of a mesher keeps, whatever it is answered: what the heap stands for, its next serial, and how many physical pages there are
+-- what a call of a mesher keeps, whatever it is answered: the memory that the heap represents, its next serial, and how
+-- many physical pages there are
 pub record KeepsMeaning (old new : Heap) : Type 0 where
   pub memory : MeansTheSame old new
   pub serial : new.next_serial ≡ old.next_serial
   pub pages : HasAsManyPages old new
 
--- what a call of a mesher is answered: this of what it did, or the refusal that the definition gives, and then nothing has changed; it keeps
--- what such a call keeps, whatever it is answered
+-- what a call of a mesher is answered: this of what it did, or the refusal that the definition gives, and then nothing
+-- has changed; it keeps what such a call keeps, whatever it is answered
 pub record IsAnswered {S X Y : Type 0} (Keeps : S → S → Type 0) (old new : S) (wanted : Result Y Refusal) (result : Result X Refusal)
     (IsMade : X → Type 0) : Type 0 where
   pub made : IfOk result IsMade
   pub refused : IfErr result (λ refusal. (wanted ≡ Err refusal) × (new ≡ old))
   pub kept : Keeps old new
 
--- a mesh began: so many steps are to come, and nothing lies elsewhere
+-- a mesh began: `left` steps are to come, and nothing has moved
 pub record IsMeshBegun (busy : Table → ℕ → Bool) (old new : Heap) (source destination left : ℕ) : Type 0 where
   pub table : begin busy (table_of old) source destination ≡ Ok (record { count = left; table = table_of new })
   pub arena : arena_of new ≡ arena_of old
@@ -40,7 +41,7 @@ pub record IsStepMade (old new : Heap) (class : ℕ) (done : StepDone) : Type 0 
   pub running : mesh_in (table_of old) class ≡ Some mesh
   pub effect : HasEffect (index_of old) mesh (arena_of old) (arena_of new) (map_of old) (map_of new)
 
--- the mesh of a class was cancelled: so many unprotects are to come, and nothing lies elsewhere
+-- the mesh of a class was cancelled: `left` unprotects are to come, and nothing has moved
 pub record IsMeshCancelled (old new : Heap) (class left : ℕ) : Type 0 where
   pub table : cancel (table_of old) (mesh_in (table_of old) class) ≡ Ok (record { count = left; table = table_of new })
   pub arena : arena_of new ≡ arena_of old

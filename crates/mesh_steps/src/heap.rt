@@ -1,4 +1,5 @@
-//! `Heap`: making, reading, writing, copying and freeing objects. The calls of a mesher stand in `meshes`, and what its search sees in `views`.
+//! `Heap`: making, reading, writing, copying and freeing objects. The calls of a mesher are in `meshes`, and its
+//! search's view of the heap is in `views`.
 ghost use Rattle.std.specs.Prelude.{◌≡◌, ℕ, ◌+◌, ◌-◌, ◌^◌, ◌<◌, ◌≤◌, true, false, Ok, Err, Some, [], ◌∷◌, length, List, Option, IfOk, IfErr, IfSome, IfNone, IsSomeAnd, is_ok};
 ghost use Rattle.model_heap.specs.Mesh.{is_blocked};
 ghost use Rattle.model_heap.specs.Places.{Record, IsIn, record_with};
@@ -45,12 +46,14 @@ impl Drop for Heap {
 }
 
 impl Heap {
-    /// A heap with no object over `pages` physical pages, 1 to 4,096. Arena, page map and the index's table are made here.
+    /// Returns a heap without objects over `pages` physical pages, 1 to 4,096. It allocates the arena, the page map and
+    /// the index's table.
     pub fn open(alloc: Global, pages: u32) -> Result<Heap, AllocError>
         requires some { 1 ≤ pages }
         requires most { pages ≤ 4096 }
         ensures table { IfOk result (λ heap. table_of heap ≡ empty_table pages) }
-        ensures memory { IfOk result (λ heap. (roots : List (Option ℕ)) → memory_of heap roots ≡ record { objects = []; roots = roots }) }
+        ensures memory { IfOk result
+            (λ heap. (roots : List (Option ℕ)) → memory_of heap roots ≡ record { objects = []; roots = roots }) }
         ensures serial { IfOk result (λ heap. heap.next_serial ≡ 0) }
         ensures pages { IfOk result (λ heap. length (arena_of heap) ≡ pages) }
     {
@@ -61,7 +64,7 @@ impl Heap {
         })
     }
 
-    /// Whether as many objects were made as there are serials: then there is no other one.
+    /// Whether all serial numbers are used up. `new` must not be called then.
     pub fn is_full(&self) -> bool
         ensures full { result ≡ true → 2 ^ 32 - 1 ≤ self.now.next_serial }
         ensures left { result ≡ false → self.now.next_serial < 2 ^ 32 - 1 }
@@ -69,9 +72,11 @@ impl Heap {
         self.next_serial == u32::MAX
     }
 
-    /// Makes an object of `len` zero bytes. `is_full` tells whether there is a serial for it. The word picks the slot among the free ones of the group that takes it.
+    /// Makes an object of `len` zero bytes. The word picks the slot among the free ones of the group that takes the
+    /// object. Check `is_full` first: a serial must be left.
     ///
-    /// Refused with ZERO, TOO_LARGE, NO_PAGES or NO_ADDRESSES, the first that holds. Memory comes only where a new span is needed.
+    /// The error is the first of ZERO, TOO_LARGE, NO_PAGES and NO_ADDRESSES that holds, or an allocation failure, which
+    /// comes only if a new span is needed.
     pub fn new(&mut self, len: u32, word: u64) -> Result<Ref, NewFault>
         requires { self.old.next_serial < 2 ^ 32 - 1 }
         ensures made { IfOk result (IsMade self.old self.new len word) }
@@ -85,9 +90,10 @@ impl Heap {
         Ok(Ref { serial, addr })
     }
 
-    /// The `len` bytes, 1 to 32, from offset `off` of an object. It takes no memory.
+    /// Returns `len` bytes, 1 to 32, from offset `off` of an object. It allocates nothing.
     ///
-    /// Refused with FREED where the object isn't live, with OUTSIDE where offset and length together are above its length.
+    /// The error is FREED if the object isn't live, and OUTSIDE if the sum of offset and length is above the object's
+    /// length.
     pub fn read(&self, object: Ref, off: u32, len: u32) -> Result<ArrayVec<u8, MAX_BYTES>, Refusal>
         requires some { 1 ≤ len }
         requires few { len ≤ 32 }
@@ -103,10 +109,11 @@ impl Heap {
         Ok(self.fetch(object, off, len))
     }
 
-    /// Stores 1 to 32 bytes from offset `off` of an object on. It takes no memory.
+    /// Stores 1 to 32 bytes from offset `off` of an object on. It allocates nothing.
     ///
-    /// Refused with FREED where the object isn't live, with OUTSIDE where offset and length together are above its length. Blocked where
-    /// neither holds and a touched page is read-only. Neither stores a byte.
+    /// Refused with FREED if the object isn't live, and with OUTSIDE if the sum of offset and length is above the
+    /// object's length. Blocked if neither holds and a touched page is read-only. A refused or blocked call stores no
+    /// byte.
     pub fn write(&mut self, object: Ref, off: u32, bytes: &[u8]) -> Stored
         requires some { 1 ≤ length bytes.now }
         requires few { length bytes.now ≤ 32 }
@@ -128,11 +135,13 @@ impl Heap {
         self.save(object.serial, object.addr, off, bytes)
     }
 
-    /// Copies 1 to 32 bytes from offset `from_off` of one object to offset `to_off` of another, or of the same. It takes no memory.
+    /// Copies 1 to 32 bytes from offset `from_off` of one object to offset `to_off` of another, or of the same. It
+    /// allocates nothing.
     ///
-    /// Where the two ranges overlap, each byte is the one that was there before the copy. Refused with FREED where either object isn't live,
-    /// else with OUTSIDE where either range ends past its object. Blocked where neither holds and a page that the written range touches is
-    /// read-only; the other range may lie in one. Neither stores a byte.
+    /// If the two ranges overlap, each copied byte is the one that was there before the copy. Refused with FREED if
+    /// either object isn't live, and otherwise with OUTSIDE if either range ends past its object. Blocked if neither
+    /// holds and a page that the written range touches is read-only; the range that is read may be in a read-only page.
+    /// A refused or blocked call stores no byte.
     pub fn copy(&mut self, to: Ref, to_off: u32, from: Ref, from_off: u32, len: u32) -> Stored
         requires some { 1 ≤ len }
         requires few { len ≤ 32 }
@@ -158,7 +167,8 @@ impl Heap {
         self.save(to.serial, to.addr, to_off, bytes.as_slice())
     }
 
-    /// The byte at an address. It takes no memory. Refused with STRAY where no live object's range has the address.
+    /// Returns the byte at an address. It allocates nothing. The error is STRAY if no live object's range contains the
+    /// address.
     pub fn peek(&self, addr: u32) -> Result<u8, Refusal>
         ensures byte { IfOk result (λ byte. byte_at_address (plain_of self.now) addr ≡ Ok byte) }
         ensures refused { IfErr result (λ refusal. byte_at_address (plain_of self.now) addr ≡ Err refusal) }
@@ -171,14 +181,17 @@ impl Heap {
         Ok(byte[0])
     }
 
-    /// Stores a byte at an address. It takes no memory.
+    /// Stores a byte at an address. It allocates nothing.
     ///
-    /// Refused with STRAY where no live object's range has the address. Blocked where one has and its page is read-only.
+    /// Refused with STRAY if no live object's range contains the address. Blocked if one does and its page is
+    /// read-only.
     pub fn poke(&mut self, addr: u32, byte: u8) -> Stored
         ensures done { result ≡ Stored.Done
-            → IsStored self.old self.new (stored_at_address (plain_of self.old) addr byte) (is_blocked (table_of self.old) addr 1) }
+            → IsStored self.old self.new (stored_at_address (plain_of self.old) addr byte)
+            (is_blocked (table_of self.old) addr 1) }
         ensures blocked { result ≡ Stored.Blocked
-            → IsHeldBack self.old self.new (stored_at_address (plain_of self.old) addr byte) (is_blocked (table_of self.old) addr 1) }
+            → IsHeldBack self.old self.new (stored_at_address (plain_of self.old) addr byte)
+            (is_blocked (table_of self.old) addr 1) }
         ensures refused { (refusal : Refusal) → result ≡ Stored.Refused refusal
             → IsRefused self.old self.new (stored_at_address (plain_of self.old) addr byte) refusal }
     {
@@ -188,10 +201,12 @@ impl Heap {
         self.save(held.serial, addr - held.offset, held.offset, &[byte])
     }
 
-    /// Frees an object: its slot record is emptied. Its bytes and pages stay. Refused with FREED where it isn't live.
+    /// Frees an object: its slot record is emptied. Its bytes and pages don't change. The error is FREED if the object
+    /// isn't live.
     pub fn free(&mut self, object: Ref) -> Result<(), Refusal>
         ensures freed { IfOk result (λ _. IsFree self.old self.new object) }
-        ensures refused { IfErr result (λ refusal. (freed_at (plain_of self.old) object ≡ Err refusal) × (self.new ≡ self.old)) }
+        ensures refused { IfErr result
+            (λ refusal. (freed_at (plain_of self.old) object ≡ Err refusal) × (self.new ≡ self.old)) }
     {
         let live = self.live(object).ok_or(Refusal::Freed)?;
         self.pages.take_out(live.span, live.slot);
@@ -205,16 +220,17 @@ impl Heap {
         self.live(object).is_some()
     }
 
-    /// What the heap counts: live objects and their bytes, mapped and taken pages, and how many pages meshing saves. It takes no memory,
-    /// and its cost is the same whatever the number of groups.
+    /// Returns the heap's counts: live objects and their bytes, mapped and taken pages, and the number of pages that
+    /// meshing saves. It allocates nothing, and takes the same time whatever the number of groups.
     pub fn report(&self) -> Report
         ensures { counts_told result ≡ report_of (length (arena_of self.now)) (table_of self.now) }
     {
         self.pages.report()
     }
 
-    /// What always holds of a heap: two different bytes of live objects never share a place, no free page holds a live object, the
-    /// read-only pages are exactly those of the running meshes, and groups, page map and arena lie as these meshes have them.
+    /// Invariants of every heap. Two different bytes of live objects never share a place, and no free page contains a
+    /// live object. The read-only pages are exactly those of the running meshes. Groups, page map and arena agree with
+    /// the progress of these meshes.
     pub fn always(&self)
         ensures objects { HasObjectsApart self.now }
         ensures places { HasPlacesApart self.now }
@@ -225,7 +241,7 @@ impl Heap {
         self.pages.sound();
     }
 
-    /// What always holds of its table: it is sound, and it names the live objects.
+    /// Invariants of the heap's table: it is sound, and it names the live objects.
     pub fn sound(&self)
         ensures { IsHeap self.now }
     {
@@ -264,7 +280,7 @@ impl Heap {
         Stored::Done
     }
 
-    /// The object that a reference names, None where it is stale.
+    /// The object that a reference names. `None` if the reference is stale.
     fn live(&self, object: Ref) -> Option<Occupied>
         ensures there { IfSome result (IsReferred self.now object) }
         ensures none { IfNone result (referred (plain_of self.now) object ≡ Err Refusal.Freed) }
@@ -278,7 +294,7 @@ impl Heap {
         }
     }
 
-    /// The object whose range has the address.
+    /// The object whose range contains the address.
     fn holder(&self, addr: u32) -> Option<Occupied>
         ensures there { IfSome result (IsHeld self.now addr) }
         ensures none { IfNone result (holding (plain_of self.now) addr ≡ Err Refusal.Stray) }
@@ -292,7 +308,7 @@ impl Heap {
         }
     }
 
-    /// The object in whose slot an address is. None only where no live object's range has the address.
+    /// The object in whose slot an address is. `None` only if no live object's range contains the address.
     fn object_at(&self, addr: u32) -> Option<Occupied>
         ensures there { IfSome result (IsObjectAt self.now addr) }
         ensures found { (serial : ℕ) (r : Record) → record_with serial (live_records self.now) ≡ Some r → IsIn r addr

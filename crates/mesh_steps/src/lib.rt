@@ -1,9 +1,10 @@
 //! A heap of objects in slots of spans, over physical pages and a page map.
 //!
-//! A mutator makes, reads, writes, copies and frees objects. A mesher puts two groups on one physical span, step by step, while it does; addresses and bytes
-//! of objects stay.
+//! A mutator makes, reads, writes, copies and frees objects. Meanwhile a mesher puts two groups on one physical span,
+//! step by step; addresses and bytes of objects don't change.
 //!
-//! A contract sees a heap as its physical pages, its page map, its span index, the next virtual page, the running meshes and the next serial.
+//! A contract sees a heap as its physical pages, its page map, its span index, the next virtual page, the running
+//! meshes and the next serial.
 #![tactic(auto)]
 
 mod answers;

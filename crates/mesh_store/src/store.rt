@@ -15,7 +15,7 @@ use std::alloc::{AllocError, Global};
 pub struct Store {
     /// The physical pages.
     pub arena: Arena,
-    /// Which physical page each virtual page leads to.
+    /// The physical page of each virtual page.
     pub map: PageMap,
 }
 
@@ -33,7 +33,7 @@ fn offset_of(addr: u32) -> u32
     addr % PAGE_BYTES as u32
 }
 
-/// How many of `len` bytes from an address on are in the address's page.
+/// How many of `len` bytes from an address on are in the page of the address.
 fn len_in_page(addr: u32, len: usize) -> usize
     ensures short { result ≤ len }
     ensures inside { addr % 4096 + result ≤ 4096 }
@@ -54,7 +54,7 @@ fn entry_of(map: &PageMap, vpage: u32) -> (Page, Prot)
     map.lookup(vpage).unwrap()
 }
 
-/// Whether a mapped virtual page lets no store through.
+/// Whether a mapped virtual page is read-only.
 fn is_page_read_only(map: &PageMap, vpage: u32) -> bool
     requires first { 1 ≤ vpage }
     requires last { vpage ≤ 65535 }
@@ -89,9 +89,9 @@ fn save_run(arena: &mut Arena, map: &PageMap, addr: u32, bytes: &[u8])
 }
 
 impl Store {
-    /// A store of `pages` free physical pages, from 1 to 4,096, where no virtual page is mapped.
+    /// Creates a store of `pages` free physical pages, from 1 to 4,096, with no virtual page mapped.
     ///
-    /// It takes all the memory that it will ever use.
+    /// It allocates all the memory that it will ever use.
     pub fn open(alloc: Global, pages: u32) -> Result<Store, AllocError>
         requires some { 1 ≤ pages }
         requires few { pages ≤ 4096 }
@@ -107,7 +107,7 @@ impl Store {
         Ok(Store { arena, map })
     }
 
-    /// Reads the bytes from an address on, as many as `out` has: from 1 to 2,048.
+    /// Fills `out` with the bytes from an address on. `out` has 1 to 2,048 bytes.
     pub fn load(&self, addr: u32, out: &mut [u8])
         requires some { 1 ≤ length out.old }
         requires few { length out.old ≤ 2048 }
@@ -124,7 +124,7 @@ impl Store {
         }
     }
 
-    /// Whether a store to the range is blocked, since one of its virtual pages is read-only.
+    /// Whether a store to the range is blocked because one of its virtual pages is read-only.
     pub fn blocked(&self, addr: u32, len: u32) -> bool
         requires some { 1 ≤ len }
         requires few { len ≤ 2048 }
@@ -136,7 +136,7 @@ impl Store {
         is_page_read_only(&self.map, vpage_of(addr)) || is_page_read_only(&self.map, vpage_of(last))
     }
 
-    /// Writes from 1 to 2,048 bytes from an address on, where a store is not blocked.
+    /// Writes 1 to 2,048 bytes from an address on. A store there must not be blocked.
     pub fn save(&mut self, addr: u32, bytes: &[u8])
         requires some { 1 ≤ length bytes.now }
         requires few { length bytes.now ≤ 2048 }

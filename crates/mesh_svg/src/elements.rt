@@ -15,7 +15,7 @@ pub struct Area {
 }
 
 impl Area {
-    /// The area that is wider by so much on each side.
+    /// The area enlarged by `by` on each side.
     pub fn grown(self, by: u32) -> Area {
         Area {
             x: self.x.saturating_sub(by),
@@ -25,7 +25,7 @@ impl Area {
         }
     }
 
-    /// The area that is narrower by so much on each side, but never without extent.
+    /// The area reduced by `by` on each side, with a width and a height of at least 6.
     pub fn inset(self, by: u32) -> Area {
         Area {
             x: self.x.saturating_add(by),
@@ -46,7 +46,8 @@ impl Area {
     }
 }
 
-/// What of the style an element takes: the name of a rule, which may be numbered, and another rule's, which may be empty.
+/// The style of an element: the name of a rule, which may be numbered, and the name of a second rule, which may be
+/// empty.
 #[derive(Clone, Copy)]
 pub struct Look {
     name: &'static str,
@@ -73,7 +74,7 @@ impl Look {
         }
     }
 
-    /// The same with another rule beside it.
+    /// The same style with a second rule.
     pub fn with(self, also: &'static str) -> Look {
         Look { also, ..self }
     }
@@ -102,7 +103,7 @@ pub fn add_look(text: &mut Text, look: Look) {
     text.add(b"\"");
 }
 
-/// Adds a rectangle whose corners are rounded by so much.
+/// Adds a rectangle whose corners have the radius `round`.
 pub fn add_rect(text: &mut Text, look: Look, area: Area, round: u32) {
     text.add(b"<rect");
     add_look(text, look);
@@ -116,7 +117,8 @@ pub fn add_rect(text: &mut Text, look: Look, area: Area, round: u32) {
     text.add(b"/>\n");
 }
 
-/// A line through points, each of which comes with the letter of the way to it: `M` moves, `L` draws, `C` begins a curve of three points.
+/// Adds a line through points. Each point has the letter of its path command: `M` moves, `L` draws, `C` begins a curve
+/// of three points.
 pub fn add_path(text: &mut Text, look: Look, points: &[(&'static str, u32, u32)]) {
     begin_path(text, look);
     for point in points {

@@ -2,10 +2,11 @@
 use crate::elements::add_attribute;
 use crate::text::Text;
 
-/// The lettering of a file in which nothing else is said.
+/// The default font of a file.
 pub const LETTERING: &str = "text{font-family:'DejaVu Sans',Verdana,Helvetica,Arial,sans-serif}";
 
-/// Adds the root element behind `<svg`, with a title for those who do not see the picture. Sizes are in tenths of a pixel.
+/// Adds the root element after `<svg`, with a title for readers who don't see the picture. Sizes are in tenths of a
+/// pixel.
 pub fn add_root(text: &mut Text, title: &Text, width: u32, height: u32) {
     text.add(b" xmlns=\"http://www.w3.org/2000/svg\" role=\"img\"");
     add_attribute(text, "width", width / 10);
@@ -20,7 +21,7 @@ pub fn add_root(text: &mut Text, title: &Text, width: u32, height: u32) {
     text.add(b"</title>\n");
 }
 
-/// Adds the rules of the style, and those that hold on dark ground.
+/// Adds the rules of the style, and those for a dark background.
 pub fn add_style(text: &mut Text, rules: &[&[&str]], dark: &[&[&str]]) {
     text.add(b"<style>\n");
     for lines in rules {

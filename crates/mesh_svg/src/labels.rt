@@ -1,20 +1,20 @@
-//! Words at a place.
+//! Text at a place.
 use crate::elements::{Look, add_attribute, add_look};
 use crate::text::Text;
 
-/// Which point of its words a label's place is.
+/// The point of a label's text that is at the label's place.
 #[derive(Clone, Copy)]
 pub enum Anchor {
-    /// Their start.
+    /// The start of the text.
     Start,
-    /// Their middle.
+    /// The middle of the text.
     Middle,
-    /// Their end.
+    /// The end of the text.
     End,
 }
 
 impl Anchor {
-    /// Adds the attribute, which words that start at their place don't need.
+    /// Adds the attribute. Text that starts at its place needs none.
     fn add(self, text: &mut Text) {
         match self {
             Anchor::Start => {}
@@ -24,23 +24,23 @@ impl Anchor {
     }
 }
 
-/// How and where words stand.
+/// The place and the style of some text.
 #[derive(Clone, Copy)]
 pub struct Label {
-    /// Their colour and their lettering.
+    /// The colour and the font of the text.
     pub look: Look,
-    /// Which point of them stands at the place.
+    /// The point of the text that is at the place.
     pub anchor: Anchor,
     /// The place, from the left.
     pub x: u32,
-    /// The line that they stand on.
+    /// The baseline of the text.
     pub y: u32,
-    /// The width that they take, or none for that of the reader's font.
+    /// The width of the text, or `None` for the natural width in the reader's font.
     pub width: Option<u32>,
 }
 
 impl Label {
-    /// Adds words.
+    /// Adds the label with this text.
     pub fn add(self, text: &mut Text, words: &[u8]) {
         text.add(b"<text");
         add_look(text, self.look);
@@ -56,7 +56,7 @@ impl Label {
         text.add(b"</text>\n");
     }
 
-    /// Adds words that were put together.
+    /// Adds the label with text that was built in a `Text`.
     pub fn add_text(self, text: &mut Text, words: &Text) {
         self.add(text, words.bytes());
         text.share_refusal(words);

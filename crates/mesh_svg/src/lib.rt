@@ -1,4 +1,4 @@
-//! SVG as text that grows: elements with escaped words, and a refused allocation that is told in the end.
+//! SVG as a growing text: elements with escaped text, and allocation failures that are reported at the end.
 #![tactic(auto)]
 
 mod elements;

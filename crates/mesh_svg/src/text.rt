@@ -7,7 +7,7 @@ use itoa::Buffer;
 use std::alloc::{AllocError, Global};
 use std::marker::Model;
 
-/// Text that is added to. Once memory was refused, it takes in nothing more, and tells so where it is asked for what it holds.
+/// A growing text. After an allocation failure it takes no more bytes, and `whole` returns the error.
 #[derive(Drop)]
 pub struct Text {
     bytes: Vec<u8>,
@@ -25,7 +25,7 @@ impl Model for Text {
 }
 
 impl Text {
-    /// No text.
+    /// An empty text. It allocates nothing.
     pub fn new(alloc: Global) -> Text
         ensures { result ≡ Some [] }
     {
@@ -35,7 +35,7 @@ impl Text {
         }
     }
 
-    /// The whole text. An error is an allocation failure while it was added to.
+    /// Returns the whole text. An error means that an allocation failed while the text grew.
     pub fn whole(&self) -> Result<&[u8], AllocError>
         ensures whole { IfOk result (λ bytes. self.now ≡ Some bytes.now) }
         ensures refused { OnErr result (self.now ≡ None) }
@@ -47,36 +47,36 @@ impl Text {
         }
     }
 
-    /// How many bytes it has.
+    /// The number of bytes that it has.
     pub fn len(&self) -> usize {
         self.bytes.len()
     }
 
-    /// Forgets the text, and not that memory was refused.
+    /// Removes all bytes. An earlier allocation failure is still reported.
     pub fn clear(&mut self)
         ensures { self.new ≡ option_map (λ held. []) self.old }
     {
         self.bytes.clear();
     }
 
-    /// Where its memory is from.
+    /// The allocator of the text.
     pub fn alloc(&self) -> Global {
         *self.bytes.allocator()
     }
 
-    /// No text, with memory from there.
+    /// An empty text with the same allocator.
     pub fn empty(&self) -> Text
         ensures { result ≡ Some [] }
     {
         Text::new(self.alloc())
     }
 
-    /// What it took in.
+    /// The bytes that it took.
     pub fn bytes(&self) -> &[u8] {
         self.bytes.as_slice()
     }
 
-    /// Adds words.
+    /// Appends bytes.
     pub fn add(&mut self, words: &[u8])
         ensures { Adds self.old self.new words.now }
     {
@@ -85,7 +85,7 @@ impl Text {
         }
     }
 
-    /// Adds a number in decimal digits.
+    /// Appends a number in decimal digits.
     pub fn add_number(&mut self, number: u32)
         ensures { Adds self.old self.new (decimal number) }
     {
@@ -93,7 +93,7 @@ impl Text {
         self.add(digits.format(number).as_bytes());
     }
 
-    /// Adds words, with what stands for something else in SVG escaped.
+    /// Appends bytes, with the special characters of SVG escaped.
     pub fn add_escaped(&mut self, words: &[u8])
         ensures { Adds self.old self.new (escaped words.now) }
     {
@@ -102,7 +102,7 @@ impl Text {
         }
     }
 
-    /// Adds one byte of words. A control byte is written as a question mark.
+    /// Appends one byte, escaped. A control byte is written as a question mark.
     fn add_escaped_byte(&mut self, byte: u8)
         ensures { Adds self.old self.new (escaped_byte byte) }
     {
@@ -116,7 +116,7 @@ impl Text {
         }
     }
 
-    /// Takes over whether another text, which was added, lacks what memory was refused for.
+    /// Takes over the allocation failure, if any, of another text whose bytes were appended.
     pub fn share_refusal(&mut self, added: &Text)
         ensures refused { added.now ≡ None → self.new ≡ None }
         ensures kept { (self.new ≡ self.old) ⊎ (self.new ≡ None) }

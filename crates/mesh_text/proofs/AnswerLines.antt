@@ -68,7 +68,8 @@ gathered_more job n line book places old new text text' text'' more told so_far 
           ∙ sym (lines_more job n line more);
     }
 
--- so where the plan's next line was answered, and the line's end added, the job stands behind that line, which is gathered
+-- so where the plan's next line was answered, and the line's end added, the job stands behind that line, which is
+-- gathered
 pub line_gathered : (job : Job) (n : ℕ) (lines : List PlanLine) (line : PlanLine) (book : Book) (places : List ℕ) (old new : Option (List ℕ)) (text text' text'' : List ℕ)
     → map line_of lines ≡ job.plan → n < length lines → line ≡ get_or lines n line → IsTold job (answer job (state_up_to job n) (line_of line)) book places text text'
     → HasGathered job n old new text → text'' ≡ text' ++ 10 ∷ [] → HasGathered job (n + 1) old new text'' × IsAt job (state_up_to job (n + 1)) book places

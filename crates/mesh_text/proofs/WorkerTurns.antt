@@ -95,7 +95,8 @@ replied_scripts : (job : Job) (state : State) (book : Book) (places : List ℕ) 
     ≡ drop (slice_index (slice_set places worker (slice_index places worker + 1)) other) (slice_index_or job.scripts other [])
 replied_scripts job state book places script worker command later at is here long below rest other = grind (arith, drop_at, get_or-set_same, get_or-set_other)
 
--- an attempt at a command is what the definitions answer, whatever commands follow it, where these are the places after a reply
+-- an attempt at a command is what the definitions answer, whatever commands follow it, where these are the places after
+-- a reply
 command_taken : (job : Job) (state : State) (book book' : Book) (places moved : List ℕ) (worker : ℕ) (command : Command) (commands : List Command) (attempt : Attempt)
     → IsAt job state book places
     → ((other : ℕ) → slice_index_or (slice_set state.scripts worker (later_commands (slice_index_or state.scripts worker []))) other []

@@ -36,7 +36,8 @@ pub record HasReadJob (left left' : Option (List ℕ)) (job : Job) : Type 0 wher
   pub whole : IsAtEnd left'
   pub is_job : read_text text ≡ Ok job
 
--- the input was read to its end, and its output was written: the answers that the definitions give for the job of that text
+-- the input was read to its end, and its output was written: the answers that the definitions give for the job of that
+-- text
 pub record HasReplayed (left left' written written' : Option (List ℕ)) : Type 0 where
   pub text : List ℕ
   pub taken : Consumes left left' text

@@ -20,7 +20,7 @@ places_of turns = turns.next.items
 abbrev pub worker_count : Turns → ℕ
 worker_count turns = vec_len turns.next
 
--- a job stands where this book and these places of its workers' next commands are
+-- this book and these places of its workers' next commands represent the state of the job
 pub record IsAt (job : Job) (state : State) (book : Book) (places : List ℕ) : Type 0 where
   pub memory : memory_of_book book ≡ state.memory
   pub table : table_of_book book ≡ state.table
@@ -30,17 +30,19 @@ pub record IsAt (job : Job) (state : State) (book : Book) (places : List ℕ) : 
   pub workers : length state.scripts ≡ length job.scripts
   pub scripts : (worker : ℕ) → slice_index_or state.scripts worker [] ≡ drop (slice_index places worker) (slice_index_or job.scripts worker [])
 
--- this is the answer to a line of the plan, and book and places are where the job stands after it
+-- this is the answer to a line of the plan, and book and places represent the state of the job after it
 pub record IsNextAt (job : Job) (next : Next) (book : Book) (places : List ℕ) (given : Answer) : Type 0 where
   pub answer_is : given ≡ next.answer
   pub at : IsAt job next.state book places
 
--- a text grew by the answer to the line of the plan, without its end, and book and places are where the job stands after it
+-- a text grew by the answer to the line of the plan, without its end, and book and places represent the state of the
+-- job after it
 pub record IsTold (job : Job) (next : Next) (book : Book) (places : List ℕ) (text text' : List ℕ) : Type 0 where
   pub added : text' ≡ text ++ answer_text next.answer
   pub at : IsAt job next.state book places
 
--- wherever a job stands, this call of the mesher is answered so, and leaves the book where the job stands then
+-- in any state of a job that the book represents, this call of the mesher is answered so, and leaves the book of the
+-- state after it
 abbrev pub IsCall : (State → Next) → Book → Book → Answer → Type 0
 IsCall call old new given = (job : Job) (state : State) (places : List ℕ) → IsAt job state old places → IsNextAt job (call state) new places given
 
@@ -52,7 +54,7 @@ lines_of answers = flat_map (λ a. ended (answer_text a)) answers
 abbrev pub lines_up_to : Job → ℕ → List ℕ
 lines_up_to job n = lines_of (answers_from job (initial_state job) (take n job.plan))
 
--- where a job stands after the first lines of its plan
+-- the state of a job after the first lines of its plan
 abbrev pub state_up_to : Job → ℕ → State
 state_up_to job n = state_after job (initial_state job) (take n job.plan)
 

@@ -1,10 +1,14 @@
 //! The replay of a job into answer lines.
 //!
-//! `replay` reads a job file from a device, runs the job's plan on a fresh heap, and writes one answer line for each line of the plan.
-//! A line of a worker is an attempt at its next command, any other line is a call of the mesher: searches, meshes in steps or whole,
-//! cancels, sweeps and reports. `replay_recorded` writes the journal that the plan leaves in place of the answers, as a recorded history, and
-//! `read_job` reads the job alone. `Turns` plays a plan line by line. The job and the reader of its file are those of `mesh_job`, and the text of an
-//! answer is that of `mesh_spelling`. Contracts see of a device what it has left or what it took, as far as that is known, and whether one of its calls
+//! `replay` reads a job file from a device, runs the job's plan on a fresh heap, and writes one answer line for each
+//! line of the plan. A line of a worker is an attempt at its next command. Any other line is a call of the mesher:
+//! searches, meshes in steps or whole, cancels, sweeps and reports.
+//!
+//! `replay_recorded` writes the journal that the plan leaves instead of the answers, as a recorded history. `read_job`
+//! reads only the job. `Turns` plays a plan line by line.
+//!
+//! The job and the reader of its file are those of `mesh_job`, and the text of an answer is that of `mesh_spelling`.
+//! Contracts see of a device what it has left or what it took, as far as that is known, and whether one of its calls
 //! has failed.
 #![tactic(auto)]
 

@@ -1,4 +1,4 @@
-//! A mesher's calls of a book, as the lines of a plan ask for them.
+//! A mesher's calls on a book, for the lines of a plan.
 ghost use Rattle.std.specs.Prelude.{◌≡◌, IfOk};
 ghost use Rattle.model_jobs.specs.Jobs.{PagesMeshed, PairsFound, StepsLeft, busy_in, counted, step_answered, told};
 ghost use Rattle.model_heap.specs.Mesh.{begin, cancel, first_mesh, mesh_whole, step};
@@ -13,22 +13,29 @@ use mesh_steps::StepDone;
 use model_words::{Refusal, Version};
 use std::alloc::{AllocError, Global};
 
-/// Searches a class for pairs. Nothing changes; an error is an allocation failure.
+/// Searches a class for pairs, without changing the book. An error is an allocation failure.
 pub(crate) fn pair(alloc: Global, book: &Book, asked: &Search) -> Result<Found, AllocError>
-    ensures { IfOk result (λ found. IsCall (λ state. told state (PairsFound (search (view_of state.table asked.now.class) asked.now.words.items asked.now.rounds))) book.now book.now (PairsFound found)) }
+    ensures { IfOk result
+        (λ found. IsCall (λ state.
+        told state (PairsFound
+        (search (view_of state.table asked.now.class) asked.now.words.items asked.now.rounds))) book.now book.now
+        (PairsFound found)) }
 {
     let view = book.view(alloc, asked.class)?;
     search_one(alloc, &view, asked.words.as_slice(), asked.rounds)
 }
 
-/// Begins a mesh. In version 1 a mesh of any class is in the way, in version 2 only one of the two groups' class.
+/// Begins a mesh. It is refused as BUSY in version 1 if a mesh of any class runs, and in version 2 if a mesh of the
+/// class of one of the two groups runs.
 pub(crate) fn begin(
     book: &mut Book,
     version: Version,
     source: u32,
     destination: u32,
 ) -> Result<u32, Refusal>
-    ensures { IsCall (λ state. counted state StepsLeft (begin (busy_in version) state.table source destination)) book.old book.new (count_told StepsLeft result) }
+    ensures { IsCall (λ state.
+        counted state StepsLeft (begin (busy_in version) state.table source destination)) book.old book.new
+        (count_told StepsLeft result) }
 {
     match version {
         Version::One => book.begin_alone(source, destination),
@@ -38,7 +45,8 @@ pub(crate) fn begin(
 
 /// Makes the next step of the first running mesh.
 pub(crate) fn step_first(book: &mut Book) -> Result<StepDone, Refusal>
-    ensures { IsCall (λ state. step_answered state (step state.table (first_mesh state.table))) book.old book.new (step_told result) }
+    ensures { IsCall (λ state. step_answered state (step state.table (first_mesh state.table))) book.old book.new
+        (step_told result) }
 {
     match book.first_running() {
         Some(class) => book.step(class),
@@ -48,7 +56,8 @@ pub(crate) fn step_first(book: &mut Book) -> Result<StepDone, Refusal>
 
 /// Cancels the first running mesh.
 pub(crate) fn cancel_first(book: &mut Book) -> Result<u32, Refusal>
-    ensures { IsCall (λ state. counted state StepsLeft (cancel state.table (first_mesh state.table))) book.old book.new (count_told StepsLeft result) }
+    ensures { IsCall (λ state. counted state StepsLeft (cancel state.table (first_mesh state.table))) book.old book.new
+        (count_told StepsLeft result) }
 {
     match book.first_running() {
         Some(class) => book.cancel(class),
@@ -56,14 +65,16 @@ pub(crate) fn cancel_first(book: &mut Book) -> Result<u32, Refusal>
     }
 }
 
-/// Meshes two groups by all steps. What is in the way is as in `begin`.
+/// Meshes two groups, with all steps of the mesh. It is refused as BUSY in the same cases as `begin`.
 pub(crate) fn whole(
     book: &mut Book,
     version: Version,
     source: u32,
     destination: u32,
 ) -> Result<u32, Refusal>
-    ensures { IsCall (λ state. counted state PagesMeshed (mesh_whole (busy_in version) state.table source destination)) book.old book.new (count_told PagesMeshed result) }
+    ensures { IsCall (λ state.
+        counted state PagesMeshed (mesh_whole (busy_in version) state.table source destination)) book.old book.new
+        (count_told PagesMeshed result) }
 {
     match version {
         Version::One => book.whole_alone(source, destination),

@@ -1,4 +1,4 @@
-//! The job that a device gives.
+//! Reads a job from a device.
 ghost use Rattle.std.specs.Prelude.{◌≡◌, ◌+◌, ◌≤◌, ◌⊎◌, false, true, ℕ, List, [], length, take, vec_len, IfOk, IfErr, OnOk};
 ghost use Rattle.mesh_job.specs.Taken.{HasTaken, IsReading, bytes_taken};
 ghost use Rattle.mesh_text.specs.Replay.{HasReadInto, HasReadJob, HasReadNoJob, IsHeld};
@@ -7,19 +7,21 @@ use mesh_devices::{ReplayError, Source, read_some};
 use mesh_job::{Job, MAX_FILE_BYTES, Reading};
 use std::alloc::{AllocError, Global};
 
-/// The most bytes that are read: one more than a job file may have, which tells a file that is too long.
+/// The greatest number of bytes that are read. It is one more than a job file may have, so that a longer file is
+/// recognized.
 const MAX_READ: usize = MAX_FILE_BYTES + 1;
 
-/// The most bytes of one read.
+/// The greatest number of bytes of one read.
 const READ_BYTES: usize = 16_384;
 
-/// The most bytes of a line, of which the beginning may have been read.
+/// The number of bytes that the buffer has for the beginning of a line, before the bytes of the next read.
 const MAX_LINE_BYTES: usize = 1024;
 
-/// The job of the file that the input gives.
+/// Reads a job file from the input and returns its job.
 ///
-/// The input is read to its end, or to 1,048,577 bytes, which is one more than a job file may have. Read comes where the input failed,
-/// Text where what was read is no job file, and Memory where memory was refused; Write never comes.
+/// The input is read to its end, or to 1,048,577 bytes, which is one more than a job file may have. The error is `Read`
+/// if the input failed, `Text` if what was read is no job file, and `Memory` if an allocation failed. It is never
+/// `Write`.
 pub fn read_job<I: Source>(alloc: Global, input: &mut I) -> Result<Job, ReplayError>
     requires { I.has_failed input.old ≡ false }
     ensures ok { OnOk result (I.has_failed input.new ≡ false) }
@@ -33,15 +35,15 @@ pub fn read_job<I: Source>(alloc: Global, input: &mut I) -> Result<Job, ReplayEr
     Ok(reading.finish(&buffer[..held])?)
 }
 
-/// Room for the bytes of one read, and for the beginning of a line before them.
+/// Returns a buffer for the bytes of one read, and for the beginning of a line before them.
 fn room_to_read(alloc: Global) -> Result<Vec<u8>, AllocError>
     ensures { IfOk result (λ room. vec_len room ≡ 17408) }
 {
     vec![in alloc; 0; READ_BYTES + MAX_LINE_BYTES]
 }
 
-/// Reads the input to its end, or to its first 1,048,577 bytes, piece by piece. The reading takes the whole lines of each piece. Gives
-/// how many bytes are left: the buffer holds them at its front.
+/// Reads the input to its end, or to its first 1,048,577 bytes, piece by piece, and passes the whole lines of each
+/// piece to `reading`. Returns the number of remaining bytes, which are at the front of the buffer.
 fn read_pieces<I: Source>(
     input: &mut I,
     reading: &mut Reading,
@@ -50,7 +52,8 @@ fn read_pieces<I: Source>(
     requires fresh { I.has_failed input.old ≡ false }
     requires none { HasTaken reading.old [] }
     requires room { length buffer.old ≡ 17408 }
-    ensures held { IfOk result (λ held. HasReadInto (I.remaining input.old) (I.remaining input.new) reading.new (take held buffer.new)) }
+    ensures held { IfOk result
+        (λ held. HasReadInto (I.remaining input.old) (I.remaining input.new) reading.new (take held buffer.new)) }
     ensures within { IfOk result (λ held. held ≤ length buffer.new) }
     ensures ok { OnOk result (I.has_failed input.new ≡ false) }
     ensures read { IfErr result (λ error. error ≡ ReplayError.Read → I.has_failed input.new ≡ true) }
@@ -70,14 +73,17 @@ fn read_pieces<I: Source>(
     Ok(held)
 }
 
-/// Takes the whole lines among the first `held` bytes of a buffer, moves what they leave to its front, and gives how many bytes it is.
+/// Takes the whole lines among the first `held` bytes of a buffer, and moves the remaining bytes to its front. Returns
+/// the number of remaining bytes.
 fn take_lines(reading: &mut Reading, buffer: &mut [u8], held: usize) -> Result<usize, AllocError>
     requires sound { IsReading reading.old }
     requires held { held ≤ length buffer.old }
     requires most { bytes_taken reading.old + held ≤ 1048577 }
     ensures len { length buffer.new ≡ length buffer.old }
     ensures few { IfOk result (λ left. left ≤ 1024) }
-    ensures held { IfOk result (λ left. (text : List ℕ) → IsHeld reading.old (take held buffer.old) text → IsHeld reading.new (take left buffer.new) text) }
+    ensures held { IfOk result
+        (λ left. (text : List ℕ) → IsHeld reading.old (take held buffer.old) text
+        → IsHeld reading.new (take left buffer.new) text) }
 {
     let taken = reading.take(&buffer[..held])?;
     buffer.copy_within(taken..held, 0);

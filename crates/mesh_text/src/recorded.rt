@@ -1,4 +1,4 @@
-//! The replay that writes a recorded history in place of the answers.
+//! The replay that writes a recorded history instead of the answers.
 ghost use Rattle.std.specs.Prelude.{◌≡◌, ◌⊎◌, false, true, length, IfOk, IfErr, OnOk};
 ghost use Rattle.std.specs.Io.KnownBytes.{Appends, Keeps};
 ghost use Rattle.mesh_spelling.specs.Recordings.{recorded_text};
@@ -14,10 +14,11 @@ use mesh_job::Job;
 use mesh_spelling::recorded_journal;
 use std::alloc::{AllocError, Global};
 
-/// Replays the job file that the input gives, and writes the recorded history of its journal in place of the answers.
+/// Replays the job file that the input gives, and writes the recorded history of its journal instead of the answers.
 ///
-/// Job and plan are as in `replay`. Nothing is written before the plan is over. Read comes where the input failed, Text where what was
-/// read is no job file, and Memory where memory was refused; nothing was written then. Write comes where the output failed.
+/// Job and plan are as in `replay`. Nothing is written before the plan is over. The error is `Read` if the input
+/// failed, `Text` if what was read is no job file, and `Memory` if an allocation failed; nothing was written then. It
+/// is `Write` if the output failed.
 pub fn replay_recorded<I: Source, O: Sink>(
     alloc: Global,
     input: &mut I,
@@ -26,8 +27,12 @@ pub fn replay_recorded<I: Source, O: Sink>(
     requires input { I.has_failed input.old ≡ false }
     requires output { O.has_failed output.old ≡ false }
     ensures ok { OnOk result ((I.has_failed input.new ≡ false) × (O.has_failed output.new ≡ false)) }
-    ensures replayed { OnOk result (HasReplayedRecorded (I.remaining input.old) (I.remaining input.new) (O.written output.old) (O.written output.new)) }
-    ensures stopped { IfErr result (HasStoppedRecorded (I.remaining input.old) (I.remaining input.new) (O.written output.old) (O.written output.new)) }
+    ensures replayed { OnOk result
+        (HasReplayedRecorded (I.remaining input.old) (I.remaining input.new) (O.written output.old)
+        (O.written output.new)) }
+    ensures stopped { IfErr result
+        (HasStoppedRecorded (I.remaining input.old) (I.remaining input.new) (O.written output.old)
+        (O.written output.new)) }
     ensures read { result ≡ Err ReplayError.Read → I.has_failed input.new ≡ true }
     ensures write { result ≡ Err ReplayError.Write → O.has_failed output.new ≡ true }
 {
@@ -40,9 +45,11 @@ pub fn replay_recorded<I: Source, O: Sink>(
 fn record<O: Sink>(alloc: Global, job: &Job, output: &mut O) -> Result<(), ReplayError>
     requires { O.has_failed output.old ≡ false }
     ensures ok { OnOk result (O.has_failed output.new ≡ false) }
-    ensures whole { OnOk result (Appends (O.written output.old) (O.written output.new) (recorded_text (journal_of job.now))) }
+    ensures whole { OnOk result
+        (Appends (O.written output.old) (O.written output.new) (recorded_text (journal_of job.now))) }
     ensures fails { result ≡ Err ReplayError.Write → O.has_failed output.new ≡ true }
-    ensures beginning { result ≡ Err ReplayError.Write → AppendsBeginning (O.written output.old) (O.written output.new) (recorded_text (journal_of job.now)) }
+    ensures beginning { result ≡ Err ReplayError.Write
+        → AppendsBeginning (O.written output.old) (O.written output.new) (recorded_text (journal_of job.now)) }
     ensures nothing { result ≡ Err ReplayError.Memory → Keeps (O.written output.old) (O.written output.new) }
     ensures kinds { IfErr result (λ error. (error ≡ ReplayError.Write) ⊎ (error ≡ ReplayError.Memory)) }
 {
@@ -50,7 +57,7 @@ fn record<O: Sink>(alloc: Global, job: &Job, output: &mut O) -> Result<(), Repla
     write_lines(output, text.as_slice())
 }
 
-/// The recorded history of the journal that a job's plan leaves on a fresh heap.
+/// Returns the recorded history of the journal that a job's plan leaves on a fresh heap.
 fn recorded_play(alloc: Global, job: &Job) -> Result<Vec<u8>, AllocError>
     ensures { IfOk result (λ text. text.items ≡ recorded_text (journal_of job.now)) }
 {
@@ -59,7 +66,7 @@ fn recorded_play(alloc: Global, job: &Job) -> Result<Vec<u8>, AllocError>
     recorded_journal(alloc, turns.book().journal())
 }
 
-/// Plays all lines of a job's plan. Their answers are let go.
+/// Plays all lines of a job's plan. Their answers are dropped.
 fn play_all(alloc: Global, job: &Job, turns: &mut Turns) -> Result<(), AllocError>
     requires { StandsBehind job.now 0 turns.old }
     ensures { OnOk result (StandsBehind job.now (length job.now.plan) turns.new) }

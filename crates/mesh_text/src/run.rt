@@ -13,17 +13,18 @@ use mesh_devices::{ReplayError, Sink, Source, write_lines};
 use mesh_job::Job;
 use std::alloc::Global;
 
-/// How many bytes of answers are gathered before they are written.
+/// How many bytes of answers are collected before they are written.
 const CHUNK_BYTES: usize = 8192;
 
 /// Replays the job file that the input gives, and writes the answer lines of its plan.
 ///
-/// The input is read to its end, or to 1,048,577 bytes, which is one more than a job file may have. Each line of the plan gives one
-/// line of text, and whole lines are written together. In a file of version 1 a mesh of any class keeps others from beginning, and
-/// `step` and `cancel` are of the one that runs; in version 2 each class may have a mesh, and both name the class.
+/// The input is read to its end, or to 1,048,577 bytes, which is one more than a job file may have. Each line of the
+/// plan gives one line of text, and whole lines are written together. In a file of version 1 a mesh can't begin while a
+/// mesh of any class runs, and `step` and `cancel` apply to the running mesh. In version 2 each class may have a mesh,
+/// and `step` and `cancel` name the class.
 ///
-/// Read comes where the input failed, and Text where what was read is no job file; nothing was written then. Memory comes where
-/// memory was refused, and Write where the output failed.
+/// The error is `Read` if the input failed, and `Text` if what was read is no job file; nothing was written then. It is
+/// `Memory` if an allocation failed, and `Write` if the output failed.
 #[tactic(auto, using(crate::proofs::PlayEnds::never_ok, crate::proofs::PlayEnds::not_write, crate::proofs::PlayEnds::is_memory))]
 pub fn replay<I: Source, O: Sink>(
     alloc: Global,
@@ -33,8 +34,10 @@ pub fn replay<I: Source, O: Sink>(
     requires input { I.has_failed input.old ≡ false }
     requires output { O.has_failed output.old ≡ false }
     ensures ok { OnOk result ((I.has_failed input.new ≡ false) × (O.has_failed output.new ≡ false)) }
-    ensures replayed { OnOk result (HasReplayed (I.remaining input.old) (I.remaining input.new) (O.written output.old) (O.written output.new)) }
-    ensures stopped { IfErr result (HasStopped (I.remaining input.old) (I.remaining input.new) (O.written output.old) (O.written output.new)) }
+    ensures replayed { OnOk result
+        (HasReplayed (I.remaining input.old) (I.remaining input.new) (O.written output.old) (O.written output.new)) }
+    ensures stopped { IfErr result
+        (HasStopped (I.remaining input.old) (I.remaining input.new) (O.written output.old) (O.written output.new)) }
     ensures read { result ≡ Err ReplayError.Read → I.has_failed input.new ≡ true }
     ensures write { result ≡ Err ReplayError.Write → O.has_failed output.new ≡ true }
 {
@@ -44,7 +47,7 @@ pub fn replay<I: Source, O: Sink>(
     play(alloc, &job, &mut turns, &mut text, output)
 }
 
-/// Runs the plan of a job whose workers are at their beginnings, and writes its answer lines, which are gathered in a text.
+/// Runs the plan of a job from its initial state, and writes its answer lines, which are collected in a buffer.
 #[tactic(auto, using(crate::proofs::PlayEnds::never_ok, crate::proofs::PlayEnds::not_write, crate::proofs::PlayEnds::is_memory))]
 fn play<O: Sink>(
     alloc: Global,
@@ -60,8 +63,10 @@ fn play<O: Sink>(
     ensures ok { OnOk result (O.has_failed output.new ≡ false) }
     ensures whole { OnOk result (Appends (O.written output.old) (O.written output.new) (output_of job.now)) }
     ensures fails { result ≡ Err ReplayError.Write → O.has_failed output.new ≡ true }
-    ensures beginning { result ≡ Err ReplayError.Write → AppendsBeginning (O.written output.old) (O.written output.new) (output_of job.now) }
-    ensures lines { result ≡ Err ReplayError.Memory → AppendsLines job.now (O.written output.old) (O.written output.new) }
+    ensures beginning { result ≡ Err ReplayError.Write
+        → AppendsBeginning (O.written output.old) (O.written output.new) (output_of job.now) }
+    ensures lines { result ≡ Err ReplayError.Memory
+        → AppendsLines job.now (O.written output.old) (O.written output.new) }
     ensures kinds { IfErr result (λ error. (error ≡ ReplayError.Write) ⊎ (error ≡ ReplayError.Memory)) }
 {
     for line in job.plan.lines() {

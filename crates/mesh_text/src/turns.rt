@@ -1,4 +1,4 @@
-//! The workers of a job and its mesher in turn, as the plan has them.
+//! The workers of a job and its mesher, which take turns as the plan states.
 ghost use Rattle.std.specs.Prelude.{◌≡◌, ◌+◌, ◌<◌, ◌++◌, [], ◌∷◌, length, slice_get, slice_index, slice_index_or, vec_len, IfOk, OnOk};
 ghost use Rattle.model_jobs.specs.JobFiles.{IsValidLine};
 ghost use Rattle.model_jobs.specs.Jobs.{Job as PlainJob, RunWorker, State, answer, initial_state, run_next};
@@ -15,7 +15,7 @@ use mesh_steps::Heap;
 use model_words::Command;
 use std::alloc::{AllocError, Global};
 
-/// The heap that a job's workers and its mesher use in turn, and how far each worker has come.
+/// The heap that a job's workers and its mesher use in turn, and the place of each worker in its script.
 pub struct Turns {
     pub(crate) book: Book,
     /// For each worker the place of its next command.
@@ -28,10 +28,11 @@ impl Drop for Turns {
 }
 
 impl Turns {
-    /// A fresh heap, with each worker at the beginning of its script. An error is an allocation failure.
+    /// Returns a fresh heap, with each worker at the beginning of its script. An error is an allocation failure.
     pub fn open(alloc: Global, job: &Job) -> Result<Turns, AllocError>
         ensures workers { IfOk result (λ turns. worker_count turns ≡ length job.now.scripts) }
-        ensures initial_state { IfOk result (λ turns. IsAt job.now (initial_state job.now) (book_of turns) (places_of turns)) }
+        ensures initial_state { IfOk result
+            (λ turns. IsAt job.now (initial_state job.now) (book_of turns) (places_of turns)) }
         ensures stands { IfOk result (StandsBehind job.now 0) }
     {
         let next = vec![in alloc; 0; job.scripts.count()]?;
@@ -39,31 +40,33 @@ impl Turns {
         Ok(Turns { book, next })
     }
 
-    /// The heap, as the lines so far have left it.
+    /// Returns the heap after the lines that were played so far.
     pub fn heap(&self) -> &Heap
         ensures { result.now ≡ (book_of self.now).heap }
     {
         self.book.heap()
     }
 
-    /// The heap with its root cells and its journal, as the lines so far have left them.
+    /// Returns the heap with its root cells and its journal, after the lines that were played so far.
     pub fn book(&self) -> &Book
         ensures { result.now ≡ book_of self.now }
     {
         &self.book
     }
 
-    /// The command that a worker attempts next. None only where it has none left, or there is no such worker.
+    /// Returns the command that a worker attempts next. The result is `None` only if the worker has no command left, or
+    /// there is no such worker.
     pub fn next_command(&self, job: &Job, worker: u32) -> Option<Command>
         requires { worker_count self.now ≡ length job.now.scripts }
-        ensures { result ≡ slice_get (slice_index_or job.now.scripts worker []) (slice_index (places_of self.now) worker) }
+        ensures { result ≡ slice_get (slice_index_or job.now.scripts worker [])
+            (slice_index (places_of self.now) worker) }
     {
         let place = *self.next.get(worker as usize)?;
         job.scripts.of(worker).get(place)
     }
 
-    /// Plays the line of a job's plan at a place, counted from 0, where all before it are played, and gives its answer, without the line's end,
-    /// in `text`. An error is an allocation failure.
+    /// Plays the line of a job's plan at a place, counted from 0, and stores its answer in `text`, without the line's
+    /// end. All lines before it must have been played. An error is an allocation failure.
     pub fn play(
         &mut self,
         alloc: Global,
@@ -74,13 +77,14 @@ impl Turns {
         requires within { place < length job.now.plan }
         requires stands { StandsBehind job.now place self.old }
         ensures stands { OnOk result (StandsBehind job.now (place + 1) self.new) }
-        ensures told { OnOk result (lines_up_to job.now (place + 1) ≡ lines_up_to job.now place ++ ended text.new.items) }
+        ensures told { OnOk result
+            (lines_up_to job.now (place + 1) ≡ lines_up_to job.now place ++ ended text.new.items) }
     {
         text.clear();
         self.answer(alloc, job, &job.plan.lines()[place], text)
     }
 
-    /// Adds the answer to a line of the plan, without the line's end, and goes on behind it. An error is an allocation failure.
+    /// Performs a line of the plan and appends its answer, without the line's end. An error is an allocation failure.
     pub fn answer(
         &mut self,
         alloc: Global,
@@ -92,7 +96,8 @@ impl Turns {
         requires workers { worker_count self.old ≡ length job.now.scripts }
         ensures workers { worker_count self.new ≡ worker_count self.old }
         ensures told { OnOk result ((state : State) → IsAt job.now state (book_of self.old) (places_of self.old)
-            → IsTold job.now (answer job.now state (line_of line.now)) (book_of self.new) (places_of self.new) text.old.items text.new.items) }
+            → IsTold job.now (answer job.now state (line_of line.now)) (book_of self.new)
+            (places_of self.new) text.old.items text.new.items) }
     {
         let book = &mut self.book;
         match line {
@@ -123,8 +128,8 @@ impl Turns {
         }
     }
 
-    /// Attempts a command that stands in no script, for a worker whose own is over, and adds what it is answered, without the line's end.
-    /// An error is an allocation failure.
+    /// Attempts a command that is in no script, for a worker whose own script is over. Appends the answer, without the
+    /// line's end. An error is an allocation failure.
     pub fn attempt(
         &mut self,
         worker: u32,
@@ -134,9 +139,11 @@ impl Turns {
         requires { IsInRange command.now }
         ensures places { places_of self.new ≡ places_of self.old }
         ensures workers { worker_count self.new ≡ worker_count self.old }
-        ensures told { OnOk result ((job : PlainJob) (state : State) → IsAt job state (book_of self.old) (places_of self.old)
+        ensures told { OnOk result
+            ((job : PlainJob) (state : State) → IsAt job state (book_of self.old) (places_of self.old)
             → slice_index_or state.scripts worker [] ≡ []
-            → IsTold job (run_next job state worker (command.now ∷ [])) (book_of self.new) (places_of self.new) text.old.items text.new.items) }
+            → IsTold job (run_next job state worker (command.now ∷ [])) (book_of self.new)
+            (places_of self.new) text.old.items text.new.items) }
     {
         match self.book.act(worker, command) {
             Attempt::Done(reply) => add_reply(text, &reply),
@@ -146,14 +153,16 @@ impl Turns {
         }
     }
 
-    /// Attempts the worker's next command, and adds what it is answered. It stays the next one unless there is a reply.
+    /// Attempts the worker's next command, and appends the answer. The worker moves on to the command after it only if
+    /// there is a reply.
     fn run(&mut self, worker: u32, script: &Script, text: &mut Vec<u8>) -> Result<(), AllocError>
         requires { worker < vec_len self.old.next }
         ensures workers { vec_len self.new.next ≡ vec_len self.old.next }
         ensures told { OnOk result ((job : PlainJob) (state : State)
             → IsAt job state self.old.book self.old.next.items → vec_len self.old.next ≡ length job.scripts
             → script.now ≡ slice_index_or job.scripts worker []
-            → IsTold job (answer job state (RunWorker worker)) self.new.book self.new.next.items text.old.items text.new.items) }
+            → IsTold job
+            (answer job state (RunWorker worker)) self.new.book self.new.next.items text.old.items text.new.items) }
     {
         let place = self.next[worker as usize];
         let Some(command) = script.get(place) else {

@@ -30,8 +30,8 @@ abbrev pub HasMoreAtEnd : {S C : Type 0} → (S → C → Option S) → TimedSta
 HasMoreAtEnd effect judge number most = (place : ℕ) × (slice_get judge.numbers place ≡ Some (Some number))
     × HasMore (carry (effect_at effect judge.standing.pending) had_effect place) (length judge.standing.pending) judge.standing.kept most
 
--- the call is the one that was pending under the number, and the configurations are exactly the kept ones and those that
--- effects of pending calls, up to that of the call, make of them
+-- the call is the one that was pending under the number, and the configurations are exactly the kept ones and those
+-- that effects of pending calls, up to that of the call, make of them
 abbrev pub IsRefutedOf : {O S C : Type 0} → (S → C → Option S) → TimedStanding S C → ℕ → Refutation O S C → Type 0
 IsRefutedOf effect old number refutation = (place : ℕ) × (slice_get old.numbers place ≡ Some (Some number)) × IsRefuted effect old.standing place refutation
 
@@ -56,7 +56,8 @@ pub record CanBegin {S C : Type 0} (calls : List (Timed C)) (judge : TimedStandi
   pub after_ended : (i : ℕ) (other : Timed C) → slice_get calls i ≡ Some other → (IsOpen judge other.number → ⊥) → other.end < timed.begin
   pub before_ends : (i : ℕ) (other : Timed C) → slice_get calls i ≡ Some other → IsOpen judge other.number → timed.begin ≤ other.end
 
--- which call has each place after these events: calls are numbered from 0 in the order of their begins, and so many have begun before
+-- which call has each place after these events: calls are numbered from 0 in the order of their begins, and so many
+-- have begun before
 abbrev pub taken_behind : {C : Type 0} → ℕ → List (Option ℕ) → List (Event C) → List (Option ℕ)
 taken_behind begun taken [] = taken
 taken_behind begun taken (Begins place call ∷ placed) = taken_behind (suc begun) (slice_set taken place (Some begun)) placed
@@ -69,9 +70,9 @@ IsNumberOf calls (Some None) (Some None) = Unit {0}
 IsNumberOf {C} calls (Some (Some i)) (Some (Some number)) = (timed : Timed C) × (slice_get calls i ≡ Some timed) × (timed.number ≡ number)
 IsNumberOf calls call number = ⊥
 
--- the judge follows these calls from a state on, in the order of their begins: it has taken their begins, and the ends of those that aren't pending.
--- The events name calls by their indices in the list. In the events a call ended before another began exactly where it isn't pending and its end is before
--- the other's begin
+-- the judge follows these calls from a state on, in the order of their begins: it has taken their begins, and the ends
+-- of those that aren't pending. The events name calls by their indices in the list. In the events a call ended before
+-- another began exactly where it isn't pending and its end is before the other's begin
 pub record IsJudgeOf {S C : Type 0} (effect : S → C → Option S) (start : S) (calls : List (Timed C)) (judge : TimedStanding S C) : Type 0 where
   pub events : List NumberedEvent
   pub placed : List (Event C)

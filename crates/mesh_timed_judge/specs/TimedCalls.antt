@@ -15,11 +15,12 @@ abbrev pub state_behind : {S C : Type 0} → (S → C → Option S) → S → Li
 state_behind effect state [] = Some state
 state_behind effect state (timed ∷ order) = option_and_then (λ next. state_behind effect next order) (effect state timed.call)
 
--- no call stands behind one that began after it ended
+-- no call comes after one that began after it ended
 abbrev pub RespectsTime : {C : Type 0} → List (Timed C) → Type 0
 RespectsTime order = AllPairs (λ front back. back.end < front.begin → ⊥) order
 
--- an order of effects that explains calls: it has these calls, each once, it respects time, and each call answers as it was recorded
+-- an order of effects that explains calls: it has these calls, each once, it respects time, and each call answers as it
+-- was recorded
 pub record ExplainsTimed {S C : Type 0} (effect : S → C → Option S) (start : S) (calls order : List (Timed C)) : Type 0 where
   pub same : IsPermutation order calls
   pub in_time : RespectsTime order

@@ -1,7 +1,7 @@
-//! A judge of the overlapping calls of one object, which names calls by numbers of the caller's own.
+//! A judge of the overlapping calls of one object, in which the caller names calls by numbers of its own.
 //!
-//! It is `mesh_configurations::Judge` with numbers in place of places. What it says is stated by the moments at which
-//! calls begin and end, and by orders of calls.
+//! It is `mesh_configurations::Judge` with numbers instead of places. Its contract speaks of the moments at which calls
+//! begin and end, and of orders of calls.
 #![tactic(auto)]
 
 pub mod laws;

@@ -1,15 +1,15 @@
-//! The numbers of pending calls by the places of these calls.
+//! The number of the pending call at each place.
 ghost use Rattle.std.specs.Prelude.{◌≡◌, ◌↔◌, ℕ, Some, IsTrue, MatchOption, slice_get};
 ghost use Rattle.mesh_configurations.specs.Placed.{none_taken};
 
-/// Places with no number.
+/// Returns places without numbers.
 pub fn no_numbers() -> [Option<u32>; 64]
     ensures { result ≡ none_taken }
 {
     [None; 64]
 }
 
-/// The place of a number, if it has one.
+/// The place of a number. `None` if no place has it.
 pub fn place_of(numbers: &[Option<u32>; 64], number: u32) -> Option<usize>
     ensures { MatchOption result ((place : ℕ) → slice_get numbers.now place ≡ Some (Some number) → ⊥)
         (λ place. slice_get numbers.now place ≡ Some (Some number)) }

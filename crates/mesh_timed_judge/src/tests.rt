@@ -74,16 +74,16 @@ impl Calls for Register {
     }
 }
 
-/// A call of a number begins or ends.
+/// The begin or the end of the call with a number.
 #[derive(Clone, Copy)]
 enum Event {
     Begins(u32, Access),
     Ends(u32),
 }
 
-/// Whether the last end left a configuration. `None` if the judge returned an error, if a number that has a pending
-/// call begins, if one that has none ends, or if a call is pending behind the events. At most `most` configurations may
-/// be met at an end.
+/// Whether the last end left a configuration. At most `most` configurations may be met at an end. `None` if the judge
+/// returned an error, if a number that has a pending call begins, if one that has none ends, or if a call is still
+/// pending after the events.
 fn judged(alloc: Global, events: &[Event], most: usize) -> Option<bool> {
     let mut judge = TimedJudge::<Register>::new(alloc, Word { value: 0 }).ok()?;
     let mut some = true;

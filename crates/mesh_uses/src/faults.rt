@@ -1,9 +1,9 @@
-//! How a use ends before its end.
+//! The errors of the uses.
 use mesh::{FinishError, NewFault, OpenError, Refusal};
 use std::alloc::{AllocError, AllocFailed};
 use thiserror::Error;
 
-/// What ends a use.
+/// Why a use failed.
 #[derive(Debug, Drop, Error)]
 pub(crate) enum UseError {
     /// A call of the heap was refused.
@@ -15,7 +15,7 @@ pub(crate) enum UseError {
     /// Seats and journal made no history.
     #[error("{0}")]
     Finish(#[from] FinishError),
-    /// A call was answered otherwise than it is here.
+    /// A call had another answer than expected.
     #[error("another answer: {0}")]
     Answer(&'static str),
 }

@@ -1,11 +1,11 @@
-//! A book, whose journal is a legal history of a plain memory of separate objects.
+//! A book, whose journal is a legal history of a reference memory of separate objects.
 ghost use Rattle.model_words.specs.Commands.{IsInRange};
 
 use crate::faults::UseError;
 use arrayvec::ArrayVec;
 use mesh::{Attempt, Book, Command};
 
-/// Does commands of two workers with a mesh between them, and gives how many entries the journal has.
+/// Performs commands of two workers with a mesh between them, and returns how many entries the journal has.
 pub(crate) fn keep_a_journal(book: &mut Book) -> Result<usize, UseError> {
     let mut bytes = ArrayVec::new();
     bytes.push(b'h');
@@ -22,7 +22,7 @@ pub(crate) fn keep_a_journal(book: &mut Book) -> Result<usize, UseError> {
     Ok(book.journal().len())
 }
 
-/// Lets a worker do a command.
+/// Performs a command of a worker.
 fn act(book: &mut Book, worker: u32, command: &Command) -> Result<(), UseError>
     requires { IsInRange command.now }
 {

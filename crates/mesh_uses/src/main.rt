@@ -1,4 +1,4 @@
-//! Five uses of the library, each in a file of its own, and a line of what each comes to.
+//! Five uses of the library, each in a file of its own. The program prints one line with the result of each.
 #![tactic(auto)]
 
 mod cancelled;
@@ -15,7 +15,7 @@ use std::io;
 use std::sync::Wait;
 use std::thread::Threads;
 
-/// What is done with a heap of its own.
+/// A use of a heap.
 #[derive(Clone, Copy)]
 enum HeapUse {
     Spans,
@@ -25,13 +25,13 @@ enum HeapUse {
 
 fn main(rt: HostRuntime) -> io::Result<()> {
     tell(&rt, "pages that came free", use_heap(&rt, HeapUse::Spans))?;
-    tell(&rt, "stores held back", use_heap(&rt, HeapUse::Stepwise))?;
+    tell(&rt, "stores blocked", use_heap(&rt, HeapUse::Stepwise))?;
     tell(&rt, "steps to unwind", use_heap(&rt, HeapUse::Cancelled))?;
     tell(&rt, "entries of a journal", use_book(&rt))?;
     tell(&rt, "entries of two threads", threads::share(&rt))
 }
 
-/// Prints a line of what a use came to.
+/// Prints one line with the result of a use.
 fn tell<R: Print>(rt: &R, what: &str, came: Result<usize, UseError>) -> io::Result<()> {
     match came {
         Ok(count) => println!(rt; "{what}: {count}"),
@@ -40,7 +40,7 @@ fn tell<R: Print>(rt: &R, what: &str, came: Result<usize, UseError>) -> io::Resu
 }
 
 impl HeapUse {
-    /// Uses a heap.
+    /// Runs this use on a heap.
     fn of(self, heap: &mut Heap) -> Result<usize, UseError> {
         match self {
             HeapUse::Spans => spans::mesh_two_spans(heap),
@@ -50,13 +50,13 @@ impl HeapUse {
     }
 }
 
-/// Opens a heap of 16 pages, and uses it.
+/// Opens a heap of 16 pages, and runs a use on it.
 fn use_heap<R: AllocGlobal>(rt: &R, usage: HeapUse) -> Result<usize, UseError> {
     let mut heap = Heap::open(rt.alloc(), 16)?;
     usage.of(&mut heap)
 }
 
-/// Opens a book over 16 pages, and uses it.
+/// Opens a book over 16 pages, and runs the use of the journal on it.
 fn use_book<R: AllocGlobal>(rt: &R) -> Result<usize, UseError> {
     let mut book = Book::open(rt.alloc(), 16, 64)?;
     journal::keep_a_journal(&mut book)

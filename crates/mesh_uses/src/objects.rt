@@ -11,7 +11,7 @@ pub(crate) struct Objects {
     pub low: Ref,
 }
 
-/// Makes three objects of the class 2,048, of which two fill group 0, and frees the first.
+/// Makes three objects of the class 2,048, of which the first two fill group 0, and frees the first.
 pub(crate) fn two_groups(heap: &mut Heap) -> Result<Objects, UseError> {
     let freed = make(heap)?;
     let high = make(heap)?;
@@ -29,7 +29,7 @@ fn make(heap: &mut Heap) -> Result<Ref, UseError> {
     Ok(object)
 }
 
-/// Whether a store was done and not held back.
+/// Whether a store was done. `false` if it was blocked.
 pub(crate) fn is_done(stored: Stored) -> Result<bool, UseError> {
     match stored {
         Stored::Done => Ok(true),

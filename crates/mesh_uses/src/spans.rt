@@ -1,9 +1,9 @@
-//! Two groups are meshed at once, and their objects are read back where they were.
+//! Two groups are meshed at once, and their objects are read back at their old addresses.
 use crate::faults::UseError;
 use crate::objects::{Objects, two_groups};
 use mesh::{Heap, Ref};
 
-/// Makes and frees objects, meshes their two groups and reads them back. Gives how many pages came free.
+/// Makes and frees objects, meshes their two groups and reads the objects back. Returns how many pages became free.
 pub(crate) fn mesh_two_spans(heap: &mut Heap) -> Result<usize, UseError> {
     let Objects { high, low } = two_groups(heap)?;
     let _ = heap.write(high, 0, b"high".as_slice());

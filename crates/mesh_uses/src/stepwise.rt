@@ -3,18 +3,18 @@ use crate::faults::UseError;
 use crate::objects::{is_done, two_groups};
 use mesh::{Heap, class_of};
 
-/// Meshes two groups, and before each step tries to store into the object that is moved. Gives how many stores were held back: those
-/// from the step that makes its page read-only to the one that makes it writable again.
+/// Meshes two groups, and before each step tries to store into the object that is moved. Returns how many stores were
+/// blocked: those from the step that makes its page read-only to the one that makes it writable again.
 pub(crate) fn store_between_steps(heap: &mut Heap) -> Result<usize, UseError> {
     let class = class_of(2048)?;
     let objects = two_groups(heap)?;
     let steps = heap.begin(1, 0)?;
-    let mut held_back = 0usize;
+    let mut blocked = 0usize;
     for _ in 0..steps {
         if !is_done(heap.write(objects.low, 0, b"x".as_slice()))? {
-            held_back = held_back.saturating_add(1);
+            blocked = blocked.saturating_add(1);
         }
         let _ = heap.step(class)?;
     }
-    Ok(held_back)
+    Ok(blocked)
 }

@@ -5,7 +5,7 @@ use mesh::{Book, Command, Seat, Shared};
 use std::sync::Wait;
 use std::thread::{Threads, join};
 
-/// Lets two threads use one heap of 16 pages, and gives the length of their one history.
+/// Runs two threads on one heap of 16 pages, and returns the length of their one history.
 pub(crate) fn share<R: AllocGlobal + Threads + Wait + Sync>(rt: &R) -> Result<usize, UseError> {
     let alloc = rt.alloc();
     let book = Book::open(alloc, 16, 64)?;
@@ -15,7 +15,7 @@ pub(crate) fn share<R: AllocGlobal + Threads + Wait + Sync>(rt: &R) -> Result<us
     Ok(ended.history.len())
 }
 
-/// The two seats behind their threads' work.
+/// Runs the work of both threads, and returns the two seats.
 fn served<R: AllocGlobal + Threads + Wait + Sync>(
     rt: &R,
     shared: &Shared,

@@ -24,8 +24,8 @@ opened line = if is_outcome_line line then Some [] else None
 abbrev pub with_line : Option (List ℕ) → List ℕ → List ℕ
 with_line begun line = unwrap_or begun [] ++ ended line
 
--- the blocks of these lines, where this block is begun before them: a worker's line belongs to the begun block, or opens
--- one; any other line closes it
+-- the blocks of these lines, where this block is begun before them: a worker's line belongs to the begun block, or
+-- opens one; any other line closes it
 abbrev pub blocks_from : Option (List ℕ) → List (List ℕ) → List (List ℕ)
 blocks_from begun [] = of_begun begun
 blocks_from begun (line ∷ lines) =

@@ -12,7 +12,7 @@ use Rattle.mesh_verdict.specs.declared.judging.Verdict.{Verdict}
 abbrev pub HaveStates : List ExploreState → List Outcome → Type 0
 HaveStates states outcomes = (outcome : Outcome) → IsKept outcomes outcome → (s : ExploreState) × (slice_get states outcome.place ≡ Some s)
 
--- the text is that of what the workers were told at a place
+-- the text is that of the workers' replies at a place
 pub record IsTextAt (states : List ExploreState) (place : ℕ) (text : List ℕ) : Type 0 where
   pub told : List (List Reply)
   pub there : IsToldAt states place told

@@ -6,7 +6,7 @@ use Rattle.mesh_explore_text.specs.Listings.{IsToldAt}
 use Rattle.mesh_explore_text.specs.declared.outcomes.Outcome.{Outcome}
 use Rattle.mesh_verdict.specs.Patterns.{Wanted, any_match}
 
--- whether what the workers were told at a place matches one of the patterns
+-- whether the workers' replies at a place match one of the patterns
 pub record IsMatchAt (states : List ExploreState) (place : ℕ) (patterns : List Wanted) (is : Bool) : Type 0 where
   pub told : List (List Reply)
   pub there : IsToldAt states place told

@@ -1,4 +1,4 @@
--- Patterns of what a worker is told, and the outcomes that match them. This project's own choice.
+-- Patterns of a worker's replies, and the outcomes that match them. This project's own choice.
 use Rattle.std.specs.Prelude.{ℕ, Bool, true, false, ◌&&◌, ◌||◌, if◌then◌else◌, nat_eq, nat_le, List, [], ◌∷◌, ◌++◌, Option, Some, None, option_and_then, Result, Ok, Err, codes, drop, length, slice_index_or, take}
 use Rattle.std.specs.List.{ends_with, list_all, list_any, slice_split, starts_with}
 use Rattle.std.specs.Cmp.Lexicographic.{pointwise}
@@ -7,7 +7,8 @@ use Rattle.model_jobs.specs.Texts.{reply_text}
 use Rattle.model_words.specs.declared.commands.Reply.{Reply}
 use Rattle.model_words.specs.declared.faults.FaultKind.{FaultKind}
 
--- a worker, and what each of its replies is to be: a piece is the reply's text between two spaces, or ` * ` for any reply
+-- a worker, and what each of its replies is to be: a piece is the reply's text between two spaces, or ` * ` for any
+-- reply
 pub record Wanted : Type 0 where
   pub worker : ℕ
   pub pieces : List (List ℕ)
@@ -29,11 +30,11 @@ are_met [] (reply ∷ replies) = false
 are_met (piece ∷ pieces) [] = false
 are_met (piece ∷ pieces) (reply ∷ replies) = is_met piece reply && are_met pieces replies
 
--- the worker was told what the pattern wants
+-- the worker has the replies that the pattern requires
 abbrev pub is_match : Wanted → List (List Reply) → Bool
 is_match wanted told = are_met wanted.pieces (slice_index_or told wanted.worker [])
 
--- what the workers were told matches one of the patterns
+-- the workers' replies match one of the patterns
 abbrev pub any_match : List Wanted → List (List Reply) → Bool
 any_match patterns told = list_any (λ wanted. is_match wanted told) patterns
 

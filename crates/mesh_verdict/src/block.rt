@@ -6,7 +6,7 @@ use mesh_pool::{Value, with_bytes};
 use std::alloc::{AllocError, Global};
 use std::marker::Model;
 
-/// The text of an outcome: a line, with its end, for each worker that was told something.
+/// The text of an outcome: a line, with its end, for each worker that has a reply.
 #[derive(Drop)]
 pub struct Block {
     bytes: Vec<u8>,
@@ -21,7 +21,7 @@ impl Model for Block {
 }
 
 impl Block {
-    /// A block without lines. It allocates nothing.
+    /// Returns a block without lines. It allocates nothing.
     pub(crate) fn new(alloc: Global) -> Block
         ensures { result ≡ [] }
     {
@@ -30,7 +30,7 @@ impl Block {
         }
     }
 
-    /// The block of these bytes.
+    /// Returns the block with these bytes.
     pub(crate) fn of(bytes: Vec<u8>) -> Block
         ensures { result ≡ bytes.items }
     {
@@ -46,7 +46,7 @@ impl Block {
         Ok(())
     }
 
-    /// A copy.
+    /// Returns a copy.
     pub(crate) fn copied(&self) -> Result<Block, AllocError>
         ensures { IfOk result (λ copy. copy ≡ self.now) }
     {

@@ -8,7 +8,8 @@ use crate::block::Block;
 use mesh_pool::Pool;
 use std::alloc::{AllocError, Global};
 
-/// The blocks, each once. An error is an allocation failure, or that there are more than 2^32; so it is below.
+/// The blocks, each once. An error is an allocation failure, or that there are more than 2^32 blocks. The same holds
+/// below.
 pub(crate) fn pool_of(alloc: Global, blocks: &[Block]) -> Result<Pool<Block>, AllocError>
     ensures { IfOk result (λ pool. (x : List ℕ) → IsKept pool x ↔ IsKept blocks.now x) }
 {
@@ -20,13 +21,14 @@ pub(crate) fn pool_of(alloc: Global, blocks: &[Block]) -> Result<Pool<Block>, Al
     Ok(pool)
 }
 
-/// The blocks that the others lack, each once.
+/// The blocks that are missing from the others, each once.
 pub(crate) fn absent(
     alloc: Global,
     blocks: &Pool<Block>,
     others: &Pool<Block>,
 ) -> Result<Vec<Block>, AllocError>
-    ensures are { IfOk result (λ absent. (x : List ℕ) → IsKept absent.items x ↔ (IsKept blocks.now x × IsAbsent others.now x)) }
+    ensures are { IfOk result
+        (λ absent. (x : List ℕ) → IsKept absent.items x ↔ (IsKept blocks.now x × IsAbsent others.now x)) }
     ensures once { IfOk result (λ absent. AreDistinct absent.items) }
 {
     blocks.distinct();
@@ -37,13 +39,14 @@ pub(crate) fn absent(
     Ok(absent)
 }
 
-/// The places of the blocks that the others lack, in their order.
+/// The places of the blocks that are missing from the others, in order.
 pub(crate) fn places_absent(
     alloc: Global,
     blocks: &[Block],
     others: &Pool<Block>,
 ) -> Result<Vec<usize>, AllocError>
-    ensures are { IfOk result (λ places. (place : ℕ) → IsKept places.items place ↔ IsAbsentAt blocks.now others.now place) }
+    ensures are { IfOk result
+        (λ places. (place : ℕ) → IsKept places.items place ↔ IsAbsentAt blocks.now others.now place) }
     ensures once { IfOk result (λ places. AreDistinct places.items) }
 {
     let mut places = Vec::new(alloc);
@@ -61,7 +64,7 @@ fn at(blocks: &[Block], place: usize) -> &Block
     &blocks[place]
 }
 
-/// Adds a block that the others lack.
+/// Adds a block if it is missing from the others.
 fn add_absent(
     absent: &mut Vec<Block>,
     others: &Pool<Block>,
@@ -75,7 +78,7 @@ fn add_absent(
     Ok(())
 }
 
-/// Adds the place of a block that the others lack.
+/// Adds the place of a block if the block is missing from the others.
 fn add_place(
     places: &mut Vec<usize>,
     others: &Pool<Block>,
@@ -90,7 +93,7 @@ fn add_place(
     Ok(())
 }
 
-/// Whether a block is none of the others.
+/// Whether a block is missing from the others.
 fn lacks(others: &Pool<Block>, block: &Block) -> bool
     ensures { IsTrue result ↔ IsAbsent others.now block.now }
 {

@@ -15,7 +15,7 @@ struct Read {
     alloc: Global,
 }
 
-/// The blocks of a text, in their order. An error is an allocation failure, here and below.
+/// The blocks of a text, in order. An error is an allocation failure, here and below.
 pub(crate) fn blocks(alloc: Global, text: &[u8]) -> Result<Vec<Block>, AllocError>
     ensures { IfOk result (λ blocks. blocks.items ≡ blocks_of text.now) }
 {

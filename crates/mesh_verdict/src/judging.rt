@@ -1,4 +1,4 @@
-//! `Verdict`, what the outcomes of a listing and the expected ones do not share.
+//! `Verdict`: the differences between the outcomes of a listing and the expected ones.
 ghost use Rattle.std.specs.Prelude.{◌≡◌, ◌↔◌, ◌<◌, ℕ, List, Some, IfOk, IsTrue, length, slice_get};
 ghost use Rattle.mesh_reach.specs.Reach.{AreDistinct, IsKept};
 ghost use Rattle.mesh_explore_text.specs.ToldTexts.{told_text};
@@ -13,11 +13,11 @@ use mesh_explore_text::{Listing, Outcome, add_told};
 use mesh_reach::{Reached, System};
 use std::alloc::{AllocError, Global};
 
-/// What the outcomes of a listing and the expected ones do not share.
+/// The differences between the outcomes of a listing and the expected ones.
 pub struct Verdict {
-    /// The expected outcomes that the listing lacks, each once.
+    /// The expected outcomes that are missing from the listing, each once.
     pub missing: Vec<Block>,
-    /// The places, among the listing's outcomes, of those that are not expected.
+    /// The places, in the listing's outcomes, of those that are not expected.
     pub unexpected: Vec<usize>,
 }
 
@@ -36,7 +36,7 @@ impl Verdict {
 }
 
 /// Compares the outcomes of a listing with those that a text lists. An error is an allocation failure, or that there
-/// are more than 2^32 outcomes; so it is below.
+/// are more than 2^32 outcomes. The same holds below.
 pub fn judged(
     alloc: Global,
     reached: &Reached<Explorer<'_>>,
@@ -65,7 +65,7 @@ pub fn judged(
     })
 }
 
-/// The texts of outcomes, in their order.
+/// The texts of outcomes, in order.
 fn texts_of(
     alloc: Global,
     states: &Explorer<'_>,
@@ -83,7 +83,7 @@ fn texts_of(
     Ok(texts)
 }
 
-/// The outcome of a number.
+/// The outcome at a place.
 pub(crate) fn outcome_at(outcomes: &[Outcome], at: usize) -> Outcome
     requires { at < length outcomes.now }
     ensures { slice_get outcomes.now at ≡ Some result }
@@ -91,7 +91,7 @@ pub(crate) fn outcome_at(outcomes: &[Outcome], at: usize) -> Outcome
     outcomes[at]
 }
 
-/// The text of what the workers were told at a place.
+/// The text of the workers' replies at a place.
 pub(crate) fn text_at(
     alloc: Global,
     states: &Explorer<'_>,
@@ -106,7 +106,7 @@ pub(crate) fn text_at(
     }
 }
 
-/// The text of what the workers were told.
+/// The text of the workers' replies.
 fn text_of(alloc: Global, told: &[Told]) -> Result<Block, AllocError>
     ensures { IfOk result (λ text. text ≡ told_text told.now) }
 {

@@ -1,4 +1,4 @@
-//! A verdict over the outcomes of an exploration.
+//! A verdict on the outcomes of an exploration.
 #![tactic(auto)]
 
 mod block;

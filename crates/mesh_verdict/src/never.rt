@@ -15,8 +15,8 @@ use mesh_text::add_reply;
 use model_words::Reply;
 use std::alloc::{AllocError, Global};
 
-/// The place, among a listing's outcomes, of the first that matches one of the patterns. An error is an allocation
-/// failure, here and below.
+/// The place, in a listing's outcomes, of the first outcome that matches one of the patterns. `None` if there is no
+/// such outcome. An error is an allocation failure, here and below.
 pub fn first_match(
     alloc: Global,
     reached: &Reached<Explorer<'_>>,
@@ -24,7 +24,8 @@ pub fn first_match(
     patterns: &[Pattern],
 ) -> Result<Option<usize>, AllocError>
     requires { HaveStates reached.now.system.states listing.now.outcomes.items }
-    ensures some { IfOk result (λ found. IfSome found (IsForbidden reached.now.system.states listing.now.outcomes.items patterns.now)) }
+    ensures some { IfOk result
+        (λ found. IfSome found (IsForbidden reached.now.system.states listing.now.outcomes.items patterns.now)) }
     ensures first { IfOk result (λ found. IfSome found (λ place. (earlier : ℕ) → earlier < place
         → IsForbidden reached.now.system.states listing.now.outcomes.items patterns.now earlier → ⊥)) }
     ensures none { IfOk result (λ found. found ≡ None → (place : ℕ)
@@ -39,7 +40,7 @@ pub fn first_match(
     Ok(None)
 }
 
-/// Whether what the workers were told at a place matches one of the patterns.
+/// Whether the workers' replies at a place match one of the patterns.
 fn matches_at(
     alloc: Global,
     states: &Explorer<'_>,
@@ -55,7 +56,7 @@ fn matches_at(
     }
 }
 
-/// Whether what the workers were told matches one of the patterns.
+/// Whether the workers' replies match one of the patterns.
 fn any_match(alloc: Global, told: &[Told], patterns: &[Pattern]) -> Result<bool, AllocError>
     ensures { IfOk result (λ is. is ≡ any_match patterns.now told.now) }
 {
@@ -67,7 +68,7 @@ fn any_match(alloc: Global, told: &[Told], patterns: &[Pattern]) -> Result<bool,
     Ok(false)
 }
 
-/// Whether what the workers were told matches a pattern.
+/// Whether the workers' replies match a pattern.
 fn is_match(alloc: Global, told: &[Told], pattern: &Pattern) -> Result<bool, AllocError>
     ensures { IfOk result (λ is. is ≡ is_match pattern.now told.now) }
 {
@@ -78,7 +79,7 @@ fn is_match(alloc: Global, told: &[Told], pattern: &Pattern) -> Result<bool, All
     )
 }
 
-/// What a worker was told: nothing where there is no such worker.
+/// The replies of a worker. Empty if there is no such worker.
 fn replies_of(told: &[Told], worker: usize) -> &[Reply]
     ensures { result.now ≡ slice_index_or told.now worker [] }
 {
@@ -88,7 +89,7 @@ fn replies_of(told: &[Told], worker: usize) -> &[Reply]
     }
 }
 
-/// Whether the replies are as many as the pieces, and each is its piece's.
+/// Whether there are as many replies as pieces, and each reply matches its piece.
 fn are_met(alloc: Global, pieces: &[Block], replies: &[Reply]) -> Result<bool, AllocError>
     ensures { IfOk result (λ is. is ≡ are_met pieces.now replies.now) }
 {
@@ -107,7 +108,7 @@ fn are_met(alloc: Global, pieces: &[Block], replies: &[Reply]) -> Result<bool, A
     Ok(replies.is_empty())
 }
 
-/// Whether the reply has the piece's text, or any will do.
+/// Whether the reply has the piece's text, or the piece is ` * `, which matches any reply.
 fn is_met(alloc: Global, piece: &[u8], reply: &Reply) -> Result<bool, AllocError>
     ensures { IfOk result (λ is. is ≡ is_met piece.now reply.now) }
 {

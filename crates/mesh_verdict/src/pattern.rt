@@ -1,4 +1,4 @@
-//! `Pattern`, what a worker is told in an outcome that is not to be had.
+//! `Pattern`: the replies of a worker in an outcome that is forbidden.
 ghost use Rattle.std.specs.Prelude.{◌≡◌, None, Some, IfOk, MatchOption};
 ghost use Rattle.std.specs.List.{list_all};
 ghost use Rattle.model_jobs.specs.JobFiles.{number_in};
@@ -10,7 +10,7 @@ use mesh_fields::numbers::number32;
 use std::alloc::{AllocError, Global};
 use std::marker::Model;
 
-/// What a worker is told: so many replies, each of a given text or any.
+/// The replies of a worker: a fixed number of them, each with a given text or any.
 #[derive(Drop)]
 pub struct Pattern {
     worker: u32,
@@ -28,7 +28,7 @@ impl Model for Pattern {
 
 impl Pattern {
     /// The pattern that a text spells: `worker W: ANSWER | ANSWER ..`, with a worker from 0 to 63, at least one answer,
-    /// and `*` for any answer. None where the text spells no pattern. An error is an allocation failure, here and below.
+    /// and `*` for any answer. `None` if the text spells no pattern. An error is an allocation failure, here and below.
     pub fn spelt(alloc: Global, text: &[u8]) -> Result<Option<Pattern>, AllocError>
         ensures { IfOk result (λ pattern. pattern ≡ pattern_of text.now) }
     {
@@ -45,7 +45,7 @@ impl Pattern {
         self.worker
     }
 
-    /// What the replies are to be.
+    /// The expected replies, in order.
     pub(crate) fn pieces(&self) -> &[Block]
         ensures { result.now ≡ self.now.pieces }
     {
@@ -53,7 +53,7 @@ impl Pattern {
     }
 }
 
-/// The pattern of a worker's number, a colon and its answers.
+/// The pattern in the text of a worker's number, a colon and the answers.
 fn of_sides(alloc: Global, text: &[u8]) -> Result<Option<Pattern>, AllocError>
     ensures { IfOk result (λ pattern. pattern ≡ sides_of text.now) }
 {
@@ -79,7 +79,7 @@ fn of_number(alloc: Global, number: &[u8], answers: &[u8]) -> Result<Option<Patt
     of_pieces(worker, pieces_of(alloc, padded.as_slice())?)
 }
 
-/// The pattern of a worker and what its replies are to be, if each is between two spaces.
+/// The pattern of a worker and its expected replies. `None` unless each reply is between two spaces.
 fn of_pieces(worker: u32, pieces: Vec<Block>) -> Result<Option<Pattern>, AllocError>
     ensures { IfOk result (λ pattern. pattern ≡ of_pieces worker pieces.items) }
 {
@@ -89,14 +89,15 @@ fn of_pieces(worker: u32, pieces: Vec<Block>) -> Result<Option<Pattern>, AllocEr
     Ok(Some(Pattern { worker, pieces }))
 }
 
-/// The text behind its front, where it has that front.
+/// The text after `front`, if it begins with `front`.
 fn behind<'a>(text: &'a [u8], front: &[u8]) -> Option<&'a [u8]>
-    ensures { MatchOption result (behind front.now text.now ≡ None) (λ rest. behind front.now text.now ≡ Some rest.now) }
+    ensures { MatchOption result (behind front.now text.now ≡ None)
+        (λ rest. behind front.now text.now ≡ Some rest.now) }
 {
     text.strip_prefix(front)
 }
 
-/// What is between the bars.
+/// The pieces of the text between the bars.
 fn pieces_of(alloc: Global, answers: &[u8]) -> Result<Vec<Block>, AllocError>
     ensures { IfOk result (λ pieces. pieces.items ≡ pieces_of answers.now) }
 {
@@ -110,7 +111,7 @@ fn pieces_of(alloc: Global, answers: &[u8]) -> Result<Vec<Block>, AllocError>
     Ok(pieces)
 }
 
-/// The block of some bytes.
+/// A block with a copy of some bytes.
 fn copy_of(alloc: Global, bytes: &[u8]) -> Result<Block, AllocError>
     ensures { IfOk result (λ block. block ≡ bytes.now) }
 {
@@ -119,7 +120,7 @@ fn copy_of(alloc: Global, bytes: &[u8]) -> Result<Block, AllocError>
     Ok(Block::of(copy))
 }
 
-/// Whether each is something between two spaces.
+/// Whether each piece is something between two spaces.
 fn are_pieces(pieces: &[Block]) -> bool
     ensures { result ≡ list_all is_piece pieces.now }
 {
@@ -131,7 +132,7 @@ fn are_pieces(pieces: &[Block]) -> bool
     true
 }
 
-/// Whether it is something between two spaces.
+/// Whether a piece is something between two spaces.
 fn is_piece(piece: &[u8]) -> bool
     ensures { result ≡ is_piece piece.now }
 {

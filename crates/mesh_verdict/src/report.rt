@@ -1,4 +1,4 @@
-//! The text of a verdict that is not well.
+//! The text of a verdict that fails.
 use crate::judging::Verdict;
 use mesh_explore::Explorer;
 use mesh_explore_text::{Listing, add_plan, add_told};
@@ -12,7 +12,7 @@ pub(crate) struct Report {
     pub text: Vec<u8>,
 }
 
-/// What is written where not all is well: the outcomes that are missing, those that are unexpected, and the first that
+/// The text of a verdict that fails: the outcomes that are missing, those that are unexpected, and the first that
 /// matches a pattern. An error is an allocation failure, here and below.
 pub(crate) fn fault_text(
     alloc: Global,
@@ -35,7 +35,7 @@ pub(crate) fn fault_text(
     Ok(text)
 }
 
-/// Adds a word's line, and below it the lines of an outcome and of a plan that leads to it.
+/// Appends a word's line, and then the lines of an outcome and of a plan that leads to it.
 fn add_outcome(
     alloc: Global,
     text: &mut Vec<u8>,

@@ -1,10 +1,16 @@
 //! The program `meshrun`: a modelled heap that is compacted by meshing.
 //!
-//! `meshrun replay FILE` runs the plan of a job file and prints one answer line for each of its lines. `meshrun threads FILE ..` runs its
-//! scripts, each on a thread of its own, while other threads search and mesh, and prints each worker's answers. With `--history` both print the
-//! journal, as a recorded history. `meshrun draw FILE ..` prints a picture of the plan. `meshrun explore FILE ..` runs what the plan leaves of the
-//! scripts in every interleaving with meshes, and prints all answers or a verdict. `meshrun live ..` answers the lines of standard input one by one.
-//! `meshrun check FILE` judges a recorded history, and `meshrun savings FILE ..` tells what meshing would save for it.
+//! - `meshrun replay FILE` runs the plan of a job file, and prints one answer line for each of its lines.
+//! - `meshrun threads FILE ..` runs the scripts, each on a thread of its own, while other threads search and mesh, and
+//!   prints each worker's answers.
+//! - `meshrun draw FILE ..` draws a picture of the plan.
+//! - `meshrun explore FILE ..` runs what the plan leaves of the scripts in every interleaving with meshes, and prints
+//!   all answers or a verdict.
+//! - `meshrun live ..` answers the lines of standard input one by one.
+//! - `meshrun check FILE` judges a recorded history.
+//! - `meshrun savings FILE ..` reports what meshing would save for a recorded history.
+//!
+//! With `--history`, `replay` and `threads` print the journal as a recorded history.
 #![tactic(auto)]
 
 ghost use Rattle.std.specs.Prelude.{◌≡◌, false};
@@ -23,7 +29,7 @@ use std::sync::Wait;
 use std::thread::Threads;
 use std::{env, io};
 
-/// The path that names standard input.
+/// The path that means standard input.
 const STANDARD_INPUT: &str = "-";
 
 fn main(rt: HostRuntime) -> ExitCode {
@@ -39,7 +45,7 @@ fn main(rt: HostRuntime) -> ExitCode {
     ExitCode::from(status)
 }
 
-/// Does what the arguments ask for, and gives the exit status.
+/// Runs the command that the arguments ask for, and returns the exit status.
 fn run<R: Threads + Wait + Sync, O: Sink + Drop, E: Sink + Drop>(
     rt: &HostRuntime,
     threads: &R,
@@ -58,7 +64,7 @@ fn run<R: Threads + Wait + Sync, O: Sink + Drop, E: Sink + Drop>(
     }
 }
 
-/// The path of the file that is read, or none where standard input is.
+/// The path of the input file. `None` for standard input.
 fn path_of<'a>(args: &Args<'a>) -> Option<&'a str> {
     let path = match *args {
         Args::Live(_) => return None,
@@ -78,7 +84,7 @@ fn path_of<'a>(args: &Args<'a>) -> Option<&'a str> {
     }
 }
 
-/// Makes the run that is asked for, from this input to this output and these errors, and gives the exit status.
+/// Runs the command with this input, output and error output, and returns the exit status.
 fn run_on<R: Threads + Wait + Sync, I: Source + Drop, O: Sink + Drop, E: Sink + Drop>(
     rt: &HostRuntime,
     threads: &R,
@@ -127,8 +133,8 @@ fn run_on<R: Threads + Wait + Sync, I: Source + Drop, O: Sink + Drop, E: Sink + 
     }
 }
 
-/// Explores, and tells on standard error how many states were found, where that is a terminal or it is asked for. Gives the
-/// exit status.
+/// Explores, and returns the exit status. Prints on standard error how many states were found, if it is a terminal or
+/// if the arguments ask for it.
 fn explore<I: Source, O: Sink, E: Sink>(
     rt: &HostRuntime,
     args: &ExploreArgs<'_>,
@@ -153,14 +159,14 @@ fn explore<I: Source, O: Sink, E: Sink>(
     }
 }
 
-/// What the outcomes are to be.
+/// The criteria of a verdict.
 fn criteria<'a>(expected: Option<&'a [u8]>, never: &'a [&'a str]) -> Criteria<'a>
     ensures { result.never.now ≡ never.now }
 {
     Criteria { expected, never }
 }
 
-/// The text of the outcomes that are expected, if they are given, or the exit status if they can't be read.
+/// The text of the expected outcomes, if it is given. The error is the exit status if the text can't be read.
 fn expected(rt: &HostRuntime, args: &ExploreArgs<'_>) -> Result<Option<Vec<u8>>, u8> {
     let Told::Verdict(Some(path)) = args.told else {
         return Ok(None);

@@ -154,7 +154,8 @@ overwritten_made f g a n off new fits written kept = ext_get_or 0 (map f (range_
           ]
     ]
 
--- bytes stored at the places of a part of one object, while those of all other live bytes stay, are stored in the object
+-- bytes stored at the places of a part of one object, while those of all other live bytes stay, are stored in the
+-- object
 pub store_means : StoreChangesMeaning
 store_means next records targets bytes bytes' roots r off new below is fits written kept others =
     ap {B = Memory} (λ (os : List (Option Object)). record { objects = os; roots = roots })

@@ -130,7 +130,7 @@ abbrev pub AreProtected : Sides → Progress → Under → Type 0
 AreProtected sides progress under = (j : ℕ) → j < page_count sides.source
     → (under.targets (source_page sides j)).read_only ≡ is_protected (page_count sides.source) (slots_of sides.source.class) progress j
 
--- each step leaves the read-only pages that the formula tells of the progress after it
+-- after each step the read-only pages are those of the formula for the progress after it
 abbrev pub StepsProtect : Type 0
 StepsProtect = (sides : Sides) (d : ℕ) (under : Under) → ArePagesApart sides → AreProtected sides (Made d) under
     → AreProtected sides (Made (d + 1)) (step_effect sides (Made d) under)

@@ -26,7 +26,8 @@ SameBytesSameMeaning = (next : ℕ) (records records' : List Record) (targets ta
     → ((serial x : ℕ) (r : Record) → record_with serial records ≡ Some r → IsIn r x → byte_of targets' bytes' x ≡ byte_of targets bytes x)
     → meaning next records' targets' bytes' roots ≡ meaning next records targets bytes roots
 
--- bytes stored at the places of a part of one object, while those of all other live bytes stay, are stored in the object
+-- bytes stored at the places of a part of one object, while those of all other live bytes stay, are stored in the
+-- object
 abbrev pub StoreChangesMeaning : Type 0
 StoreChangesMeaning = (next : ℕ) (records : List Record) (targets : ℕ → Target) (bytes bytes' : Place → ℕ) (roots : List (Option ℕ)) (r : Record)
     (off : ℕ) (new : List ℕ) → r.serial < next → record_with r.serial records ≡ Some r → off + length new ≤ r.len
@@ -77,7 +78,7 @@ abbrev pub NoneIsHolder : Type 0
 NoneIsHolder = (m : Memory) (address : ℕ)
     → ((serial : ℕ) (object : Object) → object_of m serial ≡ Some object → has_address object address ≡ false) → holder_of m address ≡ None
 
--- an object stands in one slot, so emptying this slot takes the object out
+-- an object is in only one slot, so emptying this slot takes the object out
 abbrev pub SlotIsTheOnlyOne : Type 0
 SlotIsTheOnlyOne = (m : Memory) (t : Table) (n k : ℕ) (group : Group) (slot : Slot) → IsSound t → IsTied m t → group_of t n ≡ Some group
     → slice_get group.slots k ≡ Some (Some slot) → map (changed_at n (emptied_at k)) t.groups ≡ map (group_without slot.serial) t.groups

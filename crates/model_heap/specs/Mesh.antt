@@ -1,5 +1,6 @@
--- Meshing: two groups of one class put on one physical span, step by step. Protecting, copying and remapping are those of the publication
--- (Powers, Tench, Berger, McGregor, "Mesh", 2019); the order of the steps and all the rest are this project's own.
+-- Meshing: two groups of one class put on one physical span, step by step. Protecting, copying and remapping are those
+-- of the publication (Powers, Tench, Berger, McGregor, "Mesh", 2019); the order of the steps and all the rest are this
+-- project's own.
 use Rattle.std.specs.Prelude.{ℕ, ◌+◌, ◌-◌, ◌*◌, ◌/◌, Bool, true, false, ◌&&◌, ◌||◌, not, if◌then◌else◌, nat_eq, nat_le, nat_lt, min, List, [], ◌∷◌, ◌++◌, Option, Some, None, Result, Ok, length, map, filter, find}
 use Rattle.std.specs.List.{list_any, flat_map, range_with_len}
 use Rattle.model_words.specs.Classes.{pages_of, slots_of}
@@ -36,7 +37,8 @@ united (x ∷ xs) (y ∷ ys) = either_slot x y ∷ united xs ys
 abbrev pub page_count : Group → ℕ
 page_count group = length group.members * pages_of group.class
 
--- the steps of a whole mesh: protect, remap and unprotect each virtual page of the source, copy each slot, release each physical page
+-- the steps of a whole mesh: protect, remap and unprotect each virtual page of the source, copy each slot, release each
+-- physical page
 abbrev pub step_count : Group → ℕ
 step_count source = 3 * page_count source + slots_of source.class + pages_of source.class
 
@@ -58,7 +60,7 @@ pub record Pair : Type 0 where
   pub source : Group
   pub destination : Group
 
--- the two groups of a mesh that may begin now, or the refusal; which classes are busy is told by the caller
+-- the two groups of a mesh that may begin now, or the refusal; the caller passes the test of busy classes
 abbrev pub may_begin : (Table → ℕ → Bool) → Table → ℕ → ℕ → Result Pair Refusal
 may_begin busy t source destination =
     or_refuse NoGroup (group_of t source) >>= λ a. or_refuse NoGroup (group_of t destination) >>= λ b.
@@ -154,7 +156,8 @@ first_mesh t = find (λ mesh. true) t.meshes
 abbrev pub mesh_in : Table → ℕ → Option Mesh
 mesh_in t class = find (λ mesh. nat_eq mesh.class class) t.meshes
 
--- the next step of a mesh, if there is one; in a sound table the mesh's source is a group, so that only the first test can refuse
+-- the next step of a mesh, if there is one; in a sound table the mesh's source is a group, so that only the first test
+-- can refuse
 abbrev pub step : Table → Option Mesh → Result Stepped Refusal
 step t which =
     or_refuse NoMesh which >>= λ mesh. or_refuse NoMesh (group_of t mesh.source) >>= λ source. Ok (stepped t mesh source mesh.progress)

@@ -1,4 +1,5 @@
--- Where a new object goes: to the lowest open group of its class, or a new span where there is none, and to the free slot that the word picks.
+-- Where a new object goes: to the lowest open group of its class, or a new span where there is none, and to the free
+-- slot that the word picks.
 use Rattle.std.specs.Prelude.{◌≡◌, ◌↔◌, ℕ, ◌+◌, ◌-◌, ◌<◌, ◌≤◌, Err, ◌≢◌, ◌%◌, true, false, not, is_some, List, [], ◌∷◌, Option, Some, None, Ok, count_by, replicate, slice_get, slice_set, take}
 use Rattle.model_words.specs.Classes.{pages_of, class_for, slots_of}
 use Rattle.model_words.specs.declared.refusals.Refusal.TheVariants.{NoAddresses}
@@ -9,7 +10,8 @@ use Rattle.model_heap.specs.Sound.{IsSound}
 abbrev pub free_slots : List (Option Slot) → ℕ
 free_slots slots = count_by (λ slot. not (is_some slot)) slots
 
--- the object stands in a free slot of the group's first member, and below it are so many free slots as is the word modulo their number
+-- the object is in a free slot of the group's first member; the number of free slots below it is the word modulo the
+-- number of free slots
 pub record IsPicked (group : Group) (word serial len : ℕ) (placed : Placed) : Type 0 where
   pub k : ℕ
   pub member : ℕ
@@ -20,7 +22,7 @@ pub record IsPicked (group : Group) (word serial len : ℕ) (placed : Placed) : 
   pub filled : group_of placed.table group.number
       ≡ Some (record group { slots = slice_set group.slots k (Some (record { member = member; serial = serial; len = len })) })
 
--- the object stands in the lowest open group of the class, and every other group is as it was
+-- the object is in the lowest open group of the class, and every other group is unchanged
 pub record TakesOpen (t : Table) (class word serial len : ℕ) (placed : Placed) : Type 0 where
   pub group : Group
   pub there : group_of t group.number ≡ Some group
@@ -29,13 +31,14 @@ pub record TakesOpen (t : Table) (class word serial len : ℕ) (placed : Placed)
   pub picked : IsPicked group word serial len placed
   pub others : (n : ℕ) → n ≢ group.number → group_of placed.table n ≡ group_of t n
 
--- where some group is open to the class of the length, the object stands in the lowest
+-- if some group is open to the class of the length, the object is in the lowest such group
 abbrev pub NewTakesLowestOpen : Type 0
 NewTakesLowestOpen = (t : Table) (len word serial class i : ℕ) (some : Group) (placed : Placed) → IsSound t → class_for len ≡ Some class
     → slice_get t.groups i ≡ Some some → is_open t class some ≡ true → place_new t len word serial ≡ Ok placed
     → TakesOpen t class word serial len placed
 
--- the object stands in a span of its own, of the lowest pages that were never used, in the slot that the word picks of all, and every group is as it was
+-- the object is in a span of its own, of the lowest pages that were never used, in the slot that the word selects among
+-- all slots; every group is unchanged
 pub record TakesSpan (t : Table) (class word serial len : ℕ) (placed : Placed) : Type 0 where
   pub address : placed.address ≡ slot_address t.next_page class (word % slots_of class)
   pub filled : group_of placed.table t.next_span ≡ Some (record {
@@ -49,7 +52,7 @@ pub record TakesSpan (t : Table) (class word serial len : ℕ) (placed : Placed)
   pub free_pages : placed.table.free_pages + pages_of class ≡ t.free_pages
   pub others : (n : ℕ) → n ≢ t.next_span → group_of placed.table n ≡ group_of t n
 
--- where no group is open to the class of the length, the object stands in a new span
+-- if no group is open to the class of the length, the object is in a new span
 abbrev pub NewTakesSpan : Type 0
 NewTakesSpan = (t : Table) (len word serial class : ℕ) (placed : Placed) → IsSound t → class_for len ≡ Some class
     → ((i : ℕ) (group : Group) → slice_get t.groups i ≡ Some group → is_open t class group ≡ false) → place_new t len word serial ≡ Ok placed

@@ -1,4 +1,4 @@
--- Where a byte of an address lies, and the plain memory that a heap with roots stands for. This project's own choice.
+-- Where a byte of an address is, and the reference memory that a heap with roots means. This project's own choice.
 use Rattle.std.specs.Prelude.{◌≡◌, ℕ, ◌+◌, ◌<◌, ◌≤◌, ◌/◌, ◌%◌, Bool, if◌then◌else◌, nat_eq, List, [], ◌∷◌, Option, Some, None, map, find}
 use Rattle.std.specs.List.{flat_map, list_any, range_with_len}
 use Rattle.std.specs.Option.{option_map}
@@ -67,11 +67,12 @@ AreBelow next records = (serial : ℕ) → next ≤ serial → record_with seria
 abbrev pub IsIn : Record → ℕ → Type 0
 IsIn r x = (r.address ≤ x) × (x < r.address + r.len)
 
--- the object that a record stands for: the bytes at the places of its addresses
+-- the object that a record means: the bytes at the places of its addresses
 abbrev pub object_at : (ℕ → Target) → (Place → ℕ) → Record → Object
 object_at targets bytes r = record { address = r.address; bytes = map (byte_of targets bytes) (range_with_len r.address r.len) }
 
--- the plain memory that a heap with roots stands for: for each serial below the next the object of its record, if there is one
+-- the reference memory that a heap with roots means: for each serial below the next, the object of its record, if there
+-- is one
 abbrev pub meaning : ℕ → List Record → (ℕ → Target) → (Place → ℕ) → List (Option ℕ) → Memory
 meaning next_serial records targets bytes roots = record {
   objects = map (λ serial. option_map (object_at targets bytes) (record_with serial records)) (range_with_len 0 next_serial);

@@ -39,7 +39,8 @@ UnwindsNext = (mp s q u j : ℕ) → u < q
 abbrev pub UnwoundIsWritable : Type 0
 UnwoundIsWritable = (mp s q j : ℕ) → is_protected mp s (Unwinding q q) j ≡ false
 
--- a running mesh by whose progress a virtual page is read-only, and the number of the page among those of the mesh's source
+-- a running mesh by whose progress a virtual page is read-only, and the number of the page among those of the mesh's
+-- source
 pub record IsReadOnlyBy (t : Table) (v : ℕ) : Type 0 where
   pub i : ℕ
   pub mesh : Mesh

@@ -28,7 +28,8 @@ CancelKeepsRecords = (t : Table) (which : Option Mesh) (cancelled : Counted) →
 abbrev pub SweepKeepsRecords : Type 0
 SweepKeepsRecords = (t : Table) (n : ℕ) (swept : Counted) → IsSound t → sweep t n ≡ Ok swept → KeepsRecords t swept.table
 
--- a step of any kind leaves those of a sound table in which no serial stands twice, as in one tied to a memory, of the first mesh that passes any test
+-- a step of any kind, of the first mesh that passes any test, keeps the records of a sound table in which no serial
+-- occurs twice, as in a table tied to a memory
 abbrev pub StepKeepsRecords : Type 0
 StepKeepsRecords = (m : Memory) (t : Table) (test : Mesh → Bool) (stepped : Stepped) → IsSound t → IsTied m t
     → step t (find test t.meshes) ≡ Ok stepped → KeepsRecords t stepped.table

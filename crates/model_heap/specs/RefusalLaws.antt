@@ -99,7 +99,8 @@ cancel_holds t test NoMesh = HasNoMesh t test
 cancel_holds t test TooLate = IsTooLate t test
 cancel_holds t test _ = ⊥
 
--- a step of the first mesh that passes a test, as of any mesh or of one of a class, is refused by the lowest in a sound table
+-- a step of the first mesh that passes a test, as of any mesh or of one of a class, is refused by the lowest in a sound
+-- table
 abbrev pub StepIsRefusedByLowest : Type 0
 StepIsRefusedByLowest = (t : Table) (test : Mesh → Bool) → IsSound t → IsRefusedBy (step_holds t test) (step t (find test t.meshes))
 
@@ -114,7 +115,8 @@ pub record HasNoOpen (t : Table) (len : ℕ) (holds : ℕ → Type 0) : Type 0 w
   pub none : (i : ℕ) (group : Group) → slice_get t.groups i ≡ Some group → is_open t class group ≡ false
   pub is : holds class
 
--- when each refusal of a new object holds: there are fewer free pages than a span has, and its last page would be above the last address
+-- when each refusal of a new object holds: there are fewer free pages than a span has, and its last page would be above
+-- the last address
 abbrev pub new_holds : Table → ℕ → Refusal → Type 0
 new_holds t len Zero = len ≡ 0
 new_holds t len TooLarge = 2048 < len

@@ -44,7 +44,8 @@ abbrev pub IsWithinSteps : Group → Progress → Type 0
 IsWithinSteps source (Made d) = d < 3 * page_count source + slots_of source.class + pages_of source.class
 IsWithinSteps source (Unwinding q u) = (u < q) × (q ≤ page_count source)
 
--- the mesh is one of two different groups of its class, with no slot number occupied in both, and at most 8 members together
+-- the mesh is one of two different groups of its class, with no slot number occupied in both, and at most 8 members
+-- together
 pub record IsSoundBetween (from into : Option Group) (mesh : Mesh) : Type 0 where
   pub source : Group
   pub destination : Group
@@ -82,7 +83,7 @@ pub record IsSound (t : Table) : Type 0 where
   pub meshes : AreSoundMeshes t t.meshes
   pub one_a_class : (class : ℕ) → meshes_of class t.meshes ≤ 1
 
--- the slot stands under a number in a group of the class
+-- the slot is number k in a group of the class
 pub record IsFilled (t : Table) (class k : ℕ) (slot : Slot) : Type 0 where
   pub number : ℕ
   pub group : Group
@@ -97,7 +98,7 @@ pub record IsLiveSlot (m : Memory) (class k : ℕ) (slot : Slot) : Type 0 where
   pub address : object.address ≡ slot_address slot.member class k
   pub len : length object.bytes ≡ slot.len
 
--- the object of the serial stands in a slot of the table, at its address and with its length
+-- the object of the serial is in a slot of the table, at its address and with its length
 pub record HasSlot (t : Table) (serial : ℕ) (object : Object) : Type 0 where
   pub number : ℕ
   pub group : Group

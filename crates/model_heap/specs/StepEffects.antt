@@ -1,5 +1,5 @@
--- What a step of a mesh does to page map, bytes and free pages, and that it does nothing else. Protecting, copying and remapping are the
--- publication's; their order is this project's own.
+-- What a step of a mesh does to page map, bytes and free pages, and that it does nothing else. Protecting, copying and
+-- remapping are the publication's; their order is this project's own.
 use Rattle.std.specs.Prelude.{ℕ, zero, suc, ◌+◌, ◌-◌, ◌*◌, ◌/◌, ◌%◌, Bool, true, false, ◌&&◌, if◌then◌else◌, nat_eq, List, Option, Some, None, slice_index, slice_index_or}
 use Rattle.model_words.specs.Classes.{pages_of, slots_of}
 use Rattle.model_heap.specs.Mesh.{kind_after, page_count, virtual_pages}
@@ -8,7 +8,7 @@ use Rattle.model_heap.specs.Table.{Group, Made, Progress, Slot, Unwinding}
 use Rattle.model_words.specs.declared.commands.StepKind.{StepKind}
 use Rattle.model_words.specs.declared.commands.StepKind.TheVariants.{Protect, Copy, Remap, Unprotect, Release}
 
--- what lies under a table: where each virtual page leads, the byte at each place, and which physical pages are free
+-- what is below a table: where each virtual page leads, the byte at each place, and which physical pages are free
 pub record Under : Type 0 where
   pub targets : ℕ → Target
   pub bytes : Place → ℕ

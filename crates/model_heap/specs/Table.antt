@@ -6,13 +6,14 @@ use Rattle.model_words.specs.Words.{◌>>=◌, or_refuse, refuse_if}
 use Rattle.model_words.specs.declared.refusals.Refusal.{Refusal}
 use Rattle.model_words.specs.declared.refusals.Refusal.TheVariants.{Zero, TooLarge, NoPages, NoAddresses, NoGroup, Busy, NotEmpty}
 
--- an object in a slot: the member that it is an address of, by the member's first virtual page, its serial and its length
+-- an object in a slot: the member that it is an address of, by the member's first virtual page, its serial and its
+-- length
 pub record Slot : Type 0 where
   pub member : ℕ
   pub serial : ℕ
   pub len : ℕ
 
--- a group: its number, its class by size, its members by their first virtual pages, and what stands in each slot
+-- a group: its number, its class by size, its members by their first virtual pages, and the content of each slot
 pub record Group : Type 0 where
   pub number : ℕ
   pub class : ℕ
@@ -31,8 +32,8 @@ pub record Mesh : Type 0 where
   pub destination : ℕ
   pub progress : Progress
 
--- the table: the number of the next span, the lowest virtual page that was never used, the number of free physical pages, the running meshes,
--- and the groups, ascending by their numbers
+-- the table: the number of the next span, the lowest virtual page that was never used, the number of free physical
+-- pages, the running meshes, and the groups, ascending by their numbers
 pub record Table : Type 0 where
   pub next_span : ℕ
   pub next_page : ℕ
@@ -123,7 +124,7 @@ with_span t class = record t {
   groups = t.groups ++ fresh_group t.next_span class t.next_page ∷ [];
 }
 
--- where a new object stands, and the table with it
+-- where a new object is, and the table with it
 pub record Placed : Type 0 where
   pub address : ℕ
   pub table : Table

@@ -91,7 +91,7 @@ abbrev pub NewIsVacant : Type 0
 NewIsVacant = (m : Memory) (t : Table) (len word serial : ℕ) (placed : Placed) → IsSound t → IsTied m t → place_new t len word serial ≡ Ok placed
     → IsVacantRange m placed.address len
 
--- the tests of whether any mesh runs, and of whether one of the class does, tell where no mesh of a class is running
+-- two tests of busy classes: whether any mesh runs, and whether one of the class does
 abbrev pub AnyTellsBusy : Type 0
 AnyTellsBusy = (t : Table) → IsBusyTest any_mesh t
 

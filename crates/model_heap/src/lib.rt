@@ -1,7 +1,7 @@
 //! The heap without its bytes: the table, the steps of a mesh, the places of addresses, and what a heap means.
 //!
-//! Definitions, and what is proved of them alone, a file a thought. The only other code is `Occupant`, an object in a slot as every keeper of a table
-//! stores it.
+//! The crate contains definitions and what is proved of them alone, one topic per file. The only other code is
+//! `Occupant`, which is how every owner of a table stores the object in a slot.
 #![tactic(auto)]
 
 pub mod effect_laws;

@@ -1,28 +1,31 @@
-//! Laws of what a heap means: what a read, a store, a free and a new object are to it. Each is the contract of a function that does nothing.
+//! Laws of what a heap means under a read, a store, a free and a new object. Each is the contract of a function that
+//! does nothing.
 ghost use Rattle.model_heap.specs.MeaningLaws.{MeaningHasNext, MeaningHasObjects, SameBytesSameMeaning, StoreChangesMeaning, FreeChangesMeaning, NewChangesMeaning, ReadGivesBytes, ByteIsAtItsPlace, LiveObjectsAreApart, HolderIsOne, NoneIsHolder, SlotIsTheOnlyOne, TiedRecordsAreBelow, SlotHasRecord, RecordHasSlot};
 
-/// What a heap means has the heap's next serial, and for each serial the object of its record.
+/// The memory that a heap means has the heap's next serial and, for each serial, the object of that serial's record.
 pub fn meaning_has_objects()
     ensures next { MeaningHasNext }
     ensures objects { MeaningHasObjects }
 {}
 
-/// A heap whose records and their bytes stay means what it meant, wherever the bytes lie.
+/// If the records and their bytes are unchanged, the memory that the heap means is unchanged, wherever the bytes are
+/// stored.
 pub fn meaning_stays_with_bytes()
     ensures { SameBytesSameMeaning }
 {}
 
-/// Bytes stored at the places of an object's addresses are stored in the object.
+/// Storing bytes at the places of an object's addresses stores them in that object of the memory that the heap means.
 pub fn store_changes_meaning()
     ensures { StoreChangesMeaning }
 {}
 
-/// An object taken out of the table is freed.
+/// Taking an object out of the table frees it in the memory that the heap means.
 pub fn free_changes_meaning()
     ensures { FreeChangesMeaning }
 {}
 
-/// An object placed in the table, whose places hold zeros, is made.
+/// Placing an object in a sound table makes it in the memory that the heap means, if its places hold zeros and the
+/// bytes of all live objects are unchanged.
 pub fn new_changes_meaning()
     ensures { NewChangesMeaning }
 {}
@@ -40,12 +43,12 @@ pub fn live_objects_are_apart()
     ensures none { NoneIsHolder }
 {}
 
-/// An object stands in one slot.
+/// In a sound table that is tied to a memory, an object is in only one slot.
 pub fn slots_are_only_ones()
     ensures { SlotIsTheOnlyOne }
 {}
 
-/// The records of a table are those of its filled slots, with serials below the next one.
+/// The records of a table are those of its filled slots, and their serials are below the next serial.
 pub fn records_are_of_slots()
     ensures below { TiedRecordsAreBelow }
     ensures slot { SlotHasRecord }

@@ -1,13 +1,16 @@
-//! Laws of new objects: which group and which slot one goes to. Each is the contract of a function that does nothing.
+//! Laws of new objects: which group and which slot a new object goes to. Each is the contract of a function that does
+//! nothing.
 ghost use Rattle.model_heap.specs.NewLaws.{RefusedByAddresses, NewTakesLowestOpen, NewTakesSpan};
 
-/// A new object goes to the lowest open group of its class, to the free slot that the word picks, and to a new span exactly where no group is open.
+/// A new object goes to the lowest open group of its class, and there to the free slot that the word selects. It goes
+/// to a new span if and only if no group of its class is open.
 pub fn new_takes_lowest()
     ensures group { NewTakesLowestOpen }
     ensures span { NewTakesSpan }
 {}
 
-/// A new span is refused for want of addresses exactly where its last page would be above the last virtual page.
+/// A new span is refused with NO_ADDRESSES if and only if there are enough free pages and the span's last page would be
+/// above the last virtual page.
 pub fn refused_by_addresses()
     ensures { RefusedByAddresses }
 {}

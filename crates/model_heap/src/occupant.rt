@@ -1,7 +1,7 @@
-//! `Occupant`, the object that stands in a slot.
+//! `Occupant`, the object in a slot.
 use std::marker::Model;
 
-/// An object in a slot: the member that it is an address of, by the member's first virtual page, its serial and its length.
+/// An object in a slot: the first virtual page of the member that its address is in, its serial and its length.
 #[derive(Clone, Copy, PartialEq, Eq)]
 pub struct Occupant {
     /// The first virtual page of the member.

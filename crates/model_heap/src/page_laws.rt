@@ -1,7 +1,9 @@
-//! Laws of physical pages: none is lost or made, whatever happens to the table. Each is the contract of a function that does nothing.
+//! Laws of physical pages: none is lost or created, whatever happens to the table. Each is the contract of a function
+//! that does nothing.
 ghost use Rattle.model_heap.specs.PageLaws.{EmptyIsCounted, NewKeepsCount, FreeKeepsCount, SweepKeepsCount, BeginKeepsCount, WholeKeepsCount, StepKeepsCount, CancelKeepsCount, SweepAnswersPages, WholeAnswersPages, FreeIsWithin, TakenIsMapped};
 
-/// Free pages, and those of spans that no mesh has released, are as many as at the start after every transition.
+/// Every transition keeps this sum: the number of free pages, plus the number of pages of spans that no mesh has
+/// released.
 pub fn pages_are_counted()
     ensures empty { EmptyIsCounted }
     ensures made { NewKeepsCount }
@@ -13,13 +15,14 @@ pub fn pages_are_counted()
     ensures cancelled { CancelKeepsCount }
 {}
 
-/// A sweep and a whole mesh answer how many pages come free.
+/// A sweep and a whole mesh answer the number of pages that become free.
 pub fn freed_pages_are_answered()
     ensures swept { SweepAnswersPages }
     ensures whole { WholeAnswersPages }
 {}
 
-/// No more pages are free than there are, and no more are taken than mapped.
+/// The number of free pages is at most the number of physical pages. The number of taken physical pages is at most the
+/// number of mapped virtual pages.
 pub fn taken_is_mapped()
     ensures free { FreeIsWithin }
     ensures table { TakenIsMapped }

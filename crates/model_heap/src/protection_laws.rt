@@ -1,7 +1,8 @@
-//! Laws of read-only pages: which the steps of a mesh protect, and which stores they block. Each is the contract of a function that does nothing.
+//! Laws of read-only pages: which the steps of a mesh protect, and which stores they block. Each is the contract of a
+//! function that does nothing.
 ghost use Rattle.model_heap.specs.ProtectionLaws.{StartsWritable, ProtectsNext, HoldsWhileCopying, UnprotectsNext, ReleasesWritable, CancelHolds, UnwindsNext, UnwoundIsWritable, ReadOnlyByMeshes, BlockedByPages};
 
-/// The read-only pages are what the steps do, one after another.
+/// The read-only pages are those that are read-only after the steps, applied one after another.
 pub fn read_only_by_steps()
     ensures starts { StartsWritable }
     ensures protects { ProtectsNext }
@@ -13,7 +14,8 @@ pub fn read_only_by_steps()
     ensures unwound { UnwoundIsWritable }
 {}
 
-/// The read-only pages are those of the sources of all running meshes, and a store is blocked exactly where it touches one.
+/// The read-only pages are those of the sources of all running meshes. A store is blocked if and only if it touches a
+/// read-only page.
 pub fn stores_are_blocked_by_pages()
     ensures pages { ReadOnlyByMeshes }
     ensures blocked { BlockedByPages }

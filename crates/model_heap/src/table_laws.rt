@@ -6,28 +6,28 @@ pub fn empty_is_sound()
     ensures { EmptyIsSound }
 {}
 
-/// An object taken out keeps the table sound.
+/// Freeing an object keeps the table sound.
 pub fn free_keeps_sound()
     ensures { FreeKeepsSound }
 {}
 
-/// An empty group taken out keeps the table sound.
+/// Removing an empty group keeps the table sound.
 pub fn sweep_keeps_sound()
     ensures { SweepKeepsSound }
 {}
 
-/// A mesh begun keeps the table sound, and so does a whole mesh.
+/// The start of a mesh keeps the table sound, and so does a whole mesh.
 pub fn begin_keeps_sound()
     ensures begun { BeginKeepsSound }
     ensures whole { WholeKeepsSound }
 {}
 
-/// A cancel keeps the table sound, whichever mesh is meant.
+/// A cancel keeps the table sound, for any mesh.
 pub fn cancel_keeps_sound()
     ensures { CancelKeepsSound }
 {}
 
-/// A step keeps the table sound, whichever mesh is meant.
+/// A step keeps the table sound, for any mesh.
 pub fn step_keeps_sound()
     ensures { StepKeepsSound }
 {}
@@ -38,14 +38,15 @@ pub fn new_keeps_sound()
     ensures span { SpanKeepsSound }
 {}
 
-/// Each group of a sound table is sound, and its virtual pages are its own.
+/// Each group of a sound table is sound, and no virtual page occurs in it twice or in another group.
 pub fn groups_are_sound()
     ensures found { GroupsAreSound }
     ensures once { PageIsOnceInGroup }
     ensures own { PageIsOfOneGroup }
 {}
 
-/// A group is open to new objects where it is of the class and in no mesh, and has a free slot; the one that is found is.
+/// A group is open to new objects if it is of the class, is in no mesh, and has a free slot. The group that the search
+/// for an open group returns is open.
 pub fn groups_are_open()
     ensures tests { OpenIsByTests }
     ensures found { FoundIsOpen }
@@ -56,13 +57,14 @@ pub fn new_has_length()
     ensures { NewHasLength }
 {}
 
-/// A new object is apart from each object of the table, and where table and memory are tied, its range is vacant.
+/// A new object overlaps no object of the table. If table and memory are tied, its range is vacant.
 pub fn new_is_apart()
     ensures slots { NewIsApart }
     ensures vacant { NewIsVacant }
 {}
 
-/// The two tests of a running mesh tell where no mesh of a class is running.
+/// Each of the two tests for a running mesh (of any class, of this class) is a busy test: if it returns false for a
+/// class, no mesh of that class is running.
 pub fn busy_tests()
     ensures any { AnyTellsBusy }
     ensures of_class { ClassTellsBusy }

@@ -6,29 +6,29 @@ pub fn sweep_keeps_tied()
     ensures { SweepKeepsTied }
 {}
 
-/// A mesh begun keeps table and memory tied, and so does a whole mesh.
+/// The start of a mesh keeps table and memory tied, and so does a whole mesh.
 pub fn begin_keeps_tied()
     ensures begun { BeginKeepsTied }
     ensures whole { WholeKeepsTied }
 {}
 
-/// A cancel keeps table and memory tied, whichever mesh is meant.
+/// A cancel keeps table and memory tied, for any mesh.
 pub fn cancel_keeps_tied()
     ensures { CancelKeepsTied }
 {}
 
-/// A step keeps the memory tied to a sound table, whichever mesh is meant.
+/// A step keeps the memory tied to a sound table, for any mesh.
 pub fn step_keeps_tied()
     ensures { StepKeepsTied }
 {}
 
-/// A store within an object keeps table and memory tied, and so does another serial in a cell.
+/// A store within an object keeps table and memory tied, and so does a change of the serial in a root cell.
 pub fn store_keeps_tied()
     ensures bytes { StoreKeepsTied }
     ensures root { RootKeepsTied }
 {}
 
-/// An object freed keeps table and memory tied.
+/// Freeing an object keeps table and memory tied.
 pub fn free_keeps_tied()
     ensures { FreeKeepsTied }
 {}

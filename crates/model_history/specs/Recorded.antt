@@ -1,4 +1,5 @@
--- The plain memory of a recorded history. What differs between allocators are bounds and choices; this heap's are one case. This project's own choice.
+-- The plain memory of a recorded history. What differs between allocators are bounds and choices; this heap's are one
+-- case. This project's own choice.
 use Rattle.std.specs.Prelude.{◌≡◌, ℕ, ◌≤◌, Bool, true, not, nat_eq, nat_le, nat_lt, List, [], ◌∷◌, ◌++◌, None, length, replicate}
 use Rattle.std.specs.List.{list_any}
 use Rattle.model_memory.specs.Memory.{Memory}
@@ -10,8 +11,8 @@ use Rattle.model_words.specs.declared.commands.Reply.TheVariants.{Object as Made
 use Rattle.model_words.specs.declared.refusals.Refusal.{Refusal}
 use Rattle.model_words.specs.declared.refusals.Refusal.TheVariants.{Zero, TooLarge, NoPages, NoAddresses}
 
--- what is an allocator's own: how many root cells it has, the most bytes of an object, the lengths that it may refuse as too large, and the serials that it may
--- give an object where these were given before
+-- what is an allocator's own: how many root cells it has, the most bytes of an object, the lengths that it may refuse
+-- as too large, and the serials that it may give an object where these were given before
 pub record Allocator : Type 0 where
   pub cells : ℕ
   pub longest : ℕ
@@ -30,7 +31,8 @@ many_cells = 4294967296
 abbrev pub was_given : List ℕ → ℕ → Bool
 was_given serials serial = list_any (λ other. nat_eq other serial) serials
 
--- any allocator: a cell for each object, objects of up to 2^47 bytes, as addresses go, any length that it finds too large, and any serial that it never gave before
+-- any allocator: a cell for each object, objects of up to 2^47 bytes, as addresses go, any length that it finds too
+-- large, and any serial that it never gave before
 abbrev pub any_allocator : Allocator
 any_allocator = record {
   cells = many_cells;
@@ -39,7 +41,8 @@ any_allocator = record {
   may_be_next = λ serials serial. not (was_given serials serial);
 }
 
--- a plain memory, and the serials that its objects were given, in the order of their making: the memory itself counts its objects from 0
+-- a plain memory, and the serials that its objects were given, in the order of their making: the memory itself counts
+-- its objects from 0
 pub record Recorded : Type 0 where
   pub memory : Memory
   pub serials : List ℕ
@@ -56,7 +59,8 @@ IsOwnRefusal allocator len NoPages = (1 ≤ len) × (len ≤ allocator.longest)
 IsOwnRefusal allocator len NoAddresses = (1 ≤ len) × (len ≤ allocator.longest)
 IsOwnRefusal allocator len _ = ⊥
 
--- what a `new` may answer and leave: an object with a serial of the allocator's choice at any vacant range, or a refusal
+-- what a `new` may answer and leave: an object with a serial of the allocator's choice at any vacant range, or a
+-- refusal
 abbrev pub RecordsNew : Allocator → Recorded → ℕ → ℕ → Reply → Recorded → Type 0
 RecordsNew allocator r cell len (Made serial address) n =
     (1 ≤ len) × (len ≤ allocator.longest) × (allocator.may_be_next r.serials serial ≡ true) × IsVacantRange r.memory address len

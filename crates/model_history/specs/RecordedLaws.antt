@@ -37,7 +37,7 @@ HeapHistoriesAreTaken = (entries : List Entry) (end : Memory) → All (λ entry.
 abbrev pub RecordedHaveOneEnd : Type 0
 RecordedHaveOneEnd = (allocator : Allocator) (entries : List Entry) (m n : Recorded) → IsRecorded allocator entries m → IsRecorded allocator entries n → m ≡ n
 
--- of no two objects that were made one serial is told
+-- no two objects that were made have the same serial
 abbrev pub SerialsAreGivenOnce : Type 0
 SerialsAreGivenOnce = (before between after : List Entry) (worker cell len word address worker' cell' len' word' address' serial : ℕ) (end : Recorded)
     → IsRecorded any_allocator (before ++ record { worker = worker; command = New cell len word; reply = Made serial address }

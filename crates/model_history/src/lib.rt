@@ -1,6 +1,8 @@
-//! Histories that any allocator recorded: the plain memory with bounds and choices that are an allocator's own.
+//! Histories recorded from any allocator: the reference memory, with an allocator's bounds and choices as parameters.
 //!
-//! Definitions, and what is proved of them alone. The crate has no other code.
+//! The reference memory is called plain memory in the code.
+//!
+//! The crate contains definitions and proved lemmas about them, and no other code.
 #![tactic(auto)]
 
 pub mod recorded_laws;

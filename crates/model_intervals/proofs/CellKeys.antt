@@ -1,4 +1,5 @@
--- The calls of one cell with their keys: `new` 3 * end + 2, the accesses as in `AccessKeys`, `free` 3 * begin. The keys never fall.
+-- The calls of one cell with their keys: `new` 3 * end + 2, the accesses as in `AccessKeys`, `free` 3 * begin. The keys
+-- never fall.
 use Rattle.std.proofs.Common.{◌≡◌, ℕ, ◌+◌, ◌*◌, ◌<◌, ◌≤◌, true, ◌&&◌, nat_eq, List, [], ◌∷◌, ◌++◌, map, arith, refl, sym, subst, ap, ◌∙◌}
 use Rattle.std.specs.List.Sorted.{IsPermutation}
 use Rattle.std.proofs.lemmas.Bool.{and_parts, eqb-true, false_from_ne_true}

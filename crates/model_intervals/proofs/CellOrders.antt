@@ -1,4 +1,5 @@
--- If each object by itself is explained, a cell's calls can be taken in this order: its `new`, its accesses in the order that explains them, its `free`.
+-- If each object by itself is explained, a cell's calls can be taken in this order: its `new`, its accesses in the
+-- order that explains them, its `free`.
 use Rattle.std.proofs.Common.{◌≡◌, ℕ, ◌⊎◌, true, false, ◌&&◌, nat_eq, List, [], ◌∷◌, ◌++◌, replicate, arith, refl, sym, subst, ap, ◌∙◌, inl, inr, Option, Some, None}
 use Rattle.std.specs.List.Sorted.{IsPermutation}
 use Rattle.std.specs.Option.{option_and_then, option_map}

@@ -1,4 +1,5 @@
--- The state of a cell while a history runs: unmade, live with an object, or freed. A call changes the state of its own cell only.
+-- The state of a cell while a history runs: unmade, live with an object, or freed. A call changes the state of its own
+-- cell only.
 use Rattle.std.proofs.Common.{◌≡◌, ℕ, ◌<◌, ◌≤◌, ◌⊎◌, inl, inr, List, [], ◌∷◌, length, replicate, arith, ap, refl, sym, subst, ◌∙◌, Option, Some, None, Ok, Err}
 use Rattle.std.specs.Option.{option_map}
 use Rattle.std.proofs.lemmas.Bool.Decides.{leb_tells}
@@ -112,7 +113,8 @@ unmade_root m cell is = elim (look m cell) [
   | inr (inr has) ↦ absurd (let clash : Unmade ≡ Live has.object = sym is ∙ has.is in cc clash)
 ]
 
--- the memory is well formed: no two cells hold one index, each live object's index is in some cell, and each live object has at least one byte
+-- the memory is well formed: no two cells hold one index, each live object's index is in some cell, and each live
+-- object has at least one byte
 pub record IsNamed (m : Memory) : Type 0 where
   pub cells : length m.roots ≡ many_cells
   pub below : (c s : ℕ) → root_of m c ≡ Some s → s < next_serial m

@@ -1,4 +1,5 @@
--- The times of a cell's calls in a history: one `new` ends before all others begin, and one `free` begins after all others have ended.
+-- The times of a cell's calls in a history: one `new` ends before all others begin, and one `free` begins after all
+-- others have ended.
 use Rattle.std.proofs.Common.{◌≡◌, ◌≢◌, ℕ, ◌<◌, ◌≤◌, true, false, ◌&&◌, nat_eq, List, arith, sym, subst, ap, ◌∙◌, inl, inr, Some, slice_get}
 use Rattle.std.proofs.lemmas.Bool.{and_from, and_parts, eq-eqb, eqb-true}
 use Rattle.std.proofs.lemmas.Bool.Decides.{eqb_tells}

@@ -1,4 +1,5 @@
--- A list sorted by keys: if, for each two objects whose ranges meet, the first one's `free` has a key between theirs, then each object is freed in time.
+-- A list sorted by keys: if, for each two objects whose ranges meet, the first one's `free` has a key between theirs,
+-- then each object is freed in time.
 use Rattle.std.proofs.Common.{◌≡◌, ℕ, ◌+◌, ◌<◌, ◌≤◌, true, false, List, [], ◌∷◌, arith, sym, ◌∙◌, inl, inr, Some}
 use Rattle.model_intervals.specs.Objects.{Object as NewObject, Meet}
 use Rattle.model_intervals.proofs.MiddleForm.{AllGoInTime, GoesInTime, frees, made_by}

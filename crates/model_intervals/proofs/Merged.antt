@@ -94,7 +94,8 @@ pub merge_other : (c : ℕ) (xs ys : List Keyed) → Every (λ p. nat_eq (cell_a
 merge_other c [] ys h = refl
 merge_other c (p ∷ xs) ys h = put_other c p (merge xs ys) h.0 ∙ merge_other c xs ys h.1
 
--- if the second list has no calls of a cell, and the first list is sorted and has no others, the merge has the first list in its order
+-- if the second list has no calls of a cell, and the first list is sorted and has no others, the merge has the first
+-- list in its order
 pub merge_own : (c : ℕ) (xs ys : List Keyed) → Every (λ p. nat_eq (cell_at p.call) c ≡ true) xs → Pairs Rises xs
     → Every (λ p. nat_eq (cell_at p.call) c ≡ false) ys → of_cell c (calls_of ys) ≡ [] → of_cell c (calls_of (merge xs ys)) ≡ calls_of xs
 merge_own c [] ys own rise others none = none

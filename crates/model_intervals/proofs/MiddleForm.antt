@@ -1,5 +1,5 @@
--- The middle form of a legal history. It says what each cell by itself goes through, and what two objects require of each other.
--- `RunToForm` and `FormToRun` prove that an order of calls is a legal history exactly if it has this form.
+-- The middle form of a legal history. It says what each cell by itself goes through, and what two objects require of
+-- each other. `RunToForm` and `FormToRun` prove that an order of calls is a legal history exactly if it has this form.
 use Rattle.std.proofs.Common.{◌≡◌, ◌≢◌, ℕ, ◌+◌, ◌<◌, ◌⊎◌, Bool, true, false, ◌&&◌, nat_eq, List, [], ◌∷◌, length, Option, Some}
 use Rattle.std.specs.List.{filter}
 use Rattle.model_history.specs.Recorded.{Recorded, many_cells, was_given}
@@ -63,7 +63,8 @@ pub record IsLegalFrom (r : Recorded) (rest : List Call) : Type 0 where
 abbrev pub AreNewApart : Call → Call → Type 0
 AreNewApart a b = IsNew a.entry.command → IsNew b.entry.command → cell_at a ≢ cell_at b
 
--- the premises, which a history meets: each call has an effect and a cell below the bound, and each `new` has an unused cell
+-- the premises, which a history meets: each call has an effect and a cell below the bound, and each `new` has an unused
+-- cell
 pub record IsReady (r : Recorded) (rest : List Call) : Type 0 where
   pub effects : Every (λ call. HasEffect call.entry.command call.entry.reply) rest
   pub within : Every (λ call. cell_at call < many_cells) rest

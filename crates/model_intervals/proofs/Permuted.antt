@@ -35,7 +35,8 @@ module _ {X : Type 0} (P : List X → List X → Type 0) (same : (xs : List X) �
   swapped [] i j at_i at_j = absurd (omega (arith, at_i))
   swapped (x ∷ xs) i j at_i at_j = exchanged x (x ∷ xs) i j at_i at_j
 
-  -- induction over a permutation: a reflexive and transitive relation on lists that holds for an exchange of neighbours, also behind a common front
+  -- induction over a permutation: a reflexive and transitive relation on lists that holds for an exchange of
+  -- neighbours, also behind a common front
   pub by_exchanges : (xs ys : List X) → IsPermutation xs ys → P xs ys
   by_exchanges xs ys h = IsPermutation-keeps xs (P xs) (same xs) (λ l i j at_i at_j p. chain xs l (swap l i j) p (swapped l i j at_i at_j)) ys h
 

@@ -11,11 +11,12 @@ pub record Call : Type 0 where
   pub end : ℕ
   pub entry : Entry
 
--- no call stands behind one that began after it ended
+-- no call comes after one that began after it ended
 abbrev pub RespectsTime : List Call → Type 0
 RespectsTime order = AllPairs (λ front back. back.end < front.begin → ⊥) order
 
--- an order of effect that explains calls: it has these calls, each once, a call that ended before another began stands before it, and it is a legal history
+-- an order of effect that explains calls: it has exactly these calls, each once, a call that ended before another began
+-- comes before it, and it is a legal history
 pub record Explains (calls order : List Call) : Type 0 where
   pub same : IsPermutation order calls
   pub in_time : RespectsTime order

@@ -35,7 +35,7 @@ abbrev pub bytes_behind : ℕ → List ℕ → List Call → Option (List ℕ)
 bytes_behind address bytes [] = Some bytes
 bytes_behind address bytes (call ∷ order) = option_and_then (λ next. bytes_behind address next order) (effect_on address bytes call)
 
--- a command that finds or changes bytes, or tells the address, of the object of its cell
+-- a command that reads or writes bytes of the object of its cell, or returns its address
 abbrev pub is_access : Command → Bool
 is_access (Put cell off bytes) = true
 is_access (Get cell off len) = true
@@ -46,7 +46,8 @@ is_access command = false
 abbrev pub accesses_of : ℕ → List Call → List Call
 accesses_of cell calls = filter (λ call. is_access call.entry.command && nat_eq (cell_at call) cell) calls
 
--- an order of an object's accesses that respects time, in which each answers as it was recorded: an object begins with zeros
+-- an order of an object's accesses that respects time, in which each answers as it was recorded: an object begins with
+-- zeros
 pub record ExplainsAccesses (calls : List Call) (cell len address : ℕ) (order : List Call) : Type 0 where
   pub same : IsPermutation order (accesses_of cell calls)
   pub in_time : RespectsTime order
@@ -90,7 +91,8 @@ IsFairNew (New cell len word) (Made serial address) = (1 ≤ len) × (len ≤ an
 IsFairNew (New cell len word) (Refused refusal) = IsOwnRefusal any_allocator len refusal
 IsFairNew command reply = Unit {0}
 
--- each object by itself is explained, and of any two whose ranges meet one's `free` begins no later than the other's `new` ends
+-- each object by itself is explained, and of any two whose ranges meet one's `free` begins no later than the other's
+-- `new` ends
 pub record IsExplainedByObject (calls : List Call) : Type 0 where
   pub fair : All (λ call. IsFairNew call.entry.command call.entry.reply) calls
   pub serials_once : (i j : ℕ) (a b : Call) (x y : Object) → i ≢ j → IsMadeAt calls i a x → IsMadeAt calls j b y → x.serial ≢ y.serial

@@ -1,4 +1,5 @@
--- What a history of overlapping calls is: calls that each name one object by its cell, between its making and its end. This project's own choice.
+-- What a history of overlapping calls is: calls that each name one object by its cell, between its making and its end.
+-- This project's own choice.
 use Rattle.std.specs.Prelude.{◌≡◌, ◌≢◌, ℕ, ◌<◌, ◌≤◌, List, Some, slice_get}
 use Rattle.std.specs.List.{All}
 use Rattle.model_history.specs.Recorded.{many_cells}
@@ -24,7 +25,7 @@ cell_of (CopyBytes to to_off from from_off len) = to
 abbrev pub cell_at : Call → ℕ
 cell_at call = cell_of call.entry.command
 
--- a command that names one object by its cell, with an answer that tells what it did: only a `new` may be refused
+-- a command that names one object by its cell, with an answer that reports its effect: only a `new` may be refused
 abbrev pub HasEffect : Command → Reply → Type 0
 HasEffect (New cell len word) (Made serial address) = Unit {0}
 HasEffect (New cell len word) (Refused refusal) = Unit {0}
@@ -62,8 +63,8 @@ pub record IsMadeBefore (calls : List Call) (cell moment : ℕ) : Type 0 where
   pub names : cell_at call ≡ cell
   pub ended : call.end < moment
 
--- calls that overlap: each takes time and names one object, each `new` has a cell of its own, and a call on an object begins after its `new` has ended, and
--- ends before its `free` begins
+-- calls that overlap: each takes time and names one object, each `new` has a cell of its own, and a call on an object
+-- begins after its `new` has ended, and ends before its `free` begins
 pub record IsHistory (calls : List Call) : Type 0 where
   pub take_time : All (λ call. call.begin ≤ call.end) calls
   pub have_effects : All (λ call. HasEffect call.entry.command call.entry.reply) calls

@@ -1,5 +1,5 @@
-//! Examples of histories, and of lists of calls that are no history. Each law is the contract of a function that does
-//! nothing.
+//! Examples of histories, and of lists of calls that are not histories. Each lemma is the contract of a function that
+//! does nothing.
 ghost use Rattle.model_intervals.specs.ExampleLaws.{AddrReturnsTheAddress, CallsBeginAfterNew, CallsEndBeforeFree, CallsNameOneObject, CallsTakeTime, CellsAreBounded, EachNewHasItsOwnCell, GetsReturnAll, LaterReadsSeeTheNewByte, LiveRangesAreApart, MeetingRangesAreFreedFirst, NewAnswersFitTheLength, ObjectsAreFreedOnce, OnlyNewIsRefused, OverlappingAccessesHaveEitherOrder, PutsEndWithin, SerialsAreGivenOnce, StaleReadsAreUnexplained, TouchingAccessesHaveEitherOrder, WorkersAreNotCompared};
 
 /// Accesses that overlap or touch may have their effects in either order. If one ends before the other begins, its

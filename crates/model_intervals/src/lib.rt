@@ -1,6 +1,6 @@
 //! Histories of calls that overlap in time: which orders of effect explain them.
 //!
-//! `locality_laws` says why one may look at the calls object by object, and `example_laws` guards the definitions.
+//! `locality_laws` proves that the calls can be judged object by object. `example_laws` guards the definitions.
 #![tactic(auto)]
 
 pub mod example_laws;

@@ -1,4 +1,5 @@
--- What a line that was taken says: the line is the text of the command, the line of the plan or the header that was read.
+-- What a line that was taken says: the line is the text of the command, the line of the plan or the header that was
+-- read.
 use Rattle.std.proofs.Common.{◌≡◌, ℕ, suc, ◌+◌, ◌≤◌, true, false, ◌&&◌, not, if◌then◌else◌, nat_eq, nat_lt, List, [], ◌∷◌, ◌++◌, map, Result, Ok, Err, length, ap, refl, sym, subst, ◌∙◌, arith, inl, inr, append-nil}
 use Rattle.std.specs.Prelude.{codes, IsSome, ◌⊎◌}
 use Rattle.std.specs.Fmt.{decimal}

@@ -100,7 +100,8 @@ plan_rest number draft (line ∷ next ∷ lines) job here some h =
 abbrev plan_lines : List Line → List (List ℕ)
 plan_lines steps = codes "plan" ∷ (map line_text steps ++ codes "end" ∷ [] ∷ [])
 
--- the lines are those of the rest of a script, of the later scripts and of the plan, which the job has after the draft's
+-- the lines are those of the rest of a script, of the later scripts and of the plan, which the job has after the
+-- draft's
 record ScriptRest (worker : ℕ) (draft : Draft) (lines : List (List ℕ)) (job : Job) : Type 0 where
   pub commands : List Command
   pub scripts : List (List Command)

@@ -28,7 +28,7 @@ is_between least most n = nat_le least n && nat_le n most
 abbrev pub with_decimal : ℕ → ℕ → ℕ
 with_decimal n byte = 10 * n + (byte - 48)
 
--- the number that decimal digits stand for
+-- the number that decimal digits spell
 abbrev pub decimal_value : List ℕ → ℕ
 decimal_value digits = fold with_decimal 0 digits
 
@@ -46,7 +46,7 @@ hex_value byte =
 abbrev pub with_hex : ℕ → ℕ → ℕ
 with_hex n byte = 16 * n + (if nat_lt byte 97 then byte - 48 else byte - 87)
 
--- the number that hexadecimal digits stand for
+-- the number that hexadecimal digits spell
 abbrev pub hex_number : List ℕ → ℕ
 hex_number digits = fold with_hex 0 digits
 
@@ -125,7 +125,8 @@ abbrev pub two_and_more : List (List ℕ) → Result (List ℕ × List ℕ × Li
 two_and_more (a ∷ b ∷ more) = refuse_if Word (nat_lt 32 (length more)) >>= λ _. Ok (a, b, more)
 two_and_more fields = Err Word
 
--- what the commands of a text may be: how it spells a cell, a length or an offset, and an address; and whether it has the command `copy`
+-- what the commands of a text may be: how it spells a cell, a length or an offset, and an address; and whether it has
+-- the command `copy`
 pub record CommandRules : Type 0 where
   pub cell : List ℕ → Result ℕ FaultKind
   pub size : List ℕ → Result ℕ FaultKind
@@ -250,7 +251,7 @@ line_in version workers word fields =
     else (if are_same word (codes "sweep") then sweep_in fields
     else (if are_same word (codes "report") then bare_in MakeReport fields else Err Word)))))))
 
--- where in its text a line stands: which header line comes next, or in whose section it is
+-- the place of a line in its text: which header line comes next, or in whose section the line is
 pub data Section : Type 0 where
   AtVersion : Section
   AtPages : Section
@@ -322,7 +323,7 @@ take_in (InScript worker) draft word fields = script_line draft worker word fiel
 take_in InPlan draft word fields = plan_line draft word fields
 take_in AtEnd draft word fields = Err Trailing
 
--- the byte may stand in a line
+-- the byte is allowed in a line
 abbrev pub is_printable : ℕ → Bool
 is_printable byte = is_between 32 126 byte
 

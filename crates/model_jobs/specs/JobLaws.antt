@@ -15,7 +15,7 @@ abbrev pub AnsweredIsStep : Type 0
 AnsweredIsStep = (m : Memory) (t : Table) (command : Command) → IsSound t → IsTied m t
     → PlainStep m command (answered m t command).reply (answered m t command).memory
 
--- where a job stands: table and memory are sound and tied, and the history so far is legal
+-- the state of a job during its plan: table and memory are sound and tied, and the history so far is legal
 pub record IsRunning (state : State) : Type 0 where
   pub sound : IsSound state.table
   pub tied : IsTied state.memory state.table
@@ -72,7 +72,7 @@ RepliesAreRecorded = (job : Job) (lines : List Line)
 abbrev pub JobsKeepCount : Type 0
 JobsKeepCount = (job : Job) (lines : List Line) → AreCounted job.pages (state_after job (initial_state job) lines).table
 
--- what a job's report tells as saved and taken are the mapped pages
+-- the saved and taken pages of a job's report add up to the mapped pages
 abbrev pub ReportsAddUp : Type 0
 ReportsAddUp = (job : Job) (lines : List Line) → (report_of job.pages (state_after job (initial_state job) lines).table).saved
     + (report_of job.pages (state_after job (initial_state job) lines).table).taken ≡ (report_of job.pages (state_after job (initial_state job) lines).table).mapped

@@ -15,7 +15,8 @@ use Rattle.model_words.specs.declared.versions.Version.{Version}
 use Rattle.model_words.specs.declared.versions.Version.TheVariants.{One, Two}
 use Rattle.model_words.specs.Replies.{is_refusal}
 
--- a line of a job's plan: a worker's attempt, or a call of the mesher; a step and a cancel are of the one running mesh, or of that of a class
+-- a line of a job's plan: a worker's attempt, or a call of the mesher; a step and a cancel are of the one running mesh,
+-- or of that of a class
 pub data Line : Type 0 where
   RunWorker : ℕ → Line
   PairClass : ℕ → ℕ → List ℕ → Line
@@ -50,14 +51,14 @@ pub data Answer : Type 0 where
   Reported : Report → Answer
   MesherRefused : Refusal → Answer
 
--- where a job stands: memory, table, what is left of each script, and the answered commands so far
+-- the state of a job: memory, table, what is left of each script, and the answered commands so far
 pub record State : Type 0 where
   pub memory : Memory
   pub table : Table
   pub scripts : List (List Command)
   pub entries : List Entry
 
--- an answer, and where the job stands after it
+-- an answer, and the job's state after it
 pub record Next : Type 0 where
   pub answer : Answer
   pub state : State
@@ -108,7 +109,7 @@ abbrev pub copy_blocked : Table → ℕ → ℕ → Result (Named × Named) Refu
 copy_blocked t off len (Err refusal) = false
 copy_blocked t off len (Ok pair) = is_blocked t (pair.0.object.address + off) len
 
--- the command is held back by a read-only page, if it isn't refused
+-- the command is blocked by a read-only page, if it isn't refused
 abbrev pub touches_read_only : Memory → Table → Command → Bool
 touches_read_only m t (Put cell off bytes) = put_blocked t off (length bytes.items) (named_by m cell)
 touches_read_only m t (Poke address byte) = is_blocked t address 1
@@ -165,7 +166,7 @@ abbrev pub busy_in : Version → Table → ℕ → Bool
 busy_in One = any_mesh
 busy_in Two = mesh_of_class
 
--- the answer to a line of the plan, and where the job stands after it
+-- the answer to a line of the plan, and the job's state after it
 abbrev pub answer : Job → State → Line → Next
 answer job state (RunWorker worker) = run_next job state worker (slice_index_or state.scripts worker [])
 answer job state (PairClass class t words) = told state (PairsFound (search (view_of state.table class) words t))
@@ -187,7 +188,7 @@ answers_from job state (line ∷ lines) = let next = answer job state line in ne
 abbrev pub answers : Job → List Answer
 answers job = answers_from job (initial_state job) job.plan
 
--- where the job stands after lines of the plan
+-- the job's state after lines of the plan
 abbrev pub state_after : Job → State → List Line → State
 state_after job state [] = state
 state_after job state (line ∷ lines) = state_after job (answer job state line).state lines

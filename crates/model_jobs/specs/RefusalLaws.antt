@@ -1,4 +1,5 @@
--- When each refusal of a command over a table holds: the lowest is answered, and a command is held back only where none holds.
+-- When each refusal of a command over a table holds: the lowest is answered, and a command is blocked only if none
+-- holds.
 use Rattle.std.specs.Prelude.{◌≡◌, ◌↔◌, true}
 use Rattle.model_jobs.specs.Jobs.{answered, is_held_back, touches_read_only}
 use Rattle.model_memory.specs.Memory.{Memory}
@@ -19,7 +20,7 @@ command_holds m t command = plain_holds m command
 abbrev pub AnswerIsLowest : Type 0
 AnswerIsLowest = (m : Memory) (t : Table) (command : Command) → IsRepliedBy (command_holds m t command) (answered m t command).reply
 
--- a command is held back exactly where no refusal holds and it touches a read-only page
+-- a command is blocked if and only if no refusal holds and it touches a read-only page
 abbrev pub HeldBackUnrefused : Type 0
 HeldBackUnrefused = (m : Memory) (t : Table) (command : Command) → (is_held_back m t command (answered m t command).reply ≡ true)
     ↔ (((refusal : Refusal) → ¬ command_holds m t command refusal) × (touches_read_only m t command ≡ true))

@@ -1,6 +1,6 @@
-//! Jobs: their texts, how a text is read, what each line is answered, and what a whole text prints.
+//! Jobs: their texts, how a text is read, how each line is answered, and what a whole text prints.
 //!
-//! Definitions, and what is proved of them alone, a file a thought. The crate has no other code.
+//! The crate has only definitions and lemmas about these definitions alone, one topic per file.
 #![tactic(auto)]
 
 pub mod job_laws;

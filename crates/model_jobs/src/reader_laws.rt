@@ -1,7 +1,8 @@
-//! Laws of the reader of jobs: what is read is the text of what it is read as. Each is the contract of a function that does nothing.
+//! Laws of the reader of jobs: whatever is read is the text of the result. Each is the contract of a function that does
+//! nothing.
 ghost use Rattle.model_jobs.specs.ReaderLaws.{NumberIsSpelt, AddressIsSpelt, ByteIsSpelt, BytesAreSpelt, ClassIsSpelt, WordsAreSpelt, VersionIsSpelt, PagesAreSpelt, HistoryIsSpelt, WorkersAreSpelt, FirstWorkerIsSpelt, ScriptLineIsSpelt, PlanLineIsSpelt, LineIsInRange, ReadIsText, ExactlyTextsAreRead};
 
-/// Each field that is read is the one spelling of its number, which is in its range.
+/// Each field that is read is the only spelling of its number, which is in its range.
 pub fn fields_are_spelt()
     ensures number { NumberIsSpelt }
     ensures address { AddressIsSpelt }
@@ -11,7 +12,8 @@ pub fn fields_are_spelt()
     ensures words { WordsAreSpelt }
 {}
 
-/// Each line that is taken is the text of what it is taken as, in each section, and a line of a plan is in its ranges.
+/// Each line that is accepted is the text of its result, in each section, and the numbers of a line of a plan are in
+/// their ranges.
 pub fn lines_are_spelt()
     ensures version { VersionIsSpelt }
     ensures pages { PagesAreSpelt }
@@ -23,7 +25,8 @@ pub fn lines_are_spelt()
     ensures ranges { LineIsInRange }
 {}
 
-/// A text that is read is the text of its job, whose numbers are in their ranges; and each such text is read, if it isn't too long.
+/// A text that is read is the text of its job, whose numbers are in their ranges. Conversely each such text is read, if
+/// it isn't too long.
 pub fn read_is_text()
     ensures converse { ReadIsText }
     ensures exactly { ExactlyTextsAreRead }

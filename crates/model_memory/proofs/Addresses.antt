@@ -16,7 +16,8 @@ use Rattle.model_words.specs.declared.commands.Reply.TheVariants.{Object as Made
 use Rattle.model_words.specs.declared.refusals.Refusal.{Refusal}
 use Rattle.model_words.specs.declared.refusals.Refusal.TheVariants.{Outside}
 
--- each object but one keeps its address and its length, serials without an object get none, and the next serial doesn't fall
+-- each object but one keeps its address and its length, serials without an object get none, and the next serial doesn't
+-- fall
 record KeepsBut (but : ℕ → Type 0) (m n : Memory) : Type 0 where
   at : (serial address len : ℕ) → IsAt m serial address len → IsAt n serial address len ⊎ but serial
   gone : (serial : ℕ) → serial < next_serial m → object_of m serial ≡ None → object_of n serial ≡ None

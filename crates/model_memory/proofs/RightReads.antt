@@ -50,7 +50,8 @@ all_reads_run n w m [] stay = refl
 all_reads_run n w m (cs ∷ seats) stay =
     Runs_append m (reads_at n w cs) (all_reads_at n (suc w) seats) m m (reads_run n w m cs (stay 0)) (all_reads_run n (suc w) m seats (λ j. stay (suc j)))
 
--- the reads, each after as many of these entries as it saw after the first `k`, are answered as the memory there answers
+-- the reads, each after as many of these entries as it saw after the first `k`, are answered as the memory there
+-- answers
 abbrev AllStay : ℕ → Memory → List (List Kept) → List Entry → Type 0
 AllStay k m seats entries = (j d n i : ℕ) (kept : Kept) → n ≡ k + d → slice_get (kept_by seats j) i ≡ Some kept → kept.seen ≡ Some n
     → (is_read kept.command ≡ true) × (kept.reply ≡ read_reply (memory_after m (take d entries)) kept.command)

@@ -58,8 +58,9 @@ abbrev pub RunsKeepAddress : Type 0
 RunsKeepAddress = (m n : Memory) (entries : List Entry) (serial address len : ℕ) → Runs m entries n → IsAt m serial address len
     → IsKeptOrFreed m [] serial address len entries n
 
--- an object that a history made has the address that it was answered, and the length that was asked for, until a later entry frees it for good; that
--- is so at each point after it was made, since the beginnings of a legal history are legal
+-- an object that a history made has the address that it was answered, and the length that was asked for, until a later
+-- entry frees it for good; that is so at each point after it was made, since the beginnings of a legal history are
+-- legal
 abbrev pub MadeKeepsAddress : Type 0
 MadeKeepsAddress = (before after : List Entry) (worker cell len word serial address : ℕ) (end : Memory)
     → IsLegal (before ++ record { worker = worker; command = New cell len word; reply = Made serial address } ∷ after) end

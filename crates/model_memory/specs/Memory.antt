@@ -1,4 +1,5 @@
--- The plain memory: separate objects by serial, without spans, pages or meshing. This project's own choice of what a heap owes its users.
+-- The plain memory: separate objects by serial, without spans, pages or meshing. This project's own choice of what a
+-- heap owes its users.
 use Rattle.std.specs.Prelude.{◌≡◌, ℕ, ◌+◌, Bool, true, false, ◌&&◌, if◌then◌else◌, nat_le, nat_lt, List, [], ◌∷◌, ◌++◌, Option, Some, None, length, replicate, slice_index_or, slice_set, take, drop}
 
 -- a live object: its address and its bytes, at least one

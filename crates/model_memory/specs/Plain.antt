@@ -39,7 +39,8 @@ ends_outside object off len = nat_lt (length object.bytes) (off + len)
 abbrev pub stored : Memory → Named → ℕ → List ℕ → Memory
 stored m named off bytes = with_object m named.serial (Some (record named.object { bytes = overwritten named.object.bytes off bytes }))
 
--- the memory in which a range of an object holds the bytes that a range of an object had before, whether the two are one or not
+-- the memory in which a range of an object holds the bytes that a range of an object had before, whether the two are
+-- one or not
 abbrev pub copied : Memory → Named → ℕ → Named → ℕ → ℕ → Memory
 copied m to to_off from from_off len = stored m to to_off (slice_range from.object.bytes from_off (from_off + len))
 

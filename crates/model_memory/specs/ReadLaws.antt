@@ -1,4 +1,4 @@
--- What the history that journal and seats make is, and that at most one read is told; examples of both.
+-- What the history built from a journal and its seats is, and that at most one read is reported; examples of both.
 use Rattle.std.specs.Prelude.{◌≡◌, ℕ, ◌<◌, ◌≤◌, true, false, List, [], ◌∷◌, Some, None, map, length}
 use Rattle.std.specs.List.{All}
 use Rattle.model_memory.specs.Memory.{Memory, empty_memory, next_serial}
@@ -8,7 +8,8 @@ use Rattle.model_words.specs.declared.commands.Command.TheVariants.{New, Get, Al
 use Rattle.model_words.specs.declared.commands.Reply.TheVariants.{Object as Made, Done, Bytes}
 use Rattle.model_memory.specs.Reads.{Kept, ReadDiffers, AreRight, built, call_of, is_marked, is_out_of_place, kept_by, memory_after, places_from, read_reply, recorded}
 
--- the journal is legal, only reads saw a length, each seat's recorded calls are its worker's entries, and each worker has a seat
+-- the journal is legal, only reads saw a length, each seat's recorded calls are its worker's entries, and each worker
+-- has a seat
 pub record IsTold (seats : List (List Kept)) (entries : List Entry) (end : Memory) : Type 0 where
   pub legal : IsLegal entries end
   pub marked : (w : ℕ) → All is_marked (kept_by seats w)
@@ -30,11 +31,11 @@ abbrev pub BuiltHasNoOther : Type 0
 BuiltHasNoOther = (seats : List (List Kept)) (entries : List Entry) → All (λ entry. entry.worker < length seats) entries
     → All (λ entry. entry.worker < length seats) (built seats entries)
 
--- where all reads are right none is told
+-- if all reads are right, none is reported
 abbrev pub RightDifferNowhere : Type 0
 RightDifferNowhere = (seats : List (List Kept)) (entries : List Entry) (w i : ℕ) → AreRight seats entries → ReadDiffers seats entries w i → ⊥
 
--- at most one read is told
+-- at most one read is reported
 abbrev pub ReadsDifferOnce : Type 0
 ReadsDifferOnce = (seats : List (List Kept)) (entries : List Entry) (w i v j : ℕ) → ReadDiffers seats entries w i → ReadDiffers seats entries v j
     → (w ≡ v) × (i ≡ j)
@@ -82,7 +83,7 @@ abbrev pub LowerSeatFirst : Type 0
 LowerSeatFirst = built ((get_call 0 1 ∷ []) ∷ (new_call ∷ get_call 0 1 ∷ get_call 1 1 ∷ []) ∷ []) (entry_of 1 new_call ∷ [])
     ≡ entry_of 1 new_call ∷ entry_of 0 (get_call 0 1) ∷ entry_of 1 (get_call 0 1) ∷ entry_of 1 (get_call 1 1) ∷ []
 
--- where a read may not stand, and where it may
+-- where a read may not be, and where it may
 abbrev pub PlacesOfReads : Type 0
 PlacesOfReads =
     (map (is_out_of_place [] 5 (get_call 0 3 ∷ [])) (2 ∷ 3 ∷ []) ≡ true ∷ false ∷ [])

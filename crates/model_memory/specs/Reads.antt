@@ -1,4 +1,4 @@
--- Reads that stand in no journal: where each stands in the history, and what is wrong with one that can't stand there.
+-- Reads that are in no journal: the place of each in the history, and what is wrong with one that can't be there.
 use Rattle.std.specs.Prelude.{◌≡◌, ℕ, suc, ◌<◌, Bool, true, false, ◌||◌, if◌then◌else◌, nat_eq, nat_lt, nat_le, List, [], ◌∷◌, ◌++◌, Option, Some, None, Ok, Err, Result, length, take, slice_get, slice_index_or}
 use Rattle.std.specs.List.{list_any}
 use Rattle.model_memory.specs.Memory.{Memory, empty_memory}
@@ -84,8 +84,9 @@ abbrev pub is_passed : Option ℕ → ℕ → Bool
 is_passed None n = false
 is_passed (Some place) n = nat_lt place n
 
--- a read that saw `n` entries can't stand after these calls of its seat: `n` is below the length that an earlier read saw, or not above
--- the index of an earlier recorded call, or above that of the next recorded call, or above the journal's length
+-- a read that saw `n` entries can't come after these calls of its seat: `n` is below the length that an earlier read
+-- saw, or not above the index of an earlier recorded call, or above that of the next recorded call, or above the
+-- journal's length
 abbrev pub is_out_of_place : List ℕ → ℕ → List Kept → ℕ → Bool
 is_out_of_place places total before n =
     list_any (λ seen. nat_lt n seen) (lengths_seen before)

@@ -1,4 +1,5 @@
--- When each refusal of a command holds that the plain memory knows of, and that of those that hold the lowest is answered.
+-- When each refusal of a command holds that the plain memory knows of, and that of those that hold the lowest is
+-- answered.
 use Rattle.std.specs.Prelude.{◌≡◌, ◌⊎◌, ℕ, ◌+◌, ◌<◌, false, Some, None, length}
 use Rattle.model_memory.specs.Memory.{Memory, Object, has_address, object_of, root_of}
 use Rattle.model_memory.specs.Plain.{PlainStep, plain}
@@ -25,7 +26,7 @@ pub record EndsPast (m : Memory) (cell off len : ℕ) : Type 0 where
   pub live : object_of m serial ≡ Some object
   pub past : length object.bytes < off + len
 
--- when each refusal of a call on the object that a cell names holds, where its range is outside as told
+-- when each refusal of a call on the object that a cell names holds, given when its range is outside
 abbrev pub cell_holds : Memory → ℕ → Type 0 → Refusal → Type 0
 cell_holds m cell outside Empty = root_of m cell ≡ None
 cell_holds m cell outside Freed = NamesFreed m cell

@@ -62,11 +62,11 @@ abbrev pub SeatsAreAll : Type 0
 SeatsAreAll = (count : ℕ) (numbers : List ℕ) (entries : List Entry) → missing_seat count numbers entries ≡ None
     → ((k : ℕ) → k < count → slice_get numbers k ≡ Some k) × (has_stranger count numbers entries ≡ false)
 
--- the least place is told where seats are out of their order, or too few
+-- the least place is reported if seats are out of order, or too few
 abbrev pub SwappedSeatsAreMissing : Type 0
 SwappedSeatsAreMissing = (missing_seat 2 (1 ∷ 0 ∷ []) [] ≡ Some 0) × (missing_seat 2 (0 ∷ []) [] ≡ Some 1)
 
--- the count is told where seats are too many
+-- the count is reported if there are too many seats
 abbrev pub StrangersAreMissing : Type 0
 StrangersAreMissing = (entries : List Entry) → missing_seat 2 (0 ∷ 1 ∷ 0 ∷ []) entries ≡ Some 2
 

@@ -21,7 +21,7 @@ abbrev pub is_number : ℕ → Option ℕ → Bool
 is_number k None = false
 is_number k (Some number) = nat_eq number k
 
--- the seats that are handed over have the number `k` at place `k`
+-- the seats that are passed in have the number `k` at place `k`
 abbrev pub has_seat : List ℕ → ℕ → Bool
 has_seat numbers k = is_number k (slice_get numbers k)
 
@@ -34,7 +34,8 @@ abbrev pub missing_or : ℕ → Bool → Option ℕ → Option ℕ
 missing_or count strangers (Some k) = Some k
 missing_or count strangers None = if strangers then Some count else None
 
--- the seat that is missing: the least place below `count` that is not its own seat's, else `count` where there are strangers
+-- the seat that is missing: the least place below `count` that is not its own seat's, else `count` where there are
+-- strangers
 abbrev pub missing_seat : ℕ → List ℕ → List Entry → Option ℕ
 missing_seat count numbers entries =
     missing_or count (has_stranger count numbers entries) (find (λ k. not (has_seat numbers k)) (range_with_len 0 count))

@@ -1,6 +1,7 @@
-//! The plain memory of separate objects: its steps, its legal histories, and what seats were answered and read.
+//! The reference memory of separate objects: its steps, its legal histories, and the calls and reads that seats keep.
 //!
-//! Definitions, and what is proved of them alone, a file a thought. The crate has no other code.
+//! The code calls it the plain memory. The crate has only definitions and lemmas about these definitions alone, one
+//! topic per file.
 #![tactic(auto)]
 
 pub mod address_laws;

@@ -1,13 +1,15 @@
-//! Laws of the plain step: what is none, and how far a command determines its reply. Each is the contract of a function that does nothing.
+//! Laws of the reference step (`PlainStep`): which steps are excluded, and how far a command determines its reply. Each
+//! is the contract of a function that does nothing.
 ghost use Rattle.model_memory.specs.StepLaws.{PlainIsStep, PlainRefusalIsStep, StepDetermined, NoneIsMadeOverAnother, MadeIsNext, ZeroIsOfNone, TooLargeIsAbove, NoPagesIsBetween, NoAddressesIsBetween, RefusalLeavesMemory, ReplyDetermined, RoomIsOpen};
 
-/// An object is made of 1 to 2,048 bytes, with the next serial, and over no live one.
+/// A new object has 1 to 2,048 bytes and the next serial, and overlaps no live object.
 pub fn objects_are_made_apart()
     ensures apart { NoneIsMadeOverAnother }
     ensures next { MadeIsNext }
 {}
 
-/// A `new` is refused for its length, or for want of room where its length is right.
+/// A `new` is refused for its length if the length is wrong. If the length is right, it is refused only for lack of
+/// room.
 pub fn new_refusals_are_by_length()
     ensures zero { ZeroIsOfNone }
     ensures too_large { TooLargeIsAbove }
@@ -15,24 +17,25 @@ pub fn new_refusals_are_by_length()
     ensures no_addresses { NoAddressesIsBetween }
 {}
 
-/// A refusal leaves the memory.
+/// A refusal doesn't change the memory.
 pub fn refusals_leave_memory()
     ensures { RefusalLeavesMemory }
 {}
 
-/// A command determines its reply, but for a new object's address and whether there is room for it.
+/// A command determines its reply, except a new object's address and whether there is room for it.
 pub fn replies_are_determined()
     ensures others { ReplyDetermined }
     ensures room { RoomIsOpen }
 {}
 
-/// What the plain function answers and leaves is a plain step, and so is its refusal.
+/// The reference memory's function makes reference steps: its reply together with the memory after it is one, and so is
+/// its refusal.
 pub fn plain_is_step()
     ensures done { PlainIsStep }
     ensures refused { PlainRefusalIsStep }
 {}
 
-/// Command and reply determine what a plain step leaves.
+/// The memory before a reference step, the command and its reply determine the memory after the step.
 pub fn step_is_determined()
     ensures { StepDetermined }
 {}

@@ -1,5 +1,5 @@
--- The split search: which groups of a class a mesher may pair. The split into two lists is the publication's; shift, order of the tries and removal
--- at a round's end are this project's own.
+-- The split search: which groups of a class a mesher may pair. The split into two lists is the publication's; shift,
+-- order of the tries and removal at a round's end are this project's own.
 use Rattle.std.specs.Prelude.{ℕ, zero, suc, ◌+◌, ◌/◌, ◌%◌, Bool, ◌&&◌, ◌||◌, not, if◌then◌else◌, nat_eq, nat_lt, List, [], ◌∷◌, ◌++◌, length, map, filter, take, drop, slice_index_or, remove}
 use Rattle.std.specs.List.{list_any, zip}
 use Rattle.mesh_bits.specs.Bits.{are_meshable, member_count}

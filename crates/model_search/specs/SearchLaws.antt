@@ -8,7 +8,8 @@ use Rattle.model_heap.specs.Sound.{times_in, IsSound}
 use Rattle.model_heap.specs.Table.{Slot, Group, Table, group_of}
 use Rattle.model_heap.specs.RefusalLaws.{IsOfMesh}
 
--- the candidate is a group of the table and of the class, in no running mesh, with an occupied slot and a free one, and it knows which are occupied
+-- the candidate is a group of the table and of the class, in no running mesh, with an occupied slot and a free one, and
+-- it knows which are occupied
 pub record IsCandidateOf (t : Table) (class : ℕ) (candidate : Candidate) : Type 0 where
   pub group : Group
   pub there : group_of t candidate.number ≡ Some group

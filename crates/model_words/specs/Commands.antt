@@ -4,7 +4,8 @@ use Rattle.arrayvec.specs.ArrayVec.{array_vec_len}
 use Rattle.model_words.specs.declared.commands.Command.{Command}
 use Rattle.model_words.specs.declared.commands.Command.TheVariants.{New, Put, Get, Free, Alias, Addr, Peek, Poke, Copy as CopyBytes}
 
--- a command stores, loads or copies 1 to 32 bytes, where it does at all; that at most 32 are stored is a matter of its type
+-- a command stores, loads or copies 1 to 32 bytes, where it does at all; that at most 32 are stored is a matter of its
+-- type
 abbrev pub IsInRange : Command → Type 0
 IsInRange (New cell len word) = Unit {0}
 IsInRange (Put cell off bytes) = 1 ≤ array_vec_len bytes

@@ -2,7 +2,7 @@
 use Rattle.std.specs.Prelude.{Bool, true, false, Option, Some, None, Result, Ok, Err}
 
 infixl 1 ◌>>=◌
--- the value of the first step handed to the next one, or its refusal
+-- passes the value of the first step to the next step, or keeps the refusal
 abbrev pub ◌>>=◌ : {A B E : Type 0} → Result A E → (A → Result B E) → Result B E
 ◌>>=◌ (Err e) next = Err e
 ◌>>=◌ (Ok x) next = next x

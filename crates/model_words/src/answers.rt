@@ -1,4 +1,4 @@
-//! What a call that makes an object is answered where it makes none, and what a step of a mesh is answered: by the heap and by its table alike.
+//! The answers of a call that makes no object, and of a step of a mesh. The heap and its table share them.
 use crate::{Refusal, StepKind};
 use thiserror::Error;
 
@@ -8,7 +8,7 @@ pub enum NewFault {
     /// The call was refused.
     #[error("{0}")]
     Refused(Refusal),
-    /// The memory for a new span was refused.
+    /// Out of memory for a new span.
     #[error("out of memory")]
     Memory,
 }

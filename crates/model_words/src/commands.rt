@@ -5,15 +5,16 @@ use crate::Refusal;
 use arrayvec::ArrayVec;
 use std::alloc::AllocError;
 
-/// The most bytes that one command stores or loads.
+/// The greatest number of bytes that one command stores or loads.
 pub const MAX_BYTES: usize = 32;
 
-/// What a mutator asks of the heap. A cell is one of the 256 root cells, which all workers share.
+/// A mutator's request to the heap. A cell is one of the 256 root cells, which all workers share.
 ///
-/// An offset counts bytes from the object's start. Of `Put`, `Get` and `Copy` 1 to 32 bytes are stored, loaded or copied.
+/// An offset counts bytes from the object's start. `Put`, `Get` and `Copy` store, load or copy 1 to 32 bytes.
 #[derive(Debug, Drop, PartialEq, Eq)]
 pub enum Command {
-    /// `New(cell, len, word)`: make an object of `len` zero bytes, and store its reference in `cell`. The word picks the slot.
+    /// `New(cell, len, word)`: make an object of `len` zero bytes, and store its reference in `cell`. The word selects
+    /// the slot.
     New(u8, u32, u64),
     /// `Put(cell, off, bytes)`: store the bytes at offset `off` of the object that `cell` names.
     Put(u8, u32, ArrayVec<u8, MAX_BYTES>),
@@ -29,13 +30,14 @@ pub enum Command {
     Peek(u32),
     /// `Poke(addr, byte)`: store a byte at an address.
     Poke(u32, u8),
-    /// `Copy(to, to_off, from, from_off, len)`: copy `len` bytes from offset `from_off` of the object that `from` names to offset `to_off` of the
-    /// one that `to` names. Where the two ranges overlap, each byte is the one that was there before.
+    /// `Copy(to, to_off, from, from_off, len)`: copy `len` bytes from offset `from_off` of the object that `from` names
+    /// to offset `to_off` of the object that `to` names. If the two ranges overlap, the bytes from before the copy are
+    /// copied.
     Copy(u8, u32, u8, u32, u32),
 }
 
 impl Command {
-    /// The same command. It takes no memory.
+    /// Returns a copy of the command. It allocates nothing.
     pub fn copied(&self) -> Command
         ensures { result ≡ self.now }
     {
@@ -60,18 +62,18 @@ impl Clone for Command {
 
     ghost is_infallible = { λ command. Unit {0} };
 
-    /// The same command. It takes no memory.
+    /// Returns a copy of the command. It allocates nothing.
     fn clone(&self) -> Result<Command, AllocError> {
         Ok(self.copied())
     }
 }
 
-/// What a mutator is answered.
+/// The answer that a mutator gets.
 #[derive(Debug, Drop, PartialEq, Eq)]
 pub enum Reply {
     /// `Object(serial, addr)`: the object was made.
     Object(u32, u32),
-    /// The command was done and answers nothing more.
+    /// The command was done and has no other answer.
     Done,
     /// The bytes that were loaded.
     Bytes(ArrayVec<u8, MAX_BYTES>),
@@ -84,7 +86,7 @@ pub enum Reply {
 }
 
 impl Reply {
-    /// The same reply. It takes no memory.
+    /// Returns a copy of the reply. It allocates nothing.
     pub fn copied(&self) -> Reply
         ensures { result ≡ self.now }
     {
@@ -104,13 +106,13 @@ impl Clone for Reply {
 
     ghost is_infallible = { λ reply. Unit {0} };
 
-    /// The same reply. It takes no memory.
+    /// Returns a copy of the reply. It allocates nothing.
     fn clone(&self) -> Result<Reply, AllocError> {
         Ok(self.copied())
     }
 }
 
-/// The same bytes. It takes no memory.
+/// Returns a copy of the bytes. It allocates nothing.
 fn copied_bytes(bytes: &ArrayVec<u8, MAX_BYTES>) -> ArrayVec<u8, MAX_BYTES>
     ensures { result ≡ bytes.now }
 {
@@ -130,6 +132,6 @@ pub enum StepKind {
     Remap,
     /// One virtual page becomes writable.
     Unprotect,
-    /// One physical page of the source goes back to the arena.
+    /// One physical page of the source is returned to the arena.
     Release,
 }

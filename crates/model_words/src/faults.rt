@@ -6,25 +6,26 @@ use thiserror::Error;
 
 /// What is wrong with a line of a job's text.
 ///
-/// The first line with a fault is told, with the first kind of this list that holds for it. The order is this project's own.
+/// The first line with a fault is reported, with the first kind of this list that holds for the line. The order is this
+/// project's own choice.
 #[derive(Clone, Copy, Debug, PartialEq, Eq, Error)]
 #[error("{}", self.name())]
 pub enum FaultKind {
-    /// The file has more than 1,048,576 bytes; the line is 0.
+    /// The file has more than 1,048,576 bytes. The line is then 0.
     TooLong,
-    /// A byte follows the line end of `end`; the line is the one after it.
+    /// A byte follows the line end of `end`. The line is the one after `end`.
     Trailing,
     /// The first 1,025 bytes of the line hold no line end.
     LongLine,
-    /// The input ends before the line's end, or where a line must begin.
+    /// The input ends before the line's end, or at a place where a line must begin.
     Cut,
     /// A byte outside 20 to 7e.
     Byte,
     /// An empty field, a first field that isn't allowed in this place, or a wrong number of fields.
     Word,
-    /// A number or an address that is spelt wrongly or out of range.
+    /// A number or an address that is misspelt or out of range.
     Number,
-    /// Bytes that are spelt wrongly, or of a wrong length.
+    /// Bytes that are misspelt or have a wrong length.
     Hex,
 }
 
@@ -50,8 +51,8 @@ impl FaultKind {
 #[derive(Clone, Copy, Debug, PartialEq, Eq, Error)]
 #[error("line {line}: {kind}")]
 pub struct TextFault {
-    /// The line's number, from 1; 0 where the whole file is too long.
+    /// The line's number, from 1, or 0 if the whole file is too long.
     pub line: u32,
-    /// What is wrong with it.
+    /// What is wrong with the line.
     pub kind: FaultKind,
 }

@@ -1,6 +1,6 @@
-//! The words that every layer of Mesh speaks: commands, answers, refusals, faults, and the size classes.
+//! The words that every layer of Mesh shares: commands, answers, refusals, faults, and the size classes.
 //!
-//! Also how a chain of steps is refused: by the first step that is.
+//! Also how a chain of steps is refused: with the refusal of the first step that is refused.
 #![tactic(auto)]
 
 mod answers;

@@ -25,9 +25,10 @@ const REFUSAL_NAMES: [&str; 17] = [
     "NOT_EMPTY",
 ];
 
-/// Why a call was refused. A refusal changes nothing in heap and roots.
+/// Why a call was refused. A refused call changes nothing in the heap and the roots.
 ///
-/// Where several hold for one call, the one with the lowest number is answered. Numbers and names are this project's own.
+/// If several refusals hold for one call, the refusal with the lowest number is the answer. Numbers and names are this
+/// project's own choice.
 #[derive(Clone, Copy, Debug, PartialEq, Eq, Error)]
 #[error("{}", self.name())]
 pub enum Refusal {
@@ -37,7 +38,7 @@ pub enum Refusal {
     TooLarge,
     /// `new`: no open group has a free slot, and the arena has too few free pages for a new span.
     NoPages,
-    /// `new`: no open group has a free slot, and too few virtual pages were never used.
+    /// `new`: no open group has a free slot, and too few virtual pages are left that were never used.
     NoAddresses,
     /// The root cell holds no reference.
     Empty,
@@ -47,7 +48,7 @@ pub enum Refusal {
     Outside,
     /// `peek`, `poke`: the address is in no live object's range.
     Stray,
-    /// The number names no group now.
+    /// No group has the number now.
     NoGroup,
     /// Source and destination are one group.
     Same,

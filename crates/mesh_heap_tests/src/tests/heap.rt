@@ -1,4 +1,4 @@
-//! The heap, its meshes and the book, call by call, and the calls that take memory.
+//! Tests of the heap, its meshes and the book, call by call, and of the calls that allocate.
 
 mod books;
 mod calls;

@@ -1,20 +1,20 @@
-//! Each call of the plain memory.
+//! Tests of each call of the reference memory.
 
 use arrayvec::ArrayVec;
 use mesh_plain::{Plain, PlainFault};
 use model_words::{Command, MAX_BYTES, Refusal, Reply};
 use std::process::Abort;
 
-/// A call of the plain memory, which names an object by a cell.
+/// A call of the reference memory. A cell names an object.
 #[derive(Clone, Copy)]
 enum PlainCall {
     // Of a length, at an address.
     Make(u8, u32, u32),
     // To an offset.
     Put(u8, u32, &'static [u8]),
-    // From an offset, so many bytes, at most 32.
+    // Cell, offset, number of bytes, at most 32.
     Get(u8, u32, u32),
-    // To a cell's offset, from a cell's offset, so many bytes.
+    // Written cell and offset, read cell and offset, number of bytes.
     Copy(u8, u32, u8, u32, u32),
     Alias(u8, u8),
     Free(u8),
@@ -23,7 +23,7 @@ enum PlainCall {
     Poke(u32, u8),
 }
 
-/// What it is to be answered.
+/// The expected answer of a call.
 #[derive(Clone, Copy)]
 enum PlainAnswer {
     // The serial of a new object.
@@ -37,7 +37,7 @@ enum PlainAnswer {
 }
 
 impl PlainAnswer {
-    /// The answer, as answers are compared.
+    /// The answer in the form that is compared.
     fn told(self) -> Told {
         match self {
             PlainAnswer::Made(serial) => counted("Made", serial),
@@ -50,10 +50,10 @@ impl PlainAnswer {
     }
 }
 
-/// An answer by its name and its numbers, as answers are compared and as a failure tells them.
+/// An answer as its name and its numbers: the form that is compared and printed in failure messages.
 type Told = (&'static str, [u64; 2]);
 
-/// A call that is done.
+/// The answer of a call that is done.
 const DONE: Told = ("Done", [0; 2]);
 
 /// An answer of one number.
@@ -61,7 +61,7 @@ fn counted(name: &'static str, count: u32) -> Told {
     (name, [u64::from(count), 0])
 }
 
-/// So many bytes, and the number whose last digits of base 256 they are.
+/// The length of bytes, and the number whose last digits in base 256 they are.
 fn loaded(len: usize, number: u64) -> Told {
     ("Bytes", [len as u64, number])
 }
@@ -77,7 +77,7 @@ fn name_of(fault: PlainFault) -> &'static str {
     }
 }
 
-/// What a call is answered.
+/// Makes a call, and returns its answer.
 fn answer_of(rt: &impl Abort, plain: &mut Plain, call: PlainCall) -> Told {
     match call {
         PlainCall::Make(cell, len, address) => {
@@ -100,7 +100,7 @@ fn answer_of(rt: &impl Abort, plain: &mut Plain, call: PlainCall) -> Told {
     }
 }
 
-/// What an answer of one number is.
+/// A result of one number in the form of an answer.
 fn told(name: &'static str, answer: Result<u32, PlainFault>) -> Told {
     match answer {
         Ok(number) => counted(name, number),
@@ -108,7 +108,7 @@ fn told(name: &'static str, answer: Result<u32, PlainFault>) -> Told {
     }
 }
 
-/// What an answer that is done is.
+/// A result without a value in the form of an answer.
 fn done(answer: Result<(), PlainFault>) -> Told {
     match answer {
         Ok(()) => DONE,
@@ -116,7 +116,7 @@ fn done(answer: Result<(), PlainFault>) -> Told {
     }
 }
 
-/// What a byte at an address is.
+/// The byte at an address in the form of an answer.
 fn peeked(answer: Result<u8, PlainFault>) -> Told {
     match answer {
         Ok(byte) => counted("Byte", byte as u32),
@@ -124,7 +124,7 @@ fn peeked(answer: Result<u8, PlainFault>) -> Told {
     }
 }
 
-/// What bytes that were loaded are.
+/// Loaded bytes in the form of an answer.
 fn got(answer: Result<ArrayVec<u8, MAX_BYTES>, PlainFault>) -> Told {
     match answer {
         Ok(bytes) => loaded(bytes.len(), number(bytes.as_slice())),
@@ -132,44 +132,44 @@ fn got(answer: Result<ArrayVec<u8, MAX_BYTES>, PlainFault>) -> Told {
     }
 }
 
-/// The number whose last eight digits of base 256 are the last bytes.
+/// The number whose last eight digits in base 256 are the last bytes.
 fn number(bytes: &[u8]) -> u64 {
     bytes
         .iter()
         .fold(0, |number, byte| (number << 8) | u64::from(*byte))
 }
 
-/// Asserts that calls are answered so, one after another.
+/// Asserts that calls are answered as expected, in order.
 fn play(rt: &impl Abort, plain: &mut Plain, calls: &[(PlainCall, PlainAnswer)]) {
     for (place, (call, wanted)) in calls.iter().enumerate() {
         check(rt, answer_of(rt, plain, *call), wanted.told(), place);
     }
 }
 
-/// Asserts what the call of a place was answered.
+/// Asserts that the call at a place was answered as expected.
 fn check(rt: &impl Abort, told: Told, wanted: Told, place: usize) {
     assert_eq!(rt; told, wanted, "call {place}");
 }
 
-/// Asserts that a fresh memory answers calls so, one after another.
+/// Asserts that a fresh memory answers calls as expected, in order.
 fn played(rt: &(impl Abort + AllocGlobal), calls: &[(PlainCall, PlainAnswer)]) {
     let mut plain = Plain::new(rt.alloc());
     play(rt, &mut plain, calls);
 }
 
-/// Asserts that a memory with the two objects answers calls so, one after another.
+/// Asserts that a memory with the two objects answers calls as expected, in order.
 fn played_on_two(rt: &(impl Abort + AllocGlobal), calls: &[(PlainCall, PlainAnswer)]) {
     let mut plain = Plain::new(rt.alloc());
     play_on_two(rt, &mut plain, calls);
 }
 
-/// Asserts that a fresh memory answers calls so once it has the two objects.
+/// Asserts that a fresh memory answers calls as expected once it has the two objects.
 fn play_on_two(rt: &impl Abort, plain: &mut Plain, calls: &[(PlainCall, PlainAnswer)]) {
     play(rt, plain, &TWO_OBJECTS);
     play(rt, plain, calls);
 }
 
-/// Cell 0 names 8 bytes at 0x1000, and cell 1 names 4 bytes at 0x1010. They are 1 to 8, and 9 to 12.
+/// Cell 0 names 8 bytes at 0x1000, and cell 1 names 4 bytes at 0x1010. The bytes are 1 to 8, and 9 to 12.
 static TWO_OBJECTS: [(PlainCall, PlainAnswer); 4] = [
     (PlainCall::Make(0, 8, 0x1000), PlainAnswer::Made(0)),
     (PlainCall::Make(1, 4, 0x1010), PlainAnswer::Made(1)),
@@ -191,7 +191,7 @@ fn a_new_object_is_of_zeros(rt: HostRuntime) {
     played(&rt, &ZEROS);
 }
 
-/// A store, and what both objects hold then.
+/// A store, and the contents of both objects after it.
 static STORED: [(PlainCall, PlainAnswer); 3] = [
     (PlainCall::Put(0, 6, &[20, 21]), PlainAnswer::Done),
     (
@@ -231,7 +231,7 @@ fn bytes_are_copied_whole_before_one_is_stored(rt: HostRuntime) {
     played_on_two(&rt, &COPIED);
 }
 
-/// Addresses inside the objects and beside them.
+/// Addresses inside the objects and outside them.
 static ADDRESSES: [(PlainCall, PlainAnswer); 8] = [
     (PlainCall::Addr(1), PlainAnswer::At(0x1010)),
     (PlainCall::Peek(0x1000), PlainAnswer::Byte(1)),
@@ -332,7 +332,7 @@ fn apply(rt: &impl Abort, plain: &mut Plain, command: &Command, reply: &Reply) {
     assert!(rt; plain.apply(command, reply).is_ok());
 }
 
-/// Applies the commands of a journal, in which cell 4 comes to name two bytes.
+/// Applies the commands of a journal, after which cell 4 names two bytes.
 fn apply_entries(rt: &impl Abort, plain: &mut Plain) {
     let mut bytes = ArrayVec::new();
     bytes.push(5);
@@ -350,7 +350,7 @@ fn apply_entries(rt: &impl Abort, plain: &mut Plain) {
     }
 }
 
-/// Asserts that a read is answered so.
+/// Asserts that a read is answered as expected.
 fn check_look(rt: &impl Abort, plain: &Plain, read: PlainCall, wanted: &Reply) {
     let reply = match read {
         PlainCall::Peek(address) => plain.look(&Command::Peek(address)),
@@ -378,7 +378,7 @@ fn check_applied(rt: &impl Abort, plain: &mut Plain) {
     check_refusal(rt, plain, PlainCall::Addr(3), Refusal::Freed);
 }
 
-/// Asserts that a read is refused so.
+/// Asserts that a read is refused as expected.
 fn check_refusal(rt: &impl Abort, plain: &Plain, read: PlainCall, refusal: Refusal) {
     check_look(rt, plain, read, &Reply::Refused(refusal));
 }

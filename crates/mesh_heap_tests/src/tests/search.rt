@@ -1,4 +1,5 @@
-//! The search for pairs: worked views and searches, and searches by workers against searches on one thread.
+//! Tests of the search for pairs: worked views and searches, and searches by workers compared with searches on one
+//! thread.
 
 mod indexes;
 mod numbers;

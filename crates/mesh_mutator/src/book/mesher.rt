@@ -1,4 +1,5 @@
-//! What a mesher asks of a book: its heap's own calls. None of them is recorded, and the journal still ends in what heap and roots stand for.
+//! A mesher's calls on a book, which are its heap's own. None of them is recorded, and the journal still ends in what
+//! heap and roots mean.
 ghost use Rattle.std.specs.Prelude.{◌≡◌, length, IfOk};
 ghost use Rattle.std.specs.Option.{option_map};
 ghost use Rattle.model_heap.specs.Mesh.{any_mesh, begin, cancel, first_mesh, mesh_in, mesh_of_class, mesh_whole, step};
@@ -34,56 +35,71 @@ impl Book {
 
     /// Begins a mesh of the group `source` into the group `destination`, and answers how many steps are to come.
     ///
-    /// Refused with NO_GROUP, SAME, CLASS, BUSY where a mesh of their class runs, OVERLAP or MEMBERS, the first that holds.
+    /// Refused with NO_GROUP, SAME, CLASS, BUSY if a mesh of their class runs, OVERLAP or MEMBERS, the first that
+    /// holds.
     pub fn begin(&mut self, source: u32, destination: u32) -> Result<u32, Refusal>
-        ensures { IsAnswered KeepsBook self.old self.new (begin mesh_of_class (table_of_book self.old) source destination) result (IsMeshBegun mesh_of_class self.old.heap self.new.heap source destination) }
+        ensures { IsAnswered KeepsBook self.old self.new
+            (begin mesh_of_class (table_of_book self.old) source destination) result
+            (IsMeshBegun mesh_of_class self.old.heap self.new.heap source destination) }
     {
         self.heap.begin(source, destination)
     }
 
-    /// Makes the next step of the mesh of a class. Refused with NO_MESH exactly where no mesh of the class runs.
+    /// Makes the next step of the mesh of a class. Refused with NO_MESH if and only if no mesh of the class runs.
     pub fn step(&mut self, class: Class) -> Result<StepDone, Refusal>
-        ensures { IsAnswered KeepsBook self.old self.new (step (table_of_book self.old) (mesh_in (table_of_book self.old) class)) result (IsStepMade self.old.heap self.new.heap class) }
+        ensures { IsAnswered KeepsBook self.old self.new
+            (step (table_of_book self.old) (mesh_in (table_of_book self.old) class)) result
+            (IsStepMade self.old.heap self.new.heap class) }
     {
         self.heap.step(class)
     }
 
-    /// Cancels the mesh of a class before its first remap, and answers how many unprotects are to come; with none the mesh is over. A
-    /// further cancel answers what is left then, and changes nothing.
+    /// Cancels the mesh of a class before its first remap, and answers how many unprotects are to come. If there are
+    /// none, the mesh is over. A further cancel answers how many are left then, and changes nothing.
     ///
-    /// Refused with NO_MESH where no mesh of the class runs, with TOO_LATE once a page was remapped.
+    /// Refused with NO_MESH if no mesh of the class runs, and with TOO_LATE once a page was remapped.
     pub fn cancel(&mut self, class: Class) -> Result<u32, Refusal>
-        ensures { IsAnswered KeepsBook self.old self.new (cancel (table_of_book self.old) (mesh_in (table_of_book self.old) class)) result (IsMeshCancelled self.old.heap self.new.heap class) }
+        ensures { IsAnswered KeepsBook self.old self.new
+            (cancel (table_of_book self.old) (mesh_in (table_of_book self.old) class)) result
+            (IsMeshCancelled self.old.heap self.new.heap class) }
     {
         self.heap.cancel(class)
     }
 
-    /// Meshes two groups by `begin` and all its steps, and answers how many physical pages came free. Refused as `begin` is.
+    /// Meshes two groups by `begin` and all its steps, and answers how many physical pages became free. Refused as
+    /// `begin` is.
     pub fn mesh_whole(&mut self, source: u32, destination: u32) -> Result<u32, Refusal>
-        ensures { IsAnswered KeepsBook self.old self.new (mesh_whole mesh_of_class (table_of_book self.old) source destination) result (IsMeshed mesh_of_class self.old.heap self.new.heap source destination) }
+        ensures { IsAnswered KeepsBook self.old self.new
+            (mesh_whole mesh_of_class (table_of_book self.old) source destination) result
+            (IsMeshed mesh_of_class self.old.heap self.new.heap source destination) }
     {
         self.heap.mesh_whole(source, destination)
     }
 
-    /// Gives an empty group's pages back, and answers how many physical pages came free.
+    /// Frees an empty group's pages, and answers how many physical pages became free.
     ///
-    /// Refused with NO_GROUP, BUSY where the group is in a mesh, or NOT_EMPTY, the first that holds.
+    /// Refused with NO_GROUP, BUSY if the group is in a mesh, or NOT_EMPTY, the first that holds.
     pub fn sweep(&mut self, group: u32) -> Result<u32, Refusal>
-        ensures { IsAnswered KeepsBook self.old self.new (sweep (table_of_book self.old) group) result (IsSwept self.old.heap self.new.heap group) }
+        ensures { IsAnswered KeepsBook self.old self.new (sweep (table_of_book self.old) group) result
+            (IsSwept self.old.heap self.new.heap group) }
     {
         self.heap.sweep(group)
     }
 
-    /// Begins a mesh as `begin` does, but is refused with BUSY where a mesh of any class runs.
+    /// Begins a mesh as `begin` does, but is refused with BUSY if a mesh of any class runs.
     pub fn begin_alone(&mut self, source: u32, destination: u32) -> Result<u32, Refusal>
-        ensures { IsAnswered KeepsBook self.old self.new (begin any_mesh (table_of_book self.old) source destination) result (IsMeshBegun any_mesh self.old.heap self.new.heap source destination) }
+        ensures { IsAnswered KeepsBook self.old self.new
+            (begin any_mesh (table_of_book self.old) source destination) result
+            (IsMeshBegun any_mesh self.old.heap self.new.heap source destination) }
     {
         self.heap.begin_alone(source, destination)
     }
 
-    /// Meshes two groups as `mesh_whole` does, but is refused with BUSY where a mesh of any class runs.
+    /// Meshes two groups as `mesh_whole` does, but is refused with BUSY if a mesh of any class runs.
     pub fn whole_alone(&mut self, source: u32, destination: u32) -> Result<u32, Refusal>
-        ensures { IsAnswered KeepsBook self.old self.new (mesh_whole any_mesh (table_of_book self.old) source destination) result (IsMeshed any_mesh self.old.heap self.new.heap source destination) }
+        ensures { IsAnswered KeepsBook self.old self.new
+            (mesh_whole any_mesh (table_of_book self.old) source destination) result
+            (IsMeshed any_mesh self.old.heap self.new.heap source destination) }
     {
         self.heap.whole_alone(source, destination)
     }
@@ -95,14 +111,14 @@ impl Book {
         self.heap.running(class)
     }
 
-    /// The class of the running mesh that began first, None where no mesh runs.
+    /// The class of the running mesh that began first, or `None` if no mesh runs.
     pub fn first_running(&self) -> Option<Class>
         ensures { result ≡ option_map (λ mesh. mesh.class) (first_mesh (table_of_book self.now)) }
     {
         self.heap.first_running()
     }
 
-    /// What the heap counts: live objects and their bytes, mapped and taken pages, and how many pages meshing saves.
+    /// The heap's counts: live objects and their bytes, mapped and taken pages, and how many pages meshing saves.
     pub fn report(&self) -> Report
         ensures { counts_told result ≡ report_of (length (arena_of self.now.heap)) (table_of_book self.now) }
     {

@@ -1,4 +1,4 @@
-//! What a page heap shows, without effect.
+//! Queries of a page heap, without effect.
 ghost use Rattle.std.specs.Prelude.{◌≡◌, ◌<◌, ◌≤◌, IfSome, slice_get};
 ghost use Rattle.mesh_arena.specs.Pages.{is_taken};
 ghost use Rattle.model_heap.specs.Table.{group_of};
@@ -23,7 +23,8 @@ impl PageHeap {
         self.next_page
     }
 
-    /// The member of a group at a place, by its first virtual page. None only where the number is no group, or it has no member there.
+    /// The first virtual page of the member at a place of a group. `None` only if the number is no group, or the group
+    /// has no member there.
     pub fn member(&self, n: u32, place: usize) -> Option<u32>
         ensures value { result ≡ member_at (group_of (table_in self.now) n) place }
         ensures range { IfSome result (λ first. (1 ≤ first) × (first < 65536)) }
@@ -33,7 +34,8 @@ impl PageHeap {
         Some(self.spans.first_page(span))
     }
 
-    /// Serial and length, in bytes, of the object that the member of a group at a place has in a slot. None only where it has none there.
+    /// The serial and the length, in bytes, of the object that the member at a place of a group has in a slot. `None`
+    /// only if there is no such object.
     pub fn object(&self, n: u32, place: usize, slot: u32) -> Option<(u32, u32)>
         ensures { result ≡ object_at (group_of (table_in self.now) n) place slot }
     {
@@ -42,7 +44,8 @@ impl PageHeap {
         self.spans.record(span, Slot::numbered(slot))
     }
 
-    /// The physical page at a place of a group's pages. None only where the number is no group, or it has no page there.
+    /// The physical page at a place of a group's pages. `None` only if the number is no group, or the group has no page
+    /// there.
     pub fn home(&self, n: u32, place: usize) -> Option<u32>
         ensures { result ≡ home_at self.now.index n place }
     {
@@ -51,7 +54,7 @@ impl PageHeap {
         Some(page.number())
     }
 
-    /// Where a virtual page leads. None only where it isn't mapped.
+    /// The mapping of a virtual page. `None` only if it isn't mapped.
     pub fn lead(&self, v: u32) -> Option<Mapping>
         requires { 1 ≤ v }
         ensures { result ≡ lead_at self.now.map v }
@@ -74,7 +77,8 @@ impl PageHeap {
         self.store.arena.is_taken(page)
     }
 
-    /// How many of a group's physical pages a mesh from it has given back. None of them where the number is no group, or no mesh from it runs.
+    /// How many of a group's physical pages a mesh from it has freed. 0 if the number is no group, or if no mesh from
+    /// it runs.
     pub fn released(&self, n: u32) -> u32
         ensures { result ≡ released_of (group_of (table_in self.now) n) (mesh_from n self.now.meshes) }
     {
@@ -90,7 +94,7 @@ impl PageHeap {
         }
     }
 
-    /// The running mesh at a place, in the order of their beginning. None only where so few run.
+    /// The running mesh at a place, in the order in which they began. `None` only if there is no such place.
     pub fn mesh(&self, place: usize) -> Option<Running>
         ensures { result ≡ slice_get self.now.meshes place }
     {

@@ -1,4 +1,4 @@
-//! Empty groups' pages given back.
+//! Frees the pages of empty groups.
 ghost use Rattle.std.specs.Prelude.{◌≡◌, Err, IfErr, IfOk};
 ghost use Rattle.mesh_page_heap.specs.Indexes.{layout_of};
 ghost use Rattle.mesh_page_heap.specs.StepChanges.{UnmapsGroup};
@@ -15,12 +15,15 @@ use mesh_spans::Spans;
 use model_words::Refusal;
 
 impl PageHeap {
-    /// Takes an empty group out, unmaps its virtual pages, gives its physical pages back, and tells how many these are.
+    /// Removes an empty group, unmaps its virtual pages and frees its physical pages. Returns how many physical pages
+    /// these are.
     ///
-    /// Refused with NO_GROUP, BUSY where the group is in a mesh, or NOT_EMPTY, the first that holds; then nothing changes.
+    /// The error is NO_GROUP, BUSY if the group is in a mesh, or NOT_EMPTY, the first that applies; then nothing
+    /// changes.
     pub fn sweep(&mut self, n: u32) -> Result<u32, Refusal>
         ensures swept { IfOk result (HasGone self.old self.new n) }
-        ensures refused { IfErr result (λ refusal. (sweep (table_in self.old) n ≡ Err refusal) × (self.new ≡ self.old)) }
+        ensures refused { IfErr result
+            (λ refusal. (sweep (table_in self.old) n ≡ Err refusal) × (self.new ≡ self.old)) }
     {
         self.spans.sound();
         let Some(group) = self.spans.group(n) else {

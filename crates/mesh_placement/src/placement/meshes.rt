@@ -13,7 +13,7 @@ use mesh_spans::{Group, Slot};
 use model_words::Refusal;
 
 impl Placement {
-    /// Takes each group without an object out, and its pages with it. Its virtual pages are never used again.
+    /// Removes each group that has no object, and frees its physical pages. Its virtual pages are never reused.
     ///
     /// It looks at each number that a group can have.
     pub fn sweep_empty(&mut self)
@@ -26,7 +26,7 @@ impl Placement {
         self.sound();
     }
 
-    /// Takes a group out where it has no object.
+    /// Removes a group if it has no object.
     fn sweep(&mut self, n: u32)
         ensures { IsSweptAt self.old self.new n }
     {
@@ -44,8 +44,8 @@ impl Placement {
         self.taken_pages -= pages;
     }
 
-    /// Meshes the group `source` into the group `destination`: its members and objects are the destination's then, and its pages come free. No
-    /// object changes its slot or its address.
+    /// Meshes the group `source` into the group `destination`: the members and objects of `source` become those of
+    /// `destination`, and the pages of `source` become free. No object changes its slot or its address.
     ///
     /// Refused with NO_GROUP, SAME, CLASS, OVERLAP or MEMBERS, the first that holds. Then nothing changes.
     pub fn mesh(&mut self, source: u32, destination: u32) -> Result<Meshed, Refusal>
@@ -61,10 +61,11 @@ impl Placement {
         Ok(meshed)
     }
 
-    /// The class of two groups and what a mesh of them would come to, where they may be meshed.
+    /// Returns the class of two groups and the result that a mesh of them would have, if they may be meshed.
     fn may_mesh(&self, source: u32, destination: u32) -> Result<(Class, Meshed), Refusal>
         ensures may { IfOk result (λ done. MayMesh self.now.index source destination done.0 done.1.pages done.1.bytes) }
-        ensures refused { IfErr result (λ refusal. may_begin mesh_of_class (table_of self.now) source destination ≡ Err refusal) }
+        ensures refused { IfErr result
+            (λ refusal. may_begin mesh_of_class (table_of self.now) source destination ≡ Err refusal) }
     {
         self.spans.sound();
         let from = self.spans.may_merge(source, destination, false)?;
@@ -77,7 +78,7 @@ impl Placement {
     }
 }
 
-/// The lengths of the objects of a group together.
+/// The sum of the lengths of the objects of a group.
 fn bytes_of(group: &Group) -> u32
     requires { IsGroup group.now }
     ensures { result ≡ sum_by len_in group.now.slots }

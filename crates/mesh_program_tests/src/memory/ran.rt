@@ -1,4 +1,4 @@
-//! A run from a source to memory, and what it wrote.
+//! A run from a source to memory, and its outputs.
 ghost use Rattle.std.specs.Prelude.{◌≡◌, false};
 ghost use Rattle.mesh_run.specs.Runs.{IsSound};
 
@@ -8,25 +8,25 @@ use std::alloc::Global;
 /// The devices of a run from a source to memory.
 pub type InMemory<I> = Devices<I, Output<Vec<u8>>, Output<Vec<u8>>>;
 
-/// What one run of the program wrote, and its exit status.
+/// The outputs of one run of the program, and its exit status.
 #[derive(Debug, Drop)]
 pub struct Ran {
     /// The exit status.
     pub status: u8,
     /// What was written to standard output.
     pub output: Vec<u8>,
-    /// What was written for a person.
+    /// What was written to standard error.
     pub errors: Vec<u8>,
 }
 
 impl Ran {
-    /// What a run of this status wrote to memory.
+    /// The outputs of a run with this status, from its devices.
     pub fn of<I: Source + Drop>(status: u8, devices: InMemory<I>) -> Ran {
         let (_, output, errors) = devices.into_parts();
         Ran::of_outputs(status, output, errors)
     }
 
-    /// The same, of a run whose output and errors are these.
+    /// The outputs of a run with this status, from its output and its errors.
     pub fn of_outputs(status: u8, output: Output<Vec<u8>>, errors: Output<Vec<u8>>) -> Ran {
         Ran {
             status,
@@ -35,7 +35,7 @@ impl Ran {
         }
     }
 
-    /// Whether the run wrote this, with this status.
+    /// Whether the run wrote these texts and ended with this status.
     pub fn wrote(&self, output: &[u8], errors: &str, status: u8) -> bool {
         self.output.as_slice() == output
             && self.errors.as_slice() == errors.as_bytes()

@@ -1,22 +1,22 @@
-//! `SlowSource`: a source that gives one byte a call, of the `Bytes` that it has left.
+//! `SlowSource`: a source that returns one byte per call, from its remaining `Bytes`.
 ghost use Rattle.std.specs.Prelude.{◌≡◌, ◌≤◌, None, false, length};
 ghost use Rattle.mesh_program_tests.specs.Slow.{slow_has_failed};
 
 use mesh_run::{DeviceFault, Source};
 
-/// Bytes that are given one at a time.
+/// Bytes that are read one at a time.
 #[derive(Drop)]
 pub struct Bytes<'a> {
     left: &'a [u8],
 }
 
 impl<'a> Bytes<'a> {
-    /// These bytes, the first of which is given first.
+    /// Returns these bytes, to be read in order.
     pub fn new(left: &'a [u8]) -> Bytes<'a> {
         Bytes { left }
     }
 
-    /// Gives the first byte, where there is one and there is room for it: how many it gave.
+    /// Writes the next byte into `buf`, if there is one and there is room for it. Returns how many bytes it wrote.
     pub fn give(&mut self, buf: &mut [u8]) -> usize
         ensures { result ≤ length buf.new }
     {
@@ -32,7 +32,7 @@ impl<'a> Bytes<'a> {
     }
 }
 
-/// A source that gives one byte a call, and fails once its calls are used up.
+/// A source that returns one byte per call, and fails once its calls are used up.
 #[derive(Drop)]
 pub struct SlowSource<'a> {
     bytes: Bytes<'a>,
@@ -41,7 +41,7 @@ pub struct SlowSource<'a> {
 }
 
 impl<'a> SlowSource<'a> {
-    /// The source of these bytes, which has so many calls.
+    /// Returns a source of these bytes with `calls` calls.
     pub fn new(bytes: &'a [u8], calls: usize) -> SlowSource<'a>
         ensures { slow_has_failed result ≡ false }
     {

@@ -1,14 +1,15 @@
-//! Tables of cases that are one text, and texts of many bytes.
+//! Tables of test cases that are written as one text, and texts of many bytes.
 
 use crate::memory::files::FAULTS;
 use std::alloc::{AllocError, Global};
 
-/// What stands between two rows of a table that is one text.
+/// The separator between two rows of a table that is written as one text.
 ///
-/// Such a table is proved about as fast as one string. Where it is an array of strings instead, the time grows with the square of their number.
+/// Such a table is proved about as fast as one string. For an array of strings the proof time grows with the square of
+/// their number.
 pub const ROW_END: char = '#';
 
-/// The three fields of a row of such a table.
+/// Returns the first three fields of a row of such a table. A missing field is empty.
 pub fn fields(row: &str) -> (&str, &str, &str) {
     let mut fields = row.split('|');
     (
@@ -18,7 +19,7 @@ pub fn fields(row: &str) -> (&str, &str, &str) {
     )
 }
 
-/// For each number of bytes `a`, with a line end or none, the kind of the fault of that line.
+/// Faulty lines of bytes `a`: the number of bytes, whether a line end follows, and the kind of the line's fault.
 pub static LENGTHS: [(usize, bool, &str); 5] = [
     (1024, false, "CUT"),
     (1024, true, "WORD"),
@@ -27,7 +28,7 @@ pub static LENGTHS: [(usize, bool, &str); 5] = [
     (40_000, true, "LONG_LINE"),
 ];
 
-/// So many bytes `a`, with a line end or none.
+/// Returns a text of `count` bytes `a`, followed by a line end if `has_end`.
 pub fn letters(alloc: Global, count: usize, has_end: bool) -> Result<Vec<u8>, AllocError> {
     let mut text = vec![in alloc; b'a'; count]?;
     if has_end {
@@ -36,8 +37,8 @@ pub fn letters(alloc: Global, count: usize, has_end: bool) -> Result<Vec<u8>, Al
     Ok(text)
 }
 
-/// The files that are no job, a row each: its name, its text and the line of its fault. All that go over them ask for them here, so that the proof
-/// of one function alone goes through the table.
+/// Returns the table of the files that are no job. Each row has the name, the text and the line of the fault. Callers
+/// get the table from this function, so the prover unfolds it in one proof only.
 pub fn faulty_files() -> &'static str {
     FAULTS
 }

@@ -1,4 +1,4 @@
-//! Explorations, live sessions and scripts in threads; and command lines that ask for no run.
+//! Explorations, live sessions and scripts on threads; and command lines that start no run.
 
 mod explorations;
 mod live;

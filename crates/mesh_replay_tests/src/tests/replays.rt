@@ -1,4 +1,4 @@
-//! Replays: the worked rows, failing devices, faulty files and recorded histories.
+//! Replays: the golden files, failing devices, faulty files and recorded histories.
 
 ghost use Rattle.std.specs.Prelude.{◌≡◌, false};
 
@@ -13,7 +13,7 @@ mod faults;
 mod histories;
 mod rows;
 
-/// Replays what a source gives to memory, and prints the answers.
+/// Replays the file of a source to memory, and prints the answers.
 fn replayed_from<I: Source + Drop>(alloc: Global, input: I) -> Ran
     requires { I.has_failed input ≡ false }
 {
@@ -36,7 +36,7 @@ fn replayed(alloc: Global, file: &[u8]) -> Ran {
     replayed_from(alloc, Input::new(file))
 }
 
-/// Asserts that the text of a case is this.
+/// Asserts that a case has the wanted text.
 fn check_text<N: Display>(rt: &impl Abort, text: &[u8], wanted: &[u8], case: &N) {
     assert_eq!(rt; text, wanted, "{case}");
 }

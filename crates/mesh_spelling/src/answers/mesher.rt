@@ -12,7 +12,7 @@ use mesh_steps::{Report, StepDone};
 use model_words::Refusal;
 use std::alloc::AllocError;
 
-/// Adds words and the number behind them that a call answered, or its refusal.
+/// Appends words and a number that a call returned, or its refusal.
 pub fn add_counted(
     text: &mut Vec<u8>,
     words: &[u8],
@@ -26,7 +26,7 @@ pub fn add_counted(
     }
 }
 
-/// Adds words and a number behind them.
+/// Appends words and a number.
 fn add_count(text: &mut Vec<u8>, words: &[u8], count: u32) -> Result<(), AllocError>
     ensures { OnOk result (text.new.items ≡ text.old.items ++ (words.now ++ decimal count)) }
 {
@@ -34,7 +34,7 @@ fn add_count(text: &mut Vec<u8>, words: &[u8], count: u32) -> Result<(), AllocEr
     add_decimal(text, u64::from(count))
 }
 
-/// Adds `KIND left N` for a step that was made, or its refusal.
+/// Appends `KIND left N` for a step that was made, or its refusal.
 pub fn add_step(text: &mut Vec<u8>, step: Result<StepDone, Refusal>) -> Result<(), AllocError>
     ensures { OnOk result (text.new.items ≡ text.old.items ++ answer_text (step_told step)) }
 {
@@ -52,7 +52,7 @@ fn add_step_done(text: &mut Vec<u8>, step: StepDone) -> Result<(), AllocError>
     add_count(text, b" left ", step.left)
 }
 
-/// Adds `found K probes Q`, and each pair behind it.
+/// Appends `found K probes Q`, and then each pair.
 pub fn add_found(text: &mut Vec<u8>, found: &Found) -> Result<(), AllocError>
     ensures { OnOk result (text.new.items ≡ text.old.items ++ found_text found.now) }
 {

@@ -1,4 +1,4 @@
-//! The meshes of a heap: what a mesher asks of it.
+//! The meshes of a heap: the calls of a mesher.
 ghost use Rattle.std.specs.Prelude.{◌≡◌, Ok, IsOk};
 ghost use Rattle.std.specs.Option.{option_map};
 ghost use Rattle.model_heap.specs.Mesh.{any_mesh, begin, cancel, first_mesh, mesh_in, mesh_of_class, mesh_whole, step};
@@ -15,68 +15,85 @@ use mesh_page_heap::Busy;
 use model_words::Refusal;
 
 impl Heap {
-    /// Begins a mesh of the group `source` into the group `destination`, and answers how many steps are to come. Both groups are closed to
-    /// new objects until it has ended. It takes no memory.
+    /// Begins a mesh of the group `source` into the group `destination`, and returns how many steps it will make. Both
+    /// groups are closed to new objects until it has ended. It allocates nothing.
     ///
-    /// Refused with NO_GROUP, SAME, CLASS, BUSY where a mesh of their class runs, OVERLAP or MEMBERS, the first that holds.
+    /// The error is the first that holds of NO_GROUP, SAME, CLASS, BUSY (a mesh of their class runs), OVERLAP and
+    /// MEMBERS.
     pub fn begin(&mut self, source: u32, destination: u32) -> Result<u32, Refusal>
-        ensures { IsAnswered KeepsMeaning self.old self.new (begin mesh_of_class (table_of self.old) source destination) result (IsMeshBegun mesh_of_class self.old self.new source destination) }
+        ensures { IsAnswered KeepsMeaning self.old self.new
+            (begin mesh_of_class (table_of self.old) source destination) result
+            (IsMeshBegun mesh_of_class self.old self.new source destination) }
     {
         self.start(source, destination, Busy::OfClass)
     }
 
-    /// Makes the next step of the mesh of a class. It takes no memory, and its cost is the same whatever the number of groups.
+    /// Makes the next step of the mesh of a class. It allocates nothing, and takes the same time whatever the number of
+    /// groups.
     ///
-    /// Refused with NO_MESH exactly where no mesh of the class runs.
+    /// The error is NO_MESH if and only if no mesh of the class runs.
     pub fn step(&mut self, class: Class) -> Result<StepDone, Refusal>
-        ensures { IsAnswered KeepsMeaning self.old self.new (step (table_of self.old) (mesh_in (table_of self.old) class)) result (IsStepMade self.old self.new class) }
+        ensures { IsAnswered KeepsMeaning self.old self.new
+            (step (table_of self.old) (mesh_in (table_of self.old) class)) result (IsStepMade self.old self.new class) }
     {
         self.pages.sound();
         self.pages.step(class)
     }
 
-    /// Cancels the mesh of a class before its first remap, and answers how many unprotects are to come; with none the mesh is over. A
-    /// further cancel answers what is left then, and changes nothing. It takes no memory.
+    /// Cancels the mesh of a class before its first remap, and returns how many unprotects are left. If none are left,
+    /// the mesh has ended. A further cancel returns the count that is left then, and changes nothing. It allocates
+    /// nothing.
     ///
-    /// Refused with NO_MESH where no mesh of the class runs, with TOO_LATE once a page was remapped.
+    /// The error is NO_MESH if no mesh of the class runs, and TOO_LATE if a page was already remapped.
     pub fn cancel(&mut self, class: Class) -> Result<u32, Refusal>
-        ensures { IsAnswered KeepsMeaning self.old self.new (cancel (table_of self.old) (mesh_in (table_of self.old) class)) result (IsMeshCancelled self.old self.new class) }
+        ensures { IsAnswered KeepsMeaning self.old self.new
+            (cancel (table_of self.old) (mesh_in (table_of self.old) class)) result
+            (IsMeshCancelled self.old self.new class) }
     {
         self.pages.sound();
         self.pages.cancel(class)
     }
 
-    /// Meshes the group `source` into the group `destination` by `begin` and all its steps, and answers how many physical pages came free. It
-    /// takes no memory.
+    /// Meshes the group `source` into the group `destination` by `begin` and all its steps, and returns how many
+    /// physical pages were freed. It allocates nothing.
     ///
-    /// Refused with NO_GROUP, SAME, CLASS, BUSY where a mesh of their class runs, OVERLAP or MEMBERS, the first that holds.
+    /// The error is the first that holds of NO_GROUP, SAME, CLASS, BUSY (a mesh of their class runs), OVERLAP and
+    /// MEMBERS.
     pub fn mesh_whole(&mut self, source: u32, destination: u32) -> Result<u32, Refusal>
-        ensures { IsAnswered KeepsMeaning self.old self.new (mesh_whole mesh_of_class (table_of self.old) source destination) result (IsMeshed mesh_of_class self.old self.new source destination) }
+        ensures { IsAnswered KeepsMeaning self.old self.new
+            (mesh_whole mesh_of_class (table_of self.old) source destination) result
+            (IsMeshed mesh_of_class self.old self.new source destination) }
     {
         self.whole(source, destination, Busy::OfClass)
     }
 
-    /// Gives an empty group's pages back, and answers how many physical pages came free. The virtual pages of its members are unmapped, and
-    /// never used again. It takes no memory.
+    /// Frees an empty group's pages, and returns how many physical pages were freed. The virtual pages of its members
+    /// are unmapped, and never used again. It allocates nothing.
     ///
-    /// Refused with NO_GROUP, BUSY where the group is in a mesh, or NOT_EMPTY, the first that holds.
+    /// The error is the first that holds of NO_GROUP, BUSY (the group is in a mesh) and NOT_EMPTY.
     pub fn sweep(&mut self, group: u32) -> Result<u32, Refusal>
-        ensures { IsAnswered KeepsMeaning self.old self.new (sweep (table_of self.old) group) result (IsSwept self.old self.new group) }
+        ensures { IsAnswered KeepsMeaning self.old self.new (sweep (table_of self.old) group) result
+            (IsSwept self.old self.new group) }
     {
         self.pages.sound();
         self.pages.sweep(group)
     }
 
-    /// Begins a mesh as `begin` does, but is refused with BUSY where a mesh of any class runs. It takes no memory.
+    /// Begins a mesh as `begin` does, but is refused with BUSY if a mesh of any class runs. It allocates nothing.
     pub fn begin_alone(&mut self, source: u32, destination: u32) -> Result<u32, Refusal>
-        ensures { IsAnswered KeepsMeaning self.old self.new (begin any_mesh (table_of self.old) source destination) result (IsMeshBegun any_mesh self.old self.new source destination) }
+        ensures { IsAnswered KeepsMeaning self.old self.new
+            (begin any_mesh (table_of self.old) source destination) result
+            (IsMeshBegun any_mesh self.old self.new source destination) }
     {
         self.start(source, destination, Busy::Any)
     }
 
-    /// Meshes two groups as `mesh_whole` does, but is refused with BUSY where a mesh of any class runs. It takes no memory.
+    /// Meshes two groups as `mesh_whole` does, but is refused with BUSY if a mesh of any class runs. It allocates
+    /// nothing.
     pub fn whole_alone(&mut self, source: u32, destination: u32) -> Result<u32, Refusal>
-        ensures { IsAnswered KeepsMeaning self.old self.new (mesh_whole any_mesh (table_of self.old) source destination) result (IsMeshed any_mesh self.old self.new source destination) }
+        ensures { IsAnswered KeepsMeaning self.old self.new
+            (mesh_whole any_mesh (table_of self.old) source destination) result
+            (IsMeshed any_mesh self.old self.new source destination) }
     {
         self.whole(source, destination, Busy::Any)
     }
@@ -88,16 +105,18 @@ impl Heap {
         self.pages.is_busy(Busy::OfClass, class)
     }
 
-    /// The class of the running mesh that began first, None where no mesh runs.
+    /// The class of the running mesh that began first. `None` if no mesh runs.
     pub fn first_running(&self) -> Option<Class>
         ensures { result ≡ option_map (λ mesh. mesh.class) (first_mesh (table_of self.now)) }
     {
         self.pages.first_running()
     }
 
-    /// Begins a mesh, where no running mesh keeps its class busy.
+    /// Begins a mesh, unless a running mesh keeps its class busy.
     fn start(&mut self, source: u32, destination: u32, busy: Busy) -> Result<u32, Refusal>
-        ensures { IsAnswered KeepsMeaning self.old self.new (begin (busy_by busy) (table_of self.old) source destination) result (IsMeshBegun (busy_by busy) self.old self.new source destination) }
+        ensures { IsAnswered KeepsMeaning self.old self.new
+            (begin (busy_by busy) (table_of self.old) source destination) result
+            (IsMeshBegun (busy_by busy) self.old self.new source destination) }
     {
         self.pages.sound();
         self.pages.begin(source, destination, busy)
@@ -105,7 +124,9 @@ impl Heap {
 
     /// Begins a mesh and makes all its steps.
     fn whole(&mut self, source: u32, destination: u32, busy: Busy) -> Result<u32, Refusal>
-        ensures { IsAnswered KeepsMeaning self.old self.new (mesh_whole (busy_by busy) (table_of self.old) source destination) result (IsMeshed (busy_by busy) self.old self.new source destination) }
+        ensures { IsAnswered KeepsMeaning self.old self.new
+            (mesh_whole (busy_by busy) (table_of self.old) source destination) result
+            (IsMeshed (busy_by busy) self.old self.new source destination) }
     {
         self.sound();
         let left = self.start(source, destination, busy)?;
@@ -114,7 +135,7 @@ impl Heap {
         Ok(class.pages())
     }
 
-    /// Makes so many steps of the mesh of a class.
+    /// Makes `steps` steps of the mesh of a class.
     fn finish(&mut self, class: Class, steps: u32)
         requires { IsOk (steps_of_class class steps (table_of self.old)) }
         ensures table { steps_of_class class steps (table_of self.old) ≡ Ok (table_of self.new) }

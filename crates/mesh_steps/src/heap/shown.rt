@@ -1,4 +1,4 @@
-//! What a heap shows, without effect: for pictures, tests and debuggers.
+//! Queries of a heap without side effects, for pictures, tests and debuggers.
 ghost use Rattle.std.specs.Prelude.{◌≡◌, ◌<◌, ◌≤◌, IfSome, slice_get};
 ghost use Rattle.std.specs.Option.{option_map};
 ghost use Rattle.mesh_arena.specs.Pages.{is_taken};
@@ -12,22 +12,22 @@ use crate::{Mapping, Running};
 use mesh_class::Class;
 
 impl Heap {
-    /// The lowest virtual page that was never used, 1 to 65,536. Every group has a number below it.
+    /// The lowest virtual page that was never used, 1 to 65,536. All group numbers are below it.
     pub fn next_page(&self) -> u32
         ensures { result ≡ (table_of self.now).next_page }
     {
         self.pages.next_page()
     }
 
-    /// The class of a group. None only where the number is no group.
+    /// The class of a group. `None` if no group has this number.
     pub fn class_of(&self, group: u32) -> Option<Class>
         ensures { result ≡ option_map (λ g. g.class) (group_of (table_of self.now) group) }
     {
         self.pages.class_of(group)
     }
 
-    /// The member of a group at a place, by its first virtual page: a group has 1 to 8, in the order in which they came to it. None only
-    /// where there is no such member.
+    /// The member of a group at a place, by its first virtual page. A group has 1 to 8 members, in the order in which
+    /// they joined it. `None` if there is no such member.
     pub fn member(&self, group: u32, place: usize) -> Option<u32>
         ensures value { result ≡ member_at (group_of (table_of self.now) group) place }
         ensures range { IfSome result (λ first. (1 ≤ first) × (first < 65536)) }
@@ -35,37 +35,40 @@ impl Heap {
         self.pages.member(group, place)
     }
 
-    /// Serial and length in bytes of the object that the member of a group at a place has in a slot. None only where it has none there.
+    /// The serial and the length in bytes of the object that the member at a place has in a slot. `None` if the member
+    /// has no object there.
     pub fn object(&self, group: u32, place: usize, slot: u32) -> Option<(u32, u32)>
         ensures { result ≡ object_at (group_of (table_of self.now) group) place slot }
     {
         self.pages.object(group, place, slot)
     }
 
-    /// The physical page at a place of a group's pages, of which a group has as many as its class says. A mesh from the group gives them
-    /// back one by one by its last steps, and the group names them until it is over. None only where there is no such page.
+    /// The physical page at a place of a group's pages; the class determines how many there are. The last steps of a
+    /// mesh from the group free them one by one, but the group names them until the mesh has ended. `None` if there is
+    /// no such page.
     pub fn home(&self, group: u32, place: usize) -> Option<u32>
         ensures { result ≡ home_at (index_of self.now) group place }
     {
         self.pages.home(group, place)
     }
 
-    /// Whether a physical page is taken, by its number, counted from 0: by a group, or by a mesh's source that has not released it. No number
-    /// from the heap's size on is.
+    /// Whether a physical page, numbered from 0, is taken by a group, or by a mesh's source that hasn't released it.
+    /// Always false for numbers from the heap's size on.
     pub fn is_taken(&self, page: u32) -> bool
         ensures { result ≡ is_taken (arena_of self.now) page }
     {
         self.pages.is_taken(page)
     }
 
-    /// How many of a group's physical pages a mesh from it has given back: the first so many are the group's no more.
+    /// How many of a group's physical pages a mesh from it has freed. They are the first ones of the group's pages.
     pub fn released(&self, group: u32) -> u32
-        ensures { result ≡ released_of (group_of (table_of self.now) group) (mesh_from group (table_of self.now).meshes) }
+        ensures { result ≡ released_of (group_of (table_of self.now) group)
+            (mesh_from group (table_of self.now).meshes) }
     {
         self.pages.released(group)
     }
 
-    /// Where a virtual page leads; they are counted from 1. None only where it is not mapped.
+    /// The mapping of a virtual page, numbered from 1. `None` if the page isn't mapped.
     pub fn lead(&self, page: u32) -> Option<Mapping>
         requires { 1 ≤ page }
         ensures { result ≡ lead_at (map_of self.now) page }
@@ -73,7 +76,7 @@ impl Heap {
         self.pages.lead(page)
     }
 
-    /// The running mesh at a place, in the order of their beginning. None only where fewer run.
+    /// The running mesh at a place, in the order in which the meshes began. `None` if fewer meshes run.
     pub fn mesh(&self, place: usize) -> Option<Running>
         ensures { result ≡ slice_get (table_of self.now).meshes place }
     {

@@ -1,4 +1,4 @@
-//! What a mesher's search sees of a heap.
+//! The view of a heap that a mesher's search gets.
 ghost use Rattle.std.specs.Prelude.{◌≡◌, IfOk};
 ghost use Rattle.model_search.specs.Search.{view_of, views};
 ghost use Rattle.mesh_steps.specs.Heap.{table_of};
@@ -9,7 +9,8 @@ use mesh_search::ClassView;
 use std::alloc::{AllocError, Global};
 
 impl Heap {
-    /// The groups of each class that may be paired, classes ascending by size. An error is an allocation failure.
+    /// The groups of each class that may be paired, with classes in ascending order by size. An error is an allocation
+    /// failure.
     pub fn views(&self, alloc: Global) -> Result<Vec<ClassView>, AllocError>
         ensures { IfOk result (λ list. list.items ≡ views (table_of self.now)) }
     {

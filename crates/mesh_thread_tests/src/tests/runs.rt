@@ -1,4 +1,4 @@
-//! Scripts on threads beside meshers, held at points by a gate.
+//! Scripts on threads that run next to meshers, stopped at points by a gate.
 
 mod gates;
 mod meshers;

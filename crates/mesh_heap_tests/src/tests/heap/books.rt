@@ -1,4 +1,4 @@
-//! The calls of a heap, made of a book: an object is named by the cell of its serial's number.
+//! The calls of a heap, made on a book: the number of the cell that names an object is the object's serial.
 ghost use Rattle.std.specs.Prelude.{◌≤◌, IfSome};
 ghost use Rattle.model_words.specs.Commands.{IsInRange};
 
@@ -13,7 +13,7 @@ use model_words::{Command, MAX_BYTES, Reply};
 use std::alloc::{AllocError, Global};
 use std::process::Abort;
 
-/// More entries than any test's calls are.
+/// The journal's room: more entries than any test makes calls.
 const ROOM: u32 = 400;
 
 /// A book, and how many objects it has made.
@@ -24,7 +24,7 @@ pub(crate) struct TriedBook {
 }
 
 impl TriedBook {
-    /// A book with no object.
+    /// Returns a book without objects.
     pub(crate) fn open(alloc: Global, pages: u32) -> Result<TriedBook, AllocError>
         requires some { 1 ≤ pages }
         requires most { pages ≤ 4096 }
@@ -35,7 +35,7 @@ impl TriedBook {
         })
     }
 
-    /// What a call is answered.
+    /// Makes a call, and returns its answer.
     pub(crate) fn answer(&mut self, rt: &impl Abort, call: Call) -> Told {
         match command_of(rt, self.objects, call) {
             Some(command) => self.act(&command),
@@ -43,7 +43,7 @@ impl TriedBook {
         }
     }
 
-    /// What a command is answered.
+    /// Runs a command, and returns its answer.
     fn act(&mut self, command: &Command) -> Told
         requires { IsInRange command.now }
     {
@@ -55,7 +55,7 @@ impl TriedBook {
     }
 }
 
-/// The command of a mutator's call of a book with so many objects.
+/// The command for a mutator's call, on a book that has made `objects` objects.
 fn command_of(rt: &impl Abort, objects: u8, call: Call) -> Option<Command>
     ensures { IfSome result (λ command. IsInRange command) }
 {
@@ -86,14 +86,14 @@ fn command_of(rt: &impl Abort, objects: u8, call: Call) -> Option<Command>
     })
 }
 
-/// The cell that names the object of a serial, of so many objects.
+/// The cell that names the object with a serial, among `objects` objects.
 fn cell(rt: &impl Abort, objects: u8, serial: u32) -> u8 {
     let cell = u8::try_from(serial).expect(rt, "a cell");
     assert!(rt; cell < objects, "no object {serial}");
     cell
 }
 
-/// At most 32 bytes, as a command stores them.
+/// At most 32 bytes, in the form that a command stores.
 fn bytes_of(rt: &impl Abort, bytes: &[u8]) -> ArrayVec<u8, MAX_BYTES> {
     let mut stored = ArrayVec::new();
     let extended = stored.try_extend_from_slice(bytes);
@@ -101,7 +101,7 @@ fn bytes_of(rt: &impl Abort, bytes: &[u8]) -> ArrayVec<u8, MAX_BYTES> {
     stored
 }
 
-/// What an attempt comes to.
+/// The answer of an attempt.
 fn told(attempt: &Attempt) -> Told {
     match attempt {
         Attempt::Done(reply) => replied(reply),
@@ -111,7 +111,7 @@ fn told(attempt: &Attempt) -> Told {
     }
 }
 
-/// What a reply is as an answer.
+/// A reply in the form of an answer.
 fn replied(reply: &Reply) -> Told {
     match reply {
         Reply::Object(serial, addr) => made(*serial, *addr),
@@ -123,7 +123,7 @@ fn replied(reply: &Reply) -> Told {
     }
 }
 
-/// What a mesher's call is answered.
+/// Makes a mesher's call, and returns its answer.
 fn meshed(rt: &impl Abort, book: &mut Book, call: Call) -> Told {
     mesher_answer!(rt, book, call)
 }

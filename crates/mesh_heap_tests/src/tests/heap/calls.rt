@@ -1,9 +1,9 @@
-//! Calls of a heap and of a book, and what they are answered.
+//! Calls of a heap and of a book, and their answers.
 
 use mesh_steps::{Report, StepDone};
 use model_words::{Refusal, StepKind};
 
-/// What a mesher's call is answered by a heap or by a book, which have these calls by the same names.
+/// Makes a mesher's call on a heap or a book, whose methods have the same names, and returns its answer.
 macro_rules! mesher_answer {
     ($rt:expr, $of:expr, $call:expr) => {
         match $call {
@@ -28,11 +28,11 @@ pub(crate) use mesher_answer;
 pub(crate) enum Call {
     // Of a length, by a word.
     New(u32, u64),
-    // From an object's offset, so many bytes.
+    // Object, offset, number of bytes.
     Read(u32, u32, u32),
     // To an object's offset.
     Write(u32, u32, &'static [u8]),
-    // To an object's offset, from an object's offset, so many bytes.
+    // Written object and offset, read object and offset, number of bytes.
     Copy(u32, u32, u32, u32, u32),
     Peek(u32),
     Poke(u32, u8),
@@ -50,7 +50,7 @@ pub(crate) enum Call {
 }
 
 impl Call {
-    /// The call's name, which a failure tells.
+    /// The call's name, for failure messages.
     pub(crate) fn name(self) -> &'static str {
         match self {
             Call::New(_, _) => "New",
@@ -72,7 +72,7 @@ impl Call {
         }
     }
 
-    /// The call's numbers, and of bytes how many they are: what a failure tells beside the name.
+    /// The call's numbers, and the length of its bytes, for failure messages.
     pub(crate) fn numbers(self) -> [u64; 5] {
         match self {
             Call::New(len, word) => [len as u64, word, 0, 0, 0],
@@ -103,7 +103,7 @@ impl Call {
     }
 }
 
-/// What a call is to be answered.
+/// The expected answer of a call.
 #[derive(Clone, Copy)]
 pub(crate) enum Answer {
     // The serial and the address of a new object.
@@ -124,7 +124,7 @@ pub(crate) enum Answer {
 }
 
 impl Answer {
-    /// The answer, as answers are compared.
+    /// The answer in the form that is compared.
     pub(crate) fn told(self) -> Told {
         match self {
             Answer::Made(serial, addr) => made(serial, addr),
@@ -147,26 +147,26 @@ impl Answer {
     }
 }
 
-/// An answer by its name and its numbers, as answers are compared and as a failure tells them.
+/// An answer as its name and its numbers: the form that is compared and printed in failure messages.
 pub(crate) type Told = (&'static str, [u64; 5]);
 
-/// What a store is answered that was made, and one that was held back.
+/// The answers of a store that was done, and of one that was blocked.
 pub(crate) const DONE: Told = ("Done", [0; 5]);
 
 pub(crate) const BLOCKED: Told = ("Blocked", [0; 5]);
 
-/// No memory for a call.
+/// The call ran out of memory.
 pub(crate) const NO_MEMORY: Told = ("NoMemory", [0; 5]);
 
-/// No answer, since the call couldn't be made.
+/// The call couldn't be made, so it has no answer.
 pub(crate) const UNMADE: Told = ("Unmade", [0; 5]);
 
-/// A new object of a serial, at an address.
+/// The answer of a `new`: an object with a serial, at an address.
 pub(crate) fn made(serial: u32, addr: u32) -> Told {
     ("Made", [serial as u64, addr as u64, 0, 0, 0])
 }
 
-/// So many bytes, and their number.
+/// The answer of a load: the length of the bytes, and the number that they spell.
 pub(crate) fn loaded(len: usize, number: u64) -> Told {
     ("Bytes", [len as u64, number, 0, 0, 0])
 }
@@ -204,7 +204,7 @@ pub(crate) fn reported(report: Report) -> Told {
     )
 }
 
-/// The steps to come.
+/// The steps that are left.
 pub(crate) fn left(steps: Result<u32, Refusal>) -> Told {
     match steps {
         Ok(steps) => counted("Left", steps),
@@ -220,7 +220,7 @@ pub(crate) fn stepped(step: Result<StepDone, Refusal>) -> Told {
     }
 }
 
-/// The pages that came free.
+/// The pages that were freed.
 pub(crate) fn freed(pages: Result<u32, Refusal>) -> Told {
     match pages {
         Ok(pages) => counted("Pages", pages),
@@ -239,7 +239,7 @@ fn name_of(kind: StepKind) -> &'static str {
     }
 }
 
-/// The number whose last eight digits of base 256 are the last bytes.
+/// The number whose last eight digits in base 256 are the last bytes.
 pub(crate) fn number(bytes: &[u8]) -> u64 {
     let mut number = 0;
     for byte in bytes {

@@ -1,4 +1,4 @@
-//! The calls of a heap: an object is named by its serial.
+//! The calls of a heap: a serial names an object.
 ghost use Rattle.std.specs.Prelude.{◌≤◌};
 
 use crate::tests::heap::calls::{
@@ -12,7 +12,7 @@ use model_words::MAX_BYTES;
 use std::alloc::{AllocError, Global};
 use std::process::Abort;
 
-/// Asserts that so many bytes can be loaded or copied at once.
+/// Asserts that `len` bytes can be loaded or copied at once.
 pub(crate) fn check_length(rt: &impl Abort, len: u32)
     ensures some { 1 ≤ len }
     ensures most { len ≤ 32 }
@@ -20,7 +20,7 @@ pub(crate) fn check_length(rt: &impl Abort, len: u32)
     assert!(rt; 1 <= len && len <= 32, "{len} bytes");
 }
 
-/// How many objects are made at most.
+/// The most objects that a test makes.
 pub(crate) const MAX_OBJECTS: usize = 32;
 
 /// A heap with the addresses of its objects, by serial.
@@ -31,7 +31,7 @@ pub(crate) struct TriedHeap {
 }
 
 impl TriedHeap {
-    /// A heap with no object.
+    /// Returns a heap without objects.
     pub(crate) fn open(alloc: Global, pages: u32) -> Result<TriedHeap, AllocError>
         requires some { 1 ≤ pages }
         requires most { pages ≤ 4096 }
@@ -42,7 +42,7 @@ impl TriedHeap {
         })
     }
 
-    /// What a call is answered.
+    /// Makes a call, and returns its answer.
     pub(crate) fn answer(&mut self, rt: &impl Abort, call: Call) -> Told {
         match call {
             Call::New(len, word) => self.make(len, word),
@@ -93,7 +93,7 @@ impl TriedHeap {
     }
 }
 
-/// The reference to the object of a serial, of objects at these addresses.
+/// The reference to the object with a serial, given the objects' addresses.
 fn object(rt: &impl Abort, addresses: &ArrayVec<u32, MAX_OBJECTS>, serial: u32) -> Ref {
     let addr = addresses.get(serial as usize).expect(rt, "an object");
     Ref {
@@ -136,7 +136,7 @@ fn free(heap: &mut Heap, object: Ref) -> Told {
     }
 }
 
-/// What a store's answer is.
+/// A store's result in the form of an answer.
 fn told(stored: Stored) -> Told {
     match stored {
         Stored::Done => DONE,
@@ -145,12 +145,12 @@ fn told(stored: Stored) -> Told {
     }
 }
 
-/// What a mesher's call is answered.
+/// Makes a mesher's call, and returns its answer.
 fn meshed(rt: &impl Abort, heap: &mut Heap, call: Call) -> Told {
     mesher_answer!(rt, heap, call)
 }
 
-/// The class of a size that is one's.
+/// The class with this size. Asserts that there is one.
 pub(crate) fn class_at(rt: &impl Abort, size: u32) -> Class {
     class_of(size).expect(rt, "a class")
 }

@@ -1,4 +1,4 @@
-//! Calls that take memory, where there is enough.
+//! Calls that allocate, when there is enough memory.
 use mesh_arena::Arena;
 use mesh_pagemap::PageMap;
 use mesh_store::Store;

@@ -1,14 +1,15 @@
-//! The worked meshes and copies, by calls of a heap.
+//! Worked meshes and copies, by calls of a heap.
 
 use crate::tests::heap::calls::{Answer, Call};
 use crate::tests::heap::tried::Tried;
 use model_words::{Refusal, StepKind};
 use std::process::Abort;
 
-/// How the heap and the book of a test begin.
+/// The initial state of the heap and the book of a test.
 struct Start {
     pages: u32,
-    // How many objects are made, of which length, and how many bytes each stands after the one before. The first one stands at 0x1000.
+    // The number of objects, their length, and the distance in bytes from each object to the next. The first object is
+    // at 0x1000.
     objects: u32,
     len: u32,
     slot: u32,
@@ -18,7 +19,7 @@ struct Start {
     calls: &'static [(Call, Answer)],
 }
 
-/// Four objects of the class 2048, two a group.
+/// Four objects of the class 2048, two in each group.
 const FOUR: Start = Start {
     pages: 16,
     objects: 4,
@@ -28,7 +29,7 @@ const FOUR: Start = Start {
     calls: &[],
 };
 
-/// No object.
+/// No objects.
 static NO_OBJECTS: Start = Start { objects: 0, ..FOUR };
 
 /// Four objects of the class 2048.
@@ -67,7 +68,7 @@ static BEGUN: Start = Start {
     ..FOUR
 };
 
-/// The two groups, after a mesh that was cancelled when one slot was copied, and unwound.
+/// The two groups, after a mesh that was cancelled after one slot was copied, and unwound.
 static UNWOUND: Start = Start {
     freed: &[0, 3],
     calls: &[
@@ -81,7 +82,8 @@ static UNWOUND: Start = Start {
     ..FOUR
 };
 
-/// Two groups of three pages, with seven objects and one, and their mesh begun. The last object crosses from its group's first page to the second.
+/// Two groups of three pages, with seven objects and one, and their mesh begun. The last object crosses from its
+/// group's first page to the second.
 static LONG: Start = Start {
     objects: 11,
     len: 1500,
@@ -96,7 +98,8 @@ static LONG: Start = Start {
     ..FOUR
 };
 
-/// Sixteen objects in four groups, of which one in each group stays, in four different slots. The groups are meshed two by two.
+/// Sixteen objects in four groups. One object is left in each group, in four different slots. The groups are meshed in
+/// pairs.
 static MESHED_TWICE: Start = Start {
     objects: 16,
     len: 1024,
@@ -109,7 +112,7 @@ static MESHED_TWICE: Start = Start {
     ..FOUR
 };
 
-/// Beside the two groups two of the class 1024, with three objects and one.
+/// The two groups, and two groups of the class 1024 with three objects and one.
 static TWO_CLASSES: Start = Start {
     freed: &[0, 3],
     calls: &[
@@ -129,7 +132,7 @@ static TWO_CLASSES: Start = Start {
     ..FOUR
 };
 
-/// Has a heap and a book begin so.
+/// Brings a heap and a book to an initial state.
 fn begin<R: Abort + AllocGlobal>(tried: &mut Tried<'_, R>, start: &Start) {
     let mut addr = 0x1000u32;
     for serial in 0..start.objects {
@@ -142,7 +145,7 @@ fn begin<R: Abort + AllocGlobal>(tried: &mut Tried<'_, R>, start: &Start) {
     tried.play(start.calls);
 }
 
-/// Asserts that a heap and a book that begin so answer calls so, one after another.
+/// Asserts that a heap and a book in this initial state give these answers to calls, in order.
 fn played<R: Abort + AllocGlobal>(rt: &R, start: &Start, calls: &[(Call, Answer)]) {
     played_after(rt, start, &[], calls);
 }
@@ -158,7 +161,7 @@ fn played_after<R: Abort + AllocGlobal>(
     play(&mut tried, start, steps, calls);
 }
 
-/// Plays on a fresh heap and book.
+/// Makes the calls on a fresh heap and book.
 fn play<R: Abort + AllocGlobal>(
     tried: &mut Tried<'_, R>,
     start: &Start,
@@ -170,7 +173,8 @@ fn play<R: Abort + AllocGlobal>(
     tried.play(calls);
 }
 
-/// The steps of the mesh of the two groups, a read of the object that is copied after each, and what is answered once they are one.
+/// The steps of the mesh of the two groups, with a read of the copied object after each, and the answers once the
+/// groups are one.
 static READ_AT_EACH_STEP: [(Call, Answer); 19] = [
     (Call::Step(2048), Answer::Stepped(StepKind::Protect, 5)),
     (Call::Read(2, 0, 1), Answer::Bytes(1, 0xab)),
@@ -198,7 +202,8 @@ fn reads_are_answered_at_each_step(rt: HostRuntime) {
     played(&rt, &BEGUN, &READ_AT_EACH_STEP);
 }
 
-/// What is answered while the second group's page is read-only, once it is remapped and still read-only, and once it is writable again.
+/// The answers while the second group's page is read-only, once it is remapped and still read-only, and once it is
+/// writable again.
 static STORED_AT_STEPS: [(Call, Answer); 16] = [
     (Call::Step(2048), Answer::Stepped(StepKind::Protect, 5)),
     (Call::Write(2, 0, &[0xcd]), Answer::Blocked),
@@ -223,7 +228,7 @@ fn stores_are_blocked_while_a_page_is_protected(rt: HostRuntime) {
     played(&rt, &BEGUN, &STORED_AT_STEPS);
 }
 
-/// The object that a running mesh would copy is freed.
+/// The object that a running mesh is to copy is freed.
 static FREED_AMID: [(Call, Answer); 7] = [
     (Call::Step(2048), Answer::Stepped(StepKind::Protect, 5)),
     (Call::Free(2), Answer::Done),
@@ -239,7 +244,7 @@ fn an_object_is_freed_in_a_mesh(rt: HostRuntime) {
     played(&rt, &BEGUN, &FREED_AMID);
 }
 
-/// Meshes of groups with a slot in common, of one group, and of a number that is no group.
+/// Meshes of groups with a slot in common, of a group with itself, and of a number that is no group.
 static NO_MESHES: [(Call, Answer); 6] = [
     (Call::Begin(1, 0), Answer::Refused(Refusal::Overlap)),
     (Call::Begin(1, 1), Answer::Refused(Refusal::Same)),
@@ -254,7 +259,7 @@ fn groups_that_do_not_mesh_are_refused(rt: HostRuntime) {
     played(&rt, &FOUR_OBJECTS, &NO_MESHES);
 }
 
-/// An object that has a page only after a mesh.
+/// An object for which there is a page only after a mesh.
 static ROOM_MADE: [(Call, Answer); 3] = [
     (Call::New(64, 0), Answer::Refused(Refusal::NoPages)),
     (Call::Whole(1, 0), Answer::Pages(1)),
@@ -266,7 +271,7 @@ fn a_mesh_makes_room(rt: HostRuntime) {
     played(&rt, &TWO_PAGES, &ROOM_MADE);
 }
 
-/// A mesh that is begun again after it was cancelled, and a cancel behind its first remap.
+/// A mesh that is begun again after it was cancelled, and a cancel after its first remap.
 static BEGUN_AGAIN: [(Call, Answer); 8] = [
     (Call::Step(2048), Answer::Refused(Refusal::NoMesh)),
     (Call::Write(2, 0, &[0xee]), Answer::Done),
@@ -326,10 +331,10 @@ fn groups_of_a_running_mesh_are_closed(rt: HostRuntime) {
     played(&rt, &BEGUN, &CLOSED);
 }
 
-/// Bytes of the object that crosses pages. The first four lie in one page, the others in the next.
+/// Bytes of the object that crosses pages. The first four are in one page, the others in the next.
 const CROSSING: &[u8] = &[1, 2, 3, 4, 5, 6, 7, 8];
 
-/// A read of them.
+/// A read of these bytes.
 const HELD: (Call, Answer) = (
     Call::Read(10, 1020, 8),
     Answer::Bytes(8, 0x0102_0304_0506_0708),
@@ -359,13 +364,13 @@ static LONG_STEPS: [(Call, Answer); 20] = [
     (Call::Step(1536), Answer::Stepped(StepKind::Release, 0)),
 ];
 
-/// Asserts that the heap and the book of that mesh, after so many of its steps, answer calls so, one after another.
+/// Asserts that the heap and the book give these answers to calls, in order, after `steps` steps of that mesh.
 fn played_long<R: Abort + AllocGlobal>(rt: &R, steps: usize, calls: &[(Call, Answer)]) {
     let steps = LONG_STEPS.get(..steps).expect(rt, "steps");
     played_after(rt, &LONG, steps, calls);
 }
 
-/// What is answered once the first of three pages is remapped, and the steps up to the first release.
+/// The answers once the first of three pages is remapped, and the steps up to the first release.
 static HALF_REMAPPED: [(Call, Answer); 11] = [
     HELD,
     (Call::Peek(0x4fff), Answer::Bytes(1, 0x04)),
@@ -385,7 +390,7 @@ fn an_object_across_pages_is_remapped_page_by_page(rt: HostRuntime) {
     played_long(&rt, 12, &HALF_REMAPPED);
 }
 
-/// What a store is answered that is blocked behind the first step of the mesh, and up to the last one.
+/// The answer to a store after `steps` steps, if stores are blocked from the first step of the mesh up to step `last`.
 fn stored(steps: usize, last: usize) -> Answer {
     if 1 <= steps && steps <= last {
         Answer::Blocked
@@ -394,7 +399,7 @@ fn stored(steps: usize, last: usize) -> Answer {
     }
 }
 
-/// What cancelling the mesh of three-page groups is answered after so many steps.
+/// The answer to a cancel of the mesh of three-page groups after `steps` steps.
 fn cancelled_after(steps: usize) -> Answer {
     match steps {
         0 => Answer::Left(0),
@@ -406,7 +411,7 @@ fn cancelled_after(steps: usize) -> Answer {
     }
 }
 
-/// Asserts what is answered where the mesh of three-page groups is abandoned after so many steps.
+/// Asserts the answers if the mesh of three-page groups is abandoned after `steps` steps.
 fn check_abandoned<R: Abort + AllocGlobal>(rt: &R, steps: usize) {
     let first = stored(steps, 14);
     let both = stored(steps, 15);
@@ -453,7 +458,7 @@ fn a_cancelled_mesh_unwinds(rt: HostRuntime) {
     }
 }
 
-/// An object in the slot that two groups would have meshed by.
+/// An object in the slot that would have made the two groups meshable.
 static IN_THE_WAY: [(Call, Answer); 7] = [
     (Call::Free(1), Answer::Done),
     (Call::Free(3), Answer::Done),
@@ -469,7 +474,7 @@ fn a_new_object_stands_in_the_way(rt: HostRuntime) {
     played(&rt, &EIGHT_OBJECTS, &IN_THE_WAY);
 }
 
-/// What is counted before and after a mesh.
+/// The counts before and after a mesh.
 static PAGE_SAVED: [(Call, Answer); 3] = [
     (Call::Report, Answer::Counts(2, 4096, 2, 2, 0)),
     (Call::Whole(1, 0), Answer::Pages(1)),
@@ -497,7 +502,7 @@ fn an_empty_group_is_swept(rt: HostRuntime) {
     played(&rt, &TWO_GROUPS, &SWEPT);
 }
 
-/// Meshes into the first group until it has eight members, and one to a ninth.
+/// Meshes into the first group until it has eight members, and a refused mesh that would add a ninth.
 static MOST_MEMBERS: [(Call, Answer); 10] = [
     (Call::Whole(1, 0), Answer::Pages(1)),
     (Call::Whole(2, 0), Answer::Pages(1)),
@@ -555,8 +560,8 @@ fn a_source_of_two_members_goes_page_by_page(rt: HostRuntime) {
     played(&rt, &MESHED_TWICE, &PAGE_BY_PAGE);
 }
 
-/// Meshes of two classes, begun, stepped and cancelled beside one another, the steps of the one that goes on, and what is answered once both are
-/// over.
+/// Meshes of two classes, begun, stepped and cancelled at the same time, the further steps of the one that isn't
+/// cancelled, and the answers once both have ended.
 static ONE_IN_EACH: [(Call, Answer); 24] = [
     (Call::Running(2048), Answer::Runs(false)),
     (Call::Begin(1, 0), Answer::Left(6)),
@@ -589,7 +594,7 @@ fn one_mesh_runs_in_each_class(rt: HostRuntime) {
     played(&rt, &TWO_CLASSES, &ONE_IN_EACH);
 }
 
-/// Meshes that none of another class may run beside.
+/// Meshes that begin only while no mesh of any class runs.
 static ALONE: [(Call, Answer); 8] = [
     (Call::BeginAlone(1, 0), Answer::Left(6)),
     (Call::BeginAlone(3, 2), Answer::Refused(Refusal::Busy)),

@@ -1,11 +1,12 @@
-//! The worked searches, over the views that a heap and a book give of themselves.
+//! The worked searches, on the views of a heap and of a book.
 use mesh_class::{Class, class_of};
 use mesh_mutator::{Book, Command};
 use mesh_search::{ClassView, Pair, search_one};
 use mesh_steps::{Heap, Ref};
 use std::process::Abort;
 
-/// How many objects of the class 2048 are made, two a group, and which of them are freed: four groups are left, each with one object.
+/// How many objects of the class 2048 are made, two in each group, and which of them are freed. Four groups are left,
+/// each with one object.
 const OBJECTS: u8 = 8;
 
 static FREED: [u8; 4] = [1, 3, 4, 6];
@@ -24,7 +25,7 @@ fn pair(source: u32, destination: u32) -> Pair {
     }
 }
 
-/// Asserts what a search of a view finds in so many rounds.
+/// Asserts what a search of a view finds in `t` rounds.
 fn check(rt: &(impl Abort + AllocGlobal), view: &ClassView, t: u32, pairs: &[Pair], probes: u64) {
     let found = search_one(rt.alloc(), view, &WORDS, t).expect(rt, "memory");
     let is_found = found.probes == probes && found.pairs.as_slice() == pairs;
@@ -38,7 +39,7 @@ fn check_four(rt: &(impl Abort + AllocGlobal), view: &ClassView) {
     check(rt, view, 2, &[pair(1, 2), pair(3, 0)], 4);
 }
 
-/// The object of a serial: each stands half a page after the one before.
+/// The object with a serial. Each object is half a page after the one before.
 fn object(serial: u8) -> Ref {
     Ref {
         serial: u32::from(serial),
@@ -46,7 +47,7 @@ fn object(serial: u8) -> Ref {
     }
 }
 
-/// Makes the objects in a heap and frees those that are to be.
+/// Makes the objects in a heap, and frees those of the list.
 fn fill(rt: &impl Abort, heap: &mut Heap) {
     for _ in 0..OBJECTS {
         make(rt, heap);
@@ -62,7 +63,7 @@ fn make(rt: &impl Abort, heap: &mut Heap) {
     assert!(rt; heap.new(2048, 0).is_ok());
 }
 
-/// Frees the object of a serial.
+/// Frees the object with a serial.
 fn free(rt: &impl Abort, heap: &mut Heap, serial: u8) {
     assert!(rt; heap.free(object(serial)).is_ok());
 }
@@ -74,12 +75,12 @@ fn check_heap(rt: &(impl Abort + AllocGlobal), heap: &Heap, class: Class) {
     check_four(rt, views.as_slice().get(9).expect(rt, "a class"));
 }
 
-/// Asserts what is found where the last object is freed too.
+/// Asserts what is found if the last object is freed too.
 fn check_three(rt: &(impl Abort + AllocGlobal), view: &ClassView) {
     check(rt, view, 2, &[pair(0, 2)], 1);
 }
 
-/// Asserts what is found in a heap as it is filled, and once the last object is freed too.
+/// Asserts what is found in a filled heap, and after the last object is freed too.
 fn search_heap(rt: &(impl Abort + AllocGlobal), heap: &mut Heap) {
     let class = class_of(2048).expect(rt, "a class");
     fill(rt, heap);
@@ -101,7 +102,7 @@ fn check_book(rt: &(impl Abort + AllocGlobal), book: &Book, class: Class) {
     check_four(rt, views.as_slice().get(9).expect(rt, "a class"));
 }
 
-/// Makes the objects in a book and frees those that are to be.
+/// Makes the objects in a book, and frees those of the list.
 fn fill_book(book: &mut Book) {
     for k in 0..OBJECTS {
         book.act(0, &Command::New(k, 2048, 0));
@@ -111,7 +112,7 @@ fn fill_book(book: &mut Book) {
     }
 }
 
-/// Asserts what is found in a book as it is filled, and once the last object is freed too.
+/// Asserts what is found in a filled book, and after the last object is freed too.
 fn search_book(rt: &(impl Abort + AllocGlobal), book: &mut Book) {
     let class = class_of(2048).expect(rt, "a class");
     fill_book(book);

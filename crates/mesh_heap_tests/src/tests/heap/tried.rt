@@ -1,11 +1,11 @@
-//! A heap and a book side by side, whose answers are compared with those that a test wants.
+//! A heap and a book side by side. Their answers are compared with the expected ones.
 
 use crate::tests::heap::books::TriedBook;
 use crate::tests::heap::calls::{Answer, Call, Told};
 use crate::tests::heap::heaps::TriedHeap;
 use std::process::Abort;
 
-/// A heap and a book, which are asked the same.
+/// A heap and a book that get the same calls.
 #[derive(Drop)]
 pub(crate) struct Tried<'a, R> {
     rt: &'a R,
@@ -14,7 +14,7 @@ pub(crate) struct Tried<'a, R> {
 }
 
 impl<'a, R: Abort + AllocGlobal> Tried<'a, R> {
-    /// A heap and a book with no object, of so many pages.
+    /// Returns a heap and a book without objects, each with `pages` pages.
     pub(crate) fn open(rt: &'a R, pages: u32) -> Tried<'a, R> {
         assert!(rt; 1 <= pages && pages <= 4096, "{pages} pages");
         Tried {
@@ -24,7 +24,7 @@ impl<'a, R: Abort + AllocGlobal> Tried<'a, R> {
         }
     }
 
-    /// Asserts that a call is answered so, by the heap and by the book.
+    /// Asserts that the heap and the book answer a call as expected.
     pub(crate) fn check(&mut self, call: Call, answer: Answer) {
         let told = self.heap.answer(self.rt, call);
         check_told(self.rt, told, answer, call, "a heap");
@@ -32,7 +32,7 @@ impl<'a, R: Abort + AllocGlobal> Tried<'a, R> {
         check_told(self.rt, told, answer, call, "a book");
     }
 
-    /// Asserts that calls are answered so, one after another.
+    /// Asserts that calls are answered as expected, in order.
     pub(crate) fn play(&mut self, calls: &[(Call, Answer)]) {
         for (call, answer) in calls {
             self.check(*call, *answer);
@@ -40,7 +40,7 @@ impl<'a, R: Abort + AllocGlobal> Tried<'a, R> {
     }
 }
 
-/// Asserts what a call was answered by a heap or a book.
+/// Asserts that the answer of a heap or a book is the expected one.
 fn check_told(rt: &impl Abort, told: Told, answer: Answer, call: Call, by: &str) {
     let (name, numbers) = (call.name(), call.numbers());
     assert_eq!(rt; told, answer.told(), "of {name} {numbers:?} on {by}");

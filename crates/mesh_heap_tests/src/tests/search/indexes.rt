@@ -8,13 +8,14 @@ use mesh_search::{ClassView, class_view};
 use mesh_spans::{Slot, Span, Spans};
 use std::process::Abort;
 
-/// The first number that is no virtual page.
+/// The end of the virtual pages: the first number that is none.
 const END: u32 = 65_536;
 
 /// The sizes of the ten classes, ascending.
 pub(crate) static SIZES: [u32; 10] = [16, 32, 64, 128, 256, 384, 512, 1024, 1536, 2048];
 
-/// The views of the ten classes, ascending, of an index that has groups of one class. Slot k of a group is occupied where bit k of its word is set.
+/// The views of the ten classes, ascending, of an index whose groups are of one class. Slot k of a group is occupied if
+/// bit k of its word is set.
 pub(crate) fn views_of(
     rt: &(impl Abort + AllocGlobal),
     size: u32,
@@ -26,7 +27,7 @@ pub(crate) fn views_of(
     )
 }
 
-/// The views of the ten classes that an index has.
+/// The views of the ten classes of an index.
 fn views_in(rt: &(impl Abort + AllocGlobal), spans: &Spans) -> Vec<ClassView> {
     let mut views = Vec::new(rt.alloc());
     for size in SIZES.iter() {
@@ -37,7 +38,7 @@ fn views_in(rt: &(impl Abort + AllocGlobal), spans: &Spans) -> Vec<ClassView> {
     views
 }
 
-/// An index that has groups of a class.
+/// An index with these groups of a class.
 fn index_of(rt: &(impl Abort + AllocGlobal), class: Class, groups: &[u32]) -> Spans {
     let mut spans = filled(rt, class, groups.len());
     for n in 0..groups.len() {
@@ -46,7 +47,7 @@ fn index_of(rt: &(impl Abort + AllocGlobal), class: Class, groups: &[u32]) -> Sp
     spans
 }
 
-/// An index that has so many spans of a class, with an object in each slot.
+/// An index that has `count` spans of a class, with an object in each slot.
 fn filled(rt: &(impl Abort + AllocGlobal), class: Class, count: usize) -> Spans {
     let mut spans = Spans::new(rt.alloc()).expect(rt, "memory");
     let mut next = 1;
@@ -57,7 +58,7 @@ fn filled(rt: &(impl Abort + AllocGlobal), class: Class, count: usize) -> Spans 
     spans
 }
 
-/// Adds a span at a virtual page, where there is room, and answers the page after it. All spans have one physical page.
+/// Adds a span at a virtual page, if there is room, and returns the page after it. All spans have one physical page.
 fn add(rt: &impl Abort, spans: &mut Spans, class: Class, next: u32) -> u32
     requires some { 1 ≤ next }
     requires unused { AreUnused spans.old next }
@@ -86,20 +87,20 @@ fn fill(spans: &mut Spans, class: Class)
     }
 }
 
-/// Leaves those objects of the group of a number whose slots a word has.
+/// Frees the objects of a group, except those in the slots whose bits are set in a word.
 fn thin(spans: &mut Spans, class: Class, number: usize, slots: u32) {
     if let Some(span) = first_member(spans, number) {
         leave(spans, class, span, slots);
     }
 }
 
-/// The first member of the group of a number.
+/// The first member of the group with a number.
 fn first_member(spans: &Spans, number: usize) -> Option<Span> {
     let group = spans.group(u32::try_from(number).ok()?)?;
     Some(group.members()[0])
 }
 
-/// Leaves the objects of a span whose slots a word has.
+/// Frees the objects of a span, except those in the slots whose bits are set in a word.
 fn leave(spans: &mut Spans, class: Class, span: Span, slots: u32) {
     for k in 0..class.slots() {
         let slot = Slot::numbered(k);

@@ -1,4 +1,4 @@
-//! Searches by workers, against searches on one thread.
+//! Searches by workers, compared with searches on one thread.
 ghost use Rattle.std.specs.Prelude.{◌≤◌};
 
 use crate::tests::search::indexes::{SIZES, views_of};
@@ -15,7 +15,7 @@ use std::thread;
 use std::thread::Threads;
 use std::time::Duration;
 
-/// Whether a search by workers finds in each view what one thread finds.
+/// Whether a search by workers finds in each view what a search on one thread finds.
 fn agrees<R: Threads + Wait + Sync + Abort + AllocGlobal>(
     rt: &R,
     views: &[ClassView],
@@ -30,7 +30,7 @@ fn agrees<R: Threads + Wait + Sync + Abort + AllocGlobal>(
     are_found_by_one(rt, found.as_slice(), views, words, t)
 }
 
-/// Whether these are what one thread finds in each view.
+/// Whether a search on one thread finds these results, one for each view.
 fn are_found_by_one(
     rt: &(impl Abort + AllocGlobal),
     found: &[Found],
@@ -49,7 +49,7 @@ fn are_found_by_one(
     true
 }
 
-/// Whether this is what one thread finds in a view.
+/// Whether a search of a view on one thread finds this result.
 fn is_found_by_one(
     rt: &(impl Abort + AllocGlobal),
     found: &Found,
@@ -69,7 +69,8 @@ fn workers_find_the_worked_pairs(rt: HostRuntime) {
     }
 }
 
-/// Asserts that one worker, three and sixteen find what one thread finds, by the words of the worked searches.
+/// Asserts that one worker, three and sixteen find what a search on one thread finds, with the words of the worked
+/// searches.
 fn check_agreement<R: Threads + Wait + Sync + Abort + AllocGlobal>(
     rt: &R,
     views: &[ClassView],
@@ -81,7 +82,7 @@ fn check_agreement<R: Threads + Wait + Sync + Abort + AllocGlobal>(
     assert!(rt; one && three && most, "in {t} rounds");
 }
 
-/// So many random words.
+/// Returns random words.
 fn words_of(
     rt: &(impl Abort + AllocGlobal),
     random: &mut Xoshiro256PlusPlus,
@@ -94,12 +95,13 @@ fn words_of(
     words
 }
 
-/// How many words each list of a comparison has, and up to how many groups are searched: so that the parts of a round have several tries.
+/// How many words each list of a comparison has, and the most groups that are searched: enough that the parts of a
+/// round have several tries.
 const WORDS_OF_A_LIST: u32 = 256;
 
 const MAX_GROUPS: u32 = 160;
 
-/// The views of groups of 16 slots, with few or with many objects: of up to so many.
+/// The views of groups of 16 slots, with few or with many objects. The number of groups is random, up to a maximum.
 fn random_views(
     rt: &(impl Abort + AllocGlobal),
     random: &mut Xoshiro256PlusPlus,
@@ -132,7 +134,8 @@ fn workers_find_what_one_thread_finds(rt: HostRuntime) {
     assert!(&rt; most > 64, "no list of more than {most} candidates");
 }
 
-/// Asserts that workers find in random views what one thread finds, and gives how many candidates there are.
+/// Asserts that workers find in random views what a search on one thread finds, and returns how many candidates there
+/// are.
 fn check_list<R: Threads + Wait + Sync + Abort + AllocGlobal>(
     rt: &R,
     random: &mut Xoshiro256PlusPlus,
@@ -146,7 +149,7 @@ fn check_list<R: Threads + Wait + Sync + Abort + AllocGlobal>(
     own[0].len()
 }
 
-/// Asserts that any number of workers finds what one thread finds.
+/// Asserts that any number of workers finds what a search on one thread finds.
 fn check_workers<R: Threads + Wait + Sync + Abort + AllocGlobal>(
     rt: &R,
     views: &[ClassView],
@@ -162,7 +165,7 @@ fn check_workers<R: Threads + Wait + Sync + Abort + AllocGlobal>(
     }
 }
 
-/// How many searchers are counted, and the bits of one count: a count for each searcher and class.
+/// How many searchers are counted, and the bits of one count. There is a count for each searcher and class.
 const COUNTED: u32 = 2;
 
 const COUNT_BITS: u32 = 3;
@@ -171,12 +174,12 @@ const COUNT_BITS: u32 = 3;
 #[derive(Drop)]
 struct Arrivals {
     counts: AtomicU64,
-    // Whether somebody arrived elsewhere, or told a size that is none.
+    // Whether there was any other arrival: by another actor, at another point, or with a size that is no class's.
     strange: AtomicBool,
 }
 
 impl Arrivals {
-    /// The counts, where nobody arrived elsewhere.
+    /// The counts. `None` if an arrival couldn't be counted.
     fn counted(&self) -> Option<u64> {
         if self.strange.load(SeqCst) {
             return None;
@@ -185,7 +188,7 @@ impl Arrivals {
     }
 }
 
-/// The place of a class of a size, by size.
+/// The place by size of the class with a size.
 fn place_of(size: u32) -> Option<u32> {
     SIZES
         .iter()
@@ -231,7 +234,7 @@ fn each_searcher_arrives_once_at_each_class(rt: HostRuntime) {
     check_arrivals(&rt, all.get(9..10).expect(&rt, "a class"), 2, &[9]);
 }
 
-/// Asserts that a search of views by two searchers has each of them arrive once at each of these places, and nowhere else.
+/// Asserts that in a search of views by two searchers each arrives once at each of these places, and nowhere else.
 fn check_arrivals<R: Threads + Wait + Sync + Abort + AllocGlobal>(
     rt: &R,
     views: &[ClassView],
@@ -246,17 +249,17 @@ fn check_arrivals<R: Threads + Wait + Sync + Abort + AllocGlobal>(
     check_counts(rt, gate.counted(), once_each(places), t, places.len());
 }
 
-/// Asserts what a gate counted at so many classes.
+/// Asserts that a gate counted as expected at the given number of classes.
 fn check_counts(rt: &impl Abort, counted: Option<u64>, counts: u64, t: u32, classes: usize) {
     assert_eq!(rt; counted, Some(counts), "in {t} rounds of {classes} views");
 }
 
-/// How often a held searcher looks again, and for how many microseconds it sleeps before.
+/// How often a waiting searcher checks again, and how many microseconds it sleeps before each check.
 const TURNS: u32 = 1_000_000;
 
 const TURN: u64 = 10;
 
-/// A gate that holds each of two searchers at its first class until the other one has come to its own.
+/// A gate at which each of two searchers waits, at its first class, until the other one has arrived at its own.
 #[derive(Drop)]
 struct Meeting<'a, R> {
     rt: &'a R,
@@ -267,7 +270,7 @@ struct Meeting<'a, R> {
 }
 
 impl<'a, R> Meeting<'a, R> {
-    /// Whether both searchers came, and neither waited in vain.
+    /// Whether both searchers arrived, and neither gave up waiting.
     fn has_been(&self) -> bool {
         self.first.load(SeqCst) && self.second.load(SeqCst) && !self.missed.load(SeqCst)
     }

@@ -19,7 +19,7 @@ pub(crate) fn pair(source: u32, destination: u32) -> Pair {
     }
 }
 
-/// Whether a search found these pairs by so many tries.
+/// Whether a search found these pairs in `probes` tries.
 pub(crate) fn has_found(found: &Found, pairs: &[Pair], probes: u64) -> bool {
     found.probes == probes && found.pairs.as_slice() == pairs
 }
@@ -30,7 +30,7 @@ fn four_are_shuffled(rt: HostRuntime) {
     check_order(&rt, order.as_slice());
 }
 
-/// Asserts that four places come in their worked order.
+/// Asserts that four places are in their worked order.
 fn check_order(rt: &impl Abort, order: &[u32]) {
     assert_eq!(rt; order, [2, 0, 3, 1].as_slice());
 }
@@ -46,7 +46,7 @@ fn views_have_their_candidates(rt: HostRuntime) {
     check_views(&rt, views.as_slice());
 }
 
-/// Asserts that there are so many.
+/// Asserts that a count is the expected one.
 pub(crate) fn check_count(rt: &impl Abort, count: usize, wanted: usize)
     ensures { count ≡ wanted }
 {
@@ -61,7 +61,7 @@ fn check_views(rt: &impl Abort, views: &[ClassView]) {
     }
 }
 
-/// Asserts that a view has so many candidates, and that their numbers ascend from 0.
+/// Asserts that a view has `count` candidates, and that their numbers ascend from 0.
 fn check_numbers(rt: &impl Abort, view: &ClassView, count: usize) {
     check_count(rt, view.len(), count);
     for i in 0..view.len() {
@@ -69,7 +69,8 @@ fn check_numbers(rt: &impl Abort, view: &ClassView, count: usize) {
     }
 }
 
-/// Asserts what a search of the view of a place, of ten views, finds in so many rounds by these words: pairs, by so many tries.
+/// Asserts which pairs a search finds, and by how many tries, in the view at a place of ten views, with a number of
+/// rounds and these words.
 fn check(
     rt: &(impl Abort + AllocGlobal),
     views: &[ClassView],

@@ -1,4 +1,4 @@
-//! Explorations, over memory.
+//! Explorations in memory.
 ghost use Rattle.std.specs.Prelude.{◌≡◌, false};
 
 use crate::memory::{Ran, SlowSource, in_memory};
@@ -9,23 +9,23 @@ use std::process::Abort;
 /// The words of a small exploration, of 64 states and two outcomes.
 static STORE: [&str; 5] = ["meshrun", "explore", "a.job", "--mesh", "1:0"];
 
-/// Its file.
+/// The job file of the small exploration.
 const STORE_FILE: &str =
     "mesh 1\npages 16\nhistory 64\nworkers 2\nworker 0\nnew 0 2048 0\nnew 1 2048 0\nnew 2 2048 0\nnew 3 2048 0\nfree 0\nfree 3\nput 2 0 aa\nget 2 0 1\nworker 1\nget 2 0 1\nplan\nrun 0\nrun 0\nrun 0\nrun 0\nrun 0\nrun 0\nend\n";
 
-/// What its second outcome is printed as.
+/// The job file that leads to the second outcome, as it is printed.
 const SECOND: &str =
     "mesh 1\npages 16\nhistory 64\nworkers 2\nworker 0\nnew 0 2048 0\nnew 1 2048 0\nnew 2 2048 0\nnew 3 2048 0\nfree 0\nfree 3\nput 2 0 aa\nget 2 0 1\nworker 1\nget 2 0 1\nplan\nrun 0\nrun 0\nrun 0\nrun 0\nrun 0\nrun 0\nrun 1\nrun 0\nrun 0\nbegin 1 0\nstep\nstep\nstep\nstep\nstep\nstep\nend\n";
 
-/// The outcomes that are expected of it where a verdict is asked for: its own.
+/// The expected outcomes for a verdict: the outcomes of the small exploration.
 const LISTED: &str =
     "  worker 0: done | bytes aa\n  worker 1: bytes aa\n\n  worker 0: done | bytes aa\n  worker 1: bytes 00\n";
 
-/// What a verdict over it says where its second outcome is not to be had.
+/// The verdict on the small exploration if its second outcome is forbidden.
 const FORBIDDEN: &str =
     "never:\n  worker 0: done | bytes aa\n  worker 1: bytes 00\n  plan: run 1, run 0, run 0, begin 1 0, step, step, step, step, step, step\n";
 
-/// Words behind those, and the line and the status that such a run ends with.
+/// Explorations that end with one line: the further words of the command line, that line, and the exit status.
 static STOPS: [(&[&str], &str, u8); 8] = [
     (
         &["--states", "63"],
@@ -115,7 +115,7 @@ fn tells_why_it_stops(rt: HostRuntime) {
     }
 }
 
-/// Asserts that an exploration with these words more ends with this line and this status.
+/// Asserts that an exploration with these further words ends with this line and this status.
 fn check_stop(
     rt: &(impl Abort + AllocGlobal),
     more: &[&'static str],
@@ -137,7 +137,7 @@ fn tells_a_read_that_fails(rt: HostRuntime) {
     }
 }
 
-/// The words of the small exploration with these behind them.
+/// Returns the words of the small exploration with the words `more` after them.
 fn with(rt: &(impl Abort + AllocGlobal), more: &[&'static str]) -> Vec<&'static str> {
     let mut words = Vec::new(rt.alloc());
     words

@@ -1,22 +1,23 @@
-//! Command lines that ask for no run, and what is told of each.
+//! Command lines that start no run, and what is printed for each.
 use crate::memory::{ROW_END, fields};
 use crate::tests::check_text;
 use mesh_run::{Output, Stop, arguments, stop_run, unopened_run};
 use std::alloc::Global;
 use std::process::Abort;
 
-/// Command lines that ask for help or for the version, and how the text that each prints begins. A row of a table is one line and what it asks for.
+/// Command lines that ask for help or for the version, and the beginning of the text that each prints. Each row of the
+/// table is a command line and that text.
 static TOLD: &str = "\
 meshrun --help|A modelled heap#\
 meshrun --version|meshrun 0.1.0\n#\
 meshrun replay --help|Run a job file's plan#\
-meshrun threads --help|Run a job file's scripts#\
+meshrun threads --help|Run each script of a job file#\
 meshrun draw --help|Draw a job file's plan#\
 meshrun live --help|Answer the lines#\
-meshrun explore --help|Run what a job file's plan leaves#\
+meshrun explore --help|Run the commands that a job file's plan leaves#\
 meshrun check --help|Judge a recorded history";
 
-/// Command lines that ask for no run and are told so, in such rows too. Their exit status is 2.
+/// Command lines that start no run and print an error, in a table of the same form. Their exit status is 2.
 static REFUSED: &str = "\
 meshrun|A modelled heap#\
 meshrun replay|error: #\
@@ -28,7 +29,7 @@ meshrun replay a b|error: #\
 meshrun replay --version|error: #\
 meshrun report|error: ";
 
-/// Why a command line asks for no run.
+/// Returns the `Stop` of a command line that starts no run.
 fn stop_at(rt: &(impl Abort + AllocGlobal), line: &str) -> Stop {
     let words: Vec<&str> = line.split(' ').collect(rt.alloc()).expect(rt, "memory");
     match arguments(rt.alloc(), words.as_slice()) {
@@ -37,7 +38,8 @@ fn stop_at(rt: &(impl Abort + AllocGlobal), line: &str) -> Stop {
     }
 }
 
-/// Whether what stops before a run ends with this status, and prints a text that begins so where it is to, and nothing where it isn't.
+/// Whether a stop before a run ends with this status and prints a text that begins with `text`. With status 0 it must
+/// be on standard output, and otherwise on standard error. Nothing may be on the other one.
 fn stops_so(alloc: Global, stop: &Stop, status: u8, text: &str) -> bool {
     let mut output = Output::new(Vec::new(alloc));
     let mut errors = Output::new(Vec::new(alloc));
@@ -51,7 +53,8 @@ fn stops_so(alloc: Global, stop: &Stop, status: u8, text: &str) -> bool {
     ended == status && told.starts_with(text.as_bytes()) && other.is_empty()
 }
 
-/// Asserts that command lines stop before a run, with this status and these texts.
+/// Asserts that each command line of a table stops before a run with this status, and prints a text that begins as the
+/// table states.
 fn check_stops(rt: &(impl Abort + AllocGlobal), table: &str, status: u8) {
     for row in table.split(ROW_END) {
         let (line, text, _) = fields(row);

@@ -1,4 +1,4 @@
-//! Runs of scripts in threads: a worked example, and what stops a run before a thread is started.
+//! Runs of scripts on threads: a worked example, and the errors that stop a run before a thread is started.
 ghost use Rattle.std.specs.Prelude.{◌≡◌, ◌≤◌, false};
 
 use crate::memory::{ROW_END, Ran, SlowSource, faulty_files, fields, in_memory};
@@ -12,7 +12,7 @@ use std::process::Abort;
 use std::sync::Wait;
 use std::thread::Threads;
 
-/// Two workers of two commands each: together one more than the history has entries.
+/// A job file of two workers with two commands each. These are one more in total than the history has entries.
 const SHORT_FILE: &str =
     "mesh 1\npages 1\nhistory 3\nworkers 2\nworker 0\nnew 0 16 0\nfree 0\nworker 1\nnew 1 16 0\nfree 1\nplan\nend\n";
 
@@ -25,7 +25,7 @@ const FEWEST: ThreadsArgs = ThreadsArgs {
     meshers: 1,
 };
 
-/// Runs the scripts of what a source gives, and prints each worker's answers.
+/// Runs the scripts of a source, and prints each worker's answers.
 fn ran<R: Threads + Wait + Sync + AllocGlobal, I: Source + Drop>(
     rt: &R,
     input: I,
@@ -71,7 +71,8 @@ fn tells_a_history_that_is_too_short(rt: HostRuntime) {
     check(&rt, goes, &run, "four commands");
 }
 
-/// A worker that makes three objects of half a page on a heap of one page, and what it is answered.
+/// The job file of a worker that makes three objects of half a page on a heap of one page, and after it the worker's
+/// answers.
 const ONE_PAGE_FILE: &str =
     "mesh 1\npages 1\nhistory 3\nworkers 1\nworker 0\nnew 0 2048 0\nnew 1 2048 0\nnew 2 2048 0\nplan\nend\n";
 
@@ -104,7 +105,7 @@ fn tells_a_failing_read_before_all_else(rt: HostRuntime) {
     }
 }
 
-/// Asserts that a run that stops for this error tells this line, with status 1.
+/// Asserts that a run that stops with this error prints this line, with status 1.
 fn check_line(rt: &(impl Abort + AllocGlobal), error: RunError, line: &'static str) {
     let mut errors = Output::new(Vec::new(rt.alloc()));
     let status = threads_stopped(&mut errors, ThreadsError::from(error));
@@ -122,7 +123,7 @@ fn tells_every_fault_of_the_end_as_a_run_fault(rt: HostRuntime) {
     check_line(&rt, RunError::Thread, "thread fault\n");
 }
 
-/// How many cells each of two workers has, and from which on.
+/// The number of cells of each of two workers, and after it the first cell of each.
 const CELLS: u32 = 40;
 
 const FIRST_CELL: [u32; 2] = [0, 128];
@@ -132,7 +133,8 @@ fn is_freed(cell: u32) -> bool {
     matches!(cell % 4, 0 | 3)
 }
 
-/// Adds a worker's script: objects, their bytes, every other pair of them freed, and what is read of them after that.
+/// Adds a worker's script: it makes objects, stores their bytes, frees every other pair of them, and then loads from
+/// all cells and asks for their addresses.
 fn add_script(rt: &impl Abort, file: &mut String, first: u32)
     requires { first ≤ 128 }
 {
@@ -179,7 +181,7 @@ fn add_answers(rt: &impl Abort, lines: &mut String, first: u32)
     }
 }
 
-/// Adds the line of a load of each cell's byte, and this one in its place where the cell's object is freed.
+/// Adds the line of a load of each cell's byte, or the line `freed` if the cell's object is freed.
 fn add_loads(rt: &impl Abort, lines: &mut String, first: u32, freed: &str)
     requires { first ≤ 128 }
 {
@@ -192,7 +194,7 @@ fn add_loads(rt: &impl Abort, lines: &mut String, first: u32, freed: &str)
     }
 }
 
-/// The file of the two workers.
+/// The job file of the two workers.
 fn file_of_two(rt: &(impl Abort + AllocGlobal)) -> String {
     let head = "mesh 1\npages 64\nhistory 400\nworkers 2\n";
     let mut file = String::from_str(rt.alloc(), head).expect(rt, "memory");
@@ -204,7 +206,7 @@ fn file_of_two(rt: &(impl Abort + AllocGlobal)) -> String {
     file
 }
 
-/// The lines that they are answered.
+/// The lines of the two workers' answers.
 fn answers_of_two(rt: &(impl Abort + AllocGlobal)) -> String {
     let mut answers = String::new(rt.alloc());
     for worker in 0..2 {
@@ -215,7 +217,8 @@ fn answers_of_two(rt: &(impl Abort + AllocGlobal)) -> String {
     answers
 }
 
-/// The numbers of searchers, of meshers, and the seeds with which the two workers' scripts are run.
+/// The numbers of searchers with which the two workers' scripts are run, and after them the numbers of meshers and the
+/// seeds.
 static SEARCHERS: [u32; 3] = [1, 3, 16];
 
 static MESHERS: [u32; 3] = [1, 2, 10];
@@ -233,7 +236,7 @@ fn answers_do_not_depend_on_meshers(rt: HostRuntime) {
     }
 }
 
-/// Asserts that a file is answered so with each of the seeds, by so many searchers and meshers.
+/// Asserts that a file gives these answers with each of the seeds, for a number of searchers and meshers.
 fn check_seeds<R: Abort + Threads + Wait + Sync + AllocGlobal>(
     rt: &R,
     file: &str,
@@ -255,7 +258,7 @@ fn check_seeds<R: Abort + Threads + Wait + Sync + AllocGlobal>(
     }
 }
 
-/// Asserts that a file is answered so.
+/// Asserts that a file's run with these arguments gives these answers.
 fn check_answers<R: Abort + Threads + Wait + Sync + AllocGlobal>(
     rt: &R,
     file: &str,
@@ -266,7 +269,7 @@ fn check_answers<R: Abort + Threads + Wait + Sync + AllocGlobal>(
     check_run(rt, &run, answers, args);
 }
 
-/// Asserts what a run wrote that was asked for so, and its status.
+/// Asserts that a run with these arguments wrote these answers and no error, and ended with status 0.
 fn check_run(rt: &impl Abort, run: &Ran, answers: &str, args: &ThreadsArgs) {
     let ThreadsArgs {
         workers,

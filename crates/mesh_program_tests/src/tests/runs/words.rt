@@ -1,8 +1,9 @@
-//! The words of the shuffles, against the generator written anew from its authors' papers in another language.
+//! The words of the shuffles, compared with a second implementation of the generator, written from its authors' papers
+//! in another language.
 use mesh_run::words;
 use std::test::Fail;
 
-/// For each seed words at some places.
+/// For each seed, the expected words and the places where they are.
 static EXPECTED: [(u64, &[(usize, u64)]); 3] = [
     (
         0,
@@ -46,7 +47,7 @@ fn gives_the_generators_words(rt: HostRuntime) -> Result<(), Fail> {
     Ok(())
 }
 
-/// Whether words have these at these places.
+/// Whether `words` has each expected word at its place.
 fn has_words(words: &[u64], expected: &[(usize, u64)]) -> bool {
     for (place, word) in expected {
         if words.get(*place) != Some(word) {

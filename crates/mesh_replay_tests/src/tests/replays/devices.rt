@@ -1,4 +1,4 @@
-//! Devices that give or take one byte a call, and fail at some call, on a file with a mesh.
+//! Devices that give or take one byte per call, and fail at some call, on a file with a mesh.
 ghost use Rattle.std.specs.Prelude.{◌≡◌, None, false};
 
 use crate::tests::check;
@@ -19,11 +19,11 @@ enum End {
     TakesNothing,
 }
 
-/// A sink that takes few bytes a call, until its calls are used up.
+/// A sink that takes few bytes per call, until its calls are used up.
 #[derive(Drop)]
 struct SlowSink {
     taken: Vec<u8>,
-    /// The most bytes that it takes in one call, and one where this is 0.
+    /// The greatest number of bytes that it takes in one call. If it is 0, the sink takes one byte.
     most: usize,
     calls: usize,
     end: End,
@@ -102,7 +102,7 @@ fn works_byte_by_byte(rt: HostRuntime) {
     check(&rt, goes, &run, "a byte a write");
 }
 
-/// A file whose second line has a fault, which a source that fails comes before.
+/// A file whose second line has a fault. A source that fails does so before that line.
 const FAULTY_FILE: &str = "mesh 1\npages 0\nhistory 1\n";
 
 #[test]
@@ -115,7 +115,7 @@ fn fails_at_each_read(rt: HostRuntime) {
     }
 }
 
-/// How many bytes a sink takes a call that fails at one of its calls.
+/// How many bytes a sink that fails at one of its calls takes per call.
 const PIECE: usize = 16;
 
 #[test]
@@ -129,7 +129,8 @@ fn fails_at_each_write(rt: HostRuntime) {
     }
 }
 
-/// A reader that fails at its first call, and gives one byte at each later one; a writer that fails at its first call, and takes one byte then.
+/// A device that fails at its first call. As a reader it then gives one byte per call, and as a writer it then takes
+/// one byte per call.
 #[derive(Drop)]
 struct FailsFirst<'a> {
     bytes: Bytes<'a>,

@@ -18,7 +18,7 @@ fn tells_each_fault(rt: HostRuntime) {
     }
 }
 
-/// Asserts what is said of a file of so many bytes `a`, with a line end or none.
+/// Asserts the fault of a file of `count` bytes `a`, with a line end or without one.
 fn check_length(
     rt: &(impl Abort + AllocGlobal),
     count: usize,

@@ -1,4 +1,4 @@
-//! The worked rows.
+//! The golden files.
 use crate::tests::replays::replayed;
 use mesh_program_tests::memory::files::{
     ABANDONED, CANCELS, MUTATORS, SEARCHES, SMALL_STEPS, VERSION_2, WHOLE_MESHES,
@@ -7,7 +7,7 @@ use mesh_program_tests::memory::{ROW_END, fields};
 use std::alloc::Global;
 use std::process::Abort;
 
-/// The first row of a table that is not answered as it should be, by its name.
+/// The name of the first row of a table whose answers are wrong, or `None` if all are right.
 fn wrong_row(alloc: Global, table: &'static str) -> Option<&'static str> {
     for row in table.split(ROW_END) {
         let (name, file, answers) = fields(row);
@@ -37,7 +37,7 @@ fn answers_the_rows_of_each_subject(rt: HostRuntime) {
     }
 }
 
-/// How many lines the long plan has: their answers are more than what is written at once.
+/// How many lines the long plan has. Their answers are longer than one write.
 const LONG_PLAN: usize = 4000;
 
 #[test]
@@ -55,16 +55,16 @@ fn answers_a_long_plan(rt: HostRuntime) {
     check(&rt, file.as_str(), answers.as_str());
 }
 
-/// Asserts that a file is answered so.
+/// Asserts the answers to a file.
 fn check(rt: &(impl Abort + AllocGlobal), file: &str, answers: &str) {
     let run = replayed(rt.alloc(), file.as_bytes());
     assert!(rt; run.wrote(answers.as_bytes(), "", 0));
 }
 
-/// How many spans of three pages use up the addresses but for three pages.
+/// How many spans of three pages use up all addresses except three pages.
 const SPANS: u32 = 21_844;
 
-/// The bytes of a page, and the pages of each of these spans.
+/// The number of bytes of a page. `SPAN_PAGES` is the number of pages of each of these spans.
 const PAGE_BYTES: u32 = 4096;
 
 const SPAN_PAGES: u32 = 3;
@@ -94,7 +94,7 @@ fn file_of_all(rt: &(impl Abort + AllocGlobal)) -> String {
     file
 }
 
-/// The lines that it is answered.
+/// The answer lines to that file.
 fn answers_of_all(rt: &(impl Abort + AllocGlobal)) -> String {
     let mut answers = text_of(rt, "");
     for group in 0..SPANS {
@@ -109,12 +109,12 @@ fn answers_of_all(rt: &(impl Abort + AllocGlobal)) -> String {
     answers
 }
 
-/// A text that begins so.
+/// A text with this beginning.
 fn text_of(rt: &(impl Abort + AllocGlobal), front: &str) -> String {
     String::from_str(rt.alloc(), front).expect(rt, "memory")
 }
 
-/// Adds to a text.
+/// Appends to a text.
 fn add(rt: &impl Abort, text: &mut String, more: &str) {
     text.push_str(more).expect(rt, "memory");
 }

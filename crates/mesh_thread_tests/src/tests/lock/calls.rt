@@ -1,4 +1,4 @@
-//! Commands and their replies as plain values, which tables of cases hold.
+//! Commands and their replies as plain values, for tables of cases.
 ghost use Rattle.std.specs.Prelude.{◌≡◌, ◌≤◌};
 ghost use Rattle.model_words.specs.Commands.{IsInRange};
 
@@ -14,18 +14,18 @@ pub(crate) enum Call {
     New(u8, u32),
     // To an object's offset, 1 to 32 bytes.
     Put(u8, u32, &'static [u8]),
-    // From an object's offset, so many bytes, 1 to 32.
+    // From an object's offset, this number of bytes, 1 to 32.
     Get(u8, u32, u32),
     Free(u8),
     Alias(u8, u8),
-    // To an object's offset, from an object's offset, so many bytes, 1 to 32.
+    // To an object's offset, from an object's offset, this number of bytes, 1 to 32.
     Copy(u8, u32, u8, u32, u32),
     Addr(u8),
     Peek(u32),
     Poke(u32, u8),
 }
 
-/// What a command is answered.
+/// The answer to a command.
 #[derive(Clone, Copy)]
 pub(crate) enum Answer {
     // The serial and the address of a new object.
@@ -37,7 +37,7 @@ pub(crate) enum Answer {
     Refused(Refusal),
 }
 
-/// Two groups of class 2,048 with one object each, of the cells 1 and 2.
+/// Two groups of class 2,048 with one object each, in the cells 1 and 2.
 pub(crate) const GROUPS: &[Call] = &[
     Call::New(0, 2048),
     Call::New(1, 2048),
@@ -66,7 +66,7 @@ pub(crate) fn command_of(rt: &impl Abort, call: Call) -> Command
     }
 }
 
-/// A number of bytes that a command loads or copies, which is 1 to 32.
+/// A number of bytes that a command loads or copies, checked to be 1 to 32.
 fn checked(rt: &impl Abort, len: u32) -> u32
     ensures same { result ≡ len }
     ensures some { 1 ≤ result }
@@ -100,7 +100,7 @@ pub(crate) fn reply_of(rt: &impl Abort, answer: Answer) -> Reply {
     }
 }
 
-/// At most 32 bytes, as a command stores and a reply loads them.
+/// At most 32 bytes, in the type that a command stores and a reply loads.
 fn bytes_of(rt: &impl Abort, bytes: &[u8]) -> ArrayVec<u8, MAX_BYTES>
     ensures { result.items ≡ bytes.now }
 {

@@ -20,7 +20,7 @@ use std::thread;
 use std::thread::{Threads, join};
 use std::time::Duration;
 
-/// A book of so many pages and so many entries behind a lock, with a seat for each count.
+/// A book with this number of pages and room for this number of entries, behind a lock, with a seat for each count.
 fn opened(
     rt: &(impl Abort + AllocGlobal),
     pages: u32,
@@ -37,7 +37,7 @@ fn opened(
     Shared::open(rt.alloc(), book, counts).expect(rt, "memory")
 }
 
-/// What is done with a book behind a lock and its seats.
+/// A way to use a book behind a lock and its seats.
 #[derive(Clone, Copy)]
 enum Usage {
     // Two threads make an object each, and read it back.
@@ -46,7 +46,7 @@ enum Usage {
     Alias,
     // A mesh is begun and cancelled, and an empty group swept.
     Mesher,
-    // A store is held back by a mesh.
+    // A store is blocked by a mesh.
     HeldBack,
     // A seat calls more than the book has room for.
     Full,
@@ -88,7 +88,7 @@ impl Usage {
     }
 }
 
-/// What a book comes to.
+/// The result of a finished book.
 #[derive(Drop)]
 struct Closed {
     // How many entries its history has.
@@ -97,7 +97,7 @@ struct Closed {
     report: Report,
 }
 
-/// Opens a book of so many pages and so many entries, uses it, and finishes it.
+/// Opens a book with this number of pages and room for this number of entries, uses it, and finishes it.
 fn used<R: Abort + AllocGlobal + Clock + Threads + Wait + Sync>(
     rt: &R,
     pages: u32,
@@ -149,7 +149,7 @@ fn works<R: Wait>(rt: &R, shared: &Shared, seat: &mut Seat, cell: u8) -> bool {
     }
 }
 
-/// Lets two threads work beside one another.
+/// Runs two threads at the same time.
 fn work_beside<R: Abort + Threads + Wait + Sync>(
     rt: &R,
     shared: &Shared,
@@ -169,7 +169,7 @@ fn two_threads_share_a_book(rt: HostRuntime) {
     check_count(&rt, used(&rt, 16, 64, Usage::Threads).entries, 6);
 }
 
-/// Asserts that a command of a seat is done, and answered so.
+/// Asserts that a command of a seat is done and has this answer.
 fn check(
     rt: &(impl Abort + Wait),
     shared: &Shared,
@@ -193,8 +193,8 @@ enum Asked {
     Other,
 }
 
-/// What is asked before a book is finished: of which book, from the seat of which place, and the call with its answer. The seats of the book
-/// that is finished have the places 0 and 1, those of the other one the places from 2 on.
+/// One call before a book is finished: which book it goes to, the place of the seat, and the call with its answer. The
+/// seats of the book that is finished have the places 0 and 1; those of the other book have the places from 2 on.
 type Turn = (Asked, usize, (Call, Answer));
 
 /// An object made in cell 0, the first of its book.
@@ -203,7 +203,8 @@ const MADE: (Call, Answer) = (Call::New(0, 2048), Answer::Object(0, 0x1000));
 /// A read of its first bytes.
 const READ: (Call, Answer) = (Call::Get(0, 0, 2), Answer::Bytes(&[0, 0]));
 
-/// By their names, what is asked before a book is finished, the places of the seats that are handed in, and the fault that is told.
+/// Cases by name: the calls before a book is finished, the places of the seats that are passed in, and the fault that
+/// is reported.
 static MISFITS: [(&str, &[Turn], &[usize], FinishError); 7] = [
     (
         "an entry of no call of seat 0",
@@ -244,7 +245,7 @@ static MISFITS: [(&str, &[Turn], &[usize], FinishError); 7] = [
     ),
 ];
 
-/// The seats of two books in one row of places.
+/// The seats of two books in one list of places.
 fn placed(rt: &(impl Abort + AllocGlobal), own: Vec<Seat>, other: Vec<Seat>) -> Vec<Option<Seat>> {
     let mut places = Vec::new(rt.alloc());
     add_seats(rt, &mut places, own);
@@ -252,14 +253,14 @@ fn placed(rt: &(impl Abort + AllocGlobal), own: Vec<Seat>, other: Vec<Seat>) -> 
     places
 }
 
-/// Adds seats to a row of places.
+/// Adds seats to a list of places.
 fn add_seats(rt: &impl Abort, places: &mut Vec<Option<Seat>>, seats: Vec<Seat>) {
     for seat in seats {
         places.push(Some(seat)).expect(rt, "memory");
     }
 }
 
-/// Asks what a turn asks.
+/// Makes the call of a turn.
 fn take_turn(
     rt: &(impl Abort + Wait),
     own: &Shared,
@@ -291,7 +292,7 @@ fn taken(
     seats
 }
 
-/// The fault that is told when these seats are handed in after these turns.
+/// The fault that is reported when these seats are passed in after these turns.
 fn told(
     rt: &(impl Abort + AllocGlobal + Wait),
     turns: &[Turn],
@@ -308,7 +309,7 @@ fn told(
     fault_of(rt, own, seats)
 }
 
-/// The fault that is told when a book is finished with these seats.
+/// The fault that is reported when a book is finished with these seats.
 fn fault_of(rt: &(impl Abort + AllocGlobal), shared: Shared, seats: Vec<Seat>) -> FinishError {
     let ended = shared.finish(rt.alloc(), seats);
     ended.err().expect(rt, "a fault")
@@ -322,14 +323,14 @@ fn seats_that_do_not_fit_are_told(rt: HostRuntime) {
     }
 }
 
-/// An object, a second name of it, and a read by that.
+/// An object, an alias of it, and a read through the alias.
 static ALIASED: [(Call, Answer); 3] = [
     (Call::New(0, 2048), Answer::Object(0, 0x1000)),
     (Call::Alias(1, 0), Answer::Done),
     (Call::Get(1, 0, 2), Answer::Bytes(&[0, 0])),
 ];
 
-/// Reads an object by its second name.
+/// Reads an object through its alias.
 fn read_by_alias(rt: &(impl Abort + Wait), shared: &Shared, seat: &mut Seat) {
     for (call, answer) in ALIASED.iter() {
         check(rt, shared, seat, *call, *answer, "an alias");
@@ -341,7 +342,7 @@ fn reads_come_into_the_history(rt: HostRuntime) {
     check_count(&rt, used(&rt, 16, 64, Usage::Alias).entries, 3);
 }
 
-/// What is there before a mesher comes: two groups of class 2,048, each with one object.
+/// Prepares a book for a mesher: two groups of class 2,048, each with one object.
 fn set_up(rt: &(impl Abort + Wait), shared: &Shared, seat: &mut Seat) -> Class {
     for call in GROUPS.iter() {
         shared.call(rt, seat, &command_of(rt, *call));
@@ -371,7 +372,8 @@ impl Meshing {
     }
 }
 
-/// What a mesher's call under the lock is answered: of a step which it was, and steps to come or pages that came free.
+/// The result of a mesher's call under the lock: for a step its kind, and the steps to come or the pages that were
+/// freed.
 fn meshed(
     rt: &impl Wait,
     shared: &Shared,
@@ -398,10 +400,10 @@ static CANCELLED: [(Meshing, Option<StepKind>, u32); 4] = [
     (Meshing::Step, Some(StepKind::Unprotect), 0),
 ];
 
-/// An empty group that is swept: a page comes free.
+/// An empty group that is swept: one page is freed.
 static SWEPT: [(Meshing, Option<StepKind>, u32); 1] = [(Meshing::Sweep(0), None, 1)];
 
-/// Asserts that a mesher's calls, one after another and each under the lock, are answered so.
+/// Asserts that a mesher's calls, one after another and each under the lock, have these results.
 fn play(
     rt: &(impl Abort + Wait),
     shared: &Shared,
@@ -414,7 +416,7 @@ fn play(
     }
 }
 
-/// Whether group 1 alone may be paired.
+/// Whether group 1 is the only one that may be paired.
 fn has_one_group<R: Wait>(
     rt: &R,
     alloc: Global,
@@ -425,7 +427,7 @@ fn has_one_group<R: Wait>(
     Ok(view.len() == 1 && view.number(0) == 1)
 }
 
-/// Begins a mesh and cancels it, and sweeps the group that is empty then.
+/// Begins a mesh and cancels it, then sweeps the group that has become empty.
 fn take_the_lock(rt: &(impl Abort + Wait), alloc: Global, shared: &Shared, seat: &mut Seat) {
     let class = set_up(rt, shared, seat);
     play(rt, shared, class, &CANCELLED);
@@ -473,7 +475,7 @@ static HALF_PAGES: [(Call, Answer); 3] = [
     (Call::New(2, 2048), Answer::Refused(Refusal::NoPages)),
 ];
 
-/// Calls once more than there is room for.
+/// Makes one call more than there is room for.
 fn fill(rt: &(impl Abort + Wait), shared: &Shared, seat: &mut Seat) {
     for (call, answer) in HALF_PAGES.iter() {
         check(rt, shared, seat, *call, *answer, "one page");
@@ -488,12 +490,12 @@ fn the_book_is_the_one_handed_in(rt: HostRuntime) {
     check_count(&rt, used(&rt, 1, 3, Usage::Full).entries, 3);
 }
 
-/// How often a reader looks for the other one, and for how many microseconds it sleeps after each look.
+/// How often a reader checks for the other one. After each check it sleeps for `TURN` microseconds.
 const TURNS: u32 = 1_000_000;
 
 const TURN: u64 = 10;
 
-/// Takes the shared lock and holds it until the other reader has it too: whether it came.
+/// Takes the shared lock and keeps it until the other reader has it too. Returns whether the other reader came.
 fn meets<R: Clock + Wait>(rt: &R, shared: &Shared, own: &AtomicBool, other: &AtomicBool) -> bool {
     let book = shared.book.read(rt);
     own.store(true, SeqCst);
@@ -506,7 +508,7 @@ fn meets<R: Clock + Wait>(rt: &R, shared: &Shared, own: &AtomicBool, other: &Ato
     false
 }
 
-/// Lets two readers hold the lock at once.
+/// Runs two readers that hold the lock at once.
 fn meet<R: Abort + Clock + Threads + Wait + Sync>(rt: &R, shared: &Shared) {
     let first = AtomicBool::new(false);
     let second = AtomicBool::new(false);

@@ -1,4 +1,4 @@
-//! A gate that holds threads at points of a run.
+//! A gate that stops threads at points of a run.
 
 use mesh_shared::{Actor, Gate, Point};
 use model_words::StepKind;
@@ -8,12 +8,12 @@ use std::sync::atomic::Ordering::SeqCst;
 use std::thread;
 use std::time::Duration;
 
-/// How often a held thread looks again, and for how many microseconds it sleeps before.
+/// How often a stopped thread checks again. Before each check it sleeps for `TURN` microseconds.
 const TURNS: u32 = 1_000_000;
 
 const TURN: u64 = 10;
 
-/// What a test waits for: who comes where.
+/// An event that a test waits for: an actor arrives at a point.
 #[derive(Clone, Copy, PartialEq, Eq)]
 pub(crate) enum Event {
     // A worker's call, counted from 0, was answered.
@@ -26,7 +26,8 @@ pub(crate) enum Event {
     Stepped(u32, StepKind),
     // A searcher is about to work on a class.
     Searching,
-    // The same of the searcher that is the first to be so, where `Searching` has a mark. It holds that one alone, and has no mark of its own.
+    // The same event for the first searcher there, if `Searching` has a mark. Only that searcher is stopped. This event
+    // has no mark of its own.
     FirstSearching,
 }
 
@@ -43,7 +44,7 @@ impl Event {
     }
 }
 
-/// An event, and whether it has been.
+/// An event, and whether it has occurred.
 #[derive(Drop)]
 pub(crate) struct Mark {
     event: Event,
@@ -51,7 +52,7 @@ pub(crate) struct Mark {
 }
 
 impl Mark {
-    /// The mark of an event that hasn't been.
+    /// The mark of an event that hasn't occurred.
     pub(crate) fn of(event: Event) -> Mark {
         Mark {
             event,
@@ -60,11 +61,13 @@ impl Mark {
     }
 }
 
-/// Who comes to the first event is held until the others have been; who is the first there, at least for so many turns.
+/// An actor that arrives at the first event is stopped until the others have occurred. The first actor there is stopped
+/// at least for this number of turns.
 #[derive(Clone, Copy)]
 pub(crate) struct Hold(pub Event, pub &'static [Event], pub u32);
 
-/// A gate that holds threads, and notes where one was held in vain, or where an event came before another that it wants.
+/// A gate that stops threads. It records whether a thread waited in vain, or an event occurred before another one that
+/// it needs.
 #[derive(Drop)]
 pub(crate) struct Holding<'a, R> {
     rt: &'a R,
@@ -92,7 +95,7 @@ impl<'a, R: Clock> Holding<'a, R> {
         }
     }
 
-    /// Whether all events that have a mark have been, none was waited for in vain, and none came too early.
+    /// Whether all marked events have occurred, none was waited for in vain, and none occurred too early.
     pub(crate) fn went_well(&self) -> bool {
         let mut all = true;
         for mark in self.marks {
@@ -101,7 +104,7 @@ impl<'a, R: Clock> Holding<'a, R> {
         all && !self.missed.load(SeqCst)
     }
 
-    /// Notes an event, and tells whether it is its first time. An event without a mark has no first time.
+    /// Records an event, and returns whether it is its first time. An event without a mark has no first time.
     fn is_first(&self, event: Event) -> bool {
         for mark in self.marks {
             if mark.event == event {
@@ -128,7 +131,7 @@ impl<'a, R: Clock> Holding<'a, R> {
         all
     }
 
-    /// Notes an event that came before another one that it wants.
+    /// Records an event that occurs before another one that it needs.
     fn note_order(&self, event: Event) {
         for order in self.orders {
             if order.0 == event && !self.has_been(order.1) {
@@ -137,7 +140,7 @@ impl<'a, R: Clock> Holding<'a, R> {
         }
     }
 
-    /// Holds who came to an event, as the holds at it say.
+    /// Stops an actor that arrived at an event, as the holds for that event require.
     fn hold(&self, event: Event, first: bool) {
         for Hold(at, until, turns) in self.holds {
             if *at == event {
@@ -146,7 +149,7 @@ impl<'a, R: Clock> Holding<'a, R> {
         }
     }
 
-    /// Waits for the events, and at least for so many turns.
+    /// Waits for the events, and at least for this number of turns.
     fn wait_for(&self, events: &[Event], turns: u32) {
         for turn in 0..TURNS {
             if turn >= turns && self.have_been(events) {

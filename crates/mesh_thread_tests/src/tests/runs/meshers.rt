@@ -1,4 +1,4 @@
-//! Scripts on threads with meshers at work, held at points by a gate.
+//! Scripts on threads with running meshers, stopped at points by a gate.
 ghost use Rattle.std.specs.Prelude.{◌≡◌, ◌≤◌, length};
 ghost use Rattle.std.specs.List.{All};
 ghost use Rattle.model_words.specs.Commands.{IsInRange};
@@ -27,7 +27,7 @@ enum Part {
     Freed(&'static [u8]),
     // To the object of a cell, its first byte.
     Stored(u8, u8),
-    // From the object of a cell, its first byte, so many times.
+    // From the object of a cell, its first byte, this number of times.
     Read(u8, u32),
 }
 
@@ -71,21 +71,21 @@ fn put(cell: u8, byte: u8) -> Command
     Command::Put(cell, 0, bytes)
 }
 
-/// One script, as a run takes it.
+/// One script, in the form that a run takes.
 fn alone<'a>(script: &'a Commands) -> [&'a [Command]; 1]
     ensures { All (λ script. All IsInRange script.now) result }
 {
     [script.as_slice()]
 }
 
-/// Two scripts, as a run takes them.
+/// Two scripts, in the form that a run takes.
 fn both<'a>(first: &'a Commands, second: &'a Commands) -> [&'a [Command]; 2]
     ensures { All (λ script. All IsInRange script.now) result }
 {
     [first.as_slice(), second.as_slice()]
 }
 
-/// A plan of so many rounds, searchers and meshers: one round of tries a search, all words 0.
+/// A plan with this number of rounds, searchers and meshers: one round of tries per search, all words 0.
 fn plan_of(rt: &impl AllocGlobal, rounds: u32, workers: u32, meshers: u32) -> MeshPlan
     ensures searchers { result.workers ≡ workers }
     ensures meshers { result.meshers ≡ meshers }
@@ -99,7 +99,7 @@ fn plan_of(rt: &impl AllocGlobal, rounds: u32, workers: u32, meshers: u32) -> Me
     }
 }
 
-/// A run of one script or two, and how it goes.
+/// A run of one or two scripts, and its expected course.
 struct Course {
     // Each script in its parts.
     first: &'static [Part],
@@ -112,7 +112,7 @@ struct Course {
     scale: Scale,
 }
 
-/// How much a run has of what.
+/// The sizes of a run.
 #[derive(Clone, Copy)]
 struct Scale {
     // How many pages the arena has.
@@ -134,7 +134,7 @@ const USUAL: Scale = Scale {
     meshers: 1,
 };
 
-/// One round of one mesher, which two searchers search for.
+/// One round of one mesher, with two searchers.
 const TWO_SEARCHERS: Scale = Scale {
     pages: 16,
     room: 8,
@@ -143,7 +143,7 @@ const TWO_SEARCHERS: Scale = Scale {
     meshers: 1,
 };
 
-/// One worker without a command, and a mesher that nobody holds.
+/// One worker without a command, and a mesher that nothing stops.
 const ALONE: Course = Course {
     first: &[],
     second: None,
@@ -153,7 +153,7 @@ const ALONE: Course = Course {
     scale: USUAL,
 };
 
-/// How often a worker tries where meshers are abandoned.
+/// How many attempts a worker makes when meshers are abandoned.
 const TRIES: u32 = 10;
 
 /// The marks of these events.
@@ -165,7 +165,8 @@ fn marks_of(rt: &(impl Abort + AllocGlobal), events: &[Event]) -> Vec<Mark> {
     marks
 }
 
-/// Runs the scripts of a course, with meshers that are abandoned after so many calls, if any, and asserts that it goes so.
+/// Runs the scripts of a course, and asserts that it goes as expected. Meshers may be abandoned after a number of
+/// calls.
 fn ran<R: Abort + AllocGlobal + Clock + Threads + Wait + Sync>(
     rt: &R,
     course: &Course,
@@ -199,7 +200,7 @@ fn check_scale(rt: &impl Abort, scale: Scale)
     assert!(rt; scale.room <= 65_536, "room");
 }
 
-/// Runs scripts past a gate on a fresh book, and looks at what it comes to.
+/// Runs scripts past a gate on a fresh book, and returns the result.
 fn ran_past<R: Abort + AllocGlobal + Threads + Wait + Sync, G: Gate + Sync>(
     rt: &R,
     scale: Scale,
@@ -221,7 +222,7 @@ fn ran_past<R: Abort + AllocGlobal + Threads + Wait + Sync, G: Gate + Sync>(
     look_at(ended.expect(rt, "a history"))
 }
 
-/// Runs the scripts of a course so, and looks at what it comes to.
+/// Runs the scripts of a course, and returns the result.
 fn played<R: Abort + AllocGlobal + Clock + Threads + Wait + Sync>(
     rt: &R,
     course: &Course,
@@ -237,7 +238,7 @@ fn played<R: Abort + AllocGlobal + Clock + Threads + Wait + Sync>(
     }
 }
 
-/// How many entries of a history are a worker's.
+/// How many entries of a history belong to a worker.
 fn count_of(history: &[Entry], worker: u32) -> usize {
     history
         .iter()
@@ -245,7 +246,7 @@ fn count_of(history: &[Entry], worker: u32) -> usize {
         .count()
 }
 
-/// How many entries of a history are refused for want of pages.
+/// How many entries of a history are refused because there are no pages.
 fn no_pages_count(history: &[Entry]) -> usize {
     history
         .iter()
@@ -253,7 +254,7 @@ fn no_pages_count(history: &[Entry]) -> usize {
         .count()
 }
 
-/// How many steps a class of the heap still takes.
+/// How many steps the mesh of a class of the heap still takes.
 fn steps_left(heap: &mut Heap, size: u32) -> u32 {
     let Ok(class) = class_of(size) else {
         return 0;
@@ -269,7 +270,7 @@ fn steps_left(heap: &mut Heap, size: u32) -> u32 {
 /// The size of each class.
 static SIZES: [u32; 10] = [16, 32, 64, 128, 256, 384, 512, 1024, 1536, 2048];
 
-/// How many steps all classes of the heap together still take.
+/// How many steps the meshes of all classes of the heap still take.
 fn all_steps_left(heap: &mut Heap) -> u32 {
     let mut left = 0u32;
     for size in SIZES.iter() {
@@ -278,7 +279,7 @@ fn all_steps_left(heap: &mut Heap) -> u32 {
     left
 }
 
-/// Whether the first of the addresses holds a byte, and each other one a zero.
+/// Whether the first of the addresses contains this byte, and each other one a zero.
 fn begins_with(heap: &Heap, addresses: Range<u32>, front: u8) -> bool {
     let mut wanted = front;
     for address in addresses {
@@ -290,12 +291,12 @@ fn begins_with(heap: &Heap, addresses: Range<u32>, front: u8) -> bool {
     true
 }
 
-/// Whether the objects of the cells 1 and 2 have the bytes that `STORER` stores.
+/// Whether the objects of the cells 1 and 2 contain the bytes that `STORER` stores.
 fn keep_bytes(heap: &Heap) -> bool {
     begins_with(heap, 0x1800..0x2000, 0xab) && begins_with(heap, 0x2000..0x2800, 0xcd)
 }
 
-/// What a run comes to.
+/// The result of a run.
 #[derive(Drop)]
 struct Seen {
     // How many entries of the history are the first script's, and how many the second one's.
@@ -304,18 +305,19 @@ struct Seen {
     no_pages: usize,
     // What the heap counts.
     report: Report,
-    // Whether those objects have the bytes that `STORER` stores then, and whether they have them once no class takes a step.
+    // Whether those objects contain the bytes that `STORER` stores at the end of the run, and whether they do once no
+    // class takes a step.
     keeps_bytes: (bool, bool),
     // How many steps all classes together still took.
     steps_left: u32,
 }
 
-/// Looks at what a run came to, and makes the steps that are left.
+/// Examines the end of a run, and makes the steps that are left.
 fn look_at(mut ended: Ended) -> Seen {
     seen_of(ended.history.as_slice(), &mut ended.heap)
 }
 
-/// Looks at a run's history and heap, and makes the steps that are left.
+/// Examines a run's history and heap, and makes the steps that are left.
 fn seen_of(history: &[Entry], heap: &mut Heap) -> Seen {
     let report = heap.report();
     let kept = keep_bytes(heap);
@@ -329,12 +331,12 @@ fn seen_of(history: &[Entry], heap: &mut Heap) -> Seen {
     }
 }
 
-/// Asserts how many entries of the history are the first script's, and how many the second one's.
+/// Asserts how many entries of the history belong to the first script, and how many to the second.
 fn check_entries(rt: &impl Abort, seen: &Seen, wanted: (usize, usize)) {
     assert_eq!(rt; seen.entries, wanted);
 }
 
-/// Two groups of class 2,048 with one object each, of the cells 1 and 2, and four reads of the second object.
+/// Two groups of class 2,048 with one object each, in the cells 1 and 2, and four reads of the second object.
 const READER: &[Part] = &[
     Part::Made(0, 4, 2048),
     Part::Freed(&[0, 3]),
@@ -344,7 +346,8 @@ const READER: &[Part] = &[
 /// A read of an empty cell, and a store to the second object.
 const WRITER: &[Part] = &[Part::Read(9, 1), Part::Stored(2, 0xcd)];
 
-/// A reader, who makes the groups before, reads while the second object is copied, and a writer stores only once that is remapped.
+/// The reader first makes the groups, and then reads while the second object is copied. The writer stores only once
+/// that object is remapped.
 static READ_IN_A_COPY: Course = Course {
     first: READER,
     second: Some(WRITER),
@@ -388,7 +391,7 @@ fn a_reader_runs_during_a_copy(rt: HostRuntime) {
 /// Two reads of an empty cell, an object and a read of it.
 const FOUR_CALLS: &[Part] = &[Part::Read(9, 2), Part::Made(0, 1, 16), Part::Read(0, 1)];
 
-/// Two searchers are at work between the first call and the third.
+/// Two searchers run between the first call and the third.
 static SEARCH_BESIDE: Course = Course {
     first: FOUR_CALLS,
     events: &[Event::Searching, Event::Called(0, 2)],
@@ -475,7 +478,8 @@ fn two_scripts_read_at_once(rt: HostRuntime) {
     check_entries(&rt, &seen, (1, 1));
 }
 
-/// Of sixteen objects of class 512 from cell 4 on all but two: those are the objects of two groups that can be meshed.
+/// The cells of all but two of sixteen objects of class 512, from cell 4 on. The other two are the objects of two
+/// groups that can be meshed.
 const OF_SMALL_GROUPS: &[u8] = &[4, 5, 6, 7, 8, 9, 10, 13, 14, 15, 16, 17, 18, 19];
 
 /// Each of two copies waits for the other one.
@@ -566,7 +570,7 @@ static MESH_AMID: Course = Course {
     ..ALONE
 };
 
-/// The same of a mesher that makes no call, and so begins no mesh that one could wait for.
+/// The same with a mesher that makes no call, and so begins no mesh that the reads could wait for.
 static NO_MESH: Course = Course {
     first: STORER,
     events: &[Event::Called(0, 7)],
@@ -574,7 +578,8 @@ static NO_MESH: Course = Course {
     ..ALONE
 };
 
-/// Asserts that all commands were answered, that both objects keep their bytes, also to the end, and that so many steps were left.
+/// Asserts that all commands were answered, that both objects keep their bytes to the end, and that this number of
+/// steps was left.
 fn check_abandoned(rt: &impl Abort, seen: &Seen, left: u32) {
     check_entries(rt, seen, (12, 0));
     check_that(
