@@ -1,14 +1,17 @@
 #!/usr/bin/env python3
-"""Drives `meshrun live` and a toy allocator with the same random commands, and stops at the first answer that differs.
+"""Sends the same random commands to `meshrun live` and to a toy allocator, and stops at the first answer that differs.
 
     examples/fuzz_live.py PROGRAM [--lines N] [--seed S] [--bug]
 
-PROGRAM is a built `meshrun`. Both heaps mesh while they are used, each in its own way and at its own times: the proved one by lines of its
-mesher, the toy by steps of its own. What a user of either sees must be the same. Addresses are not compared, since each places objects where it
-likes; but an object's address must never change. With --bug the toy forgets to hold stores to a span back while it is copied.
+PROGRAM is a built `meshrun`. N is the number of lines, 5000 by default; S is the seed of the commands, 1 by default.
+Both heaps mesh while they are used, each at its own times: the proved one by lines of its mesher, the toy by steps of
+its own. What a user of either sees must be the same. Addresses are not compared, since each heap chooses them freely.
+But an object's address must never change while it is live. With --bug the toy doesn't block stores to a span while it
+copies the span.
 
-Prints how many lines agreed, status 0. Where an answer differs, prints the lines so far as a job file, which `meshrun replay` and `meshrun draw`
-take, and on standard error what differs, status 1. Standard library alone.
+If all lines agree, prints how many, with status 0. If an answer differs, prints the lines so far as a job file, which
+`meshrun replay` and `meshrun draw` read, and the difference on standard error, with status 1. To test an allocator of
+your own, replace the class Toy (docs/TESTING_AN_ALLOCATOR.md). Needs the standard library only.
 """
 
 import argparse
@@ -24,11 +27,11 @@ PAGE_BYTES = 4096
 
 
 class Refused(Exception):
-    """What a heap refuses, by the number and the name that the proved one has for it."""
+    """A refusal, with the number and the name that the proved heap has for it."""
 
 
 class Span:
-    """A page of slots of one size. Where `home` is another span, its objects are found there."""
+    """A page of slots of one size. `home` is the span whose bytes hold its objects, itself if it isn't meshed."""
 
     def __init__(self, base, slot_bytes):
         self.base = base
@@ -43,7 +46,7 @@ class Span:
 
 
 class Toy:
-    """An allocator that meshes: a span is copied into another slot by slot, and both are found on one page then."""
+    """An allocator that meshes: it copies a span into another one slot by slot, then both share one page."""
 
     def __init__(self, has_bug):
         self.has_bug = has_bug
@@ -153,7 +156,7 @@ class Toy:
         return self.mesh is not None and span.home in self.mesh[:2]
 
     def step_mesh(self, rng):
-        """Begins a mesh of two spans with no common occupied slot, or copies a slot of the one that runs, or ends it."""
+        """Begins a mesh of two spans with no common occupied slot, or copies a slot of the running mesh, or ends it."""
         if self.mesh is None:
             pages = [s for s in self.spans if s.home is s and s.slots]
             pairs = [(s, d) for s in pages for d in pages
@@ -184,7 +187,7 @@ class Toy:
 
 
 class Live:
-    """A running `meshrun live`, with the lines that it was asked and what it answered."""
+    """A running `meshrun live`, with the lines that were sent and their answers."""
 
     def __init__(self, program):
         words = [program, "live", "--pages", str(PAGES), "--history", str(HISTORY), "--workers", str(WORKERS)]
@@ -205,7 +208,7 @@ class Live:
         return self.process.wait()
 
     def job(self):
-        """The lines as a job file. A command that was blocked stands in its script once, and is attempted again by the plan."""
+        """The lines as a job file. A blocked command is in its script once; the plan retries it."""
         scripts = [[] for _ in range(WORKERS)]
         blocked = [False] * WORKERS
         plan = []
@@ -225,7 +228,7 @@ class Live:
 
 
 class Fuzz:
-    """The two heaps side by side."""
+    """The two heaps and the random commands for both."""
 
     def __init__(self, live, toy, rng):
         self.live, self.toy, self.rng = live, toy, rng
@@ -236,7 +239,7 @@ class Fuzz:
         self.stores = collections.deque(maxlen=40)
 
     def line(self):
-        """Asks one line; gives what differs, or nothing."""
+        """Sends one line. Returns what differs, or None."""
         if self.toy.mesh is None or self.rng.random() < 0.1:
             self.toy.step_mesh(self.rng)
         if self.rng.random() < 0.35:
@@ -269,7 +272,7 @@ class Fuzz:
         return " ".join(words[:-2]) if words[0] == "object" else "at", int(words[-1], 16)
 
     def command(self):
-        """A random command: its text, and the call of the toy."""
+        """A random command: its text, and the toy's call for it."""
         rng, toy = self.rng, self.toy
         cell, other = rng.randrange(CELLS), rng.randrange(CELLS)
         off, length = rng.choice((0, 0, rng.randrange(40), rng.randrange(2100))), rng.randint(1, 32)
@@ -314,11 +317,11 @@ class Fuzz:
         return f"poke {address:x} {data[:2]}", call
 
     def held(self):
-        """The objects that a blocked store by address waits for: they are not freed meanwhile, since an address may be used again."""
+        """The objects of blocked stores by address. They must not be freed meanwhile, since an address may be reused."""
         return {call.serial for _, call in self.waiting.values() if hasattr(call, "serial")}
 
     def mesher_line(self):
-        """Asks for a pair, begins a mesh, makes a step, or cancels. These are the proved heap's own, and not compared."""
+        """Searches for a pair, begins a mesh, makes a step, or cancels, in the proved heap only. Nothing is compared."""
         rng = self.rng
         if self.running and rng.random() < 0.8:
             size = rng.choice(sorted(self.running))
@@ -341,7 +344,7 @@ def main():
     parser.add_argument("program")
     parser.add_argument("--lines", type=int, default=5000)
     parser.add_argument("--seed", type=int, default=1)
-    parser.add_argument("--bug", action="store_true", help="let the toy forget to hold stores back while a span is copied")
+    parser.add_argument("--bug", action="store_true", help="don't let the toy block stores to a span while it copies the span")
     args = parser.parse_args()
     live = Live(args.program)
     fuzz = Fuzz(live, Toy(args.bug), random.Random(args.seed))

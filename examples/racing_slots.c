@@ -1,16 +1,19 @@
-/* A toy allocator that meshes while threads use it, and a driver that records each call with two stamps: when it began, and when it ended.
+/* A toy allocator that meshes while threads use it, and a driver that records each call with two stamps: when it began
+ * and when it ended.
  *
  *     gcc -std=gnu11 -O2 -Wall -Wextra -pthread -o racing_slots examples/racing_slots.c
  *     ./racing_slots [--threads T] [--calls N] [--bug] >slots.history
  *     meshrun check slots.history
  *
- * It stands for a driver of your own allocator. T threads (4 if none is given, 16 at most) make N calls together (20,000 if none is given), most of
- * them on objects that all threads share. No lock is held around a call and its record, and nobody needs to know when it took effect: `meshrun check`
- * finds out whether some order of the calls that overlap explains all answers. docs/FORMAT.md has the lines.
+ * It is a template for a driver of your own allocator (docs/TESTING_AN_ALLOCATOR.md; docs/FORMAT.md has the lines). T
+ * threads (1 to 16, 4 by default) make N calls together (at most 1,000,000, 20,000 by default), most of them on objects
+ * that all threads share. No lock is held around a call and its record, and the driver needn't know when a call took
+ * effect: `meshrun check` decides whether some order of the overlapping calls explains all answers.
  *
- * Another thread meshes at the same time. Two virtual pages of slots lead to physical ones by a table. A mesh makes one of them read-only, copies its
- * objects to the physical page of the other, and remaps it. Then the other one is moved away, so that there is something to mesh again. A store to a
- * read-only page waits. With --bug it doesn't wait: if it comes after its word was copied, it is lost.
+ * Another thread meshes at the same time. A table maps two virtual pages of slots to physical ones. A mesh makes one
+ * virtual page read-only, copies its objects to the physical page of the other, and remaps it. Then the other page is
+ * moved away, so that there is something to mesh again. A store to a read-only page waits. With --bug it doesn't wait:
+ * if it comes after its word was copied, it is lost.
  */
 #include <inttypes.h>
 #include <pthread.h>
@@ -27,9 +30,10 @@ enum { PAGE_BYTES = 4096, SLOT_BYTES = 128, SLOTS = PAGE_BYTES / SLOT_BYTES, WOR
 static const uint64_t FIRST_ADDRESS = 0x7f5500000000;
 static bool has_bug;
 
-/* ---- The allocator. All that threads race on is atomic, and each access is one word: so it takes effect at one moment. ---- */
+/* ---- The allocator. What threads race on is atomic and one word, so each access takes effect at one moment. ---- */
 
-/* The table of virtual pages, and the physical ones. An entry has whether the page is read-only, where it leads to, and how often it was remapped. */
+/* The table of virtual pages, and the physical ones. An entry has whether the page is read-only, its physical page, and
+ * how often it was remapped. */
 enum { READ_ONLY = 1, FRAME = 2, REMAPPED = 4 };
 static _Atomic uint64_t table[PAGES] = { 0, FRAME };
 static _Atomic uint64_t frames[PAGES][PAGE_BYTES / WORD_BYTES];
@@ -37,8 +41,9 @@ static _Atomic uint64_t frames[PAGES][PAGE_BYTES / WORD_BYTES];
 /* How many threads are in a store to a virtual page. */
 static atomic_int stores[PAGES];
 
-/* Of each slot number: whether it is free, or in which virtual page it is taken. It is taken in one of the two, so they may always be meshed. A slot
- * that was freed is given out again when the next mesh begins: the one that runs may still copy it. */
+/* Of each slot number: whether it is free, or in which virtual page it is taken. It is taken in at most one of the two,
+ * so they can always be meshed. A freed slot can be reused once the next mesh begins: the running one may still copy
+ * it. */
 enum { IS_FREE, WAS_FREED, IN_PAGE };
 static atomic_int owners[SLOTS];
 
@@ -47,13 +52,14 @@ static int page_of(uint64_t address)
     return (int)((address - FIRST_ADDRESS) / PAGE_BYTES);
 }
 
-/* The word of an address, as an entry of the table leads to it. */
+/* The word of an address, by an entry of the table. */
 static _Atomic uint64_t *word_at(uint64_t entry, uint64_t address)
 {
     return &frames[(entry & FRAME) != 0][address % PAGE_BYTES / WORD_BYTES];
 }
 
-/* Loads bytes of one word. Where the page was remapped meanwhile the physical page may be another's by now, so the word is loaded again. */
+/* Loads bytes of one word. If the page was remapped meanwhile, its old physical page may be another's by now, so the
+ * word is loaded again. */
 static void slots_get(uint64_t address, unsigned char *data, unsigned bytes)
 {
     uint64_t entry, word;
@@ -64,7 +70,8 @@ static void slots_get(uint64_t address, unsigned char *data, unsigned bytes)
     memcpy(data, (unsigned char *)&word + address % WORD_BYTES, bytes);
 }
 
-/* Stores bytes of one word. A mesh that makes the page read-only waits for the stores that have begun, and those that come behind it wait. */
+/* Stores bytes of one word. A mesh that makes the page read-only waits for the stores that have begun, and later stores
+ * wait for the mesh. */
 static void slots_put(uint64_t address, const unsigned char *data, unsigned bytes)
 {
     int page = page_of(address);
@@ -83,7 +90,7 @@ static void slots_put(uint64_t address, const unsigned char *data, unsigned byte
     stores[page]--;
 }
 
-/* The address of a new object of zeros, or 0 where there is no room. The numbers pick its page and its slot. */
+/* The address of a new object of zeros, or 0 if there is no room. The numbers pick its page and its slot. */
 static uint64_t slots_new(unsigned page, unsigned first)
 {
     static const unsigned char zeros[WORD_BYTES];
@@ -132,8 +139,8 @@ static void move(int page)
     table[page] = (entry ^ FRAME) + REMAPPED;
 }
 
-/* Meshes one page into the other's physical page, moves the other one away, and so on. A physical page that nothing leads to is overwritten, as
- * another program might do. */
+/* Meshes one page into the other's physical page, moves the other one away, and so on. A physical page to which nothing
+ * is mapped is overwritten, as another program might do. */
 static void *mesher(void *unused)
 {
     for (int page = 0; !is_over; page = !page) {
@@ -173,7 +180,8 @@ static unsigned random_below(struct worker *worker, unsigned n)
     return (unsigned)((worker->random >> 32) % n);
 }
 
-/* Stamps the beginning of a call. Sometimes other threads are let run then, so that calls overlap even where there are few processors. */
+/* Stamps the beginning of a call. Sometimes it then lets other threads run, so that calls overlap even with few
+ * processors. */
 static uint64_t call_begins(struct worker *worker)
 {
     uint64_t begin = now++;
@@ -182,7 +190,7 @@ static uint64_t call_begins(struct worker *worker)
     return begin;
 }
 
-/* Stamps the end of a call, and then records it: what was asked and what was answered. */
+/* Stamps the end of a call, and then records the call and its answer. */
 static void call_ends(struct worker *worker, uint64_t begin, const char *format, ...)
 {
     uint64_t end = now++;
@@ -225,7 +233,7 @@ static void record_free(struct worker *worker, struct object object)
     call_ends(worker, begin, "free %u -> done", object.cell);
 }
 
-/* A store, a load or an `addr`, mostly of the object's first bytes, so that they race. */
+/* A store, a load or an `addr`, mostly of the object's first bytes, so that accesses race. */
 static void record_access(struct worker *worker, struct object object)
 {
     unsigned kind = random_below(worker, 10), off = random_below(worker, random_below(worker, 2) == 0 ? 2 : object.bytes) % object.bytes;

@@ -1,20 +1,21 @@
-/* A library for LD_PRELOAD that records what a program allocates and frees: any program, with any allocator.
+/* A library for LD_PRELOAD that records what a program allocates and frees. It works with any dynamically linked
+ * program and with any allocator.
  *
  *     gcc -std=c99 -O2 -Wall -Wextra -fPIC -shared -o record_malloc.so examples/record_malloc.c
- *     LD_PRELOAD=./record_malloc.so RECORD=h.history python3 -c 'print(sorted(map(str, range(1000)))[7])'
+ *     LD_PRELOAD=$PWD/record_malloc.so RECORD=h.history python3 -c 'print(sorted(map(str, range(1000)))[7])'
  *     meshrun check h.history
  *
- * RECORD=FILE       The file of the history. %p in it is replaced by the process id. A file that exists is left alone,
- *                   and nothing is recorded. But a process that calls exec begins its own file again.
+ * RECORD=FILE       The file of the history. %p in it is replaced by the process id. If the file exists, it is left
+ *                   alone and nothing is recorded. But a process that calls exec begins its own file again.
  * RECORD_ONLY=NAME  Only a program of this name is recorded.
  *
- * It needs a system of 64 bits with Linux 4.14 and glibc (before 2.34 add -ldl -lpthread). What is recorded and what
- * isn't is in docs/TESTING_AN_ALLOCATOR.md, the lines are in docs/FORMAT.md.
+ * It needs 64-bit Linux, 4.14 or later, and glibc (before 2.34 add -ldl -lpthread). docs/TESTING_AN_ALLOCATOR.md lists
+ * what is recorded and what isn't; docs/FORMAT.md has the lines.
  *
  * Each line is written by a system call of its own, which costs about a microsecond. So it is in the file before the
- * call returns, and no line is lost where the program ends by a signal, _exit or exec. A buffer would be faster, but
- * would lose the lines before a crash, which matter most, or take signal handlers from the program to write them. A
- * mapped file would keep them, but where the program is killed there would be zeros behind the last line.
+ * call returns, and no line is lost if the program ends by a signal, _exit or exec. A buffer would be faster. But it
+ * would lose the lines before a crash, which matter most, or need signal handlers, which belong to the program. A
+ * mapped file would keep the lines, but if the program is killed, zeros would follow the last one.
  */
 #define _GNU_SOURCE
 #include <dlfcn.h>

@@ -1,12 +1,13 @@
-/* A toy allocator that meshes, with a driver that records each call: what was asked, and what was answered.
+/* A toy allocator that meshes, with a driver that records each call and its answer as a line of a history.
  *
  *     gcc -std=c99 -O2 -Wall -Wextra -o recorded_slots examples/recorded_slots.c
  *     ./recorded_slots SEED [--bug] >slots.history
  *     meshrun check slots.history
  *
- * It stands for a driver of your own allocator. Each call is recorded where it takes effect, as a line of a history; docs/FORMAT.md tells the
- * lines. Meshes are made in small steps between the calls, and a store that would fall into a page while it is copied is held back. With --bug
- * it isn't, and one that comes behind its object's copy is lost. SEED picks the calls: the same one gives the same lines.
+ * It is a template for a driver of your own allocator (docs/TESTING_AN_ALLOCATOR.md; docs/FORMAT.md has the lines).
+ * Each call is recorded when it takes effect. Meshes run in small steps between the calls, and a store to a page that
+ * is being copied is blocked. With --bug it isn't blocked, and a store that comes after its object's copy is lost. SEED
+ * picks the calls: the same seed always prints the same lines.
  */
 #include <inttypes.h>
 #include <stdbool.h>
@@ -32,13 +33,13 @@ static unsigned random_below(unsigned n)
     return (unsigned)((random_state >> 32) % n);
 }
 
-/* ---- The allocator: virtual pages of slots, each of which leads to a physical page. ---- */
+/* ---- The allocator: virtual pages of slots, each mapped to a physical page. ---- */
 
-/* Of each virtual page: the physical page it leads to, or NONE, and which of its slots are taken, a bit each. */
+/* Of each virtual page: its physical page, or NONE, and which of its slots are taken, a bit each. */
 static struct span { int frame; unsigned taken; } spans[SPANS];
 static unsigned char frames[FRAMES][PAGE_BYTES];
 
-/* The mesh that runs: its two physical pages, and which slot is copied next. */
+/* The running mesh: its two physical pages, and which slot is copied next. */
 static struct { bool runs; int source, target, slot; } mesh;
 
 static struct span *span_of(uint64_t address)
@@ -46,13 +47,13 @@ static struct span *span_of(uint64_t address)
     return &spans[(address - FIRST_ADDRESS) / PAGE_BYTES];
 }
 
-/* Where the byte of an address is now: what a page table does. */
+/* The place of an address in physical memory, as a page table translates it. */
 static unsigned char *byte_at(uint64_t address)
 {
     return &frames[span_of(address)->frame][address % PAGE_BYTES];
 }
 
-/* The slots of a physical page that are taken, by whichever of the virtual pages that lead to it. */
+/* The taken slots of a physical page, of all virtual pages that are mapped to it. */
 static unsigned taken_of(int frame)
 {
     unsigned taken = 0;
@@ -67,7 +68,7 @@ static bool in_mesh(int frame)
     return mesh.runs && (frame == mesh.source || frame == mesh.target);
 }
 
-/* A physical page that nothing leads to, or NONE. */
+/* A physical page to which nothing is mapped, or NONE. */
 static int free_frame(void)
 {
     for (int frame = 0; frame < FRAMES; frame++)
@@ -76,7 +77,7 @@ static int free_frame(void)
     return NONE;
 }
 
-/* The address of a new object of zeros, or 0 where there is no room. */
+/* The address of a new object of zeros, or 0 if there is no room. */
 static uint64_t slots_new(void)
 {
     unsigned first = random_below(SPANS), from = random_below(SLOTS);
@@ -114,7 +115,7 @@ static bool slots_may_store(uint64_t address)
     return has_bug || !mesh.runs || span_of(address)->frame != mesh.source;
 }
 
-/* Begins a mesh of two physical pages that have no taken slot in common, where there are such. */
+/* Begins a mesh of two physical pages that have no taken slot in common, if there are such. */
 static void begin_mesh(void)
 {
     int first = (int)random_below(FRAMES);
@@ -128,7 +129,7 @@ static void begin_mesh(void)
     }
 }
 
-/* Begins a mesh, or makes the next step of the one that runs: copies an object, remaps, or releases the source's page. */
+/* Begins a mesh, or makes the next step of the running one: copies an object, remaps, or releases the source's page. */
 static void slots_mesh_step(void)
 {
     if (!mesh.runs) {
@@ -158,7 +159,7 @@ enum kind { NEW, FREE, PUT, GET, ADDR, PEEK, POKE, COPY };
 static struct object { uint64_t address; unsigned bytes; } objects[TURNS];
 static unsigned made, live[MOST_LIVE], live_count;
 
-/* Of each worker: the call that it makes, and whether it waits with it. */
+/* Of each worker: its call, and whether the call is blocked. */
 static struct call {
     enum kind kind;
     unsigned cell, off, from, from_off, bytes;
@@ -172,7 +173,7 @@ static void print_bytes(const unsigned char *bytes, unsigned count)
         printf("%02x", bytes[i]);
 }
 
-/* A `new` takes effect where the object is reserved. What it can't give it refuses, and that is recorded too. */
+/* A `new` takes effect when the object is reserved. A refusal is recorded too. */
 static void record_new(unsigned bytes)
 {
     printf("new %u %u 0 -> ", made, bytes);
@@ -186,7 +187,7 @@ static void record_new(unsigned bytes)
     live[live_count++] = made++;
 }
 
-/* A `free` takes effect where another call may be given the address. */
+/* A `free` takes effect when another call may get the address. */
 static void record_free(unsigned cell)
 {
     unsigned place = 0;
@@ -197,8 +198,8 @@ static void record_free(unsigned cell)
     printf("free %u -> done\n", cell);
 }
 
-/* Makes a worker's call and records it. Between effect and record nothing else is done: with threads, one lock is held around both. False
- * where a store must wait: it had no effect, so nothing is recorded, and the worker tries again. */
+/* Makes a worker's call and records it. Nothing happens between effect and record: with threads, hold one lock around
+ * both. Returns false if a store is blocked: it had no effect, so nothing is recorded, and the worker retries. */
 static bool attempt(int worker)
 {
     const struct call *c = &calls[worker];
@@ -242,7 +243,7 @@ static bool attempt(int worker)
     return true;
 }
 
-/* Whether a store that waits needs the object: it must not be freed meanwhile, as in any program that stores to what it was given. */
+/* Whether a blocked store needs the object, which must not be freed meanwhile. */
 static bool is_awaited(unsigned cell)
 {
     for (int w = 0; w < WORKERS; w++)

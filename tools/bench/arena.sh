@@ -1,11 +1,14 @@
 #!/bin/sh
-# Times how long the arena takes to give a page back and to take the lowest free one, where few pages are taken and where all 4,096 are but that one.
+# Measures how long an arena of 16 pages and one of 4,096, all of them taken, need to free a page and take the lowest
+# free one.
 #
 #     tools/bench/arena.sh
 #
-# The program is the crate tools/bench/crates/arena_times over mesh_arena, run five times by `tools/bench/crate.sh`. It prints the least of each figure, in nanoseconds; a
-# page that is taken is filled with zeros, which is most of it. It judges nothing; the figure should not grow with the pages. It ends with status 1
-# where the program can't be built or run.
+# Each line of the output has a number of taken pages and the nanoseconds of `give` and `take` together. Most of them go
+# into filling the taken page with zeros. The time should not grow with the pages; nothing checks that.
+#
+# The program, tools/bench/crates/arena_times over `mesh_arena`, runs five times, and the least of each figure is
+# printed. The status is 1 if it can't be built or run. It needs git and `rt`.
 set -u
 cd "$(dirname "$0")/../.." || exit 1
 

@@ -1,7 +1,13 @@
-"""Judges histories by the program and by the plain engine, for tools/bench/check.sh."""
+"""Judges histories by the program and by the plain engine, for tools/bench/check.sh.
+
+    check_times.py PROGRAM ROOM ENTRIES
+
+ROOM is a folder for the histories, with the plain engine, `reference`. The output and the status are those of check.sh.
+"""
 import random
-import subprocess
 import sys
+
+from timed import measured
 
 program, room, entries = sys.argv[1], sys.argv[2], int(sys.argv[3])
 LIVE = 10_000
@@ -10,7 +16,7 @@ LOADED = 16
 
 
 class Recorder:
-    """A random history of objects in slots, with as many live ones at a time as there are slots, or fewer."""
+    """A random history of objects in slots, with at most as many live objects as there are slots."""
 
     def __init__(self, are_cells_new):
         self.are_cells_new = are_cells_new
@@ -45,16 +51,16 @@ class Recorder:
         """The line of a store or a load of a random object."""
         if not self.live:
             return self.made()
-        cell, _, held = self.random.choice(self.live)
+        cell, _, stored = self.random.choice(self.live)
         offset = self.random.randrange(SLOT - LOADED)
         if self.random.random() < 0.5:
-            held[offset:offset + LOADED] = self.random.randbytes(LOADED)
-            return f"0 put {cell} {offset} {held[offset:offset + LOADED].hex()} -> done\n"
-        return f"0 get {cell} {offset} {LOADED} -> bytes {held[offset:offset + LOADED].hex()}\n"
+            stored[offset:offset + LOADED] = self.random.randbytes(LOADED)
+            return f"0 put {cell} {offset} {stored[offset:offset + LOADED].hex()} -> done\n"
+        return f"0 get {cell} {offset} {LOADED} -> bytes {stored[offset:offset + LOADED].hex()}\n"
 
 
 def write_history(path, recorder, accesses):
-    """Writes a history of the entries, a share of which are accesses."""
+    """Writes a history; a share of its entries, `accesses`, are stores and loads."""
     with open(path, "w", encoding="ascii") as file:
         file.write("history 1\n")
         for _ in range(entries):
@@ -62,17 +68,8 @@ def write_history(path, recorder, accesses):
             file.write(recorder.access() if is_access else recorder.allocation())
 
 
-def run(words):
-    """What a command prints, its processor seconds and its peak of memory in MB."""
-    used = f"{room}/used"
-    timed = ["/usr/bin/time", "-q", "-f", "%U %S %M", "-o", used, *words]
-    text = subprocess.run(timed, capture_output=True, check=False).stdout
-    user, system, kilobytes = open(used, encoding="ascii").read().split()
-    return text, float(user) + float(system), int(kilobytes) / 1024
-
-
 def main():
-    """Prints a line a history. Returns whether both engines print the same."""
+    """Prints a line for each history. Returns whether the two always print the same."""
     histories = [
         ("new and free, cells used again", Recorder(False), 0),
         ("new and free, a cell for each object", Recorder(True), 0),
@@ -83,13 +80,14 @@ def main():
     for name, recorder, accesses in histories:
         path = f"{room}/times.history"
         write_history(path, recorder, accesses)
-        ours, seconds, peak = run([program, "check", path])
-        theirs, plain, plain_peak = run([f"{room}/reference", path])
-        if ours != theirs:
+        ours, seconds, peak = measured(room, [program, "check", path])
+        theirs, plain, plain_peak = measured(room, [f"{room}/reference", path])
+        if not ours or ours != theirs:
             print(f"{name:36} differs: {ours} {theirs}")
             alike = False
             continue
-        print(f"{name:36} {entries / seconds:10.0f} {peak:6.0f} {entries / plain:10.0f} {plain_peak:6.0f} {seconds / plain:6.2f}")
+        figures = f"{entries / seconds:10.0f} {peak:6.0f} {entries / plain:10.0f} {plain_peak:6.0f}"
+        print(f"{name:36} {figures} {seconds / plain:6.2f}")
     return alike
 
 

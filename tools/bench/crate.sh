@@ -1,13 +1,14 @@
 #!/bin/sh
-# Builds a program that takes times, runs it five times, and prints what it printed.
+# Builds a program that measures times, runs it five times, and prints its output.
 #
 #     tools/bench/crate.sh NAME DEPS CRATE..
 #
-# tools/bench/crates/NAME is a crate of the libraries DEPS (one word, as a line of crates.txt has them). It is proved, built and run on a copy of the files that
-# git knows, and of what earlier checks kept of each CRATE. `tools/bench/index.sh` and `tools/bench/search.sh` stand on it. It ends with status 1
-# where the program can't be built or run.
+# NAME is a crate in tools/bench/crates, and DEPS its libraries as one argument, in the form of a line of crates.txt.
+# The crate is proved, built and run in a copy of the files that git tracks, with the results of earlier checks of each
+# CRATE. Its files end in `.in` here, because the gate allows no sources that it doesn't check. arena.sh, index.sh and
+# search.sh use this script.
 #
-# The crate's files end in `.in` here, since the gate allows no sources that it doesn't check.
+# The output is the program's. The status is 1 if the program can't be built or run. It needs git and `rt`.
 set -u
 cd "$(dirname "$0")/../.." || exit 1
 name=$1

@@ -1,6 +1,12 @@
-"""Runs explorations by the program and by the plain engine, for tools/bench/explore.sh."""
-import subprocess
+"""Runs explorations by the program and by the plain engine, for tools/bench/explore.sh.
+
+    explore_times.py PROGRAM ROOM
+
+ROOM is the folder of the jobs and of the plain engine, `reference`. The output and the status are those of explore.sh.
+"""
 import sys
+
+from timed import measured
 
 program, room = sys.argv[1:]
 reference = f"{room}/reference"
@@ -12,43 +18,29 @@ JOBS = [
     ("3 workers, 3 racing commands", f"{room}/three_of_three.job", ["--mesh", "1:0"]),
     ("3 workers, 4 racing commands", f"{room}/three_of_four.job", ["--mesh", "1:0"]),
     ("4 workers, 3 racing commands", f"{room}/four_of_three.job", ["--mesh", "1:0"]),
-    ("3 of 2 beside 1,024 objects", f"{room}/three_of_two.job", ["--mesh", "1:0"]),
+    ("3 of 2, 1,024 other objects", f"{room}/three_of_two.job", ["--mesh", "1:0"]),
     ("12 workers, a command each", f"{room}/workers.job", ["--mesh", "1:0"]),
-    ("a setting of 65,534 lines", f"{room}/setting.job", ["--mesh", "1:0"]),
+    ("a plan of 65,534 lines", f"{room}/long_plan.job", ["--mesh", "1:0"]),
 ]
 
 
-def run(words):
-    """What a command prints, its processor seconds and its peak of memory in bytes.
-
-    GNU time starts it: the peak of a process that is started from here would be this interpreter's at least.
-    """
-    used = f"{room}/used"
-    with open(f"{room}/output", "wb+") as output:
-        timed = ["/usr/bin/time", "-q", "-f", "%U %S %M", "-o", used, *words]
-        status = subprocess.call(timed, stdout=output, stderr=subprocess.DEVNULL)
-        output.seek(0)
-        text = output.read()
-    user, system, kilobytes = open(used).read().split()
-    return (text if status == 0 else None), float(user) + float(system), int(kilobytes) * 1024
-
-
 def main():
-    """Prints a line a job. Returns whether both engines print the same."""
+    """Prints a line for each job. Returns whether the two always print the same."""
     job, words = SMALLEST
-    least = run([program, "explore", job, *words])[2]
+    least = measured(room, [program, "explore", job, *words])[2]
     alike = True
     print(f"{'job':30} {'states':>8} {'seconds':>8} {'states/s':>9} {'bytes/state':>11} {'ratio':>6}")
     for name, job, words in JOBS:
-        ours, seconds, peak = run([program, "explore", job, *words, *MOST])
-        theirs, plain, _ = run([reference, job, *words, *MOST])
-        if ours is None or ours != theirs:
+        ours, seconds, peak = measured(room, [program, "explore", job, *words, *MOST])
+        theirs, plain, _ = measured(room, [reference, job, *words, *MOST])
+        if not ours or ours != theirs:
             print(f"{name:30} differs")
             alike = False
             continue
         states = int(ours.split(b"\n")[0].split()[-1])
-        bytes_each = max(peak - least, 0) / states
-        print(f"{name:30} {states:8} {seconds:8.2f} {states / max(seconds, 0.01):9.0f} {bytes_each:11.0f} {seconds / max(plain, 0.01):6.1f}")
+        bytes_each = max(peak - least, 0) * 1024 * 1024 / states
+        speed, ratio = states / max(seconds, 0.01), seconds / max(plain, 0.01)
+        print(f"{name:30} {states:8} {seconds:8.2f} {speed:9.0f} {bytes_each:11.0f} {ratio:6.1f}")
     return alike
 
 

@@ -1,15 +1,20 @@
 #!/bin/sh
-# Makes three job files of the same 32,000 commands, spread over 1, 2 and 4 workers, and three more whose commands are loads alone, and prints the
-# times of their scripts run by threads, beside those of their replay: what the lock costs.
+# Measures the cost of the lock: times of scripts on threads, next to those of their replay.
 #
 #     tools/bench/lock.sh [PROGRAM [RUNS]]
 #
-# PROGRAM is crates/meshrun/out/meshrun where none is given: `rt run` in crates/meshrun leaves it there. Each file is run RUNS times (21 where none is
-# given) in three ways: by `replay`, by `threads` without a round of meshing, and by `threads` with 20 rounds beside the workers. The medians of the
-# processor time and of the wall time are printed, and how much longer a command takes in threads without a round than in a replay. In that are the
-# lock, the threads, and the one history that is made of journal and seats in the end. It judges nothing; run it on an idle machine.
+# PROGRAM is by default crates/meshrun/out/meshrun, and RUNS 21. There are three job files of the same 32,000 commands
+# on 1, 2 and 4 workers, and three more of loads alone (tools/bench/lock_files.py). Each is run RUNS times in each of
+# three ways: by `replay`, by `threads` without a round of meshing, and by `threads` with 20 rounds during the workers'
+# commands.
+#
+# Each line of the output has a file, its commands, a way, and the medians of the processor time and the wall time in
+# milliseconds. The lines of `threads` without a round also have how many nanoseconds more a command takes than in the
+# replay: for the lock, the threads, and the one history that is made from journal and seats at the end. It checks
+# nothing; run it on an idle machine. The status is 1 if a run fails, and 2 if there is no program.
 
 . "$(dirname "$0")/../program.sh"
 find_program "$1"
 make_room
-python3 "tools/bench/lock_files.py" "$room" && python3 "tools/bench/lock_times.py" "$program" "${2:-21}" "$room"/*.job
+python3 tools/bench/lock_files.py "$room" &&
+    python3 tools/bench/lock_times.py "$program" "${2:-21}" "$room"/*.job

@@ -1,9 +1,14 @@
 #!/usr/bin/env python3
-"""Writes job files of the same commands into a folder: workers_1.job, workers_2.job and workers_4.job, and reads_1.job, reads_2.job and reads_4.job, whose
-commands are loads alone once their objects are made. They are the same every time.
+"""Writes the job files for tools/bench/lock.sh: the same commands for 1, 2 and 4 workers.
 
-The commands are in four parts, each with root cells of its own. A file's workers share out the parts, and its plan makes all commands in one order,
-which is the same in all three files of a kind."""
+    tools/bench/lock_files.py FOLDER
+
+FOLDER gets workers_1.job, workers_2.job and workers_4.job; and reads_1.job, reads_2.job and reads_4.job, whose commands
+are only loads once their objects are made. The files are the same every time.
+
+The commands are in four parts, each with root cells of its own. A file's workers share the parts, and its plan makes
+all commands in one order, which is the same in all three files of a kind.
+"""
 import pathlib
 import random
 import sys
@@ -15,7 +20,7 @@ LENGTHS = [16, 30, 64, 100, 256, 384, 500, 1024, 1500, 2048]
 
 
 def part(number):
-    """The commands of a part: objects of all classes made, stored to, loaded from, looked for and freed."""
+    """The commands of a part: `new`, `put`, `get`, `addr` and `free` of objects of all classes."""
     pick = random.Random(number)
     lengths = {}
     lines = []
@@ -41,7 +46,7 @@ def part(number):
 
 
 def reads(number):
-    """The commands of a part of loads alone: an object under each cell, and loads of its bytes and its address."""
+    """The commands of a part of loads: a `new` for each cell, and then `get` and `addr`."""
     pick = random.Random(PARTS + number)
     cells = range(CELLS * number, CELLS * (number + 1))
     lengths = {cell: pick.choice(LENGTHS) for cell in cells}
@@ -49,12 +54,15 @@ def reads(number):
     while len(lines) < COMMANDS:
         cell = pick.choice(cells)
         count = pick.randrange(1, 9)
-        lines.append(f"get {cell} {pick.randrange(lengths[cell] - count + 1)} {count}" if pick.random() < 0.8 else f"addr {cell}")
+        if pick.random() < 0.8:
+            lines.append(f"get {cell} {pick.randrange(lengths[cell] - count + 1)} {count}")
+        else:
+            lines.append(f"addr {cell}")
     return lines
 
 
 def job(parts, workers):
-    """The job of these parts and so many workers; part p is worker p mod workers'."""
+    """The job of these parts on this number of workers; part p is worker p mod workers'."""
     lines = ["mesh 1", "pages 4096", "history 65536", f"workers {workers}"]
     for worker in range(workers):
         lines.append(f"worker {worker}")

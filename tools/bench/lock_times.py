@@ -1,6 +1,10 @@
 #!/usr/bin/env python3
-"""Prints the median times of `PROGRAM replay FILE`, of `PROGRAM threads FILE` without a round and of one with rounds, for each file, with what a
-command takes more in threads without a round than in a replay. The outputs go nowhere."""
+"""Prints the median times of job files by `replay` and by `threads`, for tools/bench/lock.sh.
+
+    tools/bench/lock_times.py PROGRAM RUNS FILE..
+
+The output and the status are those of lock.sh. What the program prints is dropped.
+"""
 import os
 import statistics
 import sys
@@ -16,7 +20,7 @@ WAYS = {
 
 
 def commands_of(file):
-    """How many commands a job file has: as many as its plan has lines."""
+    """The number of a job file's commands, which is that of its plan's lines."""
     with open(file, encoding="ascii") as lines:
         return sum(line.startswith("run ") for line in lines)
 
@@ -34,7 +38,8 @@ def main():
             if way == "replay":
                 replayed = wall
             more = f"{(wall - replayed) / commands * 1e9:20.0f}" if way == "threads" else ""
-            print(f"{os.path.basename(file):16}{commands:10}{way:>14}{processor * 1e3:14.2f}{wall * 1e3:10.2f}{more}")
+            name = os.path.basename(file)
+            print(f"{name:16}{commands:10}{way:>14}{processor * 1e3:14.2f}{wall * 1e3:10.2f}{more}")
 
 
 if __name__ == "__main__":

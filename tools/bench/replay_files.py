@@ -1,5 +1,10 @@
 #!/usr/bin/env python3
-"""Writes three job files near 1 MiB into a folder: stores.job, whole_meshes.job and stepped_meshes.job. They are the same every time."""
+"""Writes the three job files near 1 MiB for tools/bench/replay.sh.
+
+    tools/bench/replay_files.py FOLDER
+
+FOLDER gets stores.job, whole_meshes.job and stepped_meshes.job. The files are the same every time.
+"""
 import pathlib
 import random
 import sys
@@ -11,7 +16,7 @@ TAIL = "end\n"
 
 
 class File:
-    """A job of one worker: its commands, and its plan, in which each command has its `run 0`."""
+    """A job of one worker: its commands, and its plan, in which each command has a `run 0`."""
 
     def __init__(self, version):
         self.commands, self.plan = [], []
@@ -34,7 +39,7 @@ class File:
 
 
 def stores():
-    """Objects of all classes under 256 cells, stored to and loaded from again and again."""
+    """A job of many stores and loads, of objects of all classes under 256 cells."""
     pick = random.Random(1)
     file = File(1)
     lengths = {}
@@ -55,12 +60,13 @@ def stores():
     return file
 
 
-# How many groups of class 2048 the cells fill, two objects each.
+# The number of groups of class 2048 that the cells fill, with two objects each.
 GROUPS = CELLS // 2
 
 
 def half_empty(file):
-    """Fills groups of class 2048 under all cells, and frees so that every two of them have no common slot; gives the cells that are live."""
+    """Fills groups of class 2048 from all cells, and frees one object of each, so that two neighbours have no common
+    occupied slot. Returns the cells of the live objects."""
     for cell in range(CELLS):
         file.command(f"new {cell} 2048 0")
     for cell in range(CELLS):
@@ -70,7 +76,7 @@ def half_empty(file):
 
 
 def sweep(file, live, groups):
-    """Frees what is live, and gives the pages of these groups back."""
+    """Frees the live objects, and sweeps these groups."""
     for cell in live:
         file.command(f"free {cell}")
     for group in groups:
@@ -78,7 +84,10 @@ def sweep(file, live, groups):
 
 
 def rounds(file, room, mesh):
-    """While there is room for so many bytes: groups half emptied, meshed two and two, and swept. `mesh` is told the live cells and the destinations."""
+    """Half empties groups, meshes them in pairs by `mesh`, and sweeps them, while the file has room for `room` bytes.
+
+    `mesh` gets the file, the cells of the live objects and the destinations.
+    """
     first = 0
     while file.has_room(room):
         live = half_empty(file)
@@ -90,7 +99,7 @@ def rounds(file, room, mesh):
 
 
 def whole_meshes():
-    """Groups searched and meshed whole."""
+    """A job of searches and whole meshes."""
     def mesh(file, live, destinations):
         file.call("pair 2048 2 7 1 13 2 99")
         for group in destinations:
@@ -100,7 +109,7 @@ def whole_meshes():
 
 
 def stepped_meshes():
-    """Groups meshed step by step with stores and loads between, every fourth mesh cancelled first."""
+    """A job of meshes step by step, with stores and loads between the steps; every fourth is cancelled once."""
     def mesh(file, live, destinations):
         for place, group in enumerate(destinations):
             source = live[2 * place + 1]

@@ -1,25 +1,29 @@
 #!/usr/bin/env python3
-"""Prints what has to be read to know what `Book::headline` says: its clauses, and every definition that they cite, directly or not.
+"""Prints what one must read to understand `Book::headline`: its clauses, and all definitions that they cite.
 
-For each file the definitions are named in the order in which a reader comes to them. The last lines count them and their lines, comments and
-empty lines aside: those that the headline itself needs, and those that only the clauses `sound` and `tied` cite, which the laws of refusals ask
-for. Run it from the top of the repository; docs/PROOF.md shows what it prints. Words of the toolchain's library and the enums of
-crates/model_words/src are not counted.
+    tools/proof/headline.py [FUNCTION]
 
-    tools/proof/headline.py [FUNCTION]      another function of crates/mesh_mutator/src/book.rt, as act
+FUNCTION is a function of crates/mesh_mutator/src/book.rt, by default headline; another is act.
+
+The output has the clauses, and then each file with its lines and the names of its definitions, in the order in which a
+reader meets them. Definitions that are cited only indirectly are included. The definitions that only the clauses
+`sound` and `tied` cite follow by themselves: only the laws of refusals need them. The last lines count the definitions
+and their lines, without comments and empty lines.
+
+Definitions of the toolchain's library and the enums of crates/model_words/src are not counted. The status is 1 if a
+definition isn't found. Run it from the top of the repository. docs/PROOF.md has its figures.
 """
 import pathlib
 import re
 import sys
 
 BOOK = pathlib.Path("crates/mesh_mutator/src/book.rt")
-# The clauses of `headline` that are read only for the laws of refusals.
+# The clauses of `headline` that only the laws of refusals need.
 FOR_REFUSALS = ("sound", "tied")
-WORD = r"[A-Za-z_][A-Za-z0-9_']*(?:-[A-Za-z0-9_']+)*|◌[^\s{},()]+◌"
 
 
 def uses(text, own):
-    """The names that `use` lines bring in, each with its module; `own` is the module itself, for the names that it defines."""
+    """Each name that a file imports or defines, with its module and its name there; `own` is the file's own module."""
     found = {}
     for module, names in re.findall(r"^(?:ghost |pub )*use Rattle\.([\w.«»]+)\.\{([^}]*)\}", text, re.M):
         for name in names.split(","):
@@ -31,7 +35,7 @@ def uses(text, own):
 
 
 def definitions(text):
-    """Each definition of a spec file by its name: its lines, the comment above it left out."""
+    """The lines of each definition of a spec file, by its name, without comments."""
     found = {}
     for block in re.split(r"\n\s*\n", text):
         lines = [line for line in block.split("\n") if line.strip() and not line.strip().startswith("--")]
@@ -46,26 +50,25 @@ def definitions(text):
 
 
 def module_file(module):
-    """The spec file of a module of this repository, or nothing."""
+    """The spec file of a module of this repository, or None."""
     crate, _, rest = module.partition(".specs.")
     file = pathlib.Path("crates") / crate / "specs" / (rest.replace(".", "/") + ".antt")
     return file if rest and "declared" not in rest and file.exists() else None
 
 
 def cited(lines, known):
-    """The names of these that the lines cite, in the order in which they stand there."""
+    """The names in `known` that the lines cite, in their order."""
     text = "\n".join(lines)
     found = []
     for token in re.finditer(r"[A-Za-z_][A-Za-z0-9_']*|[^\sA-Za-z0-9_(){}.,;λ]+", text):
         for name in (token.group(), f"◌{token.group()}◌"):
             if name in known and name not in found:
                 found.append(name)
-    # in a record the constructors of a `data` are lines of their own
     return found
 
 
 def constructors(text):
-    """For each constructor of a `data` of a spec file the name of the data."""
+    """For each constructor in a spec file, the name of its `data`. Constructors are lines of their own."""
     found = {}
     for name, lines in definitions(text).items():
         if any(re.match(r"pub data |data ", line) for line in lines):
@@ -77,7 +80,7 @@ def constructors(text):
 
 
 def clauses(function):
-    """The `ensures` clauses of a function of the book, and the names that its file knows."""
+    """The `ensures` clauses of a function of the book, and the names that its file imports."""
     text = BOOK.read_text()
     start = text.index(f"pub fn {function}(")
     body = text[start:text.index("\n    {\n", start)]
@@ -85,12 +88,16 @@ def clauses(function):
 
 
 def is_for_refusals(head):
-    """Whether a clause is one that is read only for the laws of refusals."""
-    return re.match(r"\s*ensures (\w+)", head).group(1) in FOR_REFUSALS if re.match(r"\s*ensures \w+ \{", head) else False
+    """Whether only the laws of refusals need a clause."""
+    name = re.match(r"\s*ensures (\w+) \{", head)
+    return name.group(1) in FOR_REFUSALS if name else False
 
 
 def reach(heads, known, seen):
-    """The definitions that these clauses cite, directly or not, and that aren't in `seen` yet: of each its file, its name and its lines."""
+    """The definitions that these clauses cite, directly or not, and that aren't in `seen` yet, which gets them.
+
+    Of each definition: its file, its name, and its number of lines.
+    """
     order = []
     todo = [known[name] for name in cited(heads, known)]
     while todo:
@@ -113,7 +120,7 @@ def reach(heads, known, seen):
 
 
 def print_files(order):
-    """The definitions, file by file."""
+    """Prints the definitions, file by file."""
     files = {}
     for file, name, lines in order:
         files.setdefault(file, []).append((name, lines))
@@ -124,6 +131,7 @@ def print_files(order):
 
 
 def count(order):
+    """The number of definitions and of their lines, as text."""
     return f"{len(order)} definitions, {sum(lines for *_, lines in order)} lines"
 
 

@@ -1,5 +1,10 @@
-"""Checks crates from nothing, one at a time on one job, and prints what each took."""
+"""Checks crates from scratch, one at a time on one job, and prints what each took, for tools/proof/times.sh.
 
+    measure.py TOP [CRATE..]
+
+TOP is a copy of the repository, which this tool changes. CRATE is by default each crate, lowest first. The output is
+that of times.sh. The status is 1 if a crate isn't proved; then the tool stops. It needs `rt`.
+"""
 import re
 import resource
 import shutil
@@ -9,8 +14,8 @@ import time
 from collections import Counter
 from pathlib import Path
 
-# How many functions are told of a crate.
-TOLD = 10
+# The number of functions that are printed for a crate.
+PRINTED = 10
 
 
 def crates_of(top):
@@ -20,13 +25,13 @@ def crates_of(top):
 
 
 def processor_seconds():
-    """The processor time of all commands that have been waited for."""
+    """The processor time of all commands that have ended."""
     used = resource.getrusage(resource.RUSAGE_CHILDREN)
     return used.ru_utime + used.ru_stime
 
 
 def proof_lines(crate):
-    """The lines of a crate's proofs."""
+    """The number of lines of a crate's proofs."""
     return sum(len(file.read_text().splitlines()) for file in (crate / "proofs").rglob("*.antt"))
 
 
@@ -39,38 +44,44 @@ def function_of(name):
     return ".".join(parts)
 
 
-def dearest(crate):
-    """The functions whose modules took longest to write, with the seconds of the clock: a module's time is what went by since the one before."""
+def slowest(crate):
+    """The functions whose modules took longest to check, with their seconds by the clock.
+
+    A module's time is from the writing of the module before to its own.
+    """
     files = sorted((file.stat().st_mtime, file) for file in (crate / "out" / "incremental").rglob("*.oantt"))
     seconds = Counter()
     for (before, _), (after, file) in zip(files, files[1:]):
         seconds[function_of(file.stem)] += after - before
-    return seconds.most_common(TOLD)
+    return seconds.most_common(PRINTED)
 
 
 def measure(top, name):
-    """Checks a crate from nothing; False where it isn't proved."""
+    """Checks a crate from scratch, and prints what it took. Returns whether it is proved."""
     crate = top / "crates" / name
     has_tests = any("#[test]" in file.read_text() for file in crate.rglob("src/**/*.rt"))
     words = ["rt", "check", "--jobs", "1"] + (["--test"] if has_tests else [])
-    # With all that it stands on built, since a check builds what is missing.
+    # This builds the crates that it builds on, so that the check which is measured doesn't.
     if subprocess.run(words, cwd=crate, capture_output=True).returncode:
         return False
     shutil.rmtree(crate / "out")
     forget_other_checkouts(crate)
-    return check_from_nothing(crate, name, words)
+    return check_from_scratch(crate, name, words)
 
 
 def forget_other_checkouts(crate):
-    """Lets no check of this copy begin with what checks in other checkouts kept: `rt` takes that of the same text, or else what the folder has."""
+    """Keeps the check from starting with results of other checkouts.
+
+    `rt` takes the results for the same text, or else those in the folder: so the text is changed, and the folder empty.
+    """
     root = next(file for file in (crate / "src" / "lib.rt", crate / "src" / "main.rt") if file.exists())
     with root.open("a", encoding="utf-8") as text:
         text.write(f"\n// Measured at {time.time_ns()}.\n")
     (crate / "out" / "incremental").mkdir(parents=True)
 
 
-def check_from_nothing(crate, name, words):
-    """Checks a crate of which nothing is kept, and prints what it took; False where it isn't proved."""
+def check_from_scratch(crate, name, words):
+    """Checks a crate without earlier results, and prints what it took. Returns whether it is proved."""
     begun = processor_seconds()
     check = subprocess.run(words, cwd=crate, capture_output=True, text=True)
     took = processor_seconds() - begun
@@ -78,7 +89,7 @@ def check_from_nothing(crate, name, words):
     if not functions:
         return False
     print(f"{name}: {took:.0f} s, {functions[-1]} functions, {proof_lines(crate)} lines of proof", flush=True)
-    for function, clock in dearest(crate):
+    for function, clock in slowest(crate):
         print(f"    {clock:6.1f} s  {function}", flush=True)
     return True
 

@@ -1,11 +1,17 @@
 #!/usr/bin/env python3
-"""Shortens the proofs of a crate: a clause of several lines that `grind` closes with the lemmas that it cites becomes that one call.
+"""Shortens the proofs of a crate: replaces a clause of several lines by one call of `grind` with the lemmas that it
+cites, if that is proved.
 
-    tools/proof/shorten.py CRATE [PART..]      in all its proof files, or in those whose path has one of these parts
+    tools/proof/shorten.py CRATE [PART..]
 
-It changes files under crates/CRATE/proofs and asks `rt check` of each change. What isn't proved is put back, so a crate that was proved is proved
-in the end; and of each call's lemmas those go that it doesn't need. Read what it leaves, run `rt tidy`, which drops imports, and see by
-tools/proof/times.sh that the crate's proof takes no longer.
+Without PART, all proof files of the crate are tried; else those whose path contains one of these parts.
+
+It changes files under crates/CRATE/proofs, and runs `rt check` on each change. A change that isn't proved is undone, so
+a crate that was proved is proved at the end. Then lemmas that a call doesn't need are removed from it. Read what it
+leaves; run `rt tidy`, which removes imports; and see with tools/proof/times.sh that the crate's proof takes no longer.
+
+The output is a line with the number of replaced clauses, and how many lines fewer there are. The status is 1 without
+CRATE, and if the crate isn't proved and no call is the cause; then all files are as they were. It needs `rt`.
 """
 import re
 import subprocess
@@ -13,20 +19,25 @@ import sys
 from dataclasses import dataclass
 from pathlib import Path
 
-# A clause of fewer lines stays as it is.
+# A clause of fewer lines is kept.
 LEAST_LINES = 3
-# The longest line that a call is written in.
+# If a clause's line is longer than this, the call gets a line of its own.
 WIDTH = 150
 
 WORD = re.compile(r"[^\s(){}\[\],;.«»@λ]+")
 ATOM = re.compile(r"[^\s(){}\[\],;«»]+")
-OPERATORS = set("= ∙ → × ≡ ≢ < ≤ + - * / % ∷ ++ ↦ | : in let where ⊎ >>= && || elim as rw ↔ of record".split())
+OPERATORS = set("""
+    = ∙ → × ≡ ≢ < ≤ + - * / % ∷ ++ ↦ | : in let where ⊎ >>= && || elim as rw ↔ of record
+""".split())
 PAIRS = {"(": ")", "{": "}", "[": "]"}
 
 
 @dataclass(eq=False)
 class Clause:
-    """A clause of a lemma or an answer, and the lists of lemmas that `grind` may be given in its place."""
+    """A clause of a lemma or an answer, and the lists of lemmas to try for a call of `grind` in its place.
+
+    `at` is the place of the list that is tried; after the last list, the clause has its own text.
+    """
 
     start: int
     end: int
@@ -45,14 +56,14 @@ class Clause:
         return [line] if len(line) <= WIDTH else [f"{self.head} =", " " * indent + call]
 
     def give_up(self):
-        """Goes on to the next list, or back to the clause's own text; False where that stands already."""
+        """Tries the next list, or goes back to the clause's own text. Returns False if it had its own text."""
         was_short = self.is_short()
         self.at += was_short
         return was_short
 
 
 class File:
-    """A proof file with its clauses, as it was read."""
+    """A proof file as it was read, with its clauses."""
 
     def __init__(self, path):
         self.path = path
@@ -60,7 +71,7 @@ class File:
         self.clauses = list(clauses_of(self.lines))
 
     def rendered(self):
-        """The lines as they are to be, and where each clause stands in them."""
+        """The file's new lines, and the range of each clause in them."""
         lines, spans, done = [], [], 0
         for clause in self.clauses:
             lines += self.lines[done:clause.start]
@@ -74,7 +85,7 @@ class File:
         self.path.write_text("\n".join(self.rendered()[0]))
 
     def clauses_at(self, line):
-        """The clauses in which this line is, or else those of its paragraph."""
+        """The clauses that contain this line, or if there are none, those in its paragraph."""
         lines, spans = self.rendered()
         here = [clause for start, end, clause in spans if start < line <= end]
         first = last = line - 1
@@ -96,7 +107,7 @@ def lemmas_of(lines):
 
 
 def clauses_of(lines):
-    """The clauses that may become shorter: paragraph by paragraph, those of its one definition."""
+    """The clauses that can become shorter: in each paragraph, those of its one definition."""
     lemmas = lemmas_of(lines)
     start = 0
     for end in [i for i, line in enumerate(lines) if not line.strip()] + [len(lines)]:
@@ -105,25 +116,28 @@ def clauses_of(lines):
 
 
 def paragraph_clauses(lines, start, end, lemmas):
-    definition = next((m for m in (re.match(r"( *)(?:pub )?([^\s:(){}|]+) : ", line) for line in lines[start:end]) if m), None)
+    """The clauses of one paragraph that can become shorter."""
+    matches = (re.match(r"( *)(?:pub )?([^\s:(){}|]+) : ", line) for line in lines[start:end])
+    definition = next((m for m in matches if m), None)
     if definition is None or any(line.strip() == "where" for line in lines[start:end]):
         return
     indent, name = definition.groups()
     heads = [i for i in range(start, end) if re.match(rf"{indent}{re.escape(name)}(?= )(?! :)", lines[i])]
     for first, last in zip(heads, heads[1:] + [end]):
         head, equals, body = "\n".join(lines[first:last]).partition(" =")
-        if last - first >= LEAST_LINES and equals and "\n" not in head and not body.strip().startswith(("grind", "search")):
+        is_call = body.strip().startswith(("grind", "search"))
+        if last - first >= LEAST_LINES and equals and "\n" not in head and not is_call:
             yield Clause(first, last, head, [bare(body, lemmas, name), calls(body, lemmas, name)])
 
 
 def bare(body, lemmas, name):
-    """The lemmas that a body cites, by their names alone, and its calls of the lemma itself."""
+    """The names of the lemmas that a body cites, and its calls of the lemma itself with arguments."""
     names = dict.fromkeys(word for word in WORD.findall(body) if word in lemmas and word != name)
     return [*names, *calls(body, {name}, name)]
 
 
 def calls(body, lemmas, name):
-    """The lemmas that a body cites with the arguments that they have there, up to one that names what only the body knows."""
+    """The lemmas that a body cites, each with its arguments up to the first that has a name bound in the body."""
     inner = set(re.findall(r"let ([^\s:]+)|\| \w+ ([^\s↦]+)", body)) | {tuple(re.findall(r"λ ([^.]*)\.", body))}
     unknown = {word for group in inner for names in group for word in names.split()}
     found = {}
@@ -141,12 +155,12 @@ def calls(body, lemmas, name):
 
 
 def arguments(text, place):
-    """The arguments that stand from this place on, up to an operator."""
+    """The explicit arguments from this place on, up to an operator."""
     while True:
         while place < len(text) and text[place] in " \n":
             place += 1
         if place < len(text) and text[place] in "({":
-            end = behind_bracket(text, place)
+            end = after_bracket(text, place)
             field = re.match(r"(\.[^\s(){}\[\],;]+)*", text[end:])
             end += field.end()
         else:
@@ -159,8 +173,8 @@ def arguments(text, place):
         place = end
 
 
-def behind_bracket(text, place):
-    """The place behind the bracket that closes the one here."""
+def after_bracket(text, place):
+    """The place after the bracket that closes the one at this place."""
     opened = []
     for end in range(place, len(text)):
         if text[end] in PAIRS:
@@ -173,7 +187,7 @@ def behind_bracket(text, place):
 
 
 def check(crate, files):
-    """Whether the crate is proved, and the clauses at which errors stand."""
+    """Checks the crate. Returns whether it is proved, and the clauses with errors."""
     run = subprocess.run(["rt", "check", "--jobs", "1"], cwd=crate, capture_output=True, text=True)
     by_path = {file.path.resolve(): file for file in files}
     blamed = []
@@ -184,12 +198,13 @@ def check(crate, files):
 
 
 def write(files):
+    """Writes all files."""
     for file in files:
         file.write()
 
 
 def settle(crate, files):
-    """Lets clauses go on to what they may be next until the crate is proved."""
+    """Goes on to the next list, or the own text, of each clause with an error, until the crate is proved."""
     write(files)
     while True:
         is_proved, blamed = check(crate, files)
@@ -199,12 +214,12 @@ def settle(crate, files):
             for file in files:
                 file.clauses = []
             write(files)
-            sys.exit(f"{crate} isn't proved, and no call to blame was found; all is as it was")
+            sys.exit(f"{crate} isn't proved, and no call is the cause; all files are as they were")
         write(files)
 
 
 def prune(crate, files):
-    """Takes out of each call what it doesn't need, from the last lemma to the first."""
+    """Removes from each call the lemmas that it doesn't need, from the last to the first."""
     short = [clause for file in files for clause in file.clauses if clause.is_short()]
     for place in reversed(range(max((len(clause.lists[clause.at]) for clause in short), default=0))):
         out = {clause: clause.lists[clause.at].pop(place) for clause in short if place < len(clause.lists[clause.at])}
@@ -222,9 +237,11 @@ def prune(crate, files):
 def main():
     if len(sys.argv) < 2:
         sys.exit(__doc__)
-    crate = Path(__file__).resolve().parent.parent / "crates" / sys.argv[1]
-    paths = [path for path in sorted(crate.glob("proofs/**/*.antt")) if path.name not in ("Lib.antt", "Invariants.antt")]
-    files = [File(path) for path in paths if not sys.argv[2:] or any(part in str(path) for part in sys.argv[2:])]
+    crate = Path(__file__).resolve().parents[2] / "crates" / sys.argv[1]
+    parts = sys.argv[2:]
+    proofs = sorted(crate.glob("proofs/**/*.antt"))
+    paths = [path for path in proofs if path.name not in ("Lib.antt", "Invariants.antt")]
+    files = [File(path) for path in paths if not parts or any(part in str(path) for part in parts)]
     before = sum(len(file.lines) for file in files)
     settle(crate, files)
     prune(crate, files)

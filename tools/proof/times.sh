@@ -1,12 +1,17 @@
 #!/bin/sh
-# Prints what the proof of each crate costs: processor seconds of one check from nothing on one job, with the crate's libraries built; its
-# functions; its lines of proof; and below it the ten functions that took longest.
+# Prints what the proof of each crate costs.
 #
-#     tools/proof/times.sh [CRATE..]     the crates named, or all, lowest first
+#     tools/proof/times.sh [CRATE..]
 #
-# It works on a copy of the files that git knows and of what earlier checks kept, and builds there what is missing. Of a crate of tests its tests
-# are what is proved. A function's seconds are of the clock, from the times at which the check wrote what it proved of it; on a busy machine they are
-# too many. It judges nothing.
+# CRATE is by default each crate, lowest first. It works on a copy of the files that git tracks and of the results of
+# earlier checks, and builds there what is missing. Each crate is then checked from scratch on one job, with its
+# libraries built; if it has tests, by `rt check --test`.
+#
+# The output has a line for each crate: the processor seconds of the check, its functions and its lines of proof. Below
+# it are the ten functions that took longest, each with its seconds. These are by the clock, from the times at which the
+# check wrote its results, so on a busy machine they are too high.
+#
+# The status is 1 if a crate isn't proved; then the tool stops. It needs git and `rt`.
 set -u
 cd "$(dirname "$0")/../.." || exit 2
 

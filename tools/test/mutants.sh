@@ -1,13 +1,19 @@
 #!/bin/sh
-# Tries the wrong bodies under crates/NAME/mutants, which the gate doesn't: each must be refused by the prover.
+# Checks that the prover rejects the mutants under crates/NAME/mutants, which the gate doesn't try.
 #
-#   tools/test/mutants.sh [CRATE..]     the crates named, or each that has some, those with the most first
+#     tools/test/mutants.sh [CRATE..]
 #
-# It works on a copy of the files that git knows and of what earlier checks kept, with as many crates at a time as there are processors. It prints
-# why each wrong body was refused, and then how many were. It ends with status 1 where one was not refused. Run it when a contract of a crate was
-# changed.
+# CRATE is a crate that has mutants; by default all are tried, those with the most mutants first. It works on a copy of
+# the files that git tracks and of the results of earlier checks, and tries as many crates at once as there are
+# processors.
+#
+# The output has the line of `rt must-fail` for each mutant, with the reason why it is rejected. The
+# last line counts the rejected mutants, and all.
+#
+# The status is 1 if a mutant isn't rejected, and 2 if a crate has no mutants or the crates can't be checked. It needs
+# git and `rt`. Run it when a contract of a crate was changed.
 set -u
-cd "$(dirname "$0")/../.."
+cd "$(dirname "$0")/../.." || exit 2
 
 if [ $# -eq 0 ]; then
     set -- $(ls crates/*/mutants/*.edit | cut -d/ -f2 | uniq -c | sort -rn | awk '{ print $2 }')
@@ -31,7 +37,7 @@ if ! rt all check --jobs "$(nproc)" > log 2>&1; then
     exit 2
 fi
 printf '%s\n' "$@" | xargs -P "$(nproc)" -I CRATE sh -c 'rt must-fail CRATE > CRATE.log 2>&1'
-cat ./*.log | grep 'must-fail mesh'
+cat ./*.log | grep 'must-fail m'
 refused=$(cat ./*.log | grep -c 'refused, as it must be')
-echo "$refused of $tried refused"
+echo "$refused of $tried mutants rejected"
 [ "$refused" -eq "$tried" ]

@@ -1,15 +1,24 @@
 #!/bin/sh
-# Refuses each allocation of the built programs once, and compares what is left with what the contracts say.
+# Makes each allocation of the built programs fail once, and checks that the run ends as the contracts say.
 #
 #     tools/test/oom.sh [CRATES]
 #
-# CRATES is the folder that holds the crates, whose programs stand in CRATES/NAME/out/NAME: `rt ci` leaves them there. A library that
-# `tools/test/refuse.c` is compiled to is loaded into each run; it refuses the first allocation of one run, the second of the next, and
-# so on until a run meets no refusal. Each run must end by itself in time, as its case may, with as many bytes given back as were taken; and where
-# an allocation of the program itself was refused, it must tell so. The case of the threads is run twice: the second time the first thread's
-# allocations alone are refused, and what other threads free is held for a while, so that a thread which nobody joined is seen. A case in which
-# nothing is allocated, or of whose refusals none is told, has failed. A line of the output says how many runs a case took, and the last line
-# counts the cases. The status is 1 where one failed, 2 where there are no programs or no C compiler.
+# CRATES is the folder of the crates, by default crates; the programs are CRATES/NAME/out/NAME. tools/test/refuse.c is
+# compiled to a library that is loaded into each run. It makes the first allocation fail in one run, the second in the
+# next, and so on until a run meets no failure. A case passes if
+#
+# - each of its runs ends by itself, within 20 seconds, with an output and a status that the case allows;
+# - each run frees as many bytes as it allocated;
+# - each run reports the failure of an allocation that the program itself requested (`spare` below has the exceptions);
+# - at least one run allocated something, and at least one reported a failure.
+#
+# The case `threads` is run twice. The second time, only the first thread's allocations fail, and other threads' frees
+# are delayed, so a thread that nobody joined is noticed.
+#
+# Each case is a line of the output: `ok` or `FAILED`, its name, how many runs it took, how many of them reported a
+# failure, and the allocations and bytes of the last run. The last line counts the cases. The status is 1 if a case
+# fails, and 2 if there are no programs or the C compiler fails. It needs the programs that `rt ci` builds, a C compiler
+# (CC, by default cc) and glibc.
 
 crates=${1:-$(dirname "$0")/../../crates}
 case $crates in
@@ -21,7 +30,7 @@ small=$crates/mesh_memory_tests/out/mesh_memory_tests
 meshrun=$crates/meshrun/out/meshrun
 for program in "$small" "$meshrun"; do
     if [ ! -x "$program" ]; then
-        echo "there is no program at $program: run \`rt ci\`, or \`rt run\` in its crate" >&2
+        echo "no program at $program: run \`rt ci\`, or \`rt run\` in its crate" >&2
         exit 2
     fi
 done
@@ -31,50 +40,57 @@ trap 'rm -rf "$room"' EXIT
 library=$room/refuse.so
 "${CC:-cc}" -O1 -Wall -shared -fPIC -o "$library" tools/test/refuse.c || exit 2
 
-# How long a run may take, in seconds; and past this allocation a case is given up.
+# The seconds that a run may take.
 limit=20
+# A case ends after this many allocations, and fails.
 most=20000
 passed=0
 failed=0
-# HOLD=1 where the first thread's allocations alone are refused, and what other threads free is held for a while.
-held=
+# HOLD=1 if only the first thread's allocations fail and other threads' frees are delayed (refuse.c); else empty.
+hold=
 
-# run N WORD..: a program with its words, whose N-th allocation is refused. Sets status, and refused, own, allocations, bytes, freed, stretches,
-# within and threads.
+# run N WORD..: runs a program with its arguments, and makes its N-th allocation fail. Sets `status`, and the counts of
+# refuse.c: `refused`, `own`, `allocations`, `bytes`, `freed`, `stretches`, `within` and `threads`.
 run() {
     number=$1
     shift
     rm -f "$room/counts"
-    timeout "$limit" env $held REFUSE="$number" REFUSE_FILE="$room/counts" LD_PRELOAD="$library" "$@" >"$room/output" 2>"$room/errors" </dev/null
+    timeout "$limit" env $hold REFUSE="$number" REFUSE_FILE="$room/counts" LD_PRELOAD="$library" "$@" \
+        >"$room/output" 2>"$room/errors" </dev/null
     status=$?
     refused=none
-    [ ! -f "$room/counts" ] || read -r _ refused _ own _ allocations _ bytes _ freed _ stretches _ within _ threads <"$room/counts"
+    [ ! -f "$room/counts" ] ||
+        read -r _ refused _ own _ allocations _ bytes _ freed _ stretches _ within _ threads <"$room/counts"
 }
 
-# is_line FILE TEXT: whether a file is this one line.
+# is_line FILE TEXT: whether the file contains this line and nothing else.
 is_line() {
     [ "$(cat "$1")" = "$2" ] && [ "$(wc -l <"$1")" -eq 1 ]
 }
 
-# Whether the output is whole lines that begin a file.
+# begins FILE: whether the output is the first lines of the file, each of them whole.
 begins() {
     size=$(wc -c <"$room/output")
-    head -c "$size" "$1" | cmp -s - "$room/output" && { [ "$size" -eq 0 ] || [ -z "$(tail -c 1 "$room/output")" ]; }
+    head -c "$size" "$1" | cmp -s - "$room/output" &&
+        { [ "$size" -eq 0 ] || [ -z "$(tail -c 1 "$room/output")" ]; }
 }
 
-# Whether a run told of a refusal.
-is_told() {
+# Whether the run reported an allocation failure.
+is_reported() {
     grep -q 'out of memory\|thread fault\|run fault\|: done, [0-9]* refused' "$room/output" "$room/errors"
 }
 
-# spare WORD..: a program with its words, which asks for nothing but to read them. Where the list of the words can't grow by as much as it asks
-# for, std asks for less, and nobody is told: so up to this allocation that is no fault.
+# spare WORD..: runs a program with arguments that make it read them and do little else, and sets `spared` to the number
+# of its allocations. If the list of the arguments can't grow by as much as it asks for, std asks for less and reports
+# nothing. So a run passes without a report if one of the first `spared` allocations fails.
 spare() {
     run 0 "$@"
     spared=$allocations
 }
 
-# How a run of a case of the small program may end, as a fault or nothing.
+# The functions below print what is wrong with the end of a run, or nothing.
+
+# A run of a case of mesh_memory_tests.
 case_fault() {
     [ "$status" -eq 0 ] || echo " status $status"
     ! grep -q '^WRONG' "$room/output" || echo " $(grep '^WRONG' "$room/output")"
@@ -85,53 +101,57 @@ case_fault() {
         */"$name: done" | */"$name: out of memory" | */"words: out of memory") ;;
         *) echo " another end: $last" ;;
     esac
-    [ "$refused" -eq 1 ] || [ "$last" = "$name: done" ] || echo " $last though nothing was refused"
+    [ "$refused" -eq 1 ] || [ "$last" = "$name: done" ] || echo " $last, but no allocation failed"
     case $name in
-        mesh) [ "$last" != "mesh: done" ] || [ "$stretches/$within" = 1/0 ] || echo " $within allocations in $stretches stretches" ;;
-        # Two searchers for each round of each of ten classes, one round where a class has none. Of the first search the last class has two
-        # rounds, of the second one three: 2 * (9 + 2) + 2 * (9 + 3).
-        search) [ "$last" != "search: done" ] || [ "$threads" -eq 46 ] || echo " $threads threads where 46 are due" ;;
+        mesh)
+            [ "$last" != "mesh: done" ] || [ "$stretches/$within" = 1/0 ] ||
+                echo " $within allocations in $stretches stretches"
+            ;;
+        # Two threads for each round of each of the ten classes, and one round for a class without candidates. The last
+        # class has two rounds in the first search and three in the second: 2 * (9 + 2) + 2 * (9 + 3).
+        search) [ "$last" != "search: done" ] || [ "$threads" -eq 46 ] || echo " $threads threads instead of 46" ;;
     esac
 }
 
-# How a run of the replay, of a report, of a picture or of an exploration may end, whose whole output is the file $wanted.
+# A run that prints the file $wanted with status 0 if no allocation fails.
 replay_fault() {
     if [ "$status" -eq 0 ]; then
         cmp -s "$room/output" "$wanted" && [ ! -s "$room/errors" ] || echo " another output"
     else
         [ "$status" -eq 1 ] || echo " status $status"
-        is_line "$room/errors" "out of memory" || echo " another line of fault"
-        begins "$wanted" || echo " an output that isn't whole lines of the beginning"
+        is_line "$room/errors" "out of memory" || echo " another error line"
+        begins "$wanted" || echo " an output that isn't the first lines, each whole"
     fi
-    [ "$refused" -eq 1 ] || [ "$status" -eq 0 ] || echo " a fault though nothing was refused"
+    [ "$refused" -eq 1 ] || [ "$status" -eq 0 ] || echo " an error, but no allocation failed"
 }
 
-# How a run of a judgement may end whose verdict, the file $wanted, has status 1.
+# A run of `check` that prints the file $wanted with status 1 if no allocation fails.
 verdict_fault() {
     [ "$status" -eq 1 ] || echo " status $status"
     if [ -s "$room/errors" ]; then
-        is_line "$room/errors" "out of memory" || echo " another line of fault"
-        begins "$wanted" || echo " an output that isn't whole lines of the beginning"
-        [ "$refused" -eq 1 ] || echo " a fault though nothing was refused"
+        is_line "$room/errors" "out of memory" || echo " another error line"
+        begins "$wanted" || echo " an output that isn't the first lines, each whole"
+        [ "$refused" -eq 1 ] || echo " an error, but no allocation failed"
     else
         cmp -s "$room/output" "$wanted" || echo " another output"
     fi
 }
 
-# How a run of the scripts in threads may end: an allocation that is refused inside the end of the run is `run fault`, and one before it is `out of
-# memory` or `thread fault`.
+# A run of `threads`. A failure while the run is completed is a `run fault`; one before that is `out of memory` or a
+# `thread fault`.
 threads_fault() {
     if [ "$status" -eq 0 ]; then
         cmp -s "$room/output" jobs/examples/threads.out && [ ! -s "$room/errors" ] || echo " another output"
     else
         [ "$status" -eq 1 ] || echo " status $status"
-        is_line "$room/errors" "out of memory" || is_line "$room/errors" "thread fault" || is_line "$room/errors" "run fault" || echo " another line of fault"
-        [ ! -s "$room/output" ] || echo " an output beside a fault"
+        is_line "$room/errors" "out of memory" || is_line "$room/errors" "thread fault" ||
+            is_line "$room/errors" "run fault" || echo " another error line"
+        [ ! -s "$room/output" ] || echo " an output although the run failed"
     fi
-    [ "$refused" -eq 1 ] || [ "$status" -eq 0 ] || echo " a fault though nothing was refused"
+    [ "$refused" -eq 1 ] || [ "$status" -eq 0 ] || echo " an error, but no allocation failed"
 }
 
-# refuse_each NAME JUDGE WORD..: runs a case until nothing is refused. JUDGE says how a run may end.
+# refuse_each NAME JUDGE WORD..: runs a case until no allocation fails. JUDGE is one of the functions above.
 refuse_each() {
     name=$1 judge=$2
     shift 2
@@ -147,15 +167,15 @@ refuse_each() {
         case $refused in
             0 | 1)
                 found=$($judge | tr -d '\n')
-                [ "$bytes" -eq "$freed" ] || found="$found $bytes bytes taken and $freed given back"
-                if is_told; then
+                [ "$bytes" -eq "$freed" ] || found="$found $bytes bytes allocated and $freed freed"
+                if is_reported; then
                     stopped=$((stopped + 1))
                     [ ! -s "$room/output" ] || begun=$((begun + 1))
                 elif [ "$own" -eq 1 ] && [ "$n" -gt "$spared" ]; then
-                    found="$found a refusal that nobody was told of"
+                    found="$found the failure was not reported"
                 fi
                 ;;
-            *) found=" ended by status $status, with no counts" ;;
+            *) found=" status $status, and no counts" ;;
         esac
         if [ -n "$found" ]; then
             wrong=$((wrong + 1))
@@ -169,15 +189,16 @@ refuse_each() {
             break
         fi
     done
-    told="$runs runs, $stopped told of a refusal, $allocations allocations and $bytes bytes with none refused"
-    [ "$stopped" -gt 0 ] && [ "$allocations" -gt 0 ] && [ "$bytes" -gt 0 ] || fault="$fault nothing was refused or allocated;"
-    [ -z "$held" ] || told="$told; of the first thread's alone, with the others' frees held"
+    summary="$runs runs, $stopped reported a failure, $allocations allocations and $bytes bytes in the last run"
+    [ "$stopped" -gt 0 ] && [ "$allocations" -gt 0 ] && [ "$bytes" -gt 0 ] ||
+        fault="$fault no failure was reported, or nothing was allocated;"
+    [ -z "$hold" ] || summary="$summary; only the first thread's allocations fail, other threads' frees are delayed"
     if [ -z "$fault" ]; then
         passed=$((passed + 1))
-        echo "ok: $name: $told"
+        echo "ok: $name: $summary"
     else
         failed=$((failed + 1))
-        echo "FAILED: $name: $told; $wrong wrong runs, of them$fault"
+        echo "FAILED: $name: $summary; $wrong wrong runs:$fault"
     fi
 }
 
@@ -185,13 +206,14 @@ spare "$small" "no case"
 for name in heap book mesh views seats search threads; do
     refuse_each "$name" case_fault "$small" "$name"
 done
-held=HOLD=1
+hold=HOLD=1
 refuse_each threads case_fault "$small" threads
-held=
+hold=
 spare "$meshrun" replay "$room/no file"
 wanted=jobs/golden/small_steps/worked_mesh.out
 refuse_each "meshrun replay" replay_fault "$meshrun" replay jobs/golden/small_steps/worked_mesh.job
-# More answers than are written at once, and then searches, which take memory: so some of these runs have written a beginning.
+# More answers than one write contains, and then searches, which allocate. So some of these runs fail after they wrote
+# a part of their output.
 loads=200
 searches=20
 {
@@ -211,9 +233,10 @@ wanted=$room/long.out
 refuse_each "meshrun replay of $loads loads" replay_fault "$meshrun" replay "$room/long.job"
 if [ "$begun" -eq 0 ]; then
     failed=$((failed + 1))
-    echo "FAILED: no run had written a beginning when memory was refused"
+    echo "FAILED: no run wrote a part of its output before an allocation failed"
 fi
-printf 'history 1\n0 new 0 64 0 -> object 0 at 1000\n0 put 0 0 6869 -> done\n0 get 0 0 2 -> bytes 6869\n' >"$room/short.history"
+printf 'history 1\n0 new 0 64 0 -> object 0 at 1000\n0 put 0 0 6869 -> done\n0 get 0 0 2 -> bytes 6869\n' \
+    >"$room/short.history"
 {
     printf 'mesh 1\npages 4\nhistory 10\nworkers 1\nworker 0\nnew 0 64 0\nput 0 0 6869\nget 0 0 2\nplan\n'
     yes 'run 0' | head -n 3
@@ -228,14 +251,15 @@ spare "$meshrun" check "$room/no file"
 refuse_each "meshrun check" replay_fault "$meshrun" check histories/each_command.history
 overlapping=histories/overlapping
 wanted=$overlapping/calls_that_touch.out
-refuse_each "meshrun check of calls that overlap" replay_fault "$meshrun" check $overlapping/calls_that_touch.history
+refuse_each "meshrun check of overlapping calls" replay_fault "$meshrun" check $overlapping/calls_that_touch.history
 wanted=$overlapping/new_byte_then_old.out
 refuse_each "meshrun check of a lost store" verdict_fault "$meshrun" check $overlapping/new_byte_then_old.history
 "$meshrun" check $overlapping/calls_that_touch.history --order >"$room/ordered.history"
 wanted=$room/ordered.history
-# A list that can't grow by as much as it asks for asks for less, so a run may end well though an allocation was refused.
+# A list that can't grow by as much as it asks for asks for less, so a run may succeed although an allocation failed.
 spared=$most
-refuse_each "meshrun check --order" replay_fault "$meshrun" check $overlapping/calls_that_touch.history --order
+refuse_each "meshrun check --order" \
+    replay_fault "$meshrun" check $overlapping/calls_that_touch.history --order
 savings=histories/savings/more_with_meshing
 wanted=$savings.out
 spare "$meshrun" savings "$room/no file"
@@ -251,7 +275,8 @@ spare "$meshrun" draw "$room/no file"
 refuse_each "meshrun draw" replay_fault "$meshrun" draw jobs/examples/hello.job
 wanted=jobs/explore/cancelled_at_once.out
 spare "$meshrun" explore "$room/no file" --mesh 1:0 --cancel 0
-refuse_each "meshrun explore" replay_fault "$meshrun" explore jobs/explore/cancelled_at_once.job --mesh 1:0 --cancel 0
+refuse_each "meshrun explore" \
+    replay_fault "$meshrun" explore jobs/explore/cancelled_at_once.job --mesh 1:0 --cancel 0
 outcomes=$wanted
 echo "as expected: $(grep -c '^outcome ' "$outcomes") outcomes" >"$room/verdict"
 wanted=$room/verdict

@@ -1,15 +1,28 @@
-/* Refuses memory to a program that it is loaded into, and counts what the program takes and gives back.
+/* Makes one allocation of a program fail, and counts what the program allocates and frees.
  *
- *   REFUSE       the allocation that is refused, counted from 1; none is where it isn't set
- *   REFUSE_FILE  where the counts are written at the exit, in one line
- *   HOLD         where it is set, the allocations of the first thread alone are counted and refused, and each block that another thread frees is
- *                held for two milliseconds: so a thread that frees a block behind the end of the program is seen
+ *     cc -O1 -Wall -shared -fPIC -o refuse.so refuse.c
+ *     [HOLD=1] REFUSE=N REFUSE_FILE=FILE LD_PRELOAD=./refuse.so PROGRAM WORD..
  *
- * The threads that the program starts are counted too.
+ * REFUSE       the allocation that fails, counted from 1; by default none
+ * REFUSE_FILE  the file that the counts are written to at the end; by default they aren't written
+ * HOLD         if it is set, only the first thread's allocations are counted and can fail, and each of the program's
+ *              own frees on another thread is delayed by two milliseconds; so a thread that frees a block after the
+ *              program's end is noticed
  *
- * Every allocation of the process is counted and may be refused, those that the C library makes to start a thread among them. The bytes are
- * those of the program alone: the C library keeps the stacks of ended threads for the next ones. A line that the program writes which holds
- * `stretch begins` or `stretch ends` bounds the stretch whose allocations are counted by themselves. */
+ * The file gets one line, of eight names and numbers:
+ *
+ *     refused %lu own %lu allocations %lu bytes %lu freed %lu stretches %lu within %lu threads %lu
+ *
+ * - refused: failed allocations, 0 or 1; own: those of them that the program itself requested.
+ * - allocations: all allocations of the process. Each is counted and can fail, also one that the C library makes to
+ *   start a thread.
+ * - bytes, freed: what the program itself allocates and frees. The C library isn't counted here, because it keeps the
+ *   stacks of ended threads for later ones.
+ * - stretches, within: the stretches of the run, and the allocations in them. A stretch begins with a write of the
+ *   program that contains `stretch begins`, and ends with one that contains `stretch ends`.
+ * - threads: the threads that the program starts.
+ *
+ * The exit status is the program's own. It needs glibc. */
 #define _GNU_SOURCE
 #include <dlfcn.h>
 #include <errno.h>
@@ -24,7 +37,8 @@
 #include <sys/syscall.h>
 #include <unistd.h>
 
-extern void *__libc_malloc(size_t), *__libc_calloc(size_t, size_t), *__libc_realloc(void *, size_t), *__libc_memalign(size_t, size_t);
+extern void *__libc_malloc(size_t), *__libc_calloc(size_t, size_t);
+extern void *__libc_realloc(void *, size_t), *__libc_memalign(size_t, size_t);
 extern void __libc_free(void *);
 extern ssize_t __write(int, const void *, size_t);
 
@@ -34,13 +48,14 @@ static unsigned long budget;
 static int holds;
 static char *first, *last;
 
+/* Sets `first` and `last` to the addresses of the program's code. */
 static int see(struct dl_phdr_info *info, size_t size, void *data) {
     for (int k = 0; k < info->dlpi_phnum; k++)
         if (info->dlpi_phdr[k].p_type == PT_LOAD && info->dlpi_phdr[k].p_flags & PF_X) {
             first = (char *)info->dlpi_addr + info->dlpi_phdr[k].p_vaddr;
             last = first + info->dlpi_phdr[k].p_memsz;
         }
-    return 1; /* the program comes first */
+    return 1; /* the program comes first, so no other object is visited */
 }
 
 __attribute__((constructor)) static void begin(void) {
@@ -51,30 +66,34 @@ __attribute__((constructor)) static void begin(void) {
     atomic_store(&allocations, 0);
 }
 
-static void tell(void) {
+/* Writes the counts to REFUSE_FILE. */
+static void write_counts(void) {
     char line[200];
     const char *name = getenv("REFUSE_FILE");
     int file = name ? open(name, O_WRONLY | O_CREAT | O_TRUNC, 0600) : -1;
     if (file < 0) return;
-    int bytes = snprintf(line, sizeof line, "refused %lu own %lu allocations %lu bytes %lu freed %lu stretches %lu within %lu threads %lu\n",
+    int bytes = snprintf(line, sizeof line,
+                         "refused %lu own %lu allocations %lu bytes %lu freed %lu "
+                         "stretches %lu within %lu threads %lu\n",
                          refused, own, allocations, allocated, freed, stretches, within, threads);
     __write(file, line, bytes);
     close(file);
 }
 
-/* How a program of the kit ends, where `main` gave a status. */
+/* A program of the toolchain ends here if `main` returned a status. */
 void _exit(int status) {
-    tell();
+    write_counts();
     for (;;) syscall(SYS_exit_group, status);
 }
 
-__attribute__((destructor)) static void end(void) { tell(); }
+__attribute__((destructor)) static void end(void) { write_counts(); }
 
+/* Whether the program itself makes the call, and not the C library. */
 static int is_ours(void *caller) { return first <= (char *)caller && (char *)caller < last; }
 
 static int is_first_thread(void) { return gettid() == getpid(); }
 
-/* Whether an allocation is the one that is refused; of those that the program itself asks for, and not the C library for it, it is counted. */
+/* Whether this allocation must fail. Counts the allocation, and the failure. */
 static int is_refused(void *caller) {
     if (holds && !is_first_thread()) return 0;
     if (atomic_load(&in_stretch)) atomic_fetch_add(&within, 1);
@@ -85,11 +104,13 @@ static int is_refused(void *caller) {
     return 1;
 }
 
+/* Counts the bytes of a new block. Returns the block. */
 static void *got(void *block, void *caller) {
     if (block && is_ours(caller)) atomic_fetch_add(&allocated, malloc_usable_size(block));
     return block;
 }
 
+/* Counts the bytes of a block that will be freed. */
 static void gone(void *block, void *caller) {
     if (block && is_ours(caller)) atomic_fetch_add(&freed, malloc_usable_size(block));
 }

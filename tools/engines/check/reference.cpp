@@ -1,9 +1,13 @@
-// Judges a recorded history of calls in the order of their effects: a plain engine, to compare the time of `meshrun check` with.
+// Judges a recorded history of calls in the order of their effects: a plain engine, for the time of `meshrun check`.
 //
-//     reference FILE
+//     g++ -O2 -std=c++17 -o reference reference.cpp
+//     ./reference FILE
 //
-// It prints the same verdict for a text without a fault, with the status 0 if it is legal and 1 if it isn't. Objects are kept
-// in std::map and std::unordered_map, their bytes in chunks of 64, and a line is cut into its fields.
+// FILE is a history of version 1. For a text without a fault it prints the verdict that `meshrun check` prints. The
+// status is 0 if the history is legal, 1 if it isn't, and 2 if FILE doesn't begin as a history of version 1. It needs a
+// C++17 compiler; tools/bench/check.sh compiles and runs it.
+//
+// Objects are in a std::map and a std::unordered_map, their bytes in chunks of 64. A line is cut into its fields.
 #include <charconv>
 #include <cstdint>
 #include <fstream>

@@ -1,19 +1,21 @@
 #!/usr/bin/env python3
-"""Compares reference.py with searches of all orders on tiny random histories.
+"""Compares reference.py with searches over all orders, on tiny random histories.
 
     tools/engines/linearize/compare.py [COUNT [SEED]]
 
-COUNT histories of 2 to 7 calls of 2 to 4 threads, from SEED on (1,000 from 1 if none is given). Those that orders.py can
-judge are compared: each `new` has a cell of its own, and each other call is between the `new` and the `free` of its cell.
-Of the others it is checked only that reference.py finds a flaw. Compared are
+COUNT is the number of histories, by default 1,000, and SEED the first seed, by default 1. A history has 2 to 7 calls of
+2 to 4 threads. It is compared if orders.py can judge it: each `new` has a cell of its own, and each other call is
+between the `new` and the `free` of its cell. For the other histories, reference.py must find a flaw. Compared are
 
 - whether the history is linearizable;
-- the line of a flaw: the first call, in the order of ends, at whose end no order of the calls that ended by then, with or
-  without some of those that are pending, is right;
-- the possible answers of a `get`: those with which there is such an order that has it behind all calls that ended before
-  it. It could have had others if it was earlier: before a store that began and ended while it was pending.
+- the line of a flaw. It is the first call, in the order of ends, at whose end no order is right of the calls that ended
+  by then, with or without some of the pending ones;
+- the possible answers of a `get`. They are those with which there is such an order that has the `get` after all calls
+  that ended before it. Other answers may be possible for an earlier `get`: before a store that began and ended while
+  the `get` was pending.
 
-Each history that differs is a line of the output, and the last line counts them. The status is 1 if one differs.
+Each history that differs is a line of the output, and the last line counts them, by kind of verdict. The status is 1 if
+one differs.
 """
 import collections
 import itertools

@@ -1,10 +1,11 @@
 #!/usr/bin/env python3
-"""Checks that a history of version 1 is an order of the calls of one of version 2.
+"""Checks that a history of version 1 is an order of the calls of a history of version 2.
 
     tools/engines/linearize/is_order.py OVERLAPPING ORDER
 
-It is if ORDER has the calls of OVERLAPPING, each once, and no call stands behind one that began after it ended. Whether
-ORDER is a legal history is checked by `meshrun check`. The status is 1 if it isn't such an order, and a line says why.
+ORDER must have each call of OVERLAPPING once, and no call after one that began when it had ended. Whether ORDER is a
+legal history is for `meshrun check`. The status is 1 if it isn't such an order; a line on standard error then has the
+reason.
 """
 import collections
 import sys

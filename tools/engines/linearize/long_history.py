@@ -1,13 +1,16 @@
 #!/usr/bin/env python3
-"""Prints a long history of calls that overlap, which some order explains, to measure `meshrun check` by.
+"""Prints a long linearizable history of overlapping calls, for the time of `meshrun check`.
 
     tools/engines/linearize/long_history.py CALLS THREADS OBJECTS
     tools/engines/linearize/long_history.py CALLS THREADS --pending
 
-With OBJECTS, threads store to and load from at most so many objects of 16 bytes at a time, and free one or make one in a
-tenth of their calls. With --pending all threads' calls on one object are pending at once, again and again: the most
-configurations that so many threads can make. Each call takes effect at a moment between its begin and its end, and its
-answer is what it finds there.
+CALLS is about the number of calls, and THREADS that of threads. With OBJECTS, threads store to and load from at most
+that many objects of 16 bytes at a time, and a tenth of their calls make or free an object. With --pending the calls of
+all threads on one object are pending at once, again and again: these are the most configurations for this number of
+threads.
+
+The output is a history of version 2. Each call takes effect at a moment between its begin and its end, and its answer
+is for the bytes at that moment. The same arguments give the same history.
 """
 
 import heapq

@@ -1,15 +1,18 @@
 #!/usr/bin/env python3
-"""Searches all orders of a tiny history of overlapping calls, straight from the definition.
+"""Judges a tiny history of overlapping calls by a search over all orders, straight from the definition.
 
     tools/engines/linearize/orders.py FILE
 
-FILE is a history of version 2 of up to 7 calls, or `-` for standard input. It is linearizable if some order of its calls
-respects real time (no call is behind one that began after it ended) and is a legal history of separate objects, as
-`history 1` has it. A `new` of 1 byte or more may be refused for a fair reason at any time. Printed is `linearizable`
-with status 0, or `not linearizable` with status 1.
+FILE is a history of version 2 with at most 7 calls, or `-` for standard input. It must have a cell of its own for each
+`new`. A call on a cell must begin after the end of its `new` and end before the begin of its `free`. This isn't
+checked.
 
-It takes for granted that each `new` has a cell of its own, and that a call of a cell begins after the end of its `new`
-and ends before the beginning of its `free`.
+The output is `linearizable` with status 0, or `not linearizable` with status 1. The status is 2 for wrong arguments,
+and for more than 7 calls.
+
+A history is linearizable if some order of its calls respects real time (no call is after one that began when it had
+ended) and is a legal history of version 1 of separate objects. A `new` of 1 byte or more may be refused for a fair
+reason at any time.
 """
 import itertools
 import sys

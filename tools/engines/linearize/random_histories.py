@@ -1,13 +1,16 @@
 #!/usr/bin/env python3
-"""Prints a random history of overlapping calls that is right or nearly so.
+"""Prints a random history of overlapping calls that is linearizable or nearly so.
 
     tools/engines/linearize/random_histories.py SEED [--calls N] [--threads T] [--right]
 
-The same words give the same history. Threads make calls on separate objects; each call has its effect at a moment
-between its BEGIN and its END, and is answered as the objects are then. With --right this is printed. Without it, one
-answer, one address, one serial, one time, or the clock of one thread from one of its calls on is changed in three of four
-histories. The text is always a history of version 2, but with a changed time a call may end after the beginning of its
-object's `free`, or the like.
+N is by default 200, and T 4. The same arguments give the same history.
+
+Threads make calls on separate objects. Each call has its effect at a moment between its BEGIN and its END, and its
+answer is for the objects at that moment. With --right this history is printed. Without it, three of four histories are
+changed: in one answer, one address, one serial, one time, or the clock of one thread from one of its calls on.
+
+The output is always a history of version 2, but with a changed time a call may, for example, end after the begin of its
+object's `free`.
 """
 import argparse
 import dataclasses

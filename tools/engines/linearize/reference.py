@@ -3,15 +3,20 @@
 
     tools/engines/linearize/reference.py FILE [--configurations N]
 
-FILE is a history of version 2, or `-` for standard input. The verdict is one line on standard output: the first flaw in
-the order of ends, at equal ends in the order of lines. The status is 0 if there is none, and 1 if there is one. The text
-must be well-formed, but for the order of its lines: a fault of the order ends with status 2 and `line L: ORDER`.
+FILE is a history of version 2, or `-` for standard input. The text must be well-formed, except for the order of its
+lines. At most N configurations of an object, by default 100,000, are visited at the end of one call.
 
-Each object is judged by itself (Herlihy and Wing: linearizability is local). Its calls are taken forward in time, with a
-heap of pending ends. Kept are its configurations: pairs of its bytes and of the set of pending calls that had their
+The output is the verdict in one line: the first flaw in the order of ends, and at equal ends in the order of lines. The
+status is 0 if there is none, and 1 if there is one or the configurations don't suffice. A fault of the order of lines
+has status 2, and `line L: ORDER` on standard error.
+
+Each object is judged by itself (Herlihy and Wing: linearizability is local). Its calls are taken forward in time, with
+a heap of pending ends. Its configurations are kept: pairs of its bytes and of the set of pending calls that had their
 effect. When a call ends, each configuration is carried on by effects of pending calls until the call that ends had its
-own (Lowe's just-in-time linearization); those in which it can't have it are dropped. `new` and `free` need no search: an
-object has its addresses at least from the END of its `new` to the BEGIN of its `free`.
+own (Lowe's just-in-time linearization); those in which it can't have it are dropped.
+
+`new` and `free` need no search: an object has its addresses at least from the END of its `new` to the BEGIN of its
+`free`.
 """
 import argparse
 import bisect

@@ -4,8 +4,9 @@
 //     g++ -O2 -std=c++17 -o reference reference.cpp
 //     ./reference FILE [--every F] [--probe T] [--seed S | --first-fit] [--from CALL] [--to CALL] [--addresses N]
 //
-// It is plain C++ and shares no code with the program. It writes the golden files in histories/savings
-// (tools/gen/savings_golden.sh), and is the baseline for the program's speed.
+// It is plain C++ and shares no code with the program. tools/gen/savings_golden.sh writes the golden files in
+// histories/savings with it, and tools/bench/savings.sh compares the program's speed with its. It needs a C++17
+// compiler.
 //
 // FILE is a recorded history (docs/FORMAT.md); `-` is standard input. A call is a `new` that was answered by an object,
 // or a `free` or `alias` that was answered by `done`; all other entries are skipped. Both heaps make each call. They

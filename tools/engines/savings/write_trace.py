@@ -1,9 +1,11 @@
 #!/usr/bin/env python3
 """Prints the recorded history histories/savings/aliases.history.
 
-It is legal for `meshrun check`, and has what recorded programs seldom do: objects that several cells refer to, freed
-through any of them; objects that no cell refers to any more; objects above 2,048 bytes; refused entries, loads and
-stores. The objects come in waves, and most of each wave is freed before the next.
+    tools/engines/savings/write_trace.py
+
+The output is the same every time. It is legal for `meshrun check`, and has what recorded programs seldom do: objects
+that several cells refer to, freed through any of them; objects that no cell refers to any more; objects above 2,048
+bytes; refused entries, loads and stores. The objects come in waves, and most of each wave is freed before the next.
 """
 
 SIZES = [16, 32, 64, 128, 256, 384, 512, 1024, 1536, 2048]
