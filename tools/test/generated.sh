@@ -1,0 +1,17 @@
+#!/bin/sh
+# Checks that what is generated is up to date.
+#
+#     tools/test/generated.sh
+#
+# It runs each script of tools/gen and tools/proof/cost_table.py, and compares what they write with what is committed.
+# It also compares the copies that must be equal.
+#
+# The output is the difference. The status is 1 if there is one. It needs git, g++, python3, and `rt` for `rt fmt`.
+
+cd "$(dirname "$0")/../.." || exit 2
+for script in tools/gen/*.py tools/gen/*.sh tools/proof/cost_table.py; do
+    "$script" >/dev/null || exit 1
+done
+cmp jobs/examples/hello.job crates/meshrun/data/hello.job || exit 1
+# A clone may belong to another user than the one who runs this.
+git -c safe.directory='*' diff --exit-code -- crates docs jobs histories
