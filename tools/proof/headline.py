@@ -99,9 +99,9 @@ def reach(heads, known, seen):
     Of each definition: its file, its name, and its number of lines.
     """
     order = []
-    todo = [known[name] for name in cited(heads, known)]
-    while todo:
-        module, name = todo.pop(0)
+    pending = [known[name] for name in cited(heads, known)]
+    while pending:
+        module, name = pending.pop(0)
         file = module_file(module)
         if file is None:
             continue
@@ -115,7 +115,7 @@ def reach(heads, known, seen):
             sys.exit(f"{file} has no definition of {name}")
         order.append((file, name, len(found[name])))
         names = uses(text, module)
-        todo[:0] = [names[it] for it in cited(found[name], names) if names[it] != (module, name)]
+        pending[:0] = [names[it] for it in cited(found[name], names) if names[it] != (module, name)]
     return order
 
 

@@ -18,7 +18,7 @@ pub(crate) const ORDER: &str = "order";
 /// The option that asks for a mesh.
 pub(crate) const MESH: &str = "mesh";
 
-/// The placeholder in the help for the two groups of a mesh.
+/// The name of the two groups of a mesh in the help.
 pub(crate) const GROUPS: &str = "SRC:DST";
 
 /// The flag that asks for the number of states found.

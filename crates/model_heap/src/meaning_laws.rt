@@ -24,8 +24,8 @@ pub fn free_changes_meaning()
     ensures { FreeChangesMeaning }
 {}
 
-/// Placing an object in a sound table makes it in the memory that the heap means, if its places hold zeros and the
-/// bytes of all live objects are unchanged.
+/// A heap that places an object of zeros in its table, and changes no byte of a live object, then means the memory it
+/// meant before with that object added.
 pub fn new_changes_meaning()
     ensures { NewChangesMeaning }
 {}

@@ -390,7 +390,7 @@ fn an_object_across_pages_is_remapped_page_by_page(rt: HostRuntime) {
     played_long(&rt, 12, &HALF_REMAPPED);
 }
 
-/// The answer to a store after `steps` steps, if stores are blocked from the first step of the mesh up to step `last`.
+/// The answer to a store after `steps` steps of a mesh: `Blocked` from step 1 to step `last`, else `Done`.
 fn stored(steps: usize, last: usize) -> Answer {
     if 1 <= steps && steps <= last {
         Answer::Blocked
